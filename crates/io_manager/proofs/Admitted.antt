@@ -96,7 +96,7 @@ AreSpotted-more old new slot entry packet packets updates before number spot h =
 
 -- one more request is open below and in the table
 AreHeld-more : (old new : Slab OpenRequest) (slot : ℕ) (entry : OpenRequest) (opened : OpenBelow) (below : List OpenBelow) (next : ℕ) → get old slot ≡ None → SlabUpdates old new slot (Some entry)
-    → slab_len new ≡ slab_len old + 1 → entry.number ≡ opened.number → entry.kind ≡ opened.request.kind → entry.cancelled ≡ opened.cancelled → is_some opened.request.partition ≡ true → (opened.request.kind ≡ Read → length entry.label_bytes ≡ opened.request.length)
+    → slab_len new ≡ slab_len old + 1 → entry.number ≡ opened.number → entry.kind ≡ opened.request.kind → entry.cancelled ≡ opened.cancelled → is_some opened.request.partition ≡ true → (opened.request.kind ≡ Read → opened.request.length ≤ entry.label_bytes)
     → All (IsGiven next) below → next ≤ entry.number → AreHeld old below → AreHeld new (opened ∷ below)
 AreHeld-more old new slot entry opened below next free updates counted number kind cancelled partition label_bytes given later h =
     record {
@@ -232,7 +232,7 @@ module _ (limits : Limits) (below : DeviceView) (tables : Tables) (q : ClientReq
                 (record below.state { next_request = sends.packet.number + 1; requests = new_request below.rules below.state sends.packet.number asked ∷ below.state.requests }) sends.submits.opened
                 (asks_same _ _ (KeepsAsked-same _ _ (IsSame-sym _ _ sends.submits.opens.after)))
                 (AreHeld-more tables.requests tables1.requests slot _ (new_request below.rules below.state sends.packet.number asked) below.state.requests below.state.next_request admits.was_free admits.holds counted (sym number) refl refl refl
-                (λ reads. buffers.label_bytes reads ∙ sym same_length ∙ asks.length_is) distinct.given h.numbers.rising h.held);
+                (λ reads. subst (λ n. n ≤ copies.label_bytes) (sym same_length ∙ asks.length_is) (buffers.label_bytes reads)) distinct.given h.numbers.rising h.held);
             few = omega arith;
             places = record {
               labels = subst (λ capacity. 256 ≤ capacity) (sym labels) h.places.labels;

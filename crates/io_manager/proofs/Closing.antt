@@ -24,7 +24,7 @@ use Rattle.io_manager.specs.declared.tables.OpenRequest.{OpenRequest}
 use Rattle.io_manager.specs.declared.tables.Tables.{Tables}
 use Rattle.io_manager.specs.inside.Chains.{TakesOut, IsWaiting, AreChained, AreNumbered}
 use Rattle.io_manager.specs.inside.Sound.{IsHeldAt, AreHeld}
-use Rattle.io_manager.specs.inside.Completion.{IsAt, AreFilled, Closes, brought, done_of}
+use Rattle.io_manager.specs.inside.Completion.{IsAt, AreFilled, IsFilled, Closes, brought, done_of}
 use Rattle.io_manager.proofs.Chained.{IsKept, AreChained-same, AreChained-less}
 use Rattle.io_manager.proofs.Numbered.{AreNumbered-less}
 
@@ -86,12 +86,9 @@ module _ (takes_srb : Bool) (old new : DeviceView) (spot : ℕ) (irp : Box Irp) 
       let below : h.answers.request.request.kind ≡ Read = sym held_at.same_kind ∙ kind in
       let asked : h.request.kind ≡ Read = ap (λ q. q.kind) (sym h.is_request) ∙ below in
       let success : h.status ≡ Success = sym status_left ∙ succeeded in
-      ap (λ r. length r.label_bytes) (sym same)
-      ∙ held_at.label_bytes below
-      ∙ ap (λ q. q.length) h.is_request
-      ∙ sym (h.filled asked success)
-      ∙ ap length (sym (h.brings asked success))
-      ∙ ap (λ p. length (payload_bytes p)) (sym payload_left)
+      let as_asked : h.answers.request.request.length ≡ length (payload_bytes done.payload) =
+          ap (λ q. q.length) h.is_request ∙ sym (h.filled asked success) ∙ ap length (sym (h.brings asked success)) ∙ ap (λ p. length (payload_bytes p)) (sym payload_left) in
+      subst (λ r. length (payload_bytes done.payload) ≤ r.label_bytes) same (subst (λ n. n ≤ held_at.request.label_bytes) as_asked (held_at.label_bytes below))
 
   some_held : 0 < slab_len requests
   some_held =
@@ -118,6 +115,20 @@ brings Write status marks payload bytes e success same = e
 brings Flush status marks payload bytes e success same = e
 brings Read Success marks payload bytes e success same = sym (same refl refl)
 brings Read status marks payload bytes e success same = let failed : status ≢ Success = λ is. cc in no_bytes marks status bytes failed success e
+
+-- the room of a read's label takes what the answer brings; an answer of another kind brings nothing
+pub room_takes : (kind : Kind) (status : NtStatus) (bytes : List ℕ) (room : ℕ) → (kind ≡ Read → status ≡ Success → length bytes ≤ room) → length (brought kind status bytes) ≤ room
+room_takes Write status bytes room fits = omega arith
+room_takes Flush status bytes room fits = omega arith
+room_takes Read Success bytes room fits = fits refl refl
+room_takes Read status bytes room fits = omega arith
+
+-- so for the open request in a slot, where it is that of the packet
+pub filled_at : (requests : Slab OpenRequest) (done : Done) (slot : ℕ) (request : OpenRequest) → AreFilled requests done → IsAt requests done.number slot → get requests slot ≡ Some request → IsFilled request done
+filled_at requests done slot request filled at there =
+    let is : Some at.request ≡ Some request = sym at.there ∙ there in
+    let same : at.request ≡ request = cc (is) in
+    filled slot request there (ap (λ (r : OpenRequest). r.number) (sym same) ∙ at.same_number)
 
 -- THE TABLE WITHOUT IT
 

@@ -162,7 +162,7 @@ module _ (old new : Slab OpenRequest) (slot : ℕ) (request : OpenRequest) (ther
               same_kind = ap (λ (r : OpenRequest). r.kind) (sym is) ∙ mine.same_kind;
               same_cancelled = refl;
               has_partition = mine.has_partition;
-              label_bytes = λ reads. ap (λ (r : OpenRequest). length r.label_bytes) (sym is) ∙ mine.label_bytes reads;
+              label_bytes = λ reads. subst (λ (r : OpenRequest). o.request.length ≤ r.label_bytes) is (mine.label_bytes reads);
             })
             (λ k d low. other_held _ (λ same. differ k d low (same ∙ sym number)) (All-tail (IsHeldAt old) o others all k d low));
         is_open = λ other x there'.

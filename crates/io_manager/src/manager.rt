@@ -243,7 +243,7 @@ impl<D: Device> IoManager<D> {
     /// Books what the act of a tag's piece did, or how it failed, with an adapter whose sectors stand elsewhere. It
     /// takes no memory, and changes nothing of the machine.
     pub fn book(&mut self, tag: u8, piece: u128, what: Booked<'_>)
-        ensures { BooksPiece self.old tag piece (handed what.entry) self.new }
+        ensures { BooksPiece self.old tag piece (handed self.old.adapter tag piece what.entry) self.new }
     {
         self.parts.device.book(tag, piece, what);
     }

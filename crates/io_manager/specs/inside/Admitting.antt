@@ -92,8 +92,7 @@ request_of sector_size q = record {
 -- the buffers that a request needs for the manager's own labels
 pub record HasLabelBytes (kind : Kind) (buffer : List ℕ) (copies : LabelBytes) : Type 0 where
   pub call_bytes : copies.call_bytes ≡ bytes_called kind buffer
-  pub label_bytes : kind ≡ Read → length copies.label_bytes ≡ length buffer
-  pub none_else : kind ≢ Read → copies.label_bytes ≡ []
+  pub label_bytes : kind ≡ Read → length buffer ≤ copies.label_bytes
 
 -- the first location of a request: of its kind and its extent, with SL_WRITE_THROUGH or no flags, and no routine
 abbrev pub first_location : Request → StackLocation

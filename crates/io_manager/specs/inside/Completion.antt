@@ -1,6 +1,6 @@
 -- What becomes of requests that have ended, until their answers are told.
-use Rattle.std.specs.Prelude.{◌≡◌, ◌≢◌, ◌<◌, ℕ, ◌+◌, ◌-◌, Bool, IsTrue, IsFalse, List, [], ◌++◌, Some, None, option_map}
-use Rattle.std.specs.Prelude.{map, length, All, IsPermutation, MatchBool, is_some, slice_index, slice_set}
+use Rattle.std.specs.Prelude.{◌≡◌, ◌≢◌, ◌<◌, ◌≤◌, ℕ, ◌+◌, ◌-◌, Bool, IsTrue, IsFalse, List, [], ◌++◌, Some, None}
+use Rattle.std.specs.Prelude.{option_map, map, length, All, IsPermutation, MatchBool, is_some, slice_index, slice_set}
 use Rattle.std.specs.VecDeque.{deque_capacity}
 use Rattle.slab.specs.Slab.{Slab, get, slab_len, Updates}
 use Rattle.ntstatus.specs.declared.NtStatus.{NtStatus}
@@ -66,10 +66,10 @@ answer_for request done = record {
   bytes = brought request.kind done.status (payload_bytes done.payload);
 }
 
--- a read that succeeded has as many bytes as its request has for the label
+-- the bytes of a read that succeeded fit the room that its request has for the label
 abbrev pub IsFilled : OpenRequest → Done → Type 0
 IsFilled request done = request.kind ≡ Read → done.status ≡ Success
-    → length request.label_bytes ≡ length (payload_bytes done.payload)
+    → length (payload_bytes done.payload) ≤ request.label_bytes
 
 -- so for the request that was finished
 abbrev pub AreFilled : Slab OpenRequest → Done → Type 0

@@ -94,7 +94,7 @@ pub record IsHeldAt (requests : Slab OpenRequest) (o : OpenBelow) : Type 0 where
   pub same_kind : request.kind ≡ o.request.kind
   pub same_cancelled : request.cancelled ≡ o.cancelled
   pub has_partition : is_some o.request.partition ≡ true
-  pub label_bytes : o.request.kind ≡ Read → length request.label_bytes ≡ o.request.length
+  pub label_bytes : o.request.kind ≡ Read → o.request.length ≤ request.label_bytes
 
 -- the requests that are open below are those in the table
 pub record AreHeld (requests : Slab OpenRequest) (below : List OpenBelow) : Type 0 where
