@@ -20,7 +20,7 @@ use Rattle.adapter.specs.Performing.{Performs}
 use Rattle.adapter.proofs.Performing.{Performs-length}
 use Rattle.adapter.specs.Booking.{MayBeOf, IsTransferOf, IsFlushOf}
 use Rattle.disk.specs.Medium.{MediumView, HasWholeSectors}
-use Rattle.miniport.specs.Carrying.{CarriesOut, FailsBy, disk_of}
+use Rattle.miniport.specs.Carrying.{CarriesOut, FailsBy, disk_of, with_data}
 use Rattle.miniport.specs.Faults.{Disk, fault_of, fault_of_command, is_execute, is_past_end, fits, flags_of, bytes_of, invalid_request, error}
 use Rattle.miniport.proofs.Bad.{fault_is_bad}
 use Rattle.miniport.proofs.Sectors.{length-extent, All-extent}
@@ -127,13 +127,14 @@ module _ (size : ℕ) (sectors : List (List ℕ)) (bytes0 : List ℕ) (piece tag
 
 -- WHAT THE MEDIUM SHOWS
 
-pub moved_enters : (view : MediumView) (write_protected : Bool) (srb srb' : Srb) (bytes : List ℕ) (view' : MediumView) (tag piece : ℕ) (kind : Kind) (extent : Extent)
-    → HasWholeSectors view → CarriesOut view write_protected srb srb' bytes view' → ((command : Cdb) → Means srb.block command → named command ≡ Some (kind, extent))
+pub moved_enters : (view : MediumView) (write_protected : Bool) (srb : Srb) (bytes : List ℕ) (view' : MediumView) (tag piece : ℕ) (kind : Kind) (extent : Extent)
+    → HasWholeSectors view → CarriesOut view write_protected srb (with_data bytes srb) view' → ((command : Cdb) → Means srb.block command → named command ≡ Some (kind, extent))
     → Enters view write_protected tag piece srb (record { piece = piece; tag = tag; extent = extent; kind = kind; bytes = bytes }) view'
-moved_enters view write_protected srb srb' bytes view' tag piece kind extent whole carries is =
+moved_enters view write_protected srb bytes view' tag piece kind extent whole carries is =
     let sectors_are : view'.sectors ≡ carries.sectors = ap (λ (v : MediumView). v.sectors) carries.after in
     let long : length srb.data ≡ bytes_of view.sector_size carries.command = as_long (disk_of view write_protected) srb carries.command carries.no_fault in
-    let got = entered view.sector_size view.sectors srb.data piece tag bytes carries.moved carries.sectors whole carries.bytes_are carries.command kind extent
+    let bytes_are : bytes ≡ concat carries.moved = ap (λ (s : Srb). s.data) carries.comes_back ∙ carries.bytes_are in
+    let got = entered view.sector_size view.sectors srb.data piece tag bytes carries.moved carries.sectors whole bytes_are carries.command kind extent
     (is carries.command carries.means) long carries.performs in
     record {
       no_row = record { command = carries.command; means = carries.means; no_fault = carries.no_fault };

@@ -16,7 +16,7 @@ use Rattle.adapter.specs.Booking.{IsOfSrb}
 use Rattle.disk.specs.Medium.{MediumView}
 use Rattle.miniport.specs.declared.carrying.Outcome.{Outcome}
 use Rattle.miniport.specs.declared.carrying.Outcome.TheVariants.{Moved, Failed}
-use Rattle.miniport.specs.Carrying.{disk_of, emptied}
+use Rattle.miniport.specs.Carrying.{disk_of, with_data}
 use Rattle.miniport.specs.Faults.{Decodes, fault_of}
 use Rattle.srb.specs.Replaying.{ReplaysKind}
 
@@ -37,7 +37,7 @@ Names block what = (command : Cdb) × Means block command × (named command ≡ 
 
 -- the same in the words of the adapter in memory
 abbrev pub outcome_of : Srb → Result (List ℕ) Completion → Outcome
-outcome_of srb (Ok bytes) = Moved (emptied bytes srb) bytes
+outcome_of srb (Ok bytes) = Moved (with_data bytes srb)
 outcome_of srb (Err completion) = Failed srb completion
 
 -- the command that the SRB asks for fits no row of the table by which a disk fails commands

@@ -91,7 +91,7 @@ fn own_data(srb: &Srb, kind: Kind, place: Bytes) -> Bytes
     }
 }
 
-/// The journal's own SRB of a piece, with this buffer; acts want no second one.
+/// The journal's own SRB of a piece, with this buffer; its acts have no label, and want no room for one.
 fn own_srb(alloc: Global, srb: &Srb, kind: Kind, place: Bytes) -> Srb
     requires { IsOfLength place (length srb.now.data) }
     ensures { IsCopy kind srb.now result }

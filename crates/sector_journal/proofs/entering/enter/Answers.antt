@@ -1,5 +1,5 @@
 use Rattle.std.proofs.Common.{sym, ◌∙◌}
-use Rattle.miniport.specs.Carrying.{emptied}
+use Rattle.miniport.specs.Carrying.{with_data}
 use Rattle.miniport.proofs.Sectors.{refused_ends}
 use Rattle.sector_journal.proofs.Carried.{moved_enters, failed_refuses}
 use Rattle.sector_journal.proofs.entering.enter.Goals as goal
@@ -11,7 +11,7 @@ returns-in-Err g c =
 
 pub returns-in-Ok-perform : goal.returns-in-Ok-perform
 returns-in-Ok-perform g c =
-    moved_enters (g.M.Medium.view c.args.medium.now) c.args.write_protected c.args.srb (emptied c.in-Ok-perform.bytes c.args.srb) c.in-Ok-perform.bytes (g.M.Medium.view c.perform.new.medium)
+    moved_enters (g.M.Medium.view c.args.medium.now) c.args.write_protected c.args.srb c.in-Ok-perform.bytes (g.M.Medium.view c.perform.new.medium)
     c.args.tag c.args.piece c.in-Some.kind c.in-Some.extent (g.met.M.Medium.whole c.args.medium.now) (c.in-Ok-perform.ensures c.args.write_protected c.in-Ok.ensures)
     (λ command means. sym (c.named_in-named.ensures.by_meaning command (rw c.as_slice.ensures.value means)) ∙ c.in-Some.is)
 
