@@ -77,9 +77,11 @@ abbrev pub plain_outcome : Option ReplyError → Outcome
 plain_outcome None = success []
 plain_outcome (Some error) = failure error
 
--- this many bytes from this one on were asked for
-abbrev pub Gets : FiledView → ℕ → ℕ → Result (List ℕ) ReplyError → FiledView → Type 0
-Gets old offset count done new = IsAsked old (ReadEvent old.handle offset (replicate count 0)) done new
+-- this many bytes from this one on were asked for, in place of as many others
+pub record Gets (old : FiledView) (offset count : ℕ) (done : Result (List ℕ) ReplyError) (new : FiledView) : Type 0 where
+  pub buffer : List ℕ
+  pub as_many : length buffer ≡ count
+  pub asked : IsAsked old (ReadEvent old.handle offset buffer) done new
 
 -- the same, or there was no memory for them
 abbrev pub Reads : FiledView → ℕ → ℕ → Result (List ℕ) ReplyError → FiledView → Type 0

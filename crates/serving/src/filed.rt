@@ -1,6 +1,6 @@
 //! A partition of a disk in a storage, served.
 
-ghost use Rattle.std.specs.Prelude.{◌≡◌, ◌≤◌, ◌<◌, ◌+◌, ◌^◌, IfSome, replicate};
+ghost use Rattle.std.specs.Prelude.{◌≡◌, ◌≤◌, ◌<◌, ◌+◌, ◌^◌, IfSome, length, replicate};
 ghost use Rattle.std.specs.Result.{result_err, result_map_both};
 ghost use Rattle.compose.specs.StepLaws.{IsTransferEvent};
 ghost use Rattle.compose.specs.declared.Event.TheVariants.{Write as WriteEvent, Flush as FlushEvent};
@@ -89,6 +89,18 @@ impl<S: Storage + Drop> Filed<S> {
         }
     }
 
+    /// Returns memory for this many bytes, with whatever bytes it has, or nothing where more is refused.
+    fn take_room(&mut self, alloc: Global, count: u32) -> Option<Vec<u8>>
+        ensures room { IfSome result (λ room. length room.items ≡ count) }
+        ensures same { self.new ≡ self.old }
+    {
+        let mut room = mem::replace(&mut self.kept, Vec::new(alloc));
+        match room.resize(count as usize, 0) {
+            Ok(()) => Some(room),
+            Err(_) => None,
+        }
+    }
+
     /// Reads `count` bytes from byte `offset` on.
     ///
     /// # Errors
@@ -98,10 +110,9 @@ impl<S: Storage + Drop> Filed<S> {
         ensures reads { Reads self.old offset count result self.new }
         ensures same { self.new.sizes ≡ self.old.sizes }
     {
-        let mut buffer = mem::replace(&mut self.kept, Vec::new(alloc));
-        if buffer.resize(count as usize, 0).is_err() {
+        let Some(buffer) = self.take_room(alloc, count) else {
             return Err(ReplyError::Enomem);
-        }
+        };
         let event = Event::Read {
             handle: self.handle,
             offset,

@@ -161,6 +161,7 @@ fn acts<S: Storage + Drop>(
 fn book_armed<S: Storage + Drop>(stack: &mut Stack<BookedAdapter>, disk: &mut FileDisk<S>, tag: u8)
     ensures { BooksArmed stack.old disk.old tag stack.new disk.new }
 {
+    stack.shows_whole();
     let Some((piece, srb)) = stack.armed(tag) else {
         return;
     };
