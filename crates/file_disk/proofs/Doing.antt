@@ -3,7 +3,7 @@ use Rattle.std.proofs.Common.{◌≡◌, ◌⊎◌, inl, inr, ℕ, Bool, true, f
 use Rattle.srb.specs.declared.Completion.{Completion}
 use Rattle.file_disk.specs.declared.storage.Failure.{Failure}
 use Rattle.file_disk.specs.declared.file_disk.Task.{Task}
-use Rattle.file_disk.specs.declared.file_disk.Task.TheVariants.{Read as ReadTask, Write as WriteTask, Flush as FlushTask}
+use Rattle.file_disk.specs.declared.file_disk.Task.TheVariants.{Write as WriteTask, Flush as FlushTask}
 use Rattle.file_disk.specs.Calls.{Call, Sync, Since, ReadsAll, StopsReading, StopsWriting, WritesAll}
 use Rattle.file_disk.specs.Transfers.{Does, LacksMemory, ReadsBytes, Syncs, WritesBytes, hardware_fault, read_fault, write_fault}
 
