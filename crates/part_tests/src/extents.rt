@@ -1,7 +1,7 @@
 ghost use Rattle.std.specs.Prelude.{◌≡◌};
 
 use crate::expect::{same, same_at};
-use sector::{Bytes, Extent, InvalidParameter, bytes_to_sectors};
+use sector::{Bytes, Extent, InvalidParameter, LabelRoom, bytes_to_sectors};
 use std::test::Fail;
 
 fn extent(first: u64, count: u64) -> Extent
@@ -81,5 +81,29 @@ fn bytes_are_a_list(rt: HostRuntime) -> Result<(), Fail> {
     let kept = bytes.emptied().into_vec();
     same(&rt, &kept.len(), &0);
     same(&rt, &kept.capacity(), &2);
+    Ok(())
+}
+
+/// What stands behind the bytes is kept, and told to nobody but who takes the memory.
+#[test]
+fn bytes_that_are_emptied_keep_their_memory(rt: HostRuntime) -> Result<(), Fail> {
+    let bytes = Bytes::new(vec![in rt.alloc(); 1, 2]?).emptied();
+    same(&rt, &bytes.as_slice().len(), &0);
+    let spare = bytes.into_spare();
+    same(&rt, &spare.as_slice(), &[1, 2].as_slice());
+    Ok(())
+}
+
+#[test]
+fn label_room_takes_bytes(rt: HostRuntime) -> Result<(), Fail> {
+    let mut room = LabelRoom::new(rt.alloc(), 3)?;
+    same(&rt, &room.capacity(), &3);
+    let taken = room.take();
+    same(&rt, &(room.capacity(), taken.capacity()), &(0, 3));
+    let bytes = taken.filled(&[5, 6]);
+    same(&rt, &bytes.as_slice(), &[5, 6].as_slice());
+    let none = LabelRoom::none(rt.alloc());
+    same(&rt, &none.capacity(), &0);
+    same(&rt, &none.filled(&[]).len(), &0);
     Ok(())
 }
