@@ -24,7 +24,7 @@ use Rattle.adapter.specs.View.{AdapterView, TagInUse}
 use Rattle.adapter.specs.Booking.{with_booked}
 use Rattle.adapter.proofs.Booked.{books_tags, books_sectors}
 use Rattle.sector.specs.Extents.{sectors_in}
-use Rattle.device.specs.Served.{BooksPiece, Moves, IsUnfinished, IsFreshOn, IsActOrFault, ActsOrFaults, ActsNot, TakesLabel, IsAt}
+use Rattle.device.specs.Served.{BooksPiece, Moves, IsUnfinished, IsFreshOn, IsActOrFault, ActsOrFaults, ActsNot, TakesLabel, ForgetsLabels, IsAt}
 use Rattle.machine.proofs.Same.{Run-same, none_there}
 use Rattle.machine.proofs.Numbers.{AreDistinct-Run, AreDistinct-same}
 use Rattle.class_disk.specs.inside.TableView.{Opened, TableView, all_open}
@@ -399,6 +399,13 @@ module _ (v : DeviceView) (books : TableView) (h : IsInHand v books) where
   takes_above v' (Some label) (labels, is, same) ordered = (
     (labels, is, ap (λ (x : DeviceView). view_of x books) same),
     subst (λ x. IsInHand x books) (sym same) (hand_beside (record v.adapter { labels = labels }) (subst IsOrderly same ordered) refl refl),
+  )
+
+  pub forgets_above : (v' : DeviceView) → ForgetsLabels v v' → IsOrderly v'
+      → ForgetsLabels (view_of v books) (view_of v' books) × IsInHand v' books
+  forgets_above v' same ordered = (
+    ap (λ (x : DeviceView). view_of x books) same,
+    subst (λ x. IsInHand x books) (sym same) (hand_beside (record v.adapter { labels = [] }) (subst IsOrderly same ordered) refl refl),
   )
 
   -- WHAT IS BOOKED

@@ -18,12 +18,15 @@ use Rattle.class_disk.specs.declared.parts.Place.{Place}
 use Rattle.class_disk.specs.declared.parts.Progress.{Progress}
 use Rattle.class_disk.specs.declared.parts.Progress.TheVariants.{Ready, Below, Ended as HasEnded}
 use Rattle.class_disk.specs.inside.TableView.{Opened, TableView, opened, open_at}
+use Rattle.class_disk.specs.inside.Blocks.{part_count_of, part_request_of}
 use Rattle.class_disk.specs.inside.Driver.{note, note_by, known, knowns, IsCauseBy, HaveCauses, IsOpen, WentAs, WentInTurn}
 use Rattle.class_disk.specs.inside.Invariant.{IsNothing, IsIfEnded, EndedAre, IsOver, IsOverNote}
 use Rattle.class_disk.specs.inside.DuringACall.{GoesOn, IsMidway, IsOpening, OpeningSoFar, SendsAll, SendsDown, CanSendPart}
 use Rattle.class_disk.specs.inside.Parts.{IsDown, IsDownBy, WasSent, WasSentBy, unfinished_of, unfinished_by}
 use Rattle.class_disk.specs.Shown.{class_rules}
+use Rattle.class_disk.proofs.OnlyPart.{lent_whole}
 use Rattle.class_disk.proofs.Parting.{drop_whole, found_same}
+use Rattle.class_disk.proofs.PiecePlaces.{as_many}
 use Rattle.class_disk.proofs.ReadyParts.{part, is_there, with_place, place, rooms_left, can_send_part}
 use Rattle.class_disk.proofs.SendingOn.{new_part, number_on, part_on, packets_on, table_on, long_on, taking_on, goes_on, sent_on}
 use Rattle.class_disk.proofs.Standing.{AreRising}
@@ -94,6 +97,7 @@ module _ {v : DeviceView}
     buffered = h.buffered;
     written = h.written;
     owned = h.owned;
+    lent = h.lent ∙ lent_whole rules.max_transfer h.o.request k (at_end ∙ as_many (part_request_of rules.max_transfer h.o.request) 0 (part_count_of rules.max_transfer h.o.request) h.o.parts h.cut.parts_are);
     restarts = h.restarts.0 ∙ sym h.restarts.1;
     few = let e = h.restarts.0 in omega arith;
     unfinished = h.unfinished ∙ sym (all_left h.o.parts down);

@@ -39,9 +39,9 @@ can_there t slot number (Open u) false there can = λ o open'.
 
 -- the request is taken out, marked, and put back
 pub cancels_there : (old mid new : Table) (slot number : ℕ) (t u : Transfer) → CanCancelAt (books_of old) slot number
-    → get old.slots slot ≡ Some (Open t) → TakesOut old slot mid → opened_of u ≡ cancelled_one (opened_of t) → PutsBack mid slot u new
+    → get old.slots slot ≡ Some (Open t) → TakesOut old slot mid → PutsBack mid slot u new → opened_of u ≡ cancelled_one (opened_of t)
     → CancelsAtSlot (books_of old) slot number (books_of new)
-cancels_there old mid new slot number t u c was out is back =
+cancels_there old mid new slot number t u c was out back is =
     let same : opened_of t ≡ c.o = stands_as old slot t c.o was c.is_open in
     record {
       o = c.o;

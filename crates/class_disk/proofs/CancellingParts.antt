@@ -79,7 +79,7 @@ numbers_cancelled (Below o again pieces ∷ ps) = ap (λ ns. o.number ∷ ns) (n
 numbers_cancelled (Here marks busy ∷ ps) = numbers_cancelled ps
 
 part_of_cancelled : (rules : Rules) (q : ClientRequest) (first : ℕ) (o : OpenRequest) → IsPartOf rules q first o → IsPartOf rules q first (as_cancelled o)
-part_of_cancelled rules q first o h = record { kind = h.kind; through = h.through; partition = h.partition; from = h.from; short = h.short; timely = h.timely; bytes = h.bytes }
+part_of_cancelled rules q first o h = record { kind = h.kind; through = h.through; partition = h.partition; from = h.from; short = h.short; timely = h.timely; bytes = h.bytes; long = h.long }
 
 parts_cancelled : (rules : Rules) (q : ClientRequest) (first : ℕ) (ps : List Part) → AreParts rules q first ps → AreParts rules q first (map cancelled_part ps)
 parts_cancelled rules q first [] h = h
@@ -288,6 +288,7 @@ module _ (v : DeviceView) (b : TableView) (h : IsInHand v b) (slot : ℕ) (o : O
       buffered = x.buffered;
       written = x.written;
       owned = x.owned;
+      lent = x.lent;
       restarts = x.restarts;
       few = x.few;
       unfinished = x.unfinished;

@@ -13,6 +13,7 @@ use Rattle.class_disk.specs.inside.Joint.{Note, Sent, Kept, Known}
 use Rattle.class_disk.specs.inside.Invariant.{HasSome, IsOverMark, IsOverNote, IsOver, noted_busy}
 use Rattle.class_disk.specs.inside.Parts.{WasSent, WasSentBy, restarts_of, unfinished_of, unfinished_by}
 use Rattle.class_disk.specs.inside.TableView.{Opened, TableView, opened, all_open, restarts_left}
+use Rattle.class_disk.specs.inside.Blocks.{goes_whole}
 use Rattle.class_disk.specs.inside.Driver.{note, note_by, known, knowns, packet_above, request_of_part, IsCauseBy, HaveCauses, IsOpen, IsBuffered, IsWritten}
 use Rattle.class_disk.specs.declared.parts.PartId.{PartId}
 use Rattle.class_disk.specs.inside.Owners.{slot_at, place_at, IsOwnedBy, AreOwnedFrom}
@@ -277,7 +278,7 @@ module _ (rules : Rules) {b : TableView} {slot k : ℕ} {o : Opened} {part : Par
         (λ e apart h. h) all
 
   -- WHAT IS KEPT OF THE REQUEST
-  pub open_now : part'.request ≡ part.request → WasSent part' → IsBuffered rules part' → IsWritten rules o part'
+  pub open_now : part'.request ≡ part.request → WasSent part' → IsBuffered rules (goes_whole rules.max_transfer o.request) part' → IsWritten rules o part'
       → IsOwnedBy b.owners slot k part'.progress → again + part.restarts ≡ o.restarts + part'.restarts → again ≤ 16
       → left + unfinished_by part.progress ≡ o.unfinished + unfinished_by part'.progress → IsOpen rules b.owners (slot, o) → IsOpen rules b.owners
       (slot, o_now)
@@ -293,10 +294,11 @@ module _ (rules : Rules) {b : TableView} {slot k : ℕ} {o : Opened} {part : Par
         };
         carries = w.carries;
         sent = each_part WasSent WasSent sent (λ x h. h) w.sent;
-        buffered = each_part (IsBuffered rules) (IsBuffered rules) buffered (λ x h. h) w.buffered;
+        buffered = each_part (IsBuffered rules (goes_whole rules.max_transfer o.request)) (IsBuffered rules (goes_whole rules.max_transfer o.request)) buffered (λ x h. h) w.buffered;
         written = each_part (IsWritten rules o) (IsWritten rules o) written (λ x h. h) w.written;
         owned = owned_joined b.owners slot 0 s.front (part' ∷ s.back) halves.0
             (subst (λ n. IsOwnedBy b.owners slot n part'.progress) place owned, halves.1.1);
+        lent = w.lent;
         restarts =
             let a = w.restarts in
             let c = ap restarts_of s.parts_are ∙ restarts-append s.front (part ∷ s.back) in

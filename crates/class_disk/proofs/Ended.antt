@@ -20,6 +20,8 @@ use Rattle.class_disk.specs.inside.TableView.{Opened, TableView, opened_of, left
 use Rattle.class_disk.specs.inside.TableCalls.{AddsSlot, TakesEnded, Completes}
 use Rattle.class_disk.specs.Shown.{class_rules}
 use Rattle.class_disk.specs.inside.Driver.{view_of, AreKept, IsInHand}
+use Rattle.class_disk.specs.inside.Blocks.{part_count_of, part_request_of}
+use Rattle.class_disk.proofs.PiecePlaces.{as_many}
 use Rattle.class_disk.proofs.HandingUp.{is_open}
 use Rattle.class_disk.proofs.HandedUp.{handed_up, fits}
 
@@ -105,6 +107,14 @@ module _ (v : DeviceView) (b : TableView) (h : IsInHand v b) (ordered : IsOrderl
       let c : Carries false (class_rules v.rules) o.request (Buffer bytes) = subst (Carries false (class_rules v.rules) o.request) is (is_open v b h ordered slot o new.opens new.ended t.opens over_it).carries in
       let l = ap (λ x. if is_transfer x then o.request.extent.count * v.rules.sector_size else 0) kind in
       omega (arith, f, c, l)
+
+  pub some_up : o.lent ≡ true → 0 < length o.parts
+  some_up lent =
+      let w = is_open v b h ordered slot o new.opens new.ended t.opens over_it in
+      let limit : ℕ = (class_rules v.rules).max_transfer in
+      let many = as_many (part_request_of limit o.request) 0 (part_count_of limit o.request) o.parts w.cut.parts_are in
+      let one = eqb-true (part_count_of limit o.request) 1 (sym w.lent ∙ lent) in
+      omega (arith, many, one)
 
   pub hands_up : (climb : Climb) (places : Places) → Completes new.sizes o climb places → (last : TableView) → AddsSlot new (left_as slot places) last
       → HandsUp false (view_of v b) climb slot (view_of v last)

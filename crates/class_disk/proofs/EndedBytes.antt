@@ -1,5 +1,5 @@
 -- A request all of whose parts succeeded: the sectors that it moved.
-use Rattle.std.proofs.Common.{◌≡◌, ◌<◌, ◌≤◌, ℕ, zero, suc, ◌+◌, ◌-◌, ◌*◌, ◌/◌, min, true, List, [], ◌∷◌, ◌++◌, refl, sym, ◌∙◌, ap, subst, arith, map, length, take, drop, length-append}
+use Rattle.std.proofs.Common.{Bool, ◌≡◌, ◌<◌, ◌≤◌, ℕ, zero, suc, ◌+◌, ◌-◌, ◌*◌, ◌/◌, min, true, List, [], ◌∷◌, ◌++◌, refl, sym, ◌∙◌, ap, subst, arith, map, length, take, drop, length-append}
 use Rattle.std.specs.Prelude.{All, if◌then◌else◌}
 use Rattle.std.specs.List.{list_all, concat, range_with_len}
 use Rattle.std.proofs.Math.Nat.{mul-div_cancel}
@@ -173,31 +173,31 @@ module _ (rules : Rules) where
   joined_first part parts h = ap (λ p. bytes_by p ++ joined_of parts) h.is
 
   -- what a part of a read brought
-  filled : 0 < rules.sector_size → (part : Part) (h : IsGoodPart part) → IsOfKind Read part → IsBuffered rules part → length (payload_bytes (payload_in h.ended.packet)) ≡ places_of rules part * rules.sector_size
-  filled some part h kind buffered =
-      let b : IsBufferedBy rules part.request (PartEnded h.ended) = subst (IsBufferedBy rules part.request) h.is buffered in
+  filled : 0 < rules.sector_size → (only : Bool) (part : Part) (h : IsGoodPart part) → IsOfKind Read part → IsBuffered rules only part → length (payload_bytes (payload_in h.ended.packet)) ≡ places_of rules part * rules.sector_size
+  filled some only part h kind buffered =
+      let b : IsBufferedBy rules only part.request (PartEnded h.ended) = subst (IsBufferedBy rules only part.request) h.is buffered in
       let w = whole_places rules part.request some (ap is_transfer kind) in
-      (b h.good).0 kind ∙ w.1 ∙ ap (λ n. n * rules.sector_size) (sym w.0)
+      b.0 h.good kind ∙ w.1 ∙ ap (λ n. n * rules.sector_size) (sym w.0)
 
-  pub joined_long : 0 < rules.sector_size → (parts : List Part) → All IsGoodPart parts → All (IsOfKind Read) parts → All (IsBuffered rules) parts → length (joined_of parts) ≡ places_in parts * rules.sector_size
-  joined_long some [] good kind buffered = omega arith
-  joined_long some (part ∷ parts) good kind buffered =
+  pub joined_long : 0 < rules.sector_size → (only : Bool) (parts : List Part) → All IsGoodPart parts → All (IsOfKind Read) parts → All (IsBuffered rules only) parts → length (joined_of parts) ≡ places_in parts * rules.sector_size
+  joined_long some only [] good kind buffered = omega arith
+  joined_long some only (part ∷ parts) good kind buffered =
       let g = All-head IsGoodPart part parts good in
-      let a = filled some part g (All-head (IsOfKind Read) part parts kind) (All-head (IsBuffered rules) part parts buffered) in
-      let b = joined_long some parts (All-tail IsGoodPart part parts good) (All-tail (IsOfKind Read) part parts kind) (All-tail (IsBuffered rules) part parts buffered) in
+      let a = filled some only part g (All-head (IsOfKind Read) part parts kind) (All-head (IsBuffered rules only) part parts buffered) in
+      let b = joined_long some only parts (All-tail IsGoodPart part parts good) (All-tail (IsOfKind Read) part parts kind) (All-tail (IsBuffered rules only) part parts buffered) in
       let e = add_times (places_of rules part) (places_in parts) rules.sector_size in
       ap length (joined_first part parts g) ∙ length-append (payload_bytes (payload_in g.ended.packet)) (joined_of parts) ∙ omega (arith, a, b, e)
 
-  pub read_marks : 0 < rules.sector_size → (parts : List Part) → All IsGoodPart parts → All (IsOfKind Read) parts → All (IsBuffered rules) parts
+  pub read_marks : 0 < rules.sector_size → (only : Bool) (parts : List Part) → All IsGoodPart parts → All (IsOfKind Read) parts → All (IsBuffered rules only) parts
       → marks_noted (map (note rules) parts) ≡ map Done (cut (places_in parts) rules.sector_size (joined_of parts))
-  read_marks some [] good kind buffered = refl
-  read_marks some (part ∷ parts) good kind buffered =
+  read_marks some only [] good kind buffered = refl
+  read_marks some only (part ∷ parts) good kind buffered =
       let g = All-head IsGoodPart part parts good in
       let size : ℕ = rules.sector_size in
       let bytes : List ℕ = payload_bytes (payload_in g.ended.packet) in
       let n : ℕ = places_of rules part in
-      let a : length bytes ≡ n * size = filled some part g (All-head (IsOfKind Read) part parts kind) (All-head (IsBuffered rules) part parts buffered) in
-      let b = read_marks some parts (All-tail IsGoodPart part parts good) (All-tail (IsOfKind Read) part parts kind) (All-tail (IsBuffered rules) part parts buffered) in
+      let a : length bytes ≡ n * size = filled some only part g (All-head (IsOfKind Read) part parts kind) (All-head (IsBuffered rules only) part parts buffered) in
+      let b = read_marks some only parts (All-tail IsGoodPart part parts good) (All-tail (IsOfKind Read) part parts kind) (All-tail (IsBuffered rules only) part parts buffered) in
       let first : cut n size bytes ≡ cut n size (bytes ++ joined_of parts) = sym (cut_left n size bytes (joined_of parts) (omega (arith, a))) in
       let behind : joined_of parts ≡ drop (n * size) (bytes ++ joined_of parts) =
       sym (drop_left (n * size) bytes (joined_of parts) (omega (arith, a)) ∙ ap (λ zs. zs ++ joined_of parts) (no_items (drop (n * size) bytes) (length_drop (n * size) bytes ∙ omega (arith, a)))) in
@@ -210,16 +210,16 @@ module _ (rules : Rules) where
 
   -- A FLUSH
 
-  pub flush_marks : (parts : List Part) → All IsGoodPart parts → All (IsOfKind Flush) parts → All (IsBuffered rules) parts
+  pub flush_marks : (only : Bool) (parts : List Part) → All IsGoodPart parts → All (IsOfKind Flush) parts → All (IsBuffered rules only) parts
       → marks_noted (map (note rules) parts) ≡ map Done (cut (places_in parts) rules.sector_size [])
-  flush_marks [] good kind buffered = refl
-  flush_marks (part ∷ parts) good kind buffered =
+  flush_marks only [] good kind buffered = refl
+  flush_marks only (part ∷ parts) good kind buffered =
       let g = All-head IsGoodPart part parts good in
       let size : ℕ = rules.sector_size in
       let n : ℕ = places_of rules part in
-      let buf : IsBufferedBy rules part.request (PartEnded g.ended) = subst (IsBufferedBy rules part.request) g.is (All-head (IsBuffered rules) part parts buffered) in
-      let none : payload_bytes (payload_in g.ended.packet) ≡ [] = (buf g.good).1 (All-head (IsOfKind Flush) part parts kind) in
-      let b = flush_marks parts (All-tail IsGoodPart part parts good) (All-tail (IsOfKind Flush) part parts kind) (All-tail (IsBuffered rules) part parts buffered) in
+      let buf : IsBufferedBy rules only part.request (PartEnded g.ended) = subst (IsBufferedBy rules only part.request) g.is (All-head (IsBuffered rules only) part parts buffered) in
+      let none : payload_bytes (payload_in g.ended.packet) ≡ [] = buf.1 (All-head (IsOfKind Flush) part parts kind) in
+      let b = flush_marks only parts (All-tail IsGoodPart part parts good) (All-tail (IsOfKind Flush) part parts kind) (All-tail (IsBuffered rules only) part parts buffered) in
       good_marks part parts g ∙ ap (λ zs. map Done (cut n size zs) ++ marks_noted (map (note rules) parts)) none
       ∙ ap (λ zs. map Done (cut n size []) ++ zs) b
       ∙ ap (λ zs. map Done (cut n size []) ++ map Done (cut (places_in parts) size zs)) (sym (drop_none (n * size)))
@@ -241,7 +241,7 @@ module _ (rules : Rules) where
       let long : transfer_length rules part.request ≡ n * size = w.1 ∙ ap (λ k. k * size) (sym w.0) in
       let b : IsWrittenBy rules r bytes part.request (PartEnded h.ended) = subst (IsWrittenBy rules r bytes part.request) h.is written in
       let taken : take (n * size) (payload_bytes (payload_in h.ended.packet)) ≡ take (n * size) (drop at bytes) =
-      ap (λ k. take k (payload_bytes (payload_in h.ended.packet))) (sym long) ∙ b h.good kind
+      ap (λ k. take k (payload_bytes (payload_in h.ended.packet))) (sym long) ∙ (b kind).0
       ∙ ap (λ k. take k (drop (bytes_from size r part.request) bytes)) (omega (arith, long))
       ∙ ap (λ k. take (n * size) (drop k bytes)) is_at in
       sym (cut_taken n size (payload_bytes (payload_in h.ended.packet))) ∙ ap (λ zs. cut n size zs) taken ∙ cut_taken n size (drop at bytes)

@@ -13,6 +13,7 @@ use Rattle.device.specs.Served.{HandsUp}
 use Rattle.class_disk.specs.declared.parts.Part.{Part}
 use Rattle.class_disk.specs.declared.parts.Ended.{Ended}
 use Rattle.class_disk.specs.declared.parts.Outcome.{Outcome}
+use Rattle.class_disk.specs.inside.Blocks.{goes_whole}
 use Rattle.class_disk.specs.inside.Joint.{Note, Sent}
 use Rattle.class_disk.specs.inside.Invariant.{WasSent, EndedAre, IsOver, noted_busy}
 use Rattle.class_disk.specs.Shown.{class_rules}
@@ -35,7 +36,8 @@ use Rattle.class_disk.proofs.Noting.{PartStands, ended-append, parts_now, rooms_
 use Rattle.class_disk.proofs.Handed.{Handed}
 use Rattle.class_disk.proofs.Withdrawing.{fewer_packets}
 use Rattle.class_disk.proofs.Changing.{o_now, b_now, each_entry, all_parts, packets_stay, left_now, long_now, known_new, some_now, busy_now, busy_is, over_now, causes_now, open_now, noted_restarts}
-use Rattle.class_disk.proofs.Returning.{same_request, cause_of, over_outcome, packets_taken, part_spotted, part_asked, taking_here, entry_open, was_sent_as, as_many_places, next_stays, removing_stays, is_buffered, is_written}
+use Rattle.class_disk.proofs.Returning.{cause_of, over_outcome, packets_taken, part_spotted, part_asked}
+use Rattle.class_disk.proofs.HandedPart.{same_request, taking_here, entry_open, was_sent_as, as_many_places, next_stays, removing_stays, is_buffered, is_written}
 
 -- THE LIST OF THE ENDED
 
@@ -156,8 +158,8 @@ module _ {takes : Bool} (v : DeviceView) (b : TableView) (climb : Climb) (spot :
     kept_then : AreKept rules b'
     kept_then =
         let k = m.kept in
-        let buffered = is_buffered h ordered d m packet payload_is outcome ends in
-        let written = is_written h ordered d m packet payload_is outcome ends in
+        let buffered = is_buffered h ordered d m (goes_whole rules.max_transfer d.o.request) packet payload_is outcome ends in
+        let written = is_written h ordered d m packet payload_is outcome in
         let one : unfinished_by d.part.progress ≡ 1 = ap unfinished_by s.is_below in
         let long = long_now rules s gone d.o.restarts left b.next_packet ended_slots in
         let still = left_now rules s gone d.o.restarts left b.next_packet ended_slots in

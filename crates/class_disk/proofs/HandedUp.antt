@@ -1,14 +1,14 @@
 -- What goes up with a request that has ended: its bytes, its status and its packet.
 use Rattle.class_disk.specs.declared.requests.Places.{Places}
-use Rattle.std.proofs.Common.{◌≡◌, ◌≢◌, ◌<◌, inl, inr, ℕ, ◌*◌, Bool, true, false, List, [], ◌∷◌, Option, Some, None, refl, sym, ◌∙◌, ap, subst, arith, map, length, drop}
-use Rattle.std.specs.Prelude.{IsPermutation, All, if◌then◌else◌}
+use Rattle.std.proofs.Common.{◌≡◌, ◌≢◌, ◌<◌, inl, inr, ℕ, ◌+◌, ◌*◌, Bool, true, false, List, [], ◌∷◌, Option, Some, None, refl, sym, ◌∙◌, ap, subst, arith, map, length, drop}
+use Rattle.std.specs.Prelude.{IsPermutation, All, slice_get, if◌then◌else◌}
 use Rattle.std.specs.List.{concat}
-use Rattle.std.proofs.lemmas.Bool.{cases_Bool}
+use Rattle.std.proofs.lemmas.Bool.{cases_Bool, eqb-true}
 use Rattle.std.proofs.lemmas.List.Sorted.{IsPermutation-refl, IsPermutation-map}
 use Rattle.std.proofs.lemmas.List.Elements.{All-nil, All-head, Contains-get_or}
 use Rattle.std.proofs.lemmas.List.Sorted.{All-permutation}
 use Rattle.ntstatus.specs.declared.NtStatus.{NtStatus}
-use Rattle.ntstatus.specs.declared.NtStatus.TheVariants.{Success}
+use Rattle.ntstatus.specs.declared.NtStatus.TheVariants.{Success, DeviceBusy}
 use Rattle.device.specs.declared.climbing.Climb.{Climb}
 use Rattle.irp.specs.declared.Payload.{Payload}
 use Rattle.irp.specs.declared.Payload.TheVariants.{Buffer, Srb as Packed, Sent as AtAdapter}
@@ -27,15 +27,18 @@ use Rattle.machine.proofs.Same.{IsSame-refl}
 use Rattle.device.specs.View.{DeviceView, Reserved, Carries, IsOrderly, payload_bytes, sent_bytes}
 use Rattle.device.specs.Served.{SetsRoom, HandsUp, cut, sectors_moved}
 use Rattle.class_disk.specs.declared.parts.Part.{Part}
-use Rattle.class_disk.specs.inside.Blocks.{part_count_of}
+use Rattle.class_disk.specs.inside.Blocks.{part_count_of, part_request_of, goes_whole}
 use Rattle.class_disk.specs.inside.Parts.{lowest_status, joined_of}
 use Rattle.class_disk.specs.inside.TableView.{Opened, TableView, ClosedSlot}
-use Rattle.class_disk.specs.inside.TableCalls.{payload_up, Completes}
+use Rattle.class_disk.specs.inside.TableCalls.{given_up, joined_up, payload_up, Completes}
 use Rattle.class_disk.specs.inside.Joint.{Known, parts_marks}
 use Rattle.class_disk.specs.inside.Invariant.{IsMadeUp, noted_busy}
-use Rattle.class_disk.specs.inside.Driver.{view_of, note, packet_above, IsInHand, IsOpen}
+use Rattle.class_disk.specs.inside.Driver.{view_of, note, packet_above, IsBuffered, IsWritten, IsWrittenBy, IsInHand, IsOpen}
 use Rattle.class_disk.proofs.Acting.{parts_long}
-use Rattle.class_disk.proofs.EndedParts.{marks_noted, IsGoodPart, all_good}
+use Rattle.class_disk.proofs.EndedParts.{marks_noted, IsEndedPart, IsGoodPart, all_good}
+use Rattle.class_disk.proofs.LentUp.{joined_alone, write_alone, flush_alone, carries_alone}
+use Rattle.class_disk.proofs.OnlyPart.{only_part}
+use Rattle.class_disk.proofs.PiecePlaces.{asked_at, as_many}
 use Rattle.class_disk.proofs.EndedBytes.{whole_places, places_in, places_marked, read_marks, flush_marks, write_marks, write_request, IsInRow, joined_long, concat_cut, all_done_are}
 use Rattle.class_disk.proofs.HandingUp.{rules, b', is_open, causes, ended, some_bytes, bounded_part, parts_kind, e, known_is, first_of_all, marks_are, status, bytes_up, answers_up}
 
@@ -53,24 +56,32 @@ none_carried rules r (Packed srb) kind h = absurd h
 none_carried rules r (Buffer bytes) kind h = no_items bytes (h ∙ ap (λ k. if is_transfer k then r.extent.count * rules.sector_size else 0) kind)
 none_carried rules r AtAdapter kind h = absurd h
 
-bytes_joined : (rules : Rules) (r : Request) (payload : Payload) (parts : List Part) → Carries false rules r payload → payload_bytes (payload_up true payload parts) ≡ joined_of parts
+bytes_joined : (rules : Rules) (r : Request) (payload : Payload) (parts : List Part) → Carries false rules r payload → payload_bytes (joined_up true payload parts) ≡ joined_of parts
 bytes_joined rules r (Packed srb) parts h = absurd h
 bytes_joined rules r (Buffer bytes) parts h = refl
 bytes_joined rules r AtAdapter parts h = absurd h
 
-sent_same : (kind : Kind) (joins : Bool) (payload : Payload) (parts : List Part) → (joins ≡ true → kind ≡ Read) → sent_bytes kind (payload_up joins payload parts) ≡ sent_bytes kind payload
-sent_same Read joins payload parts h = refl
-sent_same Flush joins payload parts h = refl
-sent_same Write false payload parts h = refl
-sent_same Write true payload parts h = absurd (cc (h refl))
+sent_same : (kind : Kind) (up payload : Payload) → (kind ≡ Write → payload_bytes up ≡ payload_bytes payload) → sent_bytes kind up ≡ sent_bytes kind payload
+sent_same Read up payload h = refl
+sent_same Flush up payload h = refl
+sent_same Write up payload h = h refl
 
-carries_up : (rules : Rules) (r : Request) (joins : Bool) (payload : Payload) (parts : List Part) → joins ≡ false → Carries false rules r payload → Carries false rules r (payload_up joins payload parts)
+carries_up : (rules : Rules) (r : Request) (joins : Bool) (payload : Payload) (parts : List Part) → joins ≡ false → Carries false rules r payload → Carries false rules r (joined_up joins payload parts)
 carries_up rules r false payload parts is h = h
 carries_up rules r true payload parts is h = absurd (cc (is))
 
-bytes_kept : (joins : Bool) (payload : Payload) (parts : List Part) → joins ≡ false → payload_bytes (payload_up joins payload parts) ≡ payload_bytes payload
+bytes_kept : (joins : Bool) (payload : Payload) (parts : List Part) → joins ≡ false → payload_bytes (joined_up joins payload parts) ≡ payload_bytes payload
 bytes_kept false payload parts is = refl
 bytes_kept true payload parts is = absurd (cc (is))
+
+one_item : (parts : List Part) → length parts ≡ 1 → (part : Part) × (parts ≡ part ∷ [])
+one_item [] one = absurd (omega (arith, one))
+one_item (part ∷ []) one = (part, refl)
+one_item (part ∷ more ∷ rest) one = absurd (omega (arith, one))
+
+by_lent : (P : Bool → Type 0) (lent : Bool) → (lent ≡ true → P true) → (lent ≡ false → P false) → P lent
+by_lent P true yes' no' = yes' refl
+by_lent P false yes' no' = no' refl
 
 module _ (v : DeviceView) (b : TableView) (h : IsInHand v b) (ordered : IsOrderly v)
     (slot : ℕ) (o : Opened) (opens' : List (ℕ × Opened)) (ended' : List ℕ) (is_in : IsPermutation b.opens ((slot, o) ∷ opens')) (over : o.unfinished ≡ 0) where
@@ -79,6 +90,60 @@ module _ (v : DeviceView) (b : TableView) (h : IsInHand v b) (ordered : IsOrderl
 
   own_open : IsOpen own_rules b.owners (slot, o)
   own_open = is_open v b h ordered slot o opens' ended' is_in over
+
+  abbrev only : Bool
+  only = goes_whole own_rules.max_transfer o.request
+
+  many_parts : length o.parts ≡ part_count_of own_rules.max_transfer o.request
+  many_parts = as_many (part_request_of own_rules.max_transfer o.request) 0 (part_count_of own_rules.max_transfer o.request) o.parts own_open.cut.parts_are
+
+  -- where its buffer was lent
+  module _ (lent : o.lent ≡ true) where
+    is_only : only ≡ true
+    is_only = sym own_open.lent ∙ lent
+
+    abbrev alone : (part : Part) × (o.parts ≡ part ∷ [])
+    alone = one_item o.parts (many_parts ∙ eqb-true _ 1 is_only)
+
+    abbrev part : Part
+    part = alone.0
+
+    asks_all : part.request ≡ o.request
+    asks_all =
+        let a = asked_at (part_request_of own_rules.max_transfer o.request) 0 (part_count_of own_rules.max_transfer o.request) o.parts 0 part own_open.cut.parts_are (ap (λ ps. slice_get ps 0) alone.1) in
+        a.0 ∙ only_part own_rules.max_transfer o.request (0 + 0) h.port.some_transfer (eqb-true _ 1 is_only) (let low = a.1 in omega (arith, low))
+
+    its : (P : Part → Type 0) → All P o.parts → P part
+    its P all = All-head P part [] (subst (All P) alone.1 all)
+
+    part_ended : IsEndedPart part
+    part_ended = its IsEndedPart (ended v b h ordered slot o opens' ended' is_in over)
+
+    part_buffered : IsBuffered own_rules true part
+    part_buffered = subst (λ t. IsBuffered own_rules t part) is_only (its (IsBuffered own_rules only) own_open.buffered)
+
+    part_written : IsWrittenBy own_rules o.request (payload_bytes o.irp.payload) part.request part.progress
+    part_written = its (IsWritten own_rules o) own_open.written
+
+    up_joined : payload_bytes (given_up o.parts) ≡ joined_of o.parts
+    up_joined = subst (λ ps. payload_bytes (given_up ps) ≡ joined_of ps) (sym alone.1)
+        (joined_alone own_rules o.request o.irp.payload part part_ended asks_all part_buffered part_written own_open.carries)
+
+    up_other : o.request.kind ≢ Read → payload_bytes (given_up o.parts) ≡ payload_bytes o.irp.payload
+    up_other not = by o.request.kind refl
+      where
+        by : (kind : Kind) → o.request.kind ≡ kind → payload_bytes (given_up o.parts) ≡ payload_bytes o.irp.payload
+        by Read is = absurd (not is)
+        by Write is = ap (λ ps. payload_bytes (given_up ps)) alone.1
+            ∙ write_alone own_rules o.request o.irp.payload part part_ended asks_all part_buffered part_written own_open.carries is
+        by Flush is = ap (λ ps. payload_bytes (given_up ps)) alone.1
+            ∙ flush_alone own_rules o.request o.irp.payload part part_ended asks_all part_buffered part_written own_open.carries is
+            ∙ sym (none_carried own_rules o.request o.irp.payload is own_open.carries)
+
+    up_carries : lowest_status o.parts ≡ DeviceBusy → Carries false own_rules o.request (given_up o.parts)
+    up_carries busy = subst (λ ps. Carries false own_rules o.request (given_up ps)) (sym alone.1)
+        (carries_alone own_rules o.request o.irp.payload part part_ended asks_all part_buffered part_written own_open.carries
+        (ap lowest_status (sym alone.1) ∙ busy))
 
   -- where it succeeds, each part did
   pub good : lowest_status o.parts ≡ Success → All IsGoodPart o.parts
@@ -103,7 +168,7 @@ module _ (v : DeviceView) (b : TableView) (h : IsInHand v b) (ordered : IsOrderl
   pub fits : o.request.kind ≡ Read → lowest_status o.parts ≡ Success → length (joined_of o.parts) ≡ o.request.extent.count * own_rules.sector_size
   fits kind succeeds =
       let all = good succeeds in
-      joined_long own_rules size o.parts all (subst (λ k. All (λ (part : Part). part.request.kind ≡ k) o.parts) kind (parts_kind own_rules own_rules.max_transfer o.request o.parts own_open.cut.parts_are)) own_open.buffered
+      joined_long own_rules size only o.parts all (subst (λ k. All (λ (part : Part). part.request.kind ≡ k) o.parts) kind (parts_kind own_rules own_rules.max_transfer o.request o.parts own_open.cut.parts_are)) own_open.buffered
       ∙ ap (λ n. n * own_rules.sector_size) (all_places all ∙ (whole_places own_rules o.request size (ap is_transfer kind)).0)
 
   abbrev moved_marks : List ℕ → List Mark
@@ -116,10 +181,10 @@ module _ (v : DeviceView) (b : TableView) (h : IsInHand v b) (ordered : IsOrderl
       → marks_noted (map (note own_rules) o.parts) ≡ moved_marks bytes
   marks_by Read is succeeds bytes read other =
       let all = good succeeds in
-      read_marks own_rules size o.parts all (kinds Read is) own_open.buffered ∙ ap (λ n. map Done (cut n own_rules.sector_size (joined_of o.parts))) (all_places all) ∙ ap moved_marks (sym (read refl))
+      read_marks own_rules size only o.parts all (kinds Read is) own_open.buffered ∙ ap (λ n. map Done (cut n own_rules.sector_size (joined_of o.parts))) (all_places all) ∙ ap moved_marks (sym (read refl))
   marks_by Flush is succeeds bytes read other =
       let all = good succeeds in
-      flush_marks own_rules o.parts all (kinds Flush is) own_open.buffered ∙ ap (λ n. map Done (cut n own_rules.sector_size [])) (all_places all)
+      flush_marks own_rules only o.parts all (kinds Flush is) own_open.buffered ∙ ap (λ n. map Done (cut n own_rules.sector_size [])) (all_places all)
       ∙ ap moved_marks (sym (other (λ x. cc (x)) ∙ none_carried own_rules o.request o.irp.payload is own_open.carries))
   marks_by Write is succeeds bytes read other =
       let all = good succeeds in
@@ -145,17 +210,22 @@ module _ (v : DeviceView) (b : TableView) (h : IsInHand v b) (ordered : IsOrderl
     left_now = record (b' v b h ordered slot o opens' ended' is_in over) { held = held'; rooms = rooms' }
 
     abbrev payload : Payload
-    payload = payload_up c.joins o.irp.payload o.parts
+    payload = payload_up o.lent c.joins o.irp.payload o.parts
+
+    -- the buffer that was lent, or its own
+    either : (P : Payload → Type 0) → (o.lent ≡ true → P (given_up o.parts)) → (o.lent ≡ false → P (joined_up c.joins o.irp.payload o.parts)) → P payload
+    either P lent own = by_lent (λ t. P (payload_up t c.joins o.irp.payload o.parts)) o.lent lent own
 
     read_bytes : o.request.kind ≡ Read → lowest_status o.parts ≡ Success → payload_bytes payload ≡ joined_of o.parts
     read_bytes kind succeeds =
-        ap (λ joins. payload_bytes (payload_up joins o.irp.payload o.parts)) (c.joins_then kind succeeds) ∙ bytes_joined own_rules o.request o.irp.payload o.parts own_open.carries
+        either (λ p. payload_bytes p ≡ joined_of o.parts) up_joined
+        (λ own. ap (λ joins. payload_bytes (joined_up joins o.irp.payload o.parts)) (c.joins_then kind succeeds) ∙ bytes_joined own_rules o.request o.irp.payload o.parts own_open.carries)
 
     other_bytes : o.request.kind ≢ Read → payload_bytes payload ≡ payload_bytes o.irp.payload
-    other_bytes not = elim (cases_Bool c.joins) [
+    other_bytes not = either (λ p. payload_bytes p ≡ payload_bytes o.irp.payload) (λ lent. up_other lent not) (λ own. elim (cases_Bool c.joins) [
       | inl joins ↦ absurd (not (c.joins_if joins).0)
       | inr kept ↦ bytes_kept c.joins o.irp.payload o.parts kept
-    ]
+    ])
 
     moved_up : lowest_status o.parts ≡ Success → parts_marks (e v b h ordered slot o opens' ended' is_in over).parts ≡ map Done (sectors_moved own_rules o.request payload)
     moved_up succeeds =
@@ -168,7 +238,7 @@ module _ (v : DeviceView) (b : TableView) (h : IsInHand v b) (ordered : IsOrderl
     request_up : (e v b h ordered slot o opens' ended' is_in over).request ≡ as_client own_rules o.request (sent_bytes o.request.kind payload)
     request_up =
         ap (λ (k : Known). k.request) (known_is v b h ordered slot o opens' ended' is_in over)
-        ∙ ap (as_client own_rules o.request) (sym (sent_same o.request.kind c.joins o.irp.payload o.parts (λ is. (c.joins_if is).0)))
+        ∙ ap (as_client own_rules o.request) (sym (sent_same o.request.kind payload o.irp.payload (λ is. other_bytes (λ reads. cc (is, reads)))))
 
     brought : o.request.kind ≡ Read → lowest_status o.parts ≡ Success → bytes ≡ joined_of o.parts
     brought kind succeeds =
@@ -202,10 +272,10 @@ module _ (v : DeviceView) (b : TableView) (h : IsInHand v b) (ordered : IsOrderl
       is_request = request_up;
       moved = moved_up;
       busy = λ one back. absurd (cc (one));
-      carries = λ busy. elim (cases_Bool c.joins) [
+      carries = λ busy. either (Carries false own_rules o.request) (λ lent. up_carries lent busy) (λ own. elim (cases_Bool c.joins) [
         | inl joins ↦ absurd (let s = (c.joins_if joins).1 in cc (s, busy))
         | inr kept ↦ carries_up own_rules o.request c.joins o.irp.payload o.parts kept own_open.carries
-      ];
+      ]);
       brings = λ kind succeeds. read_bytes kind succeeds ∙ sym (brought kind succeeds);
       filled = λ kind succeeds. ap length (brought kind succeeds) ∙ fits kind succeeds;
       empty = none_brought;

@@ -36,6 +36,7 @@ part_alike rules q first o o' a h = record {
   short = let l = a.long in let s = h.short in omega arith;
   timely = a.late ∙ h.timely;
   bytes = λ at count fits. subst (λ r. slice_range r.bytes (at * rules.sector_size) ((at + count) * rules.sector_size) ≡ slice_range q.bytes ((first + at) * rules.sector_size) ((first + at + count) * rules.sector_size)) (sym a.request) (h.bytes at count (let l = a.long in omega arith));
+  long = λ is. ap (λ r. length r.bytes) a.request ∙ h.long (sym (ap (λ r. r.kind) a.request) ∙ is) ∙ ap (λ n. n * rules.sector_size) (sym a.long);
 }
 
 -- PARTS

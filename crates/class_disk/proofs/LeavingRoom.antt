@@ -17,15 +17,16 @@ use Rattle.class_disk.proofs.Rooms.{out_any_order}
 use Rattle.class_disk.specs.inside.Owners.{IsOwnedBy, AreOwnedFrom}
 use Rattle.class_disk.specs.declared.parts.Part.{Part}
 use Rattle.class_disk.specs.declared.requests.Places.{Places}
-use Rattle.class_disk.specs.inside.Parts.{IsHere, tickets_of}
+use Rattle.class_disk.specs.inside.Parts.{tickets_of}
 use Rattle.class_disk.specs.inside.TableView.{Opened, TableView, opened, left_as, all_open, ended_in, open_from}
 use Rattle.class_disk.specs.inside.TableCalls.{AddsSlot, TakesEnded, Completes}
 use Rattle.class_disk.specs.inside.Invariant.{HasSome, IsOver}
 use Rattle.class_disk.specs.Shown.{class_rules}
-use Rattle.class_disk.specs.inside.Driver.{known, knowns, view_of, tickets, tickets_held, tickets_open, IsCut, IsBuffered, IsHeld, IsOpen, HaveCauses, AreAsked, AreSpotted, AreKept, AreBelow, IsCoupled, IsInHand}
+use Rattle.class_disk.specs.inside.Driver.{known, knowns, view_of, tickets, tickets_held, tickets_open, IsCut, IsHeld, IsOpen, HaveCauses, AreAsked, AreSpotted, AreKept, AreBelow, IsCoupled, IsInHand}
 use Rattle.class_disk.proofs.AnyOrder.{second_first, rooms_same, held_same, ended_same, left_same}
 use Rattle.class_disk.proofs.Finishing.{in_hand_again}
 use Rattle.class_disk.proofs.EndedParts.{IsEndedPart, ended_here}
+use Rattle.class_disk.proofs.PartsLeft.{requests_left, tickets_left, ended_left_parts}
 use Rattle.class_disk.proofs.Slots.{Slots}
 use Rattle.class_disk.proofs.Standing.{IsApart}
 use Rattle.class_disk.proofs.HandingUp.{b', is_open, ended, j', same_others, knows_others, keeps_others, status, bytes_up, answers_up}
@@ -69,10 +70,11 @@ module _ (v : DeviceView) (b : TableView) (h : IsInHand v b) (ordered : IsOrderl
   room_left =
       let all = ended v b h ordered slot o new.opens new.ended t.opens over in
       record {
-        cut = subst (λ r. IsCut rules r places.parts.items) (sym c.request) (subst (IsCut rules o.request) (sym c.parts) own.cut);
-        here = subst (All IsHere) (sym c.parts) (ended_here o.parts all);
-        buffered = subst (All (IsBuffered rules)) (sym c.parts) own.buffered;
-        owned = subst (AreOwnedFrom b.owners slot 0) (sym c.parts) (none_owned 0 o.parts all);
+        cut = subst (λ r. IsCut rules r places.parts.items) (sym c.request)
+            (record { bounded = own.cut.bounded; parts_are = requests_left o.parts places.parts.items c.parts ∙ own.cut.parts_are });
+        here = ended_here places.parts.items (ended_left_parts o.parts places.parts.items c.parts all);
+        buffered = λ whole. absurd (cc (whole));
+        owned = none_owned 0 places.parts.items (ended_left_parts o.parts places.parts.items c.parts all);
         ready = λ whole. absurd (cc (whole));
       }
 
@@ -112,7 +114,7 @@ module _ (v : DeviceView) (b : TableView) (h : IsInHand v b) (ordered : IsOrderl
   rooms_left =
       out_any_order v _ _ (IsPermutation-trans _ _ _ (IsPermutation-append_right (tickets_held b.held) _ _ (rooms_same _ _ open_others))
       (IsPermutation-trans _ _ _ (second_first (tickets_held b.held) (tickets_of o.parts) (tickets_open (all_open left)))
-      (IsPermutation-trans _ _ _ (subst (λ ps. IsPermutation (tickets_of o.parts ++ (tickets_held b.held ++ tickets_open (all_open left))) ((tickets_of ps ++ tickets_held b.held) ++ tickets_open (all_open left))) (sym c.parts)
+      (IsPermutation-trans _ _ _ (subst (λ ts. IsPermutation (tickets_of o.parts ++ (tickets_held b.held ++ tickets_open (all_open left))) ((ts ++ tickets_held b.held) ++ tickets_open (all_open left))) (sym (tickets_left o.parts places.parts.items c.parts))
       (subst (IsPermutation (tickets_of o.parts ++ (tickets_held b.held ++ tickets_open (all_open left)))) (sym (append_assoc (tickets_of o.parts) (tickets_held b.held) (tickets_open (all_open left)))) (IsPermutation-refl _)))
       (IsPermutation-append_left (tickets_open (all_open left)) _ _ (IsPermutation-sym _ _ (held_same _ _ one_more)))))) h.rooms_out
 

@@ -27,11 +27,13 @@ pub mod FirstSending
 pub mod Focus
 pub mod Fresh
 pub mod Handed
+pub mod HandedPart
 pub mod HandedUp
 pub mod HandingUp
 pub mod InPieces
 pub mod Keeping
 pub mod LeavingRoom
+pub mod LentUp
 pub mod Making
 pub mod Midst
 pub mod NewParts
@@ -40,6 +42,7 @@ pub mod NearParts
 pub mod NoneEnded
 pub mod NotedBusy
 pub mod Noting
+pub mod OnlyPart
 pub mod OpeningBegins
 pub mod Orderly
 pub mod OthersStay
@@ -50,6 +53,7 @@ pub mod PartRooms
 pub mod PartSending
 pub mod Parting
 pub mod PieceParts
+pub mod PartsLeft
 pub mod PiecePlaces
 pub mod ReadyParts
 pub mod Replacing

@@ -9,7 +9,7 @@ use Rattle.split.specs.Pieces.{piece_of}
 use Rattle.machine.specs.Rules.{Rules, is_transfer}
 use Rattle.class_disk.specs.declared.Sizes.{Sizes}
 use Rattle.class_disk.specs.declared.parts.Part.{Part}
-use Rattle.class_disk.specs.inside.Blocks.{AreSizes, part_count_of, part_request_of, requests_for}
+use Rattle.class_disk.specs.inside.Blocks.{goes_whole, AreSizes, part_count_of, part_request_of, requests_for}
 use Rattle.class_disk.specs.inside.Parts.{HasBuffers, IsHere, IsHereBy}
 use Rattle.class_disk.specs.declared.parts.PartId.{PartId}
 use Rattle.class_disk.specs.inside.Owners.{AreOwnedFrom}
@@ -40,11 +40,12 @@ part_kind limit r k = by (is_transfer r.kind)
 
 -- what a part was asked for with the table as it was then
 pub asked_now : (was now : Sizes) (r asked : Request) (k : ℕ) (part : Part)
-    → was ≡ now → asked ≡ part_request_of was.max_transfer r k → IsNewPart was.sector_size asked part
-    → IsNewPart now.sector_size (part_request_of now.max_transfer r k) part
-asked_now was now r asked k part same is h =
-    subst (λ (s : Sizes). IsNewPart s.sector_size (part_request_of s.max_transfer r k) part) same
-    (subst (λ q. IsNewPart was.sector_size q part) is h)
+    → was ≡ now → asked ≡ part_request_of was.max_transfer r k → (only : Bool) → only ≡ goes_whole now.max_transfer r → IsNewPart only was.sector_size asked part
+    → IsNewPart (goes_whole now.max_transfer r) now.sector_size (part_request_of now.max_transfer r k) part
+asked_now was now r asked k part same is only whole h =
+    subst (λ x. IsNewPart x now.sector_size (part_request_of now.max_transfer r k) part) whole
+    (subst (λ (s : Sizes). IsNewPart only s.sector_size (part_request_of s.max_transfer r k) part) same
+    (subst (λ q. IsNewPart only was.sector_size q part) is h))
 
 -- and its kind
 pub kind_now : (was : Sizes) (r asked : Request) (k : ℕ) → asked ≡ part_request_of was.max_transfer r k → r.kind ≡ asked.kind
@@ -57,7 +58,7 @@ module _ (sizes : Sizes) (r : Request) where
   -- one part more
   pub one_made : (count : ℕ) (items front : List Part) (part : Part) → items ≡ front ++ part ∷ []
       → AreNewParts sizes r count front
-      → IsNewPart sizes.sector_size (part_request_of sizes.max_transfer r count) part
+      → IsNewPart (goes_whole sizes.max_transfer r) sizes.sector_size (part_request_of sizes.max_transfer r count) part
       → AreNewParts sizes r (count + 1) items
   one_made count items front part is h new = subst (AreNewParts sizes r (count + 1)) (sym is) (record {
     long = let l = h.long in let e = length_push front part in omega arith;
@@ -65,8 +66,8 @@ module _ (sizes : Sizes) (r : Request) where
       | inl before ↦ h.are k x before
       | inr last ↦
           let at : count ≡ k = let l = h.long in let e = last.0 in omega arith in
-          subst (λ n. IsNewPart sizes.sector_size (part_request_of sizes.max_transfer r n) x) at
-          (subst (IsNewPart sizes.sector_size (part_request_of sizes.max_transfer r count)) last.1 new)
+          subst (λ n. IsNewPart (goes_whole sizes.max_transfer r) sizes.sector_size (part_request_of sizes.max_transfer r n) x) at
+          (subst (IsNewPart (goes_whole sizes.max_transfer r) sizes.sector_size (part_request_of sizes.max_transfer r count)) last.1 new)
     ];
   })
 
@@ -82,13 +83,14 @@ module _ (sizes : Sizes) (r : Request) where
         (new.first, subst IsReadyBy (sym new.is_ready) tt))
 
     -- each has its buffers
-    pub new_buffered : (rules : Rules) → sizes.sector_size ≡ rules.sector_size → All (IsBuffered rules) parts
-    new_buffered rules same = all_from_get (IsBuffered rules) parts (λ k part is.
+    pub new_buffered : (rules : Rules) → sizes.sector_size ≡ rules.sector_size → sizes.max_transfer ≡ rules.max_transfer → All (IsBuffered rules (goes_whole rules.max_transfer r)) parts
+    new_buffered rules same limits = all_from_get (IsBuffered rules (goes_whole rules.max_transfer r)) parts (λ k part is.
         let new = h.are k part is in
-        let own : HasBuffers rules.sector_size part.request new.place =
-        subst (λ n. HasBuffers n part.request new.place) same
-        (subst (λ q. HasBuffers sizes.sector_size q new.place) (sym new.asks) new.buffers) in
-        subst (IsBufferedBy rules part.request) (sym new.is_ready) own)
+        let own : HasBuffers (goes_whole sizes.max_transfer r) rules.sector_size part.request new.place =
+        subst (λ n. HasBuffers (goes_whole sizes.max_transfer r) n part.request new.place) same
+        (subst (λ q. HasBuffers (goes_whole sizes.max_transfer r) sizes.sector_size q new.place) (sym new.asks) new.buffers) in
+        subst (IsBufferedBy rules (goes_whole rules.max_transfer r) part.request) (sym new.is_ready)
+        (subst (λ n. HasBuffers (goes_whole n r) rules.sector_size part.request new.place) limits own))
 
     -- they ask for what the request is cut into
     pub new_requests : (limit : ℕ) → sizes.max_transfer ≡ limit → count ≡ part_count_of limit r
@@ -119,7 +121,7 @@ module _ (sizes : Sizes) (r : Request) where
       parts_are = new_requests _ held.parts h rules.max_transfer are.max_transfer (ap (λ n. part_count_of n r) are.max_transfer);
     });
     here = new_here _ held.parts h;
-    buffered = new_buffered _ held.parts h rules are.sector_size;
+    buffered = λ whole. subst (λ q. All (IsBuffered rules (goes_whole rules.max_transfer q)) held.parts) (sym is) (new_buffered _ held.parts h rules are.sector_size are.max_transfer);
     owned = owned;
     ready = λ whole. new_ready _ held.parts h;
   }

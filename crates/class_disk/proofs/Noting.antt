@@ -16,6 +16,7 @@ use Rattle.class_disk.specs.inside.Invariant.{noted_busy}
 use Rattle.class_disk.specs.inside.Parts.{ticket_for, tickets_of, ticket_by, WasSent, restarts_of, unfinished_of, unfinished_by}
 use Rattle.class_disk.specs.inside.TableView.{Opened, TableView, opened, all_open, ended_in, restarts_left}
 use Rattle.class_disk.specs.inside.TableCalls.{ended_part, ended_at, ended_books}
+use Rattle.class_disk.specs.inside.Blocks.{goes_whole}
 use Rattle.class_disk.specs.inside.Driver.{note, known, knowns, tickets_open, packet_above, request_of_part, IsOpen, IsBuffered, IsWritten, AreKept, IsCause, IsCauseBy, HaveCauses}
 use Rattle.class_disk.specs.inside.Owners.{IsOwnedBy, AreOwnedFrom}
 use Rattle.class_disk.proofs.Retaking.{known_at}
@@ -110,7 +111,7 @@ module _ (rules : Rules) (b : TableView) (slot k : ℕ) (o : Opened) (part : Par
       let d : unfinished_by part.progress ≡ 1 = ap unfinished_by s.is_below in
       omega arith
 
-  module _ (is_open : IsOpen rules b.owners (slot, o)) (buffered : IsBuffered rules (ended_part ended part)) (written : IsWritten rules o (ended_part ended part)) where
+  module _ (is_open : IsOpen rules b.owners (slot, o)) (buffered : IsBuffered rules (goes_whole rules.max_transfer o.request) (ended_part ended part)) (written : IsWritten rules o (ended_part ended part)) where
     pub open_now : IsOpen rules b.owners (slot, now)
     open_now = record {
       cut = record {
@@ -120,9 +121,10 @@ module _ (rules : Rules) (b : TableView) (slot k : ℕ) (o : Opened) (part : Par
       };
       carries = is_open.carries;
       sent = in_parts WasSent (λ h. tt) is_open.sent;
-      buffered = in_parts (IsBuffered rules) (λ h. buffered) is_open.buffered;
+      buffered = in_parts (IsBuffered rules (goes_whole rules.max_transfer o.request)) (λ h. buffered) is_open.buffered;
       written = in_parts (IsWritten rules o) (λ h. written) is_open.written;
       owned = subst (AreOwnedFrom b.owners slot 0) (sym parts_now) (owned_ended b.owners slot 0 ended s.front part s.back (subst (AreOwnedFrom b.owners slot 0) s.parts_are is_open.owned));
+      lent = is_open.lent;
       restarts = is_open.restarts ∙ ap restarts_of s.parts_are ∙ restarts-append s.front (part ∷ s.back)
           ∙ sym (ap restarts_of parts_now ∙ restarts-append s.front (ended_part ended part ∷ s.back));
       few = is_open.few;
@@ -165,7 +167,7 @@ module _ (rules : Rules) (b : TableView) (slot k : ℕ) (o : Opened) (part : Par
       (All-middle (λ (x : Part). IsCauseBy c b.removing n' x.progress) s.front part (ended_part ended part) s.back (λ was. cause) (subst (All (λ (x : Part). IsCauseBy c b.removing n' x.progress)) s.parts_are more))
 
   -- WHAT IS KEPT
-  pub kept_now : AreKept rules b → IsBuffered rules (ended_part ended part) → IsWritten rules o (ended_part ended part)
+  pub kept_now : AreKept rules b → IsBuffered rules (goes_whole rules.max_transfer o.request) (ended_part ended part) → IsWritten rules o (ended_part ended part)
       → noted_busy (map (note rules) o.parts) ≤ noted_busy (map (note rules) now.parts) → IsCause o.irp.cancelled b.removing (noted_busy (map (note rules) now.parts)) ended.outcome → AreKept rules books_now
   kept_now h buffered written busy cause =
       let all : All (IsOpen rules b.owners) ((slot, o) ∷ (s.stands.before ++ s.stands.after)) = All-permutation (IsOpen rules b.owners) _ _ old_first h.opens in

@@ -136,9 +136,10 @@ module _ (v : DeviceView) (b : TableView) (h : IsInHand v b) (slot : ℕ) (irp :
     opens = h.kept.opens;
     cut = record { bounded = is_room.cut.bounded; parts_are = is_room.cut.parts_are };
     carries = carries;
-    buffered = is_room.buffered;
+    buffered = is_room.buffered opens.whole;
     written = each (λ x p. IsWrittenBy rules opens.held.request (payload_bytes irp.payload) x.request p) (λ x unsent. tt);
     owned = subst (λ n. AreOwnedFrom b.owners n 0 parts) opens.slot_is is_room.owned;
+    lent = refl;
     restarts = (refl, no_restarts parts is_ready);
     unfinished = refl;
     ended = ended_open;

@@ -1,5 +1,5 @@
 -- A part that goes down is the part of its request that begins at its place: all parts behind it are here.
-use Rattle.std.proofs.Common.{◌≡◌, ◌<◌, ◌≤◌, ℕ, ◌+◌, ◌-◌, ◌*◌, ◌/◌, Bool, false, List, [], ◌∷◌, refl, sym, ◌∙◌, ap, subst, arith, map}
+use Rattle.std.proofs.Common.{◌≡◌, ◌<◌, ◌≤◌, ℕ, ◌+◌, ◌-◌, ◌*◌, ◌/◌, Bool, false, List, [], ◌∷◌, refl, sym, ◌∙◌, ap, subst, arith, map, length}
 use Rattle.std.specs.Prelude.{All, slice_range}
 use Rattle.std.specs.List.{range_with_len}
 use Rattle.std.proofs.lemmas.List.{length-replicate}
@@ -103,23 +103,23 @@ module _ (rules : Rules) (some : 0 < rules.sector_size) (some_limit : 0 < rules.
         ≡ slice_range (payload_bytes whole) (bytes_from size (asked kind) (part kind))
         (bytes_from size (asked kind) (part kind) + data_length size (part kind))
 
-    pub part_lies : (kind : Kind) → k + 1 + m ≡ part_count_of limit (asked kind) → BringsItsOwn kind
+    pub part_lies : (kind : Kind) → k + 1 + m ≡ part_count_of limit (asked kind) → (kind ≡ Write → length (payload_bytes payload) ≡ data_length size (part kind)) → BringsItsOwn kind
         → at + (places_for rules (part kind) + total (map (λ j. places_for rules (part_request_of limit (asked kind) j)) (range_with_len (k + 1) m))) ≡ places_for rules
         (asked kind)
         → IsPartOf rules (as_client rules (asked kind) (sent_bytes kind whole)) at
         (new_request (below_rules rules) s next (as_client rules (part kind) (sent_bytes kind payload)))
-    part_lies Read many brings places =
+    part_lies Read many own brings places =
         subst (λ n. IsPartOf rules (as_client rules (asked Read) []) n (new_request (below_rules rules) s next (as_client rules (part Read) [])))
         (sym (begins_at k m at many places))
         (read_part rules some volume extent through s runs next k [] [] (λ a n fits. range_none _ _ _ _))
-    part_lies Write many brings places =
+    part_lies Write many own brings places =
         let from : (extent.first + k * limit - extent.first) * size ≡ (k * limit) * size = ap (λ n. n * size) (omega arith) in
         subst (λ n. IsPartOf rules (as_client rules (asked Write) (payload_bytes whole)) n (new_request (below_rules rules) s next (as_client rules (part Write) (payload_bytes payload))))
         (sym (begins_at k m at many places))
-        (write_part rules some volume extent through s runs next k (payload_bytes payload) (payload_bytes whole)
+        (write_part rules some volume extent through s runs next k (payload_bytes payload) (payload_bytes whole) (own refl)
         (λ a n fits. own_bytes (k * limit) _ (piece_of extent limit k).count a n size (payload_bytes payload) (payload_bytes whole) from
         (brings refl) fits))
-    part_lies Flush many brings places =
+    part_lies Flush many own brings places =
         let first : at ≡ 0 = omega (arith, places) in
         record {
           kind = refl;
@@ -129,4 +129,5 @@ module _ (rules : Rules) (some : 0 < rules.sector_size) (some_limit : 0 < rules.
           short = let l = length-replicate 1 Untouched in omega (arith, l, some_limit);
           timely = runs;
           bytes = λ a n fits. range_none _ _ _ _;
+          long = λ is. absurd (cc (is));
         }

@@ -42,11 +42,12 @@ module _ (rules : Rules) (some : 0 < rules.sector_size) (volume : ℕ) (extent :
     short = let l = long in omega (arith, l);
     timely = runs;
     bytes = λ a n fits. same a n (let l = long in omega (arith, l, fits));
+    long = λ is. absurd (cc (is));
   }
 
-  pub write_part : AreBytesFrom rules.sector_size (k * rules.max_transfer) piece.count bytes whole
+  pub write_part : length bytes ≡ piece.count * rules.sector_size → AreBytesFrom rules.sector_size (k * rules.max_transfer) piece.count bytes whole
       → IsPartOf rules (as_client rules (asked Write) whole) (k * rules.max_transfer) (new_request (below_rules rules) s next (as_client rules (part_request_of rules.max_transfer (asked Write) k) bytes))
-  write_part same = record {
+  write_part own same = record {
     kind = refl;
     through = refl;
     partition = refl;
@@ -54,4 +55,5 @@ module _ (rules : Rules) (some : 0 < rules.sector_size) (volume : ℕ) (extent :
     short = let l = long in omega (arith, l);
     timely = runs;
     bytes = λ a n fits. same a n (let l = long in omega (arith, l, fits));
+    long = λ is. own ∙ ap (λ n. n * rules.sector_size) (sym long);
   }

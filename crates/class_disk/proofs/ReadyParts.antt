@@ -1,5 +1,5 @@
 -- The next part of a request that is being opened can be sent.
-use Rattle.std.proofs.Common.{◌≡◌, ◌<◌, ◌≤◌, ℕ, suc, ◌+◌, ◌*◌, ◌^◌, Bool, true, false, List, ◌∷◌, ◌++◌, Some, refl, sym, ◌∙◌, ap, subst, arith, length, map, drop}
+use Rattle.std.proofs.Common.{◌≡◌, ◌<◌, ◌≤◌, ℕ, suc, ◌+◌, ◌*◌, ◌^◌, ◌==◌, Bool, true, false, List, ◌∷◌, ◌++◌, Some, refl, sym, ◌∙◌, ap, subst, arith, length, map, drop}
 use Rattle.std.specs.Prelude.{IsPermutation, All, slice_get, if◌then◌else◌}
 use Rattle.std.proofs.lemmas.List.{map-append}
 use Rattle.std.proofs.lemmas.List.Sorted.{IsPermutation-trans, IsPermutation-middle, IsPermutation-append_left, IsPermutation-append_right}
@@ -13,7 +13,7 @@ use Rattle.class_disk.specs.declared.parts.Part.{Part}
 use Rattle.class_disk.specs.declared.parts.Place.{Place}
 use Rattle.class_disk.specs.declared.parts.Progress.{Progress}
 use Rattle.class_disk.specs.declared.parts.Progress.TheVariants.{Ready, Below, Ended as HasEnded}
-use Rattle.class_disk.specs.inside.Blocks.{FitsBlock, data_length, part_count_of, part_request_of}
+use Rattle.class_disk.specs.inside.Blocks.{FitsBlock, data_length, part_count_of, part_request_of, goes_whole}
 use Rattle.class_disk.specs.inside.TableView.{Opened, TableView, opened, all_open, restarts_left}
 use Rattle.class_disk.specs.inside.Driver.{IsReadyBy, IsReadyPart, IsBuffered, IsBufferedBy, tickets, tickets_held, tickets_open}
 use Rattle.device.specs.inside.Out.{Ticket}
@@ -26,6 +26,7 @@ use Rattle.class_disk.specs.inside.TableCalls.{CanSend, bytes_from}
 use Rattle.class_disk.proofs.Cutting.{can_cut}
 use Rattle.class_disk.proofs.NewParts.{part_kind}
 use Rattle.class_disk.proofs.Noting.{tickets_of-append, tickets_open-append}
+use Rattle.class_disk.proofs.OnlyPart.{only_part, not_lent}
 use Rattle.class_disk.proofs.Parting.{at_place}
 use Rattle.class_disk.proofs.PiecePlaces.{asked_at, as_many, carried, fits_block, begins_behind, lies_inside}
 use Rattle.class_disk.proofs.Resending.{few_enough, sizes_below}
@@ -145,9 +146,10 @@ module _ {v : DeviceView}
       let low' : k < part_count_of limit r = asks.1 in
       let own : part.request ≡ part_request_of limit r k = asks.0 in
       let size : b.sizes.sector_size ≡ v.rules.sector_size = h.sizes.sector_size in
-      let buffered : IsBufferedBy rules part.request (Ready place) =
-      subst (IsBufferedBy rules part.request) with_place.is_ready
-      (All-at (IsBuffered rules) halves.0 part halves.1 (subst (All (IsBuffered rules)) halves.2 h.buffered)) in
+      let only : Bool = goes_whole limit r in
+      let buffered : IsBufferedBy rules only part.request (Ready place) =
+      subst (IsBufferedBy rules only part.request) with_place.is_ready
+      (All-at (IsBuffered rules only) halves.0 part halves.1 (subst (All (IsBuffered rules only)) halves.2 h.buffered)) in
       let c = carried rules r h.o.irp.payload h.carries in
       let bytes : length (payload_bytes h.o.irp.payload) ≡ data_length b.sizes.sector_size r =
       ap (λ p. length (payload_bytes p)) c.1 ∙ c.2 ∙ ap (λ n. data_length n r) (sym size) in
@@ -165,7 +167,10 @@ module _ {v : DeviceView}
             (λ is. subst (λ n. bytes_from b.sizes.sector_size r (part_request_of limit r k) + data_length b.sizes.sector_size (part_request_of limit r k) ≤ n)
             (sym bytes)
             (lies_inside limit r.volume r.extent r.through k some_limit short fits r.kind b.sizes.sector_size low' (sym (part_kind limit r k) ∙ is)));
-        buffers = subst (λ n. HasBuffers n part.request place) (sym size) buffered;
+        buffers = subst (λ t. HasBuffers t b.sizes.sector_size part.request place) (ap (λ n. n == 1) (sym long))
+            (subst (λ n. HasBuffers only n part.request place) (sym size) buffered);
+        whole = λ one. own ∙ only_part limit r k some_limit (sym long ∙ one) low';
+        long = bytes;
       }
 
   -- ROOMS
@@ -214,5 +219,5 @@ module _ {v : DeviceView}
         is_open = h.is_open;
         is_there = is_there;
         is_ready = with_place.is_ready;
-        ready_at = record { part = part; place = place; is_there = is_there; can = can_send; carries = (c.0, c.1) };
+        ready_at = record { part = part; place = place; is_there = is_there; can = can_send; carries = (c.0, c.1); here = h.lent ∙ not_lent limit h.o.request k asks.1 };
       }

@@ -53,7 +53,8 @@ use Rattle.class_disk.proofs.Noting.{PartStands, owned_at, tickets_of-append, ti
 use Rattle.class_disk.proofs.Handed.{Handed}
 use Rattle.class_disk.proofs.Withdrawing.{fewer_packets}
 use Rattle.class_disk.proofs.Changing.{b_now, each_entry, all_parts, packets_stay, left_now, long_now, known_old, known_new, some_now, over_now, causes_now, open_now, restarts-append}
-use Rattle.class_disk.proofs.Returning.{packets_taken, part_spotted, part_asked, taking_here, entry_open, same_request, was_sent_as, open_below, no_starts, next_stays, removing_stays}
+use Rattle.class_disk.proofs.Returning.{packets_taken, part_spotted, part_asked}
+use Rattle.class_disk.proofs.HandedPart.{taking_here, entry_open, same_request, was_sent_as, open_below, no_starts, next_stays, removing_stays}
 
 -- as many packets are left as may be sent
 pub few_enough : (n next left sub most : ℕ) → n < next → 1 ≤ left → next + left + sub ≤ sub * 2 ^ 17 + 1 → sub ≤ min (most / 2 ^ 17)

@@ -125,6 +125,7 @@ module _ (rules : Rules) (owners owners' : List PartId) (longer : length owners 
         buffered = is.buffered;
         written = is.written;
         owned = owned_stays owners owners' longer packets below e.0 0 e.1.parts both.0 (All-head (AreSpotted packets) e.1 (map opened es) spotted) is.owned;
+        lent = is.lent;
         restarts = is.restarts;
         few = is.few;
         unfinished = is.unfinished;

@@ -1,5 +1,5 @@
 -- What comes back below, told of the class driver: a part is noted, or goes down again in a new packet.
-use Rattle.std.proofs.Common.{◌≡◌, ◌<◌, ◌⊎◌, inl, inr, ℕ, zero, suc, ◌+◌, Bool, false, List, [], ◌∷◌, ◌++◌, refl, sym, ◌∙◌, ap, subst, arith, map, length, get_or, None, replicate}
+use Rattle.std.proofs.Common.{◌*◌, ◌≡◌, ◌<◌, ◌⊎◌, inl, inr, ℕ, zero, suc, ◌+◌, Bool, false, List, [], ◌∷◌, ◌++◌, refl, sym, ◌∙◌, ap, subst, arith, map, length, get_or, None, replicate}
 use Rattle.std.specs.Prelude.{IsPermutation, All, Contains, IsTrue, IsFalse}
 use Rattle.std.proofs.lemmas.List.{map-append, length-replicate}
 use Rattle.std.proofs.lemmas.List.Sorted.{IsPermutation-sym, IsPermutation-trans, IsPermutation-cons, IsPermutation-middle, IsPermutation-map, All-permutation, Contains-permutation}
@@ -236,6 +236,7 @@ part_again rules s number q first o count runs p =
       short = let a = p.short in omega arith;
       timely = runs;
       bytes = λ at n fits. p.bytes at n (omega arith);
+      long = λ is. p.long is ∙ ap (λ n. n * rules.sector_size) (sym long);
     }
 
 module _ (rules : Rules) (many : rules.one_piece ≡ false) (first : State) (labels : List DeviceLabel) (s : State) (places : HavePlaces s) (k : Known) (front back : List Note) (again : ℕ) (others : List Known)

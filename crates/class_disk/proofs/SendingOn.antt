@@ -22,7 +22,7 @@ use Rattle.device.specs.Served.{Submits, IsAt}
 use Rattle.class_disk.specs.declared.parts.Part.{Part}
 use Rattle.class_disk.specs.declared.parts.Progress.{Progress}
 use Rattle.class_disk.specs.declared.parts.Progress.TheVariants.{Ready, Below, Ended as HasEnded}
-use Rattle.class_disk.specs.inside.Blocks.{part_count_of, part_request_of, data_length}
+use Rattle.class_disk.specs.inside.Blocks.{part_count_of, part_request_of, goes_whole, data_length}
 use Rattle.class_disk.specs.inside.TableView.{Opened, TableView, opened, all_open, ended_in, restarts_left, open_at, put_at}
 use Rattle.class_disk.specs.inside.Driver.{note, note_by, known, knowns, tickets, tickets_held, tickets_open, packet_above, request_of_part, IsReadyPart, IsAsked, IsAskedBy, IsSpotted, IsSpottedBy, IsBuffered, IsWritten}
 use Rattle.class_disk.specs.Opening.{most_over}
@@ -46,6 +46,7 @@ use Rattle.class_disk.proofs.FirstSending.{sent_first, noted_places}
 use Rattle.class_disk.proofs.NewParts.{part_kind}
 use Rattle.class_disk.proofs.NewRequest.{taking_permuted, places_for}
 use Rattle.class_disk.proofs.Noting.{tickets_of-append, tickets_open-append, left-append}
+use Rattle.class_disk.proofs.OnlyPart.{lent_next}
 use Rattle.class_disk.proofs.Parting.{found_same}
 use Rattle.class_disk.proofs.PartPlaces.{part_lies, ready_here, ready_total}
 use Rattle.class_disk.proofs.PiecePlaces.{asked_behind, places_some}
@@ -106,7 +107,7 @@ module _ {v : DeviceView}
   new_part = sent_part number spot old_part
 
   abbrev o_next : Opened
-  o_next = record h.o { parts = front ++ (new_part ∷ back) }
+  o_next = record h.o { parts = front ++ (new_part ∷ back); lent = length h.o.parts == 1 }
 
   abbrev b_next : TableView
   b_next = record b { opens = s.before ++ ((slot, o_next) ∷ s.after); next_packet = b.next_packet + 1 }
@@ -121,8 +122,8 @@ module _ {v : DeviceView}
 
   next_is : x.sends.o' ≡ o_next
   next_is =
-      x.sends.sends.after ∙ ap (λ ps. record h.o { parts = ps }) (set_part h.o old_part _ parts_are)
-      ∙ ap (λ n. record h.o { parts = front ++ (sent_part n spot old_part ∷ back) }) (sym number_is)
+      x.sends.sends.after ∙ ap (λ ps. record h.o { parts = ps; lent = length h.o.parts == 1 }) (set_part h.o old_part _ parts_are)
+      ∙ ap (λ n. record h.o { parts = front ++ (sent_part n spot old_part ∷ back); lent = length h.o.parts == 1 }) (sym number_is)
 
   pub books_are : b' ≡ b_next
   books_are =
@@ -356,10 +357,15 @@ module _ {v : DeviceView}
       (bytes_from rules.sector_size r (part_request_of rules.max_transfer r k) + data_length rules.sector_size
       (part_request_of rules.max_transfer r k))
   brings is =
-      ap payload_bytes x.sends.sends.own.is_payload ∙ x.sends.sends.brings (same_kind ∙ is)
+      ap payload_bytes x.sends.sends.own.is_payload ∙ x.sends.sends.brings.brings (same_kind ∙ is)
       ∙ ap (λ n. slice_range (payload_bytes h.o.irp.payload) (bytes_from n r old_part.request) (bytes_from n r old_part.request + data_length n old_part.request)) h.sizes.sector_size
       ∙ ap (λ p. slice_range (payload_bytes h.o.irp.payload) (bytes_from rules.sector_size r p) (bytes_from rules.sector_size r p + data_length rules.sector_size p))
       (asks h ordered rise low).0
+
+  brings_all : r.kind ≡ Write → length (payload_bytes payload) ≡ data_length rules.sector_size (part_request_of rules.max_transfer r k)
+  brings_all is =
+      ap (λ p. length (payload_bytes p)) x.sends.sends.own.is_payload ∙ x.sends.sends.brings.long
+      ∙ ap (λ n. data_length n old_part.request) h.sizes.sector_size ∙ ap (data_length rules.sector_size) (asks h ordered rise low).0
 
   all_long : length h.o.parts ≡ k + suc (length back)
   all_long = ap length parts_are ∙ length-append front (old_part ∷ back) ∙ ap (λ n. n + suc (length back)) at_place
@@ -383,7 +389,7 @@ module _ {v : DeviceView}
       ready_total rules back back_ready (part_request_of rules.max_transfer r) (k + 1) (length back) back_asks in
       let here : place_count rules q ≡ places_for rules (part_request_of rules.max_transfer r k) = ap (places_for rules) own in
       let p = part_lies rules h.sizes.whole.some_bytes h.port.some_transfer r.volume r.extent r.through v.state runs number k
-      (length back) at payload h.o.irp.payload r.kind many brings
+      (length back) at payload h.o.irp.payload r.kind many brings_all brings
       (ap (λ n. at + (n + total (map (λ j. places_for rules (part_request_of rules.max_transfer r j)) (range_with_len (k + 1) (length back)))))
       (sym here)
       ∙ ap (λ n. at + (place_count rules q + n)) (sym behind) ∙ places) in
@@ -457,9 +463,10 @@ module _ {v : DeviceView}
               ∙ sym (ap (map request_of_part) parts_are ∙ map-append request_of_part front (old_part ∷ back)) ∙ h.cut.parts_are;
         };
         carries = h.carries;
-        buffered = each_part (IsBuffered rules) (IsBuffered rules) tt (λ y is. is) h.buffered;
+        buffered = each_part (IsBuffered rules (goes_whole rules.max_transfer r)) (IsBuffered rules (goes_whole rules.max_transfer r)) tt (λ y is. is) h.buffered;
         written = each_part (IsWritten rules h.o) (IsWritten rules h.o) tt (λ y is. is) h.written;
         owned = owned_next;
+        lent = lent_next rules.max_transfer r k (length h.o.parts) (long h ordered rise low);
         restarts = (
           h.restarts.0,
           restarts-append front (new_part ∷ back) ∙ sym (ap restarts_of parts_are ∙ restarts-append front (old_part ∷ back)) ∙ h.restarts.1,

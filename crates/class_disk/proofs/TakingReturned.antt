@@ -18,7 +18,7 @@ use Rattle.class_disk.specs.inside.Driver.{tickets}
 use Rattle.class_disk.specs.inside.DuringACall.{IsMidway, TakesOne, CanSendAgain, SendsDownAgain}
 use Rattle.class_disk.proofs.Standing.{AreRising}
 use Rattle.class_disk.proofs.Handed.{Handed}
-use Rattle.class_disk.proofs.Returning.{same_request}
+use Rattle.class_disk.proofs.HandedPart.{same_request}
 use Rattle.class_disk.proofs.EndingParts.{takes_ended}
 use Rattle.class_disk.proofs.Resending.{can_again, takes_again}
 use Rattle.device.specs.Climbing.{FinishesPacket}

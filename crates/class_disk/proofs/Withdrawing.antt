@@ -25,6 +25,7 @@ use Rattle.class_disk.specs.inside.Invariant.{NeverSent, IsIfEnded, EndedAre, Is
 use Rattle.class_disk.specs.Shown.{class_rules}
 use Rattle.class_disk.specs.inside.TableView.{Opened, TableView, opened, all_open}
 use Rattle.class_disk.specs.inside.TableCalls.{ended_part, ended_at, ended_books}
+use Rattle.class_disk.specs.inside.Blocks.{goes_whole}
 use Rattle.class_disk.specs.inside.Driver.{places_of, note, note_by, known, knowns, tickets, tickets_held, tickets_open, IsAsked, IsAskedBy, AreAsked, IsSpotted, IsSpottedBy, AreSpotted, IsOpen, AreBelow, IsCause}
 use Rattle.class_disk.specs.Opening.{most_over}
 use Rattle.class_disk.specs.inside.Owners.{slot_at, place_at, IsOwnedBy, AreOwnedFrom}
@@ -45,6 +46,7 @@ use Rattle.class_disk.proofs.Noting.{PartStands, parts_now, opens_now, same_pack
 use Rattle.class_disk.proofs.Causes.{unsent_cause}
 use Rattle.class_disk.proofs.Owned.{owned_split}
 use Rattle.class_disk.proofs.Handed.{Handed}
+use Rattle.class_disk.proofs.HandedPart.{is_buffered_by, is_written}
 
 -- the same, known in another order
 pub taking_permuted : (rules : Rules) (first : State) (labels : List DeviceLabel) (s : State) (ks ks' : List Known) → IsPermutation ks ks' → IsTaking rules first labels s ks → IsTaking rules first labels s ks'
@@ -361,7 +363,9 @@ module _ {takes : Bool} (v : DeviceView) (b : TableView) (climb : Climb) (spot :
           rooms_out = subst (λ (u : Rules). AllOut (record v' { rules = u }) (tickets books_then)) h.moves.same_rules (out_any_order v' _ _ (IsPermutation-trans _ _ _ (IsPermutation-sym _ _ (IsPermutation-middle (tickets_held b.held) (ticket_for d.part.request packet) (tickets_open (all_open b))))
               (IsPermutation-append_right (tickets_held b.held) _ _ (rooms_now rules b slot place d.o d.part h.packet.number h.packet.spot s withdrawn)))
               (subst (λ q. AllOut v' (ticket_for q packet ∷ tickets b)) (sym same_request) (rooms_step _ m.rooms_out)));
-          kept = kept_now rules b slot place d.o d.part h.packet.number h.packet.spot s withdrawn m.kept (λ good. absurd (cc (good))) (λ good. absurd (cc (good)))
+          kept = kept_now rules b slot place d.o d.part h.packet.number h.packet.spot s withdrawn m.kept
+              (is_buffered_by h ordered d m (goes_whole rules.max_transfer d.o.request) packet payload_is (Withdrawn told) (λ good. absurd (cc (good))) (λ is. sym told_is ∙ is))
+              (is_written h ordered d m packet payload_is (Withdrawn told))
               (let e = same_notes in omega arith) cause_then;
           below = below_then;
           ended = taken.1;

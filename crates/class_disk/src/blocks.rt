@@ -134,14 +134,14 @@ fn direction(kind: Kind) -> SrbFlags
     }
 }
 
-/// The SRB of a request of a disk of this many sectors, with its two buffers, each of the request's length.
+/// The SRB of a request of a disk of this many sectors, with its data, and room for as many bytes in a label.
 pub fn srb_for(disk_sectors: u64, request: &Request, data: Bytes, for_label: LabelRoom) -> Srb
     requires fits { FitsBlock request.now }
     requires volume { request.now.volume ≡ 0 }
     ensures data { result.data ≡ «data» }
     ensures sense { result.sense ≡ None }
     ensures asks { (rules : Rules) → IsWholeDisk disk_sectors rules → length «data»
-        ≡ transfer_length rules request.now → length for_label ≡ transfer_length rules request.now
+        ≡ transfer_length rules request.now → transfer_length rules request.now ≤ for_label
         → AsksFor rules request.now result }
 {
     Srb {

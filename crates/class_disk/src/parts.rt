@@ -5,6 +5,7 @@ ghost use Rattle.class_disk.specs.declared.parts.Progress.TheVariants.{Ended as 
 ghost use Rattle.class_disk.specs.declared.parts.Place.{Place};
 ghost use Rattle.device.specs.View.{payload_bytes as bytes_of_payload};
 ghost use Rattle.class_disk.specs.inside.Parts.{status_by, below_by, failure_by, bytes_by, IsHereBy, packet_by};
+ghost use Rattle.class_disk.specs.inside.Parts.{given_of, given_by, IsLeft};
 
 use device::{Request, Room};
 use irp::{Irp, Payload};
@@ -44,8 +45,9 @@ pub struct TransferPacket {
 #[derive(Drop)]
 pub struct Place {
     pub packet: TransferPacket,
-    /// For a read as long as its data; for a write empty, with room for them.
+    /// For a read as long as its data; for a write empty, with room for them; for the only part of a request neither.
     pub data: Vec<u8>,
+    /// Room for as many bytes as its data.
     pub for_label: LabelRoom,
 }
 
@@ -84,6 +86,17 @@ fn payload_bytes(payload: &Payload) -> &[u8]
         Payload::Srb(srb) => srb.data.as_slice(),
         Payload::Buffer(bytes) => bytes.as_slice(),
         Payload::Sent => &[],
+    }
+}
+
+/// What came back with a part, as the packet of its request carries it.
+fn given(payload: Payload) -> Payload
+    ensures { result ≡ given_of payload }
+{
+    match payload {
+        Payload::Srb(srb) => Payload::Buffer(srb.data),
+        Payload::Buffer(bytes) => Payload::Buffer(bytes),
+        Payload::Sent => Payload::Sent,
     }
 }
 
@@ -167,14 +180,21 @@ impl Part {
         self.progress = Progress::Ended(ended);
     }
 
-    /// The buffer that went below with an ended part, the only one of its request, as its request's packet carries it.
-    pub fn give_back(&mut self) -> Payload {
-        let Progress::Ended(ended) = &mut self.progress else {
-            unreachable!()
-        };
-        match mem::replace(&mut ended.packet.irp.payload, Payload::Sent) {
-            Payload::Srb(srb) => Payload::Buffer(srb.data),
-            Payload::Buffer(_) | Payload::Sent => unreachable!(),
+    /// The buffer that went below with a part, once that has ended, as the packet of its request carries it.
+    pub fn give_back(&mut self) -> Payload
+        ensures gives { result ≡ given_by self.old.progress }
+        ensures left { IsLeft self.old self.new }
+    {
+        match mem::replace(&mut self.progress, Progress::Below { number: 0, spot: 0 }) {
+            Progress::Ended(mut ended) => {
+                let payload = mem::replace(&mut ended.packet.irp.payload, Payload::Sent);
+                self.progress = Progress::Ended(ended);
+                given(payload)
+            }
+            progress => {
+                self.progress = progress;
+                Payload::Sent
+            }
         }
     }
 

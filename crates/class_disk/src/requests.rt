@@ -1,20 +1,23 @@
 // A request, by its parts in the order of their places: reserved, open, or left behind by its packet.
 
-ghost use Rattle.std.specs.Prelude.{◌≡◌, ◌==◌, ◌<◌, ◌≤◌, ◌-◌, ◌*◌, ◌^◌, ℕ, List, Some, IfNone, IfSome};
-ghost use Rattle.std.specs.Prelude.{length as list_length, slice_get};
+ghost use Rattle.std.specs.Prelude.{◌≡◌, ◌==◌, ◌<◌, ◌≤◌, ◌-◌, ◌*◌, ◌^◌, ℕ, true, false, List, Some, IfNone, IfSome};
+ghost use Rattle.std.specs.Prelude.{length as list_length, slice_get, vec_capacity};
 ghost use Rattle.ntstatus.specs.declared.NtStatus.TheVariants.{Success, DeviceBusy};
 ghost use Rattle.irp.specs.declared.Payload.TheVariants.{Buffer};
 ghost use Rattle.srb.specs.declared.Kind.TheVariants.{Read};
+ghost use Rattle.device.specs.View.{payload_bytes};
 ghost use Rattle.class_disk.specs.declared.parts.Part.{Part};
 ghost use Rattle.class_disk.specs.declared.parts.Place.{Place};
 ghost use Rattle.class_disk.specs.declared.parts.Progress.TheVariants.{Ready};
 ghost use Rattle.class_disk.specs.inside.Parts.{EndsBack, HasReason, GoesAgain, joined_of, lowest_status};
 ghost use Rattle.class_disk.specs.inside.TableView.{opened_of};
-ghost use Rattle.class_disk.specs.inside.TableCalls.{new_opened, IsReadyAt, SendsAs, SendsAgain, ended_at, Completes};
+ghost use Rattle.class_disk.specs.inside.TableCalls.{new_opened, IsReadyAt, CanTake, IsDataOf, SendsAs, SendsAgain};
+ghost use Rattle.class_disk.specs.inside.TableCalls.{ended_at, Completes};
 
 use crate::Sizes;
 use crate::blocks::{byte_count, ready_packet, srb_for};
 use crate::buffers::{carried_up, data_of, lent};
+use crate::noted::Noted;
 use crate::parts::{Ended, Outcome, Part, Place, TransferPacket};
 use device::{Climb, Kind, Request, complete, information};
 use irp::{Irp, Payload};
@@ -42,6 +45,9 @@ pub struct Transfer {
     pub restarts: u8,
     /// Parts that have not ended.
     pub unfinished: usize,
+    /// Whether the packet's buffer went below with the only part, and the bytes that it had then.
+    pub lent: bool,
+    pub noted: Noted,
 }
 
 /// What a slot has.
@@ -68,6 +74,8 @@ impl Transfer {
             parts,
             restarts: 0,
             unfinished,
+            lent: false,
+            noted: Noted::new(),
         }
     }
 
@@ -84,18 +92,46 @@ impl Transfer {
             data,
             for_label,
         } = self.parts[k].send(number);
-        let data = if self.parts.len() == 1 {
-            lent(&mut self.irp.payload)
-        } else {
-            self.own_data(sizes, &request, data)
-        };
+        let data = self.data_for(sizes, &request, data);
         let payload = Payload::Srb(srb_for(sizes.disk_sectors, &request, data, for_label));
         ready_packet(&mut packet.irp, number, &request, payload);
         packet
     }
 
+    /// The data that a part takes along: the only one takes the request's buffer.
+    fn data_for(&mut self, sizes: &Sizes, request: &Request, data: Vec<u8>) -> Bytes
+        requires { CanTake sizes.now (opened_of self.old) request.now «data».items (vec_capacity «data») }
+        ensures data { IsDataOf sizes.now.sector_size (payload_bytes (opened_of self.old).irp.payload) self.old.request
+            request.now result }
+        ensures after { opened_of self.new
+            ≡ record (opened_of self.old) { lent = list_length self.old.parts.items == 1 } }
+    {
+        if self.parts.len() == 1 {
+            return self.lend();
+        }
+        self.own_data(sizes, request, data)
+    }
+
+    /// The packet's buffer goes below.
+    fn lend(&mut self) -> Bytes
+        requires buffer { (bytes : List ℕ) × (self.old.irp.value.payload ≡ Buffer bytes) }
+        requires here { self.old.lent ≡ false }
+        ensures bytes { self.old.irp.value.payload ≡ Buffer result }
+        ensures after { opened_of self.new ≡ record (opened_of self.old) { lent = true } }
+    {
+        let bytes = lent(&mut self.irp.payload);
+        self.noted.note(bytes.as_slice());
+        self.lent = true;
+        bytes
+    }
+
     /// The data of a part that has a buffer of its own: those of a write, copied from its request's.
-    fn own_data(&self, sizes: &Sizes, request: &Request, data: Vec<u8>) -> Bytes {
+    fn own_data(&self, sizes: &Sizes, request: &Request, data: Vec<u8>) -> Bytes
+        requires can { CanTake sizes.now (opened_of self.now) request.now «data».items (vec_capacity «data») }
+        requires several { (list_length self.now.parts.items == 1) ≡ false }
+        ensures { IsDataOf sizes.now.sector_size (payload_bytes (opened_of self.now).irp.payload) self.now.request
+            request.now result }
+    {
         match (&self.irp.payload, request.kind) {
             (Payload::Buffer(bytes), Kind::Write) => {
                 let whole = bytes.as_slice();
@@ -187,8 +223,10 @@ impl Transfer {
     /// The packet of a request all of whose parts have ended goes up, and leaves them behind.
     pub fn complete(self, sizes: &Sizes) -> (Climb, Places)
         requires small { self.request.extent.count * sizes.now.sector_size < 2 ^ 64 }
-        requires room { (bytes : List ℕ) → self.irp.value.payload ≡ Buffer bytes → self.request.kind ≡ Read
-            → lowest_status self.parts.items ≡ Success → list_length (joined_of self.parts.items) ≤ list_length bytes }
+        requires some { self.lent ≡ true → 0 < list_length self.parts.items }
+        requires room { (bytes : List ℕ) → self.lent ≡ false → self.irp.value.payload ≡ Buffer bytes
+            → self.request.kind ≡ Read → lowest_status self.parts.items ≡ Success
+            → list_length (joined_of self.parts.items) ≤ list_length bytes }
         ensures { Completes sizes.now (opened_of self) result.0 result.1 }
     {
         let status = self.status();
@@ -197,15 +235,12 @@ impl Transfer {
             mut irp,
             request,
             mut parts,
+            lent,
             ..
         } = self;
         let joins = request.kind == Kind::Read && status == NtStatus::Success;
         let payload = mem::replace(&mut irp.payload, Payload::Sent);
-        irp.payload = if parts.len() == 1 {
-            parts[0].give_back()
-        } else {
-            carried_up(payload, joins, parts.as_slice())
-        };
+        irp.payload = carried_up(payload, lent, joins, &mut parts);
         (
             complete(irp, status, information),
             Places { request, parts },

@@ -31,7 +31,7 @@ ghost use Rattle.class_disk.specs.inside.DuringACall.{CanCut, MakesNone, MakesRo
 
 use crate::Extension;
 use crate::blocks::{byte_count, part_count, part_request};
-use crate::buffers::data_buffer;
+use crate::buffers::{data_buffer, own_bytes};
 use crate::parts::{Ended, Outcome, Part, PartId, Place, Progress, TransferPacket};
 use device::{Climb, Device, Request};
 use irp::{Irp, Payload};
@@ -90,7 +90,7 @@ impl<D: Device> Extension<D> {
         Ok(packet)
     }
 
-    /// Places for one part.
+    /// Places for one part: the only one of a request takes the request's buffer, and needs none of its own.
     fn reserve_part(
         &mut self,
         request: &Request,
@@ -100,7 +100,7 @@ impl<D: Device> Extension<D> {
         requires bounded { IsBounded (D.view self.old.device).rules request.now }
         requires small { request.now.extent.count * self.old.table.sizes.sector_size < 2 ^ 64 }
         ensures table { self.new.table ≡ record self.old.table { owners = self.new.table.owners } }
-        ensures part { IfOk result (λ part. IsNewPart self.old.table.sizes.sector_size request.now part) }
+        ensures part { IfOk result (λ part. IsNewPart is_only self.old.table.sizes.sector_size request.now part) }
         ensures refused { OnErr result (MakesNone (D.view self.old.device) self.old.table.owners.items
             (D.view self.new.device) self.new.table.owners.items) }
         ensures makes { IfOk result (λ part. MakesParts (D.view self.old.device)
@@ -111,9 +111,7 @@ impl<D: Device> Extension<D> {
             → (D.view self.new.device).adapter ≡ (D.view self.old.device).adapter }
     {
         let length = byte_count(&self.table.sizes, request);
-        // The only part of a request takes the request's own buffer along.
-        let own = if is_only { 0 } else { length };
-        let data = data_buffer(self.alloc, request.kind, own)?;
+        let data = data_buffer(self.alloc, request.kind, own_bytes(is_only, length))?;
         let for_label = LabelRoom::new(self.alloc, length)?;
         let packet = self.reserve_packet(request, id)?;
         let place = Place {

@@ -1,5 +1,5 @@
 -- What a request is cut into, and the packet of a part.
-use Rattle.std.specs.Prelude.{◌≡◌, ◌<◌, ℕ, ◌+◌, ◌*◌, ◌^◌, List, [], ◌∷◌, None, map, IsFalse, if◌then◌else◌}
+use Rattle.std.specs.Prelude.{◌≡◌, ◌<◌, ℕ, ◌+◌, ◌*◌, ◌^◌, ◌==◌, Bool, List, [], ◌∷◌, None, map, IsFalse, if◌then◌else◌}
 use Rattle.std.specs.List.{range_with_len}
 use Rattle.ntstatus.specs.declared.NtStatus.TheVariants.{Pending}
 use Rattle.split.specs.Pieces.{piece_count, piece_of}
@@ -28,6 +28,10 @@ part_request_of limit r k = if is_transfer r.kind then record r { extent = piece
 -- what the parts of a request ask for, in the order of their places
 abbrev pub requests_for : ℕ → Request → List Request
 requests_for limit r = map (part_request_of limit r) (range_with_len 0 (part_count_of limit r))
+
+-- the request has one part alone, which is all of it
+abbrev pub goes_whole : ℕ → Request → Bool
+goes_whole limit r = part_count_of limit r == 1
 
 -- a request that can be cut by this limit
 pub record IsCuttable (limit : ℕ) (r : Request) : Type 0 where

@@ -21,10 +21,10 @@ use Rattle.class_disk.specs.declared.parts.Progress.TheVariants.{Ready, Below, E
 use Rattle.class_disk.specs.declared.parts.Outcome.{Outcome}
 use Rattle.class_disk.specs.declared.parts.Outcome.TheVariants.{Good, Failed as IsBad, Busy, Withdrawn}
 use Rattle.class_disk.specs.declared.parts.PartId.{PartId}
-use Rattle.class_disk.specs.inside.Blocks.{requests_for, AreSizes}
+use Rattle.class_disk.specs.inside.Blocks.{requests_for, goes_whole, AreSizes}
 use Rattle.class_disk.specs.inside.TableView.{Opened, TableView, ClosedSlot, all_open, ended_in, restarts_left}
-use Rattle.class_disk.specs.inside.Parts.{HasBuffers, payload_in, tickets_of, IsHere, WasSent, restarts_of}
-use Rattle.class_disk.specs.inside.Parts.{unfinished_of}
+use Rattle.class_disk.specs.inside.Parts.{HasBuffers, HoldsData, payload_in, status_by, tickets_of, IsHere, WasSent}
+use Rattle.class_disk.specs.inside.Parts.{restarts_of, unfinished_of}
 use Rattle.class_disk.specs.inside.TableCalls.{bytes_from}
 use Rattle.class_disk.specs.inside.Joint.{Note, Sent, Kept, Known, Joint, known_of, shown_mark, below}
 use Rattle.class_disk.specs.inside.Invariant.{IsSound, Keeps, HasSome, IsOver, noted_busy}
@@ -188,26 +188,29 @@ WentInTurn count (part ∷ parts) = WentAs count part.progress × WentInTurn (co
 
 -- BUFFERS
 
--- the buffers of a part before it is sent; what a read brought, once it has ended, and that a flush brought nothing
-abbrev pub IsBufferedBy : Rules → Request → Progress → Type 0
-IsBufferedBy rules r (Ready place) = HasBuffers rules.sector_size r place
-IsBufferedBy rules r (Below number spot) = ⊤
-IsBufferedBy rules r (HasEnded ended) = ended.outcome ≡ Good
-    → (r.kind ≡ Read → length (payload_bytes (payload_in ended.packet)) ≡ transfer_length rules r) × (r.kind ≡ Flush
-    → payload_bytes (payload_in ended.packet) ≡ [])
+-- the buffers of a part before it is sent; once it has ended, what a read brought, that a flush brought nothing, and
+-- that one that came back busy has its buffer
+abbrev pub IsBufferedBy : Rules → (only : Bool) → Request → Progress → Type 0
+IsBufferedBy rules only r (Ready place) = HasBuffers only rules.sector_size r place
+IsBufferedBy rules only r (Below number spot) = ⊤
+IsBufferedBy rules only r (HasEnded ended) =
+    (ended.outcome ≡ Good → r.kind ≡ Read → length (payload_bytes (payload_in ended.packet)) ≡ transfer_length rules r)
+    × (r.kind ≡ Flush → payload_bytes (payload_in ended.packet) ≡ [])
+    × (status_by ended.outcome ≡ DeviceBusy → HoldsData (transfer_length rules r) (payload_in ended.packet))
 
-abbrev pub IsBuffered : Rules → Part → Type 0
-IsBuffered rules part = IsBufferedBy rules part.request part.progress
+abbrev pub IsBuffered : Rules → (only : Bool) → Part → Type 0
+IsBuffered rules only part = IsBufferedBy rules only part.request part.progress
 
 abbrev pub IsWrittenBy : Rules → Request → List ℕ → Request → Progress → Type 0
 IsWrittenBy rules r bytes part (Ready place) = ⊤
 IsWrittenBy rules r bytes part (Below number spot) = ⊤
-IsWrittenBy rules r bytes part (HasEnded ended) = ended.outcome ≡ Good → part.kind ≡ Write
-    → take (transfer_length rules part) (payload_bytes (payload_in ended.packet))
+IsWrittenBy rules r bytes part (HasEnded ended) = part.kind ≡ Write
+    → (take (transfer_length rules part) (payload_bytes (payload_in ended.packet))
     ≡ slice_range bytes (bytes_from rules.sector_size r part)
-    (bytes_from rules.sector_size r part + transfer_length rules part)
+    (bytes_from rules.sector_size r part + transfer_length rules part))
+    × (length (payload_bytes (payload_in ended.packet)) ≡ transfer_length rules part)
 
--- what a part of a write that succeeded took along are its own bytes of the request's
+-- what a part of a write took along are its own bytes of the request's, and they came back with it
 abbrev pub IsWritten : Rules → Opened → Part → Type 0
 IsWritten rules o part = IsWrittenBy rules o.request (payload_bytes o.irp.payload) part.request part.progress
 
@@ -231,7 +234,7 @@ HaveCauses rules removing e =
 pub record IsHeld (rules : Rules) (owners : List PartId) (held : ClosedSlot) : Type 0 where
   pub cut : IsHeldCut rules held
   pub here : All IsHere held.parts
-  pub buffered : All (IsBuffered rules) held.parts
+  pub buffered : held.whole ≡ true → All (IsBuffered rules (goes_whole rules.max_transfer held.request)) held.parts
   pub owned : AreOwnedFrom owners held.slot 0 held.parts
   pub ready : held.whole ≡ true → All IsReadyPart held.parts
 
@@ -240,9 +243,10 @@ pub record IsOpen (rules : Rules) (owners : List PartId) (e : ℕ × Opened) : T
   pub cut : IsOpenCut rules e.1
   pub carries : Carries false rules e.1.request e.1.irp.payload
   pub sent : All WasSent e.1.parts
-  pub buffered : All (IsBuffered rules) e.1.parts
+  pub buffered : All (IsBuffered rules (goes_whole rules.max_transfer e.1.request)) e.1.parts
   pub written : All (IsWritten rules e.1) e.1.parts
   pub owned : AreOwned owners e
+  pub lent : e.1.lent ≡ goes_whole rules.max_transfer e.1.request
   pub restarts : e.1.restarts ≡ restarts_of e.1.parts
   pub few : e.1.restarts ≤ 16
   pub unfinished : e.1.unfinished ≡ unfinished_of e.1.parts

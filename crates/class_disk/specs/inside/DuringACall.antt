@@ -1,6 +1,7 @@
 -- In the middle of a call: what holds between one packet below and the next.
 use Rattle.std.specs.Prelude.{◌≡◌, ◌≢◌, ◌<◌, ◌≤◌, ℕ, ◌+◌, ◌*◌, ◌^◌, length, take, drop, true, false, List, []}
-use Rattle.std.specs.Prelude.{◌∷◌, ◌++◌, Option, Some, None, map, slice_get, IsFalse, All, Contains, IsPermutation}
+use Rattle.std.specs.Prelude.{◌∷◌, ◌++◌, ◌==◌, Bool, Option, Some, None, map, slice_get, IsFalse, All, Contains}
+use Rattle.std.specs.Prelude.{IsPermutation, if◌then◌else◌}
 use Rattle.adapter.specs.View.{MovesByAll}
 use Rattle.srb.specs.declared.DeviceLabel.{DeviceLabel}
 use Rattle.machine.specs.declared.Request.{Request}
@@ -24,7 +25,7 @@ use Rattle.class_disk.specs.PortRules.{below_rules}
 use Rattle.class_disk.specs.inside.Invariant.{IsSound, Keeps, EndedAre, NeverSent, IsNothing, IsOver, HasSome}
 use Rattle.class_disk.specs.Shown.{class_rules, IsPort}
 use Rattle.class_disk.specs.declared.Sizes.{Sizes}
-use Rattle.class_disk.specs.inside.Blocks.{IsCuttable, part_count_of, part_request_of, AreSizes}
+use Rattle.class_disk.specs.inside.Blocks.{IsCuttable, part_count_of, part_request_of, goes_whole, AreSizes}
 use Rattle.class_disk.specs.inside.Parts.{HasBuffers, payload_in, ticket_for, tickets_of, IsDown, below_by}
 use Rattle.class_disk.specs.inside.Parts.{restarts_of}
 use Rattle.class_disk.specs.inside.TableView.{Opened, TableView, opened, ended_in, all_open, restarts_left, open_at}
@@ -154,18 +155,18 @@ pub record CanCut (sizes : Sizes) (rules : Rules) (r : Request) : Type 0 where
       → (part_request_of sizes.max_transfer r k).extent.count * sizes.sector_size < 2 ^ 64
 
 -- a part of this request that can be sent, for which nothing was sent yet
-pub record IsNewPart (sector_size : ℕ) (request : Request) (part : Part) : Type 0 where
+pub record IsNewPart (only : Bool) (sector_size : ℕ) (request : Request) (part : Part) : Type 0 where
   pub asks : part.request ≡ request
   pub first : part.restarts ≡ 0
   pub place : Place
   pub is_ready : part.progress ≡ Ready place
-  pub buffers : HasBuffers sector_size request place
+  pub buffers : HasBuffers only sector_size request place
 
 -- the first parts of a request, this many, each of which can be sent
 pub record AreNewParts (sizes : Sizes) (r : Request) (count : ℕ) (parts : List Part) : Type 0 where
   pub long : length parts ≡ count
   pub are : (k : ℕ) (part : Part) → slice_get parts k ≡ Some part
-      → IsNewPart sizes.sector_size (part_request_of sizes.max_transfer r k) part
+      → IsNewPart (goes_whole sizes.max_transfer r) sizes.sector_size (part_request_of sizes.max_transfer r k) part
 
 -- only what is reserved changes
 abbrev pub ChangesRooms : DeviceView → DeviceView → Type 0
@@ -276,9 +277,11 @@ pub record IsOpening (v : DeviceView) (b : TableView) (slot k : ℕ) : Type 0 wh
   pub opens : All (IsOpen (class_rules v.rules) b.owners) others
   pub cut : IsOpenCut (class_rules v.rules) o
   pub carries : Carries false (class_rules v.rules) o.request o.irp.payload
-  pub buffered : All (IsBuffered (class_rules v.rules)) o.parts
+  pub buffered : All (IsBuffered (class_rules v.rules) (goes_whole v.rules.max_transfer o.request)) o.parts
   pub written : All (IsWritten (class_rules v.rules) o) o.parts
   pub owned : AreOwned b.owners (slot, o)
+  -- the buffer goes below with the only part
+  pub lent : o.lent ≡ (if k == 0 then false else goes_whole v.rules.max_transfer o.request)
   pub restarts : (o.restarts ≡ 0) × (restarts_of o.parts ≡ 0)
   pub unfinished : o.unfinished ≡ length o.parts
   pub ended : IsPermutation b.ended (ended_in b.opens)

@@ -1,6 +1,7 @@
 -- The machine of a layer whose requests go below in parts, each part a request of the layer below.
 use Rattle.std.specs.Prelude.{◌≡◌, ◌≤◌, ℕ, zero, suc, ◌+◌, ◌*◌, Bool, false, List, [], ◌∷◌, ◌++◌, map, length}
 use Rattle.std.specs.Prelude.{None, slice_range}
+use Rattle.srb.specs.declared.Kind.TheVariants.{Write}
 use Rattle.machine.specs.declared.ClientRequest.{ClientRequest}
 use Rattle.machine.specs.Rules.{Rules, first_sector}
 use Rattle.machine.specs.State.{Mark, Untouched, Out, Done, Failed, Back, OpenRequest, Piece, State}
@@ -142,6 +143,8 @@ pub record IsPartOf (rules : Rules) (q : ClientRequest) (first : ℕ) (o : OpenR
   pub bytes : (at count : ℕ) → at + count ≤ length o.marks
       → slice_range o.request.bytes (at * rules.sector_size) ((at + count) * rules.sector_size)
       ≡ slice_range q.bytes ((first + at) * rules.sector_size) ((first + at + count) * rules.sector_size)
+  -- a write's bytes are those alone
+  pub long : o.request.kind ≡ Write → length o.request.bytes ≡ length o.marks * rules.sector_size
 
 -- WHAT THE CLASS DRIVER KNOWS BY ITSELF
 

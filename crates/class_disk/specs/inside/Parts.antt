@@ -1,9 +1,10 @@
 -- What a part is.
 use Rattle.std.specs.Prelude.{◌≡◌, ◌≢◌, ◌<◌, ◌≤◌, ◌⊎◌, ⊤, ℕ, ◌+◌, Bool, IsTrue, IsFalse, length, vec_capacity, List, []}
-use Rattle.std.specs.Prelude.{◌∷◌, ◌++◌, Option, Some, None}
+use Rattle.std.specs.Prelude.{◌∷◌, ◌++◌, Option, Some, None, if◌then◌else◌}
 use Rattle.ntstatus.specs.declared.NtStatus.{NtStatus}
 use Rattle.ntstatus.specs.declared.NtStatus.TheVariants.{Success, DeviceBusy, Cancelled, NoSuchDevice}
 use Rattle.irp.specs.declared.Payload.{Payload}
+use Rattle.irp.specs.declared.Payload.TheVariants.{Buffer, Srb as Packed, Sent as AtAdapter}
 use Rattle.device.specs.View.{payload_bytes, whole_for}
 use Rattle.device.specs.inside.Out.{Ticket}
 use Rattle.srb.specs.declared.Kind.{Kind}
@@ -11,6 +12,7 @@ use Rattle.srb.specs.declared.Kind.TheVariants.{Read, Write, Flush}
 use Rattle.machine.specs.declared.Request.{Request}
 use Rattle.class_disk.specs.inside.Blocks.{data_length}
 use Rattle.class_disk.specs.declared.parts.Place.{Place}
+use Rattle.class_disk.specs.declared.parts.Ended.{Ended as EndedPart}
 use Rattle.class_disk.specs.declared.parts.Part.{Part}
 use Rattle.class_disk.specs.declared.parts.TransferPacket.{TransferPacket}
 use Rattle.class_disk.specs.declared.parts.Progress.{Progress}
@@ -63,9 +65,10 @@ abbrev pub status_or : Option NtStatus → NtStatus → NtStatus
 status_or None rest = rest
 status_or (Some status) rest = status
 
--- a buffer for data of this length: a read's is as long, a write's has room for just them, a flush's takes no memory
+-- a buffer for data of this length: a read's is as long, and a write's has room for them, neither for more; a flush's
+-- takes no memory
 abbrev pub IsBufferOf : Kind → (items : List ℕ) (capacity long : ℕ) → Type 0
-IsBufferOf Read items capacity long = length items ≡ long
+IsBufferOf Read items capacity long = (length items ≡ long) × (capacity ≡ long)
 IsBufferOf Write items capacity long = (items ≡ []) × (capacity ≡ long)
 IsBufferOf Flush items capacity long = (items ≡ []) × (capacity ≡ 0)
 
@@ -89,6 +92,40 @@ abbrev pub bytes_by : Progress → List ℕ
 bytes_by (Ready place) = []
 bytes_by (Below number spot) = []
 bytes_by (Ended ended) = payload_bytes (payload_in ended.packet)
+
+-- an SRB or a packet with a buffer of this many bytes
+abbrev pub HoldsData : ℕ → Payload → Type 0
+HoldsData long (Packed srb) = length srb.data ≡ long
+HoldsData long (Buffer bytes) = length bytes ≡ long
+HoldsData long AtAdapter = ⊥
+
+-- what came back with a part, as its request's packet carries it
+abbrev pub given_of : Payload → Payload
+given_of (Packed srb) = Buffer srb.data
+given_of (Buffer bytes) = Buffer bytes
+given_of AtAdapter = AtAdapter
+
+abbrev pub given_by : Progress → Payload
+given_by (Ready place) = AtAdapter
+given_by (Below number spot) = AtAdapter
+given_by (Ended ended) = given_of (payload_in ended.packet)
+
+-- a part that ended has no buffer any more, and its packet and room still
+abbrev pub IsLeftBy : (was now : Progress) → Type 0
+IsLeftBy (Ready place) now = now ≡ Ready place
+IsLeftBy (Below number spot) now = now ≡ Below number spot
+IsLeftBy (Ended ended) now = (left : EndedPart) × (now ≡ Ended left) × (left.packet.room ≡ ended.packet.room)
+
+pub record IsLeft (was now : Part) : Type 0 where
+  pub request : now.request ≡ was.request
+  pub progress : IsLeftBy was.progress now.progress
+
+-- the parts that are left, each for one that was there
+abbrev pub AreLeft : (was now : List Part) → Type 0
+AreLeft [] [] = ⊤
+AreLeft [] (part ∷ parts) = ⊥
+AreLeft (part ∷ parts) [] = ⊥
+AreLeft (part ∷ parts) (left ∷ rest) = IsLeft part left × AreLeft parts rest
 
 -- the packet of a part that is not below
 abbrev pub packet_by : Progress → Option TransferPacket
@@ -162,7 +199,12 @@ abbrev pub lowest_status : List Part → NtStatus
 lowest_status [] = Success
 lowest_status (part ∷ parts) = status_or (failure_by part.progress) (lowest_status parts)
 
--- the buffers of a part before it is sent
-pub record HasBuffers (sector_size : ℕ) (r : Request) (place : Place) : Type 0 where
-  pub buffer : IsBufferOf r.kind place.«data».items (vec_capacity place.«data») (data_length sector_size r)
-  pub for_label : length place.for_label ≡ data_length sector_size r
+-- the bytes of a part's own buffer: none where it is the only one, and takes its request's
+abbrev pub own_length : (only : Bool) (sector_size : ℕ) → Request → ℕ
+own_length only sector_size r = if only then 0 else data_length sector_size r
+
+-- the buffers of a part before it is sent, whether or not it is the only one
+pub record HasBuffers (only : Bool) (sector_size : ℕ) (r : Request) (place : Place) : Type 0 where
+  pub buffer : IsBufferOf r.kind place.«data».items (vec_capacity place.«data») (own_length only sector_size r)
+  -- room for just as many bytes as its data
+  pub for_label : place.for_label ≡ data_length sector_size r

@@ -26,7 +26,8 @@ use Rattle.class_disk.specs.declared.requests.Places.{Places}
 use Rattle.class_disk.specs.declared.requests.Slot.{Slot}
 use Rattle.class_disk.specs.declared.requests.Slot.TheVariants.{Reserved, Open, Left}
 use Rattle.class_disk.specs.inside.Blocks.{FitsBlock, data_length, AreSizes, IsOwnPacket}
-use Rattle.class_disk.specs.inside.Parts.{HasBuffers, payload_in, joined_of, lowest_status}
+use Rattle.class_disk.specs.inside.Parts.{IsBufferOf, own_length, HasBuffers, payload_in, given_by, AreLeft, joined_of}
+use Rattle.class_disk.specs.inside.Parts.{lowest_status}
 use Rattle.class_disk.specs.inside.TableView.{Opened, TableView, ClosedSlot, reserved_for, open_at, put_at}
 
 -- where the bytes of a part begin among those of its request
@@ -43,6 +44,7 @@ new_opened irp request parts = record {
   parts = parts;
   restarts = 0;
   unfinished = length parts;
+  lent = false;
 }
 
 -- the request with another part at this place
@@ -52,6 +54,10 @@ with_part k part o = record o { parts = slice_set o.parts k part }
 -- the part, in a packet below
 abbrev pub sent_part : ℕ → ℕ → Part → Part
 sent_part number spot part = record part { progress = Below number spot }
+
+-- the request, with a part sent at this place: the only one takes the request's buffer along
+abbrev pub sent_opened : ℕ → Part → Opened → Opened
+sent_opened k part o = record (with_part k part o) { lent = length o.parts == 1 }
 
 -- the part, ended
 abbrev pub ended_part : Ended → Part → Part
@@ -67,7 +73,23 @@ pub record CanSend (sizes : Sizes) (o : Opened) (part : Part) (place : Place) : 
   pub inside : part.request.kind ≡ Write
       → bytes_from sizes.sector_size o.request part.request + data_length sizes.sector_size part.request
       ≤ length (payload_bytes o.irp.payload)
-  pub buffers : HasBuffers sizes.sector_size part.request place
+  pub buffers : HasBuffers (length o.parts == 1) sizes.sector_size part.request place
+  -- the only part is all of its request
+  pub whole : length o.parts ≡ 1 → part.request ≡ o.request
+  pub long : length (payload_bytes o.irp.payload) ≡ data_length sizes.sector_size o.request
+
+-- a part with this buffer of its own can take its data from the request's buffer
+pub record CanTake (sizes : Sizes) (o : Opened) (part : Request) (own : List ℕ) (capacity : ℕ) : Type 0 where
+  pub small : part.extent.count * sizes.sector_size < 2 ^ 64
+  pub behind : o.request.extent.first ≤ part.extent.first
+  pub inside : part.kind ≡ Write
+      → bytes_from sizes.sector_size o.request part + data_length sizes.sector_size part
+      ≤ length (payload_bytes o.irp.payload)
+  pub buffer : IsBufferOf part.kind own capacity (own_length (length o.parts == 1) sizes.sector_size part)
+  pub whole : length o.parts ≡ 1 → part ≡ o.request
+  pub long : length (payload_bytes o.irp.payload) ≡ data_length sizes.sector_size o.request
+  pub carries : (bytes : List ℕ) × (o.irp.payload ≡ Buffer bytes)
+  pub here : o.lent ≡ false
 
 -- part k can be sent
 pub record IsReadyAt (sizes : Sizes) (o : Opened) (k : ℕ) : Type 0 where
@@ -76,6 +98,14 @@ pub record IsReadyAt (sizes : Sizes) (o : Opened) (k : ℕ) : Type 0 where
   pub is_there : slice_get o.parts k ≡ Some part
   pub can : CanSend sizes o part place
   pub carries : (bytes : List ℕ) × (o.irp.payload ≡ Buffer bytes)
+  pub here : o.lent ≡ false
+
+-- the data that a part takes along: as long as it asks for, and a write's are its own of the request's
+pub record IsDataOf (sector_size : ℕ) (whole : List ℕ) (r part : Request) (bytes : List ℕ) : Type 0 where
+  pub long : length bytes ≡ data_length sector_size part
+  pub brings : part.kind ≡ Write
+      → bytes ≡ slice_range whole (bytes_from sector_size r part)
+      (bytes_from sector_size r part + data_length sector_size part)
 
 -- it goes below in a packet of this number
 pub record SendsAs (sizes : Sizes) (o : Opened) (k number : ℕ) (part : Part) (place : Place)
@@ -85,12 +115,9 @@ pub record SendsAs (sizes : Sizes) (o : Opened) (k number : ℕ) (part : Part) (
   pub asks : AsksInLocation true part.request packet.irp.value
   pub carries : (rules : Rules) → AreSizes sizes rules → Carries true rules part.request payload
   -- a write takes its own bytes along
-  pub brings : part.request.kind ≡ Write
-      → payload_bytes payload ≡ slice_range (payload_bytes o.irp.payload)
-      (bytes_from sizes.sector_size o.request part.request)
-      (bytes_from sizes.sector_size o.request part.request + data_length sizes.sector_size part.request)
+  pub brings : IsDataOf sizes.sector_size (payload_bytes o.irp.payload) o.request part.request (payload_bytes payload)
   pub room : packet.room ≡ place.packet.room
-  pub after : o' ≡ with_part k (sent_part number place.packet.room.spot part) o
+  pub after : o' ≡ sent_opened k (sent_part number place.packet.room.spot part) o
 
 -- the part, in a packet below again
 abbrev pub again_part : ℕ → ℕ → Part → Part
@@ -109,11 +136,21 @@ abbrev pub ended_at : ℕ → Ended → Part → Opened → Opened
 ended_at k ended part o = record (with_part k (ended_part ended part) o) { unfinished = o.unfinished - 1 }
 
 -- a read that succeeds brings its bytes, by their places
-abbrev pub payload_up : Bool → Payload → List Part → Payload
-payload_up true (Buffer bytes) parts = Buffer (joined_of parts)
-payload_up true (Packed srb) parts = Packed srb
-payload_up true AtAdapter parts = AtAdapter
-payload_up false payload parts = payload
+abbrev pub joined_up : (joins : Bool) → Payload → List Part → Payload
+joined_up true (Buffer bytes) parts = Buffer (joined_of parts)
+joined_up true (Packed srb) parts = Packed srb
+joined_up true AtAdapter parts = AtAdapter
+joined_up false payload parts = payload
+
+-- what came back with the only part
+abbrev pub given_up : List Part → Payload
+given_up [] = AtAdapter
+given_up (part ∷ parts) = given_by part.progress
+
+-- what a packet carries up: the buffer that was lent, or its own
+abbrev pub payload_up : (lent joins : Bool) → Payload → List Part → Payload
+payload_up true joins payload parts = given_up parts
+payload_up false joins payload parts = joined_up joins payload parts
 
 -- the packet of a request that has ended goes up, and leaves its parts
 pub record Completes (sizes : Sizes) (o : Opened) (climb : Climb) (places : Places) : Type 0 where
@@ -124,10 +161,10 @@ pub record Completes (sizes : Sizes) (o : Opened) (climb : Climb) (places : Plac
   pub informs : (rules : Rules) → rules.sector_size ≡ sizes.sector_size → informed
       ≡ information (as_client rules o.request []) (lowest_status o.parts)
   pub climbs : Climbs (locations_above o.irp) o.irp.number o.irp.cancelled (lowest_status o.parts) informed
-      (payload_up joins o.irp.payload o.parts) climb
+      (payload_up o.lent joins o.irp.payload o.parts) climb
   pub brings_routine : BringsRoutine (cancel_routine_of o.irp) climb
   pub request : places.request ≡ o.request
-  pub parts : places.parts.items ≡ o.parts
+  pub parts : AreLeft o.parts places.parts.items
 
 -- THE TABLE
 

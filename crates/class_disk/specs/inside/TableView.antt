@@ -4,6 +4,8 @@ use Rattle.std.specs.Prelude.{Option, Some, None, if◌then◌else◌}
 use Rattle.std.specs.VecDeque.{deque_capacity}
 use Rattle.slab.specs.Slab.{HasRoomFor, Updates, get, slab_len}
 use Rattle.irp.specs.declared.Irp.{Irp}
+use Rattle.irp.specs.declared.Payload.{Payload}
+use Rattle.irp.specs.declared.Payload.TheVariants.{Buffer}
 use Rattle.machine.specs.declared.Request.{Request}
 use Rattle.device.specs.View.{Reserved as DeviceRoom}
 use Rattle.class_disk.specs.declared.Sizes.{Sizes}
@@ -23,6 +25,8 @@ pub record Opened : Type 0 where
   -- how often parts were sent again, and how many have not ended
   pub restarts : ℕ
   pub unfinished : ℕ
+  -- whether its buffer went below with the only part
+  pub lent : Bool
 
 -- a slot that has no packet: a request with its parts, each of which can be sent, or was left behind
 pub record ClosedSlot : Type 0 where
@@ -52,13 +56,20 @@ pub record TableView : Type 0 where
   pub submitted : ℕ
   pub removing : Bool
 
+-- what a packet came with, whether its buffer is here or lent
+abbrev pub payload_of : (lent : Bool) (noted : List ℕ) → Payload → Payload
+payload_of true noted payload = Buffer noted
+payload_of false noted payload = payload
+
+-- a request, with its packet as it came
 abbrev pub opened_of : Transfer → Opened
 opened_of t = record {
-  irp = t.irp.value;
+  irp = record t.irp.value { payload = payload_of t.lent t.noted.bytes t.irp.value.payload };
   request = t.request;
   parts = t.parts.items;
   restarts = t.restarts;
   unfinished = t.unfinished;
+  lent = t.lent;
 }
 
 abbrev pub held_as : ℕ → Places → ClosedSlot

@@ -1,5 +1,5 @@
 -- One more part is made, and its room is out beside the others.
-use Rattle.std.proofs.Common.{◌≤◌, refl, sym, ◌∙◌, ap, subst}
+use Rattle.std.proofs.Common.{◌≤◌, ◌==◌, refl, sym, ◌∙◌, ap, subst}
 use Rattle.std.specs.Prelude.{vec_capacity}
 use Rattle.device.proofs.Reserving.{near_same}
 use Rattle.class_disk.specs.declared.table.Table.{Table}
@@ -14,9 +14,9 @@ loop-k-init g c = record {
   table = refl;
   unless_write = λ other. refl;
   near = near_same (g.D.Shown.view c.args.self.now.device) (g.D.Shown.view c.args.self.now.device) c.args.request.now refl;
-  count = c.part_count-k-end.ensures;
+  count = c.part_count-count.ensures;
   parts = subst (AreNewParts c.args.self.now.table.sizes c.args.request.now 0) (sym c.requires.none) (none_made c.args.self.now.table.sizes c.args.request.now);
-  places = subst (λ n. n ≤ vec_capacity c.args.parts.now) (sym c.part_count-k-end.ensures) c.requires.places;
+  places = subst (λ n. n ≤ vec_capacity c.args.parts.now) (sym c.part_count-count.ensures) c.requires.places;
   makes = subst (λ ps. MakesParts (g.D.Shown.view c.args.self.now.device) c.args.self.now.table.owners.items c.args.slot 0 ps (g.D.Shown.view c.args.self.now.device) c.args.self.now.table.owners.items)
       (sym c.requires.none) (no_parts (g.D.Shown.view c.args.self.now.device) c.args.self.now.table.owners.items c.args.slot);
 }
@@ -43,8 +43,8 @@ loop-k-preserved g c = record {
       c.push_reserved.new.self.items c.loop-k.parts.items c.in_ok-part.part c.push_reserved.ensures.items c.loop-k.invariant.parts
       (asked_now c.loop-k.self.table.sizes c.args.self.now.table.sizes c.args.request.now
       c.part_request-below.result c.loop-k.k c.in_ok-part.part
-      (ap (λ (t : Table). t.sizes) c.loop-k.invariant.table) c.part_request-below.ensures c.in_ok-part.ensures.part);
-  places = subst (λ n. c.part_count-k-end.result ≤ n) (sym c.push_reserved.ensures.capacity) c.loop-k.invariant.places;
+      (ap (λ (t : Table). t.sizes) c.loop-k.invariant.table) c.part_request-below.ensures _ (ap (λ n. n == 1) c.loop-k.invariant.count) c.in_ok-part.ensures.part);
+  places = subst (λ n. c.part_count-count.result ≤ n) (sym c.push_reserved.ensures.capacity) c.loop-k.invariant.places;
   makes =
       one_more _ _ _ _ _ _ c.args.slot c.loop-k.k c.push_reserved.new.self.items c.loop-k.parts.items c.in_ok-part.part c.requires.in_order.0 c.requires.in_order.1
       (new_here c.args.self.now.table.sizes c.args.request.now _ c.loop-k.parts.items c.loop-k.invariant.parts) c.push_reserved.ensures.items

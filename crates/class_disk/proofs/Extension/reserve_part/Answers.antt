@@ -1,6 +1,5 @@
-use Rattle.std.proofs.Common.{◌∙◌, refl, ap, subst, length}
-use Rattle.std.proofs.lemmas.List.{length-replicate}
-use Rattle.std.specs.Prelude.{vec_capacity}
+use Rattle.std.proofs.Common.{◌∙◌, refl, ap, subst}
+use Rattle.std.specs.Prelude.{vec_capacity, if◌then◌else◌}
 use Rattle.device.proofs.Reserving.{near_same}
 use Rattle.class_disk.specs.inside.Parts.{IsBufferOf}
 use Rattle.class_disk.proofs.Making.{none_asked, part_made}
@@ -10,23 +9,21 @@ use Rattle.class_disk.proofs.Extension.reserve_part.Goals as goal
 pub returns-in_err-data-clause-refused : goal.returns-in_err-data-clause-refused
 returns-in_err-data-clause-refused g c = on_err _ (none_asked _ _)
 
-pub returns-in_err-vec-clause-refused : goal.returns-in_err-vec-clause-refused
-returns-in_err-vec-clause-refused g c = on_err _ (none_asked _ _)
+pub returns-in_err-for_label-clause-refused : goal.returns-in_err-for_label-clause-refused
+returns-in_err-for_label-clause-refused g c = on_err _ (none_asked _ _)
 
 pub returns-clause-part : goal.returns-clause-part
 returns-clause-part g c =
-    let filled = c.in_ok-vec.ensures.items_if_clones_equal (λ y h. h) in
     record {
       asks = refl;
       first = refl;
-      place = record { packet = c.in_ok-packet.packet; «data» = c.in_ok-data.data; for_label = c.new-for_label.result };
+      place = record { packet = c.in_ok-packet.packet; «data» = c.in_ok-data.data; for_label = c.in_ok-for_label.for_label };
       is_ready = refl;
       buffers = record {
         buffer =
             subst (IsBufferOf c.args.request.now.kind c.in_ok-data.data.items (vec_capacity c.in_ok-data.data))
-            c.byte_count-length.ensures c.in_ok-data.ensures;
-        for_label =
-            ap length (c.new-for_label.ensures ∙ filled) ∙ length-replicate c.byte_count-length.result 0 ∙ c.byte_count-length.ensures;
+            (c.own_bytes.ensures ∙ ap (λ n. if c.args.is_only then 0 else n) c.byte_count-length.ensures) c.in_ok-data.ensures;
+        for_label = c.in_ok-for_label.ensures ∙ c.byte_count-length.ensures;
       };
     }
 
@@ -36,5 +33,5 @@ returns-clause-makes g c = part_made _ _ c.args.id _ c.in_ok-packet.packet _ _ _
 pub returns-in_err-data-clause-near : goal.returns-in_err-data-clause-near
 returns-in_err-data-clause-near g c = near_same (g.D.Shown.view c.args.self.now.device) (g.D.Shown.view c.args.self.now.device) c.args.request.now refl
 
-pub returns-in_err-vec-clause-near : goal.returns-in_err-vec-clause-near
-returns-in_err-vec-clause-near g c = near_same (g.D.Shown.view c.args.self.now.device) (g.D.Shown.view c.args.self.now.device) c.args.request.now refl
+pub returns-in_err-for_label-clause-near : goal.returns-in_err-for_label-clause-near
+returns-in_err-for_label-clause-near g c = near_same (g.D.Shown.view c.args.self.now.device) (g.D.Shown.view c.args.self.now.device) c.args.request.now refl

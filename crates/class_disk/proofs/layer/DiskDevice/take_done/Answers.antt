@@ -1,7 +1,7 @@
 -- The packet of a request that has ended goes up, and its room is left.
-use Rattle.std.proofs.Common.{refl}
-use Rattle.class_disk.specs.inside.TableView.{books_of, opened_of}
-use Rattle.class_disk.proofs.Ended.{ended_open, small_up, room_up, hands_up}
+use Rattle.std.proofs.Common.{refl, ap, ◌∙◌}
+use Rattle.class_disk.specs.inside.TableView.{books_of, opened_of, payload_of}
+use Rattle.class_disk.proofs.Ended.{ended_open, small_up, room_up, some_up, hands_up}
 use Rattle.class_disk.proofs.Standing.{apart_in}
 use Rattle.class_disk.proofs.NoneEnded.{none_up}
 use Rattle.class_disk.proofs.LeavingRoom.{in_hand_left}
@@ -23,8 +23,14 @@ complete-climb-requires-clause-small g c =
     c.self.inside.extension.table.slots.slots refl c.in_ok-slot.slot (opened_of c.in_ok-slot.transfer) (books_of c.take_ended.new.self) c.in_ok-slot.ensures.takes
 
 pub complete-climb-requires-clause-room : goal.complete-climb-requires-clause-room
-complete-climb-requires-clause-room g c =
+complete-climb-requires-clause-room g c = λ bytes own is kind succeeds.
     room_up _ (books_of c.self.inside.extension.table) c.self.invariant.in_hand c.self.invariant.in_hand.rooms_out.orderly
+    c.self.inside.extension.table.slots.slots refl c.in_ok-slot.slot (opened_of c.in_ok-slot.transfer) (books_of c.take_ended.new.self) c.in_ok-slot.ensures.takes
+    bytes (ap (λ t. payload_of t c.in_ok-slot.transfer.noted.bytes c.in_ok-slot.transfer.irp.value.payload) own ∙ is) kind succeeds
+
+pub complete-climb-requires-clause-some : goal.complete-climb-requires-clause-some
+complete-climb-requires-clause-some g c =
+    some_up _ (books_of c.self.inside.extension.table) c.self.invariant.in_hand c.self.invariant.in_hand.rooms_out.orderly
     c.self.inside.extension.table.slots.slots refl c.in_ok-slot.slot (opened_of c.in_ok-slot.transfer) (books_of c.take_ended.new.self) c.in_ok-slot.ensures.takes
 
 pub invariant_of-self-2 : goal.invariant_of-self-2

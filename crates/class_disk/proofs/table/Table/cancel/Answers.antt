@@ -1,6 +1,6 @@
 use Rattle.std.proofs.Common.{true, ap, ◌∙◌}
 use Rattle.irp.specs.declared.Irp.{Irp}
-use Rattle.class_disk.specs.inside.TableView.{opened_of}
+use Rattle.class_disk.specs.inside.TableView.{opened_of, payload_of}
 use Rattle.class_disk.proofs.Replacing.{stands_there}
 use Rattle.class_disk.proofs.Cancelling.{cancels_there}
 use Rattle.class_disk.proofs.table.Table.cancel.Goals as goal
@@ -12,5 +12,6 @@ pub returns : goal.returns
 returns c =
     cancels_there c.args.self.now c.take_open-transfer.new.self c.put_open.new.self c.args.slot c.args.number c.take_open-transfer.result _ c.if-not-can_cancel.ensures
     c.take_open-transfer.ensures.was c.take_open-transfer.ensures.gone
-    (ap (λ (x : Irp). record (opened_of c.take_open-transfer.result) { irp = x }) (c.mark_cancelled.ensures ∙ ap (λ (x : Irp). record x { cancelled = true }) c.deref_mut.ensures.value))
     c.put_open.ensures
+    (ap (λ (x : Irp). record (opened_of c.take_open-transfer.result) { irp = record x { payload = payload_of c.take_open-transfer.result.lent c.take_open-transfer.result.noted.bytes x.payload } })
+    (c.mark_cancelled.ensures ∙ ap (λ (x : Irp). record x { cancelled = true }) c.deref_mut.ensures.value))
