@@ -1,16 +1,16 @@
 -- What the part was whose packet is handed up, and what its packet brings back.
-use Rattle.std.proofs.Common.{◌≡◌, ◌<◌, ◌≤◌, inl, inr, ℕ, suc, ◌+◌, ◌-◌, ◌*◌, ◌/◌, Bool, true, false, List, [], ◌∷◌, ◌++◌, refl, sym, ◌∙◌, ap, subst, arith, map, length, take}
+use Rattle.std.proofs.Common.{◌≡◌, ◌<◌, ◌≤◌, ℕ, suc, ◌+◌, ◌-◌, ◌*◌, ◌/◌, Bool, true, false, List, [], ◌∷◌, ◌++◌, refl, sym, ◌∙◌, ap, subst, arith, map, length, take}
 use Rattle.std.proofs.Math.Nat.{mul-div_cancel}
 use Rattle.std.specs.Prelude.{IsPermutation, All, Contains, slice_range}
-use Rattle.std.proofs.lemmas.List.Sorted.{IsPermutation-sym, IsPermutation-trans, IsPermutation-cons, Contains-permutation}
-use Rattle.std.proofs.lemmas.List.Elements.{All-contains, All-map, All-replicate}
+use Rattle.std.proofs.lemmas.List.Sorted.{IsPermutation-sym, IsPermutation-trans, Contains-permutation}
+use Rattle.std.proofs.lemmas.List.Elements.{All-contains}
 use Rattle.ntstatus.specs.declared.NtStatus.{NtStatus}
 use Rattle.ntstatus.specs.declared.NtStatus.TheVariants.{Success, DeviceBusy}
 use Rattle.machine.specs.declared.ClientRequest.{ClientRequest}
 use Rattle.srb.specs.declared.Kind.TheVariants.{Read, Write, Flush}
 use Rattle.machine.specs.declared.Request.{Request}
 use Rattle.machine.specs.Rules.{Rules, place_count, as_client}
-use Rattle.machine.specs.State.{Done, Failed, Back, OpenRequest, State, IsSame}
+use Rattle.machine.specs.State.{OpenRequest, State, IsSame}
 use Rattle.machine.specs.Marks.{AreCounted, IsCounted}
 use Rattle.machine.specs.Step.{Run, as_label}
 use Rattle.device.specs.declared.climbing.Climb.{Climb}
@@ -18,7 +18,7 @@ use Rattle.irp.specs.declared.Payload.{Payload}
 use Rattle.irp.specs.declared.Payload.TheVariants.{Buffer, Srb as Packed, Sent as AtAdapter}
 use Rattle.srb.specs.declared.DeviceLabel.{DeviceLabel}
 use Rattle.device.specs.View.{DeviceView, IsOrderly, Carries, payload_bytes, sent_bytes, transfer_length}
-use Rattle.device.specs.Served.{HandsUp, sectors_moved}
+use Rattle.device.specs.Served.{HandsUp}
 use Rattle.class_disk.specs.declared.parts.Part.{Part}
 use Rattle.class_disk.specs.declared.parts.Outcome.{Outcome}
 use Rattle.class_disk.specs.declared.parts.Outcome.TheVariants.{Good, Failed as IsBad, Busy, Withdrawn}
@@ -30,7 +30,7 @@ use Rattle.class_disk.specs.inside.TableView.{Opened, TableView, opened, all_ope
 use Rattle.class_disk.specs.declared.parts.TransferPacket.{TransferPacket}
 use Rattle.class_disk.specs.inside.Owners.{slot_at}
 use Rattle.class_disk.specs.inside.TableCalls.{ended_part, bytes_from}
-use Rattle.class_disk.specs.inside.Driver.{places_of, busy_left, marks_left, note, note_by, known, knowns, IsCause, IsAsked, AreAsked, IsSpotted, IsOpen, IsBuffered, IsWritten}
+use Rattle.class_disk.specs.inside.Driver.{places_of, note, note_by, known, knowns, IsAsked, AreAsked, IsOpen, IsBuffered, IsWritten}
 use Rattle.class_disk.specs.inside.DuringACall.{IsTaking, IsMidway}
 use Rattle.class_disk.proofs.Retaking.{known_at, FoundBy, found_by}
 use Rattle.class_disk.proofs.Keeping.{part_in as part_of_divided}

@@ -1,44 +1,23 @@
 -- A packet below that came back is handed up, and its part ends: the class driver is midway as before.
-use Rattle.std.proofs.Common.{◌≡◌, ◌<◌, ◌≤◌, inl, inr, ℕ, suc, ◌+◌, ◌-◌, ◌*◌, ◌/◌, Bool, List, [], ◌∷◌, ◌++◌, refl, sym, ◌∙◌, ap, subst, arith, map, length, take}
-use Rattle.std.proofs.Math.Nat.{mul-div_cancel}
-use Rattle.std.specs.Prelude.{IsPermutation, All, Contains, slice_range}
-use Rattle.std.proofs.lemmas.List.Sorted.{IsPermutation-sym, IsPermutation-trans, IsPermutation-cons, Contains-permutation}
-use Rattle.std.proofs.lemmas.List.Elements.{All-contains, All-map, All-replicate}
+use Rattle.std.proofs.Common.{◌≤◌, inl, inr, ℕ, ◌+◌, Bool, ◌∷◌, sym, ◌∙◌, arith}
+use Rattle.std.specs.Prelude.{IsPermutation, All}
+use Rattle.std.proofs.lemmas.List.Sorted.{IsPermutation-sym, IsPermutation-trans, IsPermutation-cons}
+use Rattle.std.proofs.lemmas.List.Elements.{All-map, All-replicate}
 use Rattle.ntstatus.specs.declared.NtStatus.{NtStatus}
-use Rattle.ntstatus.specs.declared.NtStatus.TheVariants.{Success}
-use Rattle.machine.specs.declared.ClientRequest.{ClientRequest}
-use Rattle.srb.specs.declared.Kind.TheVariants.{Read, Write, Flush}
-use Rattle.machine.specs.declared.Request.{Request}
-use Rattle.machine.specs.Rules.{Rules, place_count, as_client}
-use Rattle.machine.specs.State.{Done, Failed, Back, OpenRequest, State, IsSame}
-use Rattle.machine.specs.Marks.{AreCounted, IsCounted}
-use Rattle.machine.specs.Step.{Run, as_label}
+use Rattle.machine.specs.Rules.{Rules}
+use Rattle.machine.specs.State.{Done, Failed, Back}
 use Rattle.device.specs.declared.climbing.Climb.{Climb}
 use Rattle.irp.specs.declared.Payload.{Payload}
-use Rattle.srb.specs.declared.DeviceLabel.{DeviceLabel}
-use Rattle.device.specs.View.{DeviceView, IsOrderly, payload_bytes, sent_bytes, transfer_length}
+use Rattle.device.specs.View.{DeviceView}
 use Rattle.device.specs.Served.{HandsUp, sectors_moved}
 use Rattle.class_disk.specs.declared.parts.Part.{Part}
 use Rattle.class_disk.specs.declared.parts.Outcome.{Outcome}
 use Rattle.class_disk.specs.declared.parts.Outcome.TheVariants.{Good, Failed as IsBad, Busy, Withdrawn}
-use Rattle.class_disk.specs.inside.Joint.{Note, Sent, Known, known_of, Divided, IsPartOf, parts_marks}
-use Rattle.class_disk.specs.inside.Invariant.{WasSent, IsOverMark, IsMadeUp}
-use Rattle.class_disk.specs.Shown.{class_rules}
-use Rattle.class_disk.specs.inside.Parts.{EndsBack, HasReason, payload_in}
-use Rattle.class_disk.specs.inside.TableView.{Opened, TableView, opened, all_open}
-use Rattle.class_disk.specs.declared.parts.TransferPacket.{TransferPacket}
-use Rattle.class_disk.specs.inside.Owners.{slot_at}
-use Rattle.class_disk.specs.inside.TableCalls.{ended_part, bytes_from}
-use Rattle.class_disk.specs.inside.Driver.{places_of, busy_left, marks_left, note, note_by, known, knowns, IsCause, IsAsked, AreAsked, IsSpotted, IsOpen, IsBuffered, IsWritten}
-use Rattle.class_disk.specs.inside.DuringACall.{IsTaking, IsMidway}
-use Rattle.class_disk.proofs.Retaking.{known_at, FoundBy, found_by}
-use Rattle.class_disk.proofs.Keeping.{part_in as part_of_divided}
-use Rattle.class_disk.proofs.CoupledSteps.{divided_with}
-use Rattle.class_disk.proofs.Asking.{asks_of_handed, places_of_handed, request_of_handed}
-use Rattle.class_disk.proofs.Standing.{All-at}
-use Rattle.class_disk.proofs.Handed.{Handed}
+use Rattle.class_disk.specs.inside.Invariant.{IsOverMark}
+use Rattle.class_disk.specs.inside.Parts.{EndsBack, HasReason}
+use Rattle.class_disk.specs.inside.Driver.{places_of, busy_left, marks_left, IsCause, IsAsked, IsSpotted}
 use Rattle.class_disk.proofs.Withdrawing.{still_spotted, still_asked}
-use Rattle.class_disk.proofs.Changing.{HasOther, known_old}
+use Rattle.class_disk.proofs.Changing.{HasOther}
 
 -- HOW IT ENDED
 

@@ -3,7 +3,7 @@ use Rattle.std.specs.Prelude.{slice_get, slice_set, slice_range, vec_capacity, i
 use Rattle.std.proofs.Common.{◌≡◌, ◌≤◌, true, take, drop, ℕ, zero, suc, ◌+◌, ◌-◌, ◌*◌, ◌==◌, List, [], ◌∷◌, Some, refl, sym, ◌∙◌, ap, subst, arith, length, get_or}
 use Rattle.std.proofs.lemmas.Option.{get_or_from_slice_get}
 use Rattle.std.proofs.lemmas.List.{length-drop, length-take-le}
-use Rattle.irp.specs.declared.Payload.TheVariants.{Buffer, Srb as Packed}
+use Rattle.irp.specs.declared.Payload.TheVariants.{Srb as Packed}
 use Rattle.srb.specs.declared.Kind.{Kind}
 use Rattle.srb.specs.declared.Kind.TheVariants.{Read, Write, Flush}
 use Rattle.machine.specs.declared.Request.{Request}
