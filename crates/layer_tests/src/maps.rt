@@ -126,6 +126,10 @@ fn ends_where_the_next_begins(rt: HostRuntime) -> Result<(), Fail> {
             Step::Finish(0, &[Good(3)]),
             Step::Filled(3, NtStatus::Success, 0xFF),
             Step::NoneDone,
+            Step::Submit(1, Kind::Read, 0, 1, 0xFF),
+            Step::Forget,
+            Step::Tells(&[]),
+            Step::Act(0, &[Acts(4)]),
         ],
     )?;
     Ok(())

@@ -100,6 +100,10 @@ fn joins_pieces_by_place(rt: HostRuntime) -> Result<(), Fail> {
             Step::NoneDone,
             Step::Finish(0, &[Bad(9)]),
             Step::Moved(5, NtStatus::IoDeviceError, &[]),
+            Step::Submit(0, Kind::Write, 0, 1, 0x44),
+            Step::Forget,
+            Step::Tells(&[]),
+            Step::Act(0, &[Acts(11)]),
         ],
     )?;
     Ok(())

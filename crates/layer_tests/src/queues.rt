@@ -50,6 +50,10 @@ fn starts_first_in_first_out(rt: HostRuntime) -> Result<(), Fail> {
             Step::Done(3, NtStatus::Success),
             Step::Done(1, NtStatus::DeviceBusy),
             Step::NoneDone,
+            Step::Submit(0, Kind::Read, 0, 1, 0xA5),
+            Step::Forget,
+            Step::Tells(&[]),
+            Step::Act(0, &[Acts(4)]),
         ],
     )?;
     Ok(())

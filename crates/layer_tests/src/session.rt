@@ -137,6 +137,11 @@ impl<'a, D: Device> Session<'a, D> {
         true
     }
 
+    fn forget(&mut self) -> bool {
+        self.device.forget_labels();
+        true
+    }
+
     fn cancel(&mut self, number: u64) -> bool {
         self.device.cancel(number as u128);
         true
@@ -253,6 +258,7 @@ impl<'a, D: Device> Session<'a, D> {
             Step::Finish(tag, want) => self.finish(*tag, !want.is_empty()) && self.tells(want),
             Step::Reset(want) => self.reset() && self.tells(want),
             Step::Tells(want) => self.tells(want),
+            Step::Forget => self.forget(),
             Step::SendsAgain(count) => self.sends_again(*count),
             Step::Serve(piece, first, count) => self.serves(*piece, *first, *count),
             step => self.ends(step),

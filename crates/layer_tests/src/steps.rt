@@ -39,6 +39,8 @@ pub(crate) enum Step<'a> {
     Finish(u8, &'a [Told<'a>]),
     Reset(&'a [Told<'a>]),
     Tells(&'a [Told<'a>]),
+    /// The labels that are there are forgotten.
+    Forget,
     Cancel(u64),
     /// By the spot of the first number's packet, the packet of the second.
     CancelAt(u64, u64),

@@ -113,6 +113,12 @@ fn holds_by_its_window(rt: HostRuntime) -> Result<(), Fail> {
             Step::Submit(0, Kind::Read, 1, 1, 0xA5),
             Step::Tells(&[Starts(1, 0)]),
             Step::Holds(1),
+            Step::Act(0, &[Acts(1)]),
+            Step::Finish(0, &[Good(1)]),
+            Step::Moved(1, NtStatus::Success, &[0]),
+            Step::Forget,
+            Step::Tells(&[]),
+            Step::Act(0, &[Acts(2)]),
         ],
     )?;
     Ok(())
