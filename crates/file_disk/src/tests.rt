@@ -2,11 +2,11 @@
 
 ghost use Rattle.std.specs.Prelude.{◌<◌, ◌^◌};
 
-use crate::{DiskFile, FileDisk, MemoryFile, Sizes, Storage, read_all, write_all};
+use crate::{DiskFile, FileDisk, MemoryFile, Moved, Sizes, Storage, read_all, write_all};
 use arrayvec::ArrayVec;
 use ntstatus::Sense;
 use sector::Bytes;
-use srb::{CommandBlock, Completion, Kind, Srb, SrbFlags, SrbFunction};
+use srb::{CommandBlock, Completion, Srb, SrbFlags, SrbFunction};
 use std::alloc::Global;
 use std::fmt::Debug;
 use std::fs;
@@ -73,16 +73,18 @@ fn sevens(alloc: Global) -> Result<MemoryFile, Fail> {
     Ok(MemoryFile::new(vec![in alloc; 7; 2048]?).in_steps(100))
 }
 
-/// Returns what a piece comes to: the first of its bytes, and how many, or how it failed.
-fn told(outcome: &Result<Moved, Completion>) -> Result<(Kind, u64, usize, Option<u8>), Completion> {
+/// Where a piece read, how many bytes and the first of them; of what it sent nothing.
+type Told = Result<Option<(u64, usize, Option<u8>)>, Completion>;
+
+/// Returns what a piece comes to, or how it failed.
+fn told(outcome: &Result<Moved, Completion>) -> Told {
     match outcome {
-        Ok(Moved::Read(entry)) => Ok((
-            entry.kind,
+        Ok(Moved::Read(entry)) => Ok(Some((
             entry.extent.first,
             entry.bytes.len(),
             entry.bytes.as_slice().first().copied(),
-        )),
-        Ok(Moved::Sent) => Ok((Kind::Write, 0, 0, None)),
+        ))),
+        Ok(Moved::Sent) => Ok(None),
         Err(completion) => Err(*completion),
     }
 }
@@ -92,18 +94,18 @@ fn each_command_is_carried_out(rt: HostRuntime) -> Result<(), Fail> {
     let alloc = rt.alloc();
     let mut disk = FileDisk::new(alloc, sevens(alloc)?, SIZES);
     let read = disk.transfer(0, 1, &srb(alloc, &READ, 64, 512)?);
-    same(&rt, &told(&read), &Ok((Kind::Read, 1, 512, Some(7))));
+    same(&rt, &told(&read), &Ok(Some((1, 512, Some(7)))));
     let written = disk.transfer(0, 2, &srb(alloc, &WRITE, 128, 512)?);
-    same(&rt, &told(&written), &Ok((Kind::Write, 0, 0, None)));
+    same(&rt, &told(&written), &Ok(None));
     if let Ok(Moved::Read(entry)) = read {
         disk.take_back(entry);
     }
     let read = disk.transfer(0, 3, &srb(alloc, &READ, 64, 512)?);
-    same(&rt, &told(&read), &Ok((Kind::Read, 1, 512, Some(9))));
+    same(&rt, &told(&read), &Ok(Some((1, 512, Some(9)))));
     let through = disk.transfer(0, 4, &srb(alloc, &WRITE_THROUGH, 128, 512)?);
-    same(&rt, &told(&through), &Ok((Kind::Write, 0, 0, None)));
+    same(&rt, &told(&through), &Ok(None));
     let synced = disk.transfer(0, 5, &srb(alloc, &SYNC, 0, 0)?);
-    same(&rt, &told(&synced), &Ok((Kind::Write, 0, 0, None)));
+    same(&rt, &told(&synced), &Ok(None));
     let capacity = disk.transfer(0, 6, &srb(alloc, &CAPACITY, 64, 8)?);
     same(&rt, &told(&capacity), &Err(INVALID));
     let long = disk.transfer(0, 7, &srb(alloc, &READ, 64, 1024)?);
@@ -118,7 +120,7 @@ fn fails_with(
     block: &[u8; 10],
     flags: u8,
     count: usize,
-) -> Result<Result<(Kind, u64, usize, Option<u8>), Completion>, Fail>
+) -> Result<Told, Fail>
     requires { count < 2 ^ 20 }
 {
     let alloc = rt.alloc();
