@@ -1,5 +1,5 @@
 -- A reset goes through the slots one after the other.
-use Rattle.std.proofs.Common.{◌≡◌, ◌<◌, ◌≤◌, ℕ, ◌+◌, Bool, true, false, List, [], ◌∷◌, ◌++◌, length, map, take, drop, slice_set, sum_by, Option, Some, None, refl, sym, ap, ◌∙◌, arith, add-one, append_assoc, add_assoc, set-set, length-append, if◌then◌else◌}
+use Rattle.std.proofs.Common.{◌≡◌, ◌<◌, ◌≤◌, ℕ, ◌+◌, Bool, true, false, List, [], ◌∷◌, ◌++◌, length, map, take, drop, slice_set, sum_by, Option, Some, None, refl, sym, ap, ◌∙◌, arith, add-one, append_assoc, add_assoc, length-append, if◌then◌else◌}
 use Rattle.std.proofs.lemmas.List.{set_at, get_or_at, take_more, map-append, length-map, append-nil, length-take-le}
 use Rattle.std.proofs.Math.Seq.{drop-cons}
 use Rattle.std.proofs.lemmas.List.Sums.{sum_by_more, sum_by-le}
@@ -9,13 +9,7 @@ use Rattle.srb.specs.declared.DeviceLabel.{DeviceLabel}
 use Rattle.miniport.specs.declared.on_tag.OnTag.{OnTag}
 use Rattle.miniport.specs.declared.on_tag.Progress.{Progress}
 use Rattle.miniport.specs.declared.on_tag.Progress.TheVariants.{Untouched, Moved, Failed}
-use Rattle.miniport.specs.inside.Slots.{Table, piece_at, labels_by, slot_after_reset, failures_of_reset, labels_of_reset, with_slot, with_reset_counted, with_reset_at, with_first_reset}
-
--- the piece taken off its tag, counted and put back
-pub reset_one : (t : Table) (tag : ℕ) (on after : OnTag) → piece_at t.slots tag ≡ Some on → Some after ≡ slot_after_reset (Some on)
-    → with_slot tag (Some after) (with_reset_counted (Some on) (with_slot tag None t)) ≡ with_reset_at tag t
-reset_one t tag on after there e = rw (there, ← e)
-    (ap (λ (l : List (Option OnTag)). record (with_reset_counted (Some on) t) { slots = l }) (set-set t.slots tag None (Some after)))
+use Rattle.miniport.specs.inside.Slots.{Table, piece_at, labels_by, slot_after_reset, failures_of_reset, labels_of_reset, with_reset_at, with_first_reset}
 
 -- each slot records one label at most, and counts one failure at most
 label_by : (piece : ℕ) (p : Progress) → length (labels_by piece p) ≤ 1

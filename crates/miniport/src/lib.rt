@@ -16,6 +16,7 @@ mod first_sector;
 mod memory;
 mod on_tag;
 mod once;
+mod recorded;
 mod suiting;
 mod table;
 

@@ -1,16 +1,18 @@
 //! The tags of the adapter in memory, its counts and its record of labels.
 
-ghost use Rattle.std.specs.Prelude.{◌≡◌, ◌≤◌, ◌<◌, ◌^◌, ◌+◌, ◌++◌, ◌∷◌, [], List, ℕ, Some, None, is_some, IsTrue, IfOk, IfSome, length, replicate, get_or, vec_len, Ok, MatchBool, MatchOption, if◌then◌else◌};
+ghost use Rattle.std.specs.Prelude.{◌≡◌, ◌≤◌, ◌<◌, ◌^◌, ◌+◌, ◌++◌, ◌∷◌, [], List, ℕ, Some, None, is_some, IsTrue, IfOk, IfSome, length, replicate, get_or, slice_set, map, option_map, All, true, vec_len, Ok, MatchBool, MatchOption, if◌then◌else◌};
 ghost use Rattle.std.specs.VecDeque.{deque_len, deque_capacity};
 ghost use Rattle.srb.specs.declared.DeviceLabel.{DeviceLabel};
-ghost use Rattle.miniport.specs.inside.Slots.{Table, ComesBack, Fails, HasNoneUntouched, piece_at, progress_after_reset, labels_by, slot_after_reset, with_reset_counted, with_slot, with_new, with_moved, with_failed, with_returned, with_reset, with_reset_at};
+ghost use Rattle.miniport.specs.inside.Slots.{Table, ComesBack, Fails, HasNoneUntouched, piece_at, progress_after_reset, labels_by, with_slot, with_new, with_moved, with_failed, with_returned, with_reset, with_reset_at};
 ghost use Rattle.miniport.specs.declared.on_tag.OnTag.{OnTag};
-ghost use Rattle.miniport.specs.declared.on_tag.Progress.TheVariants.{Untouched};
+ghost use Rattle.miniport.specs.declared.on_tag.Progress.TheVariants.{Untouched, Moved};
 ghost use Rattle.miniport.specs.Carrying.{with_data};
-ghost use Rattle.miniport.specs.inside.Slots.{Fits, MayBecome, booked_with, emptied};
+ghost use Rattle.miniport.specs.inside.Recorded.{IsTellable, told};
+ghost use Rattle.miniport.specs.inside.Slots.{Fits, MayBecome, booked_with, met_of};
 
 use crate::completion::met_reset;
 use crate::on_tag::{Booking, OnTag, Progress};
+use crate::recorded::{Recorded, tell, tell_all};
 use srb::{Booked, Completion, DeviceLabel, Entry, Kind, Srb};
 use std::alloc::{AllocError, Global};
 use std::collections::VecDeque;
@@ -84,17 +86,27 @@ fn with_booking(on_tag: OnTag, what: Booked<'_>) -> OnTag
     }
 }
 
-/// The label of an act, whose bytes are the data of the SRB. It takes the room that the SRB has for them.
-fn label_of(piece: u128, srb: &mut Srb) -> DeviceLabel
-    requires { length srb.old.data ≤ srb.old.for_label }
-    ensures told { result ≡ DeviceLabel.Act piece srb.old.data }
-    ensures after { srb.new ≡ emptied srb.old.data srb.old }
+/// Takes the piece off a tag.
+fn taken(slots: &mut Vec<Option<OnTag>>, tag: u8) -> Option<OnTag>
+    ensures piece { result ≡ piece_at slots.old.items tag }
+    ensures after { slots.new.items ≡ slice_set slots.old.items tag None }
+    ensures many { vec_len slots.new ≡ vec_len slots.old }
 {
-    let room = srb.for_label.take();
-    DeviceLabel::Act {
-        piece,
-        bytes: room.filled(srb.data.as_slice()),
+    let index = tag as usize;
+    if index < slots.len() {
+        slots[index].take()
+    } else {
+        None
     }
+}
+
+/// Puts a piece on a tag.
+fn put(slots: &mut Vec<Option<OnTag>>, tag: u8, on_tag: OnTag)
+    requires { tag < length slots.old.items }
+    ensures after { slots.new.items ≡ slice_set slots.old.items tag (Some on_tag) }
+    ensures many { vec_len slots.new ≡ vec_len slots.old }
+{
+    slots[tag as usize] = Some(on_tag);
 }
 
 /// A slot for each tag. Nothing but `new` takes memory.
@@ -103,15 +115,15 @@ pub(crate) struct TagTable {
     slots: Vec<Option<OnTag>>,
     accepted: u128,
     failures: u128,
-    labels: VecDeque<DeviceLabel>,
+    labels: VecDeque<Recorded>,
 }
 
 impl Model for TagTable {
     ghost Value = { Table };
 
-    ghost view = { λ t. record { slots = t.slots.items; accepted = t.accepted; failures = t.failures; labels = t.labels.items } };
+    ghost view = { λ t. record { slots = t.slots.items; accepted = t.accepted; failures = t.failures; labels = map (told t.slots.items) t.labels.items } };
 
-    ghost invariant = { λ t. (vec_len t.slots ≤ 32) × (64 ≤ deque_capacity t.labels) };
+    ghost invariant = { λ t. (vec_len t.slots ≤ 32) × (64 ≤ deque_capacity t.labels) × All (IsTellable t.slots.items) t.labels.items };
 }
 
 impl TagTable {
@@ -164,20 +176,7 @@ impl TagTable {
         });
         self.accepted += 1;
         self.labels
-            .push_back_reserved(DeviceLabel::Start { piece, tag, block });
-    }
-
-    /// Takes the piece off a tag.
-    pub fn take(&mut self, tag: u8) -> Option<OnTag>
-        ensures piece { result ≡ piece_at self.old.slots tag }
-        ensures after { self.new ≡ with_slot tag None self.old }
-    {
-        let index = tag as usize;
-        if index < self.slots.len() {
-            self.slots[index].take()
-        } else {
-            None
-        }
+            .push_back_reserved(Recorded::Told(DeviceLabel::Start { piece, tag, block }));
     }
 
     /// Whether a piece is on a tag.
@@ -214,9 +213,9 @@ impl TagTable {
         ensures after { MatchOption result (self.new ≡ self.old) (λ on. self.new ≡ with_slot tag None self.old) }
         ensures free { IfSome result (λ on. piece_at self.new.slots tag ≡ None) }
     {
-        match self.slots.get(tag as usize) {
-            Some(Some(on_tag)) if on_tag.progress == Progress::Untouched => self.take(tag),
-            _ => None,
+        match self.untouched(tag) {
+            None => None,
+            Some(_) => taken(&mut self.slots, tag),
         }
     }
 
@@ -226,12 +225,14 @@ impl TagTable {
         requires free { piece_at self.old.slots tag ≡ None }
         requires place { length self.old.labels < 64 }
         requires room { length on_tag.srb.data ≤ on_tag.srb.for_label }
+        requires acted { on_tag.progress ≡ Moved }
         ensures { self.new ≡ with_moved tag on_tag self.old }
     {
-        let OnTag { mut srb, .. } = on_tag;
-        let label = label_of(on_tag.piece, &mut srb);
+        let OnTag { mut srb, piece, .. } = on_tag;
+        let room = srb.for_label.take();
         self.place(tag, OnTag { srb, ..on_tag });
-        self.labels.push_back_reserved(label);
+        self.labels
+            .push_back_reserved(Recorded::Acted { piece, tag, room });
     }
 
     /// Puts a piece back on its tag, which failed.
@@ -245,7 +246,8 @@ impl TagTable {
         let piece = on_tag.piece;
         self.place(tag, on_tag);
         self.failures += 1;
-        self.labels.push_back_reserved(DeviceLabel::Fault { piece });
+        self.labels
+            .push_back_reserved(Recorded::Told(DeviceLabel::Fault { piece }));
     }
 
     /// Fails a tag's piece, if it has done nothing yet.
@@ -266,10 +268,11 @@ impl TagTable {
     }
 
     fn place(&mut self, tag: u8, on_tag: OnTag)
-        requires { tag < length self.old.slots }
+        requires below { tag < length self.old.slots }
+        requires free { piece_at self.old.slots tag ≡ None }
         ensures { self.new ≡ with_slot tag (Some on_tag) self.old }
     {
-        self.slots[tag as usize] = Some(on_tag);
+        put(&mut self.slots, tag, on_tag);
     }
 
     /// The piece of a tag comes back, with the completion and its sense.
@@ -277,13 +280,13 @@ impl TagTable {
         requires { length self.old.labels < 64 }
         ensures { MatchOption result ((piece_at self.old.slots tag ≡ None) × (self.new ≡ self.old)) (λ back. ComesBack self.old tag back.0 back.1 self.new) }
     {
-        let on_tag = self.take(tag)?;
+        tell_all(&mut self.labels, self.slots.as_slice());
+        let on_tag = taken(&mut self.slots, tag)?;
         let completion = on_tag.completion();
         let OnTag { piece, srb, .. } = on_tag;
-        self.labels.push_back_reserved(DeviceLabel::Return {
-            piece,
-            class: completion.class(),
-        });
+        let class = completion.class();
+        self.labels
+            .push_back_reserved(Recorded::Told(DeviceLabel::Return { piece, class }));
         let sense = completion.sense;
         Some((Srb { sense, ..srb }, completion))
     }
@@ -305,25 +308,36 @@ impl TagTable {
         requires countable { self.old.failures < 2 ^ 127 + 64 }
         ensures { self.new ≡ with_reset_at tag self.old }
     {
-        if let Some(on_tag) = self.take(tag) {
-            let on_tag = self.reset_piece(on_tag);
-            self.place(tag, on_tag);
+        if let Some((piece, progress, was_reset)) = self.met(tag) {
+            self.count_reset(was_reset);
+            let progress = self.fault_by(piece, progress);
+            self.mark_reset(tag, progress);
         }
     }
 
-    /// The piece after a reset, which is counted and recorded.
-    fn reset_piece(&mut self, on_tag: OnTag) -> OnTag
-        requires place { length self.old.labels < 64 }
-        requires countable { self.old.failures < 2 ^ 127 + 64 }
-        ensures piece { Some result ≡ slot_after_reset (Some on_tag) }
-        ensures after { self.new ≡ with_reset_counted (Some on_tag) self.old }
+    /// What a reset asks of the piece on a tag: its number, what it has done, and whether a reset met it before.
+    fn met(&self, tag: u8) -> Option<(u128, Progress, bool)>
+        ensures { result ≡ option_map met_of (piece_at self.now.slots tag) }
     {
-        self.count_reset(on_tag.was_reset);
-        let progress = self.fault_by(on_tag.piece, on_tag.progress);
-        OnTag {
-            progress,
-            was_reset: true,
-            ..on_tag
+        match self.slots.get(tag as usize) {
+            Some(Some(on_tag)) => Some((on_tag.piece, on_tag.progress, on_tag.was_reset)),
+            _ => None,
+        }
+    }
+
+    /// The piece on a tag has met a reset, and has done this.
+    fn mark_reset(&mut self, tag: u8, progress: Progress)
+        requires below { tag < length self.old.slots }
+        requires acted { (on : OnTag) → piece_at self.old.slots tag ≡ Some on → on.progress ≡ Moved → progress ≡ Moved }
+        ensures { (on : OnTag) → piece_at self.old.slots tag ≡ Some on → self.new ≡ with_slot tag (Some (record on { progress = progress; was_reset = true })) self.old }
+    {
+        if let Some(on_tag) = taken(&mut self.slots, tag) {
+            let on_tag = OnTag {
+                progress,
+                was_reset: true,
+                ..on_tag
+            };
+            put(&mut self.slots, tag, on_tag);
         }
     }
 
@@ -346,7 +360,8 @@ impl TagTable {
         if progress != Progress::Untouched {
             return progress;
         }
-        self.labels.push_back_reserved(DeviceLabel::Fault { piece });
+        self.labels
+            .push_back_reserved(Recorded::Told(DeviceLabel::Fault { piece }));
         Progress::Failed(met_reset())
     }
 
@@ -354,7 +369,8 @@ impl TagTable {
     pub fn take_label(&mut self) -> Option<DeviceLabel>
         ensures { MatchOption result ((self.old.labels ≡ []) × (self.new ≡ self.old)) (λ label. (rest : List DeviceLabel) × (self.old.labels ≡ label ∷ rest) × (self.new ≡ record self.old { labels = rest })) }
     {
-        self.labels.pop_front()
+        let label = self.labels.pop_front()?;
+        Some(tell(label, self.slots.as_slice()))
     }
 
     /// All labels leave, and nobody reads them.

@@ -169,6 +169,10 @@ abbrev pub labels_of_reset : Option OnTag → List DeviceLabel
 labels_of_reset None = []
 labels_of_reset (Some on) = labels_by on.piece on.progress
 
+-- what a reset asks of a piece
+abbrev pub met_of : OnTag → ℕ × Progress × Bool
+met_of on = (on.piece, on.progress, on.was_reset)
+
 -- a slot's reset counted and recorded
 abbrev pub with_reset_counted : Option OnTag → Table → Table
 with_reset_counted slot table = record table {
