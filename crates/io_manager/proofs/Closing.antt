@@ -87,7 +87,7 @@ module _ (takes_srb : Bool) (old new : DeviceView) (spot : ℕ) (irp : Box Irp) 
       let asked : h.request.kind ≡ Read = ap (λ q. q.kind) (sym h.is_request) ∙ below in
       let success : h.status ≡ Success = sym status_left ∙ succeeded in
       let as_asked : h.answers.request.request.length ≡ length (payload_bytes done.payload) =
-          ap (λ q. q.length) h.is_request ∙ sym (h.filled asked success) ∙ ap length (sym (h.brings asked success)) ∙ ap (λ p. length (payload_bytes p)) (sym payload_left) in
+      ap (λ q. q.length) h.is_request ∙ sym (h.filled asked success) ∙ ap length (sym (h.brings asked success)) ∙ ap (λ p. length (payload_bytes p)) (sym payload_left) in
       subst (λ r. length (payload_bytes done.payload) ≤ r.label_bytes) same (subst (λ n. n ≤ held_at.request.label_bytes) as_asked (held_at.label_bytes below))
 
   some_held : 0 < slab_len requests
