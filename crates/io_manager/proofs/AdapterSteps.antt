@@ -48,6 +48,7 @@ module _ (limits : Limits) (below : DeviceView) (tables : Tables) (old : Manager
     device = moves.run;
     recorded = labels_moved below.adapter labels below1.adapter moves.adapter ∙ ap (λ before. before ++ labels) kept.none_recorded;
     own_labels = none_told;
+    same_keeps = refl;
     same_untaken = refl;
   }
 
@@ -177,6 +178,7 @@ module _ (limits : Limits) (below : DeviceView) (tables : Tables) (old : Manager
         ap (λ (v : AdapterView). v.labels) r.noted.after
         ∙ labels_moved below.adapter faults r.all_faulted r.moves.adapter ∙ ap (λ before. before ++ faults) kept.none_recorded;
     own_labels = ap (λ (v : ManagerView). v.labels) shown ∙ taken;
+    same_keeps = refl;
     same_untaken = refl;
   }
 

@@ -178,7 +178,7 @@ module _ (limits : Limits) (below : DeviceView) (tables : Tables) (q : ClientReq
         };
       }
 
-  pub admitted_sound : (handle : Handle) (copies : LabelBytes) (spot slot : ℕ) (tables1 : Tables) (buffer : List ℕ) (below1 : DeviceView) → AreDistinct below.state → IsOpenIn tables.handles handle.slot handle.number → HasLabelBytes q.kind buffer copies → q.length ≡ length buffer
+  pub admitted_sound : (handle : Handle) (copies : LabelBytes) (spot slot : ℕ) (tables1 : Tables) (buffer : List ℕ) (below1 : DeviceView) → AreDistinct below.state → IsOpenIn tables.handles handle.slot handle.number → HasLabelBytes tables.labels.keeps q.kind buffer copies → q.length ≡ length buffer
       → deque_len tables.untaken + (slab_len tables.requests + 1) ≤ deque_capacity tables.untaken → Admits tables handle q copies spot slot tables1
       → SendsDown below tables.next_request spot (request_of limits.sector_size q) buffer below1 → IsSound limits below1 tables1
   admitted_sound handle copies spot slot tables1 buffer below1 distinct is_open buffers same_length place admits sends =
@@ -221,7 +221,7 @@ module _ (limits : Limits) (below : DeviceView) (tables : Tables) (q : ClientReq
           let counted : slab_len tables1.requests ≡ slab_len tables.requests + 1 = admits.counted in
           let number : sends.packet.number ≡ tables.next_request = sends.is_number in
           let after : sends.submits.opened.next_request ≡ sends.packet.number + 1 = sends.submits.opens.after.next_request in
-          let labels : deque_capacity tables1.labels ≡ deque_capacity tables.labels = admits.label_places in
+          let labels : tables1.labels.places ≡ tables.labels.places = admits.label_places.0 in
           let slots : tables1.requests.capacity ≡ tables.requests.capacity = admits.slots in
           let asks : AsksBy below.rules q limits.sector_size = asks_whole limits below tables q h k in
           record {
@@ -237,6 +237,7 @@ module _ (limits : Limits) (below : DeviceView) (tables : Tables) (q : ClientReq
             places = record {
               labels = subst (λ capacity. 256 ≤ capacity) (sym labels) h.places.labels;
               answered = h.places.answered;
+              alike = h.places.alike ∙ sym admits.label_places.1;
               untaken = subst (λ count. deque_len tables.untaken + count ≤ deque_capacity tables.untaken) (sym counted) place;
               handles = h.places.handles;
               requests = slots ∙ h.places.requests;

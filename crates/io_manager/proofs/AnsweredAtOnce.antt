@@ -41,8 +41,9 @@ at_once_sound limits below tables q status tables1 h last answers =
       held = h.held;
       few = h.few;
       places = record {
-        labels = subst (λ capacity. 256 ≤ capacity) (sym answers.label_places) h.places.labels;
+        labels = subst (λ capacity. 256 ≤ capacity) (sym answers.label_places.0) h.places.labels;
         answered = h.places.answered;
+        alike = h.places.alike ∙ sym answers.label_places.1;
         untaken = h.places.untaken;
         handles = h.places.handles;
         requests = h.places.requests;
@@ -102,7 +103,7 @@ module _ (limits : Limits) (below : DeviceView) (tables : Tables) (handle : Hand
         };
         by =
             right_alone view (own (status_at_once at_once)) (shown_state (tables.next_request + 1) (is_gone tables.state) below.state) below.adapter.reserved tables.handles.slots tables.next_handle
-            tables1.labels.items tables.untaken.items run (reserves_none below.adapter) taken.1 told refl;
+            tables1.labels.items tables.untaken.items tables1.labels.keeps run (reserves_none below.adapter) taken.1 told refl answers.label_places.1;
       }))
     where
       run : Run view.rules view.state (own (status_at_once at_once)) (shown_state (tables.next_request + 1) (is_gone tables.state) below.state)

@@ -58,6 +58,7 @@ reserved_sound limits below tables below' tables' h reserves keeps =
       places = record {
         labels = h.places.labels;
         answered = h.places.answered;
+        alike = h.places.alike;
         untaken =
             let count : deque_len tables'.untaken ≡ deque_len tables.untaken = keeps.same_count in
             let more : deque_capacity tables.untaken ≤ deque_capacity tables'.untaken = keeps.answer_places in
@@ -129,8 +130,8 @@ module _ (limits : Limits) (below : DeviceView) (tables : Tables) (handle : Hand
           handles = record { handles = refl; next_handle = refl };
         };
         by =
-            right_alone view [] view.state below'.adapter.reserved tables.handles.slots tables.next_handle tables.labels.items tables'.untaken.items
-            (IsSame-refl _) (more_reserved below below' reserves) kept.none_recorded told keeps.same_untaken;
+            right_alone view [] view.state below'.adapter.reserved tables.handles.slots tables.next_handle tables.labels.items tables'.untaken.items tables.labels.keeps
+            (IsSame-refl _) (more_reserved below below' reserves) kept.none_recorded told keeps.same_untaken refl;
       })))
 
   sent_is : (kind : Kind) (payload : Payload) → sent_bytes kind payload ≡ bytes_called kind (payload_bytes payload)
@@ -146,7 +147,7 @@ module _ (limits : Limits) (below : DeviceView) (tables : Tables) (handle : Hand
   told_is = ap (λ (r : ClientRequest). record r { bytes = bytes_called q.kind buffer }) is_call
 
   module _ (below' : DeviceView) (tables' : Tables) (copies : LabelBytes) (spot slot : ℕ) (below1 : DeviceView) (tables1 : Tables) (reserves : Reserves below below') (keeps : KeepsAnswers tables tables')
-      (buffers : HasLabelBytes q.kind buffer copies) (admits' : Admits tables' handle q copies spot slot tables1) (sends' : SendsDown below' tables'.next_request spot (request_of limits.sector_size q) buffer below1) where
+      (buffers : HasLabelBytes tables'.labels.keeps q.kind buffer copies) (admits' : Admits tables' handle q copies spot slot tables1) (sends' : SendsDown below' tables'.next_request spot (request_of limits.sector_size q) buffer below1) where
     abbrev reserved_below : DeviceView
     reserved_below = record below { rooms = below'.rooms; adapter = record below.adapter { reserved = below'.adapter.reserved } }
 
@@ -189,8 +190,8 @@ module _ (limits : Limits) (below : DeviceView) (tables : Tables) (handle : Hand
 
     labels_are : tables1.labels.items ≡ own
     labels_are =
-        admits.tells ∙ ap (λ before. before ++ Call tables.next_request (record q { bytes = copies.call_bytes }) ∷ []) told
-        ∙ ap (λ bytes. Call tables.next_request (record q { bytes = bytes }) ∷ []) buffers.call_bytes
+        admits.tells ∙ ap (λ before. before ++ Call tables.next_request (record q { bytes = copies.call_bytes.told.items }) ∷ []) told
+        ∙ ap (λ bytes. Call tables.next_request (record q { bytes = bytes }) ∷ []) buffers.told
 
     -- the request is on a partition, as all before it
     given : All HasPartition sends.submits.opened.requests
@@ -211,6 +212,7 @@ module _ (limits : Limits) (below : DeviceView) (tables : Tables) (handle : Hand
       device = sends.submits.moves.run;
       recorded = labels_moved below.adapter sends.submits.starts below1.adapter moves_all ∙ ap (λ before. before ++ sends.submits.starts) kept.none_recorded;
       own_labels = labels_are;
+      same_keeps = admits.label_places.1;
       same_untaken = ap (λ (t : Tables). t.untaken.items) admits.after ∙ keeps.same_untaken;
     }
 
@@ -283,7 +285,7 @@ module _ (limits : Limits) (below : DeviceView) (tables : Tables) (old : Manager
       )
 
   pub admitted_kept : (below1 : DeviceView) (tables1 : Tables) (copies : LabelBytes) (spot : ℕ) (below2 : DeviceView) (tables2 : Tables) (limits' : Limits) (below3 : DeviceView) (tables3 : Tables) (id : Id)
-      → Reserves below below1 → KeepsAnswers tables tables1 → HasLabelBytes q.kind buffer copies
+      → Reserves below below1 → KeepsAnswers tables tables1 → HasLabelBytes tables1.labels.keeps q.kind buffer copies
       → IsSent below1 tables1 handle q (request_of limits.sector_size q) copies buffer spot id.slot below2 tables2 → id.number ≡ tables1.next_request
       → limits' ≡ limits → IsSound limits' below3 tables3 → Collects below2 tables2 below3 tables3
       → IsRight (CallReplies old handle (call_on old handle q.kind q.offset buffer q.through) buffer (Requested id) (view_of limits' below3 tables3)) old (view_of limits' below3 tables3) × ManagerKept limits' below3 tables3

@@ -67,6 +67,7 @@ closed_sound limits below tables tables' slot number h is_open none_left closes 
       places = record {
         labels = h.places.labels;
         answered = h.places.answered;
+        alike = h.places.alike;
         untaken = h.places.untaken;
         handles = rw closes.slots h.places.handles;
         requests = h.places.requests;
@@ -185,6 +186,7 @@ module _ (limits : Limits) (below : DeviceView) (tables : Tables) (old : Manager
         same_rules = h.beside.same_rules;
         device = IsSame-refl below1.state;
         recorded = not_recorded below1 h.beside;
+        same_keeps = ap (λ (t : Tables). t.labels.keeps) same ∙ h.label_places.1;
         own_labels = ap (λ (t : Tables). t.labels.items) same ∙ h.tells ∙ ap (λ before. before ++ map as_cancel h.numbers) none_told;
         same_untaken = ap (λ (t : Tables). t.untaken.items) same ∙ ap (λ (t : Tables). t.untaken.items) h.after;
       }
@@ -300,6 +302,7 @@ module _ (limits : Limits) (below : DeviceView) (tables : Tables) (old : Manager
       device = IsSame-refl below.state;
       recorded = kept.none_recorded;
       own_labels = none_told;
+      same_keeps = refl;
       same_untaken = refl;
     }
 
@@ -334,6 +337,7 @@ module _ (limits : Limits) (below : DeviceView) (tables : Tables) (old : Manager
         same_rules = s.beside.same_rules;
         device = IsSame-refl below1.state;
         recorded = not_recorded below1 s.beside;
+        same_keeps = s.marks.label_places.1;
         own_labels = s.marks.tells ∙ ap (λ before. before ++ Cancel s.marks.request.number ∷ []) none_told ∙ ap (λ (r : OpenRequest). Cancel r.number ∷ []) is_request;
         same_untaken = ap (λ (t : Tables). t.untaken.items) s.marks.after;
       }

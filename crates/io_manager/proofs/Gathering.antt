@@ -14,6 +14,7 @@ use Rattle.device.specs.declared.climbing.Climb.TheVariants.{Finished}
 use Rattle.irp.specs.declared.Done.{Done}
 use Rattle.pnp.specs.declared.State.{State as PnpState}
 use Rattle.pnp.specs.declared.State.TheVariants.{Removing}
+use Rattle.machine.specs.declared.Label.{Label}
 use Rattle.machine.specs.Rules.{Rules}
 use Rattle.machine.specs.State.{OpenRequest as OpenBelow, State}
 use Rattle.machine.specs.Answering.{AnswersWith, information}
@@ -30,6 +31,7 @@ use Rattle.io_manager.specs.declared.Limits.{Limits}
 use Rattle.io_manager.specs.declared.tables.OpenRequest.{OpenRequest}
 use Rattle.io_manager.specs.declared.tables.Tables.{Tables}
 use Rattle.io_manager.specs.Shown.{Holder}
+use Rattle.io_manager.specs.inside.Queue.{QueueView, SameQueue}
 use Rattle.io_manager.specs.inside.Ordering.{inserted, HasOtherNumber}
 use Rattle.io_manager.specs.Right.{as_answer, unless_answered, end_labels}
 use Rattle.io_manager.specs.inside.Chains.{AreChained, AreCounted}
@@ -139,23 +141,22 @@ module _ (takes_srb : Bool) (old new : DeviceView) (spot : ℕ) (irp : Box Irp) 
       let before : deque_len t.untaken ≡ length t.untaken.items = t.untaken.ok.0 in
       let room : deque_len t.untaken + slab_len t.requests ≤ deque_capacity t.untaken = p.untaken in
       let more : deque_capacity t'.untaken ≡ deque_capacity t.untaken = c.places.untaken in
-      let some : 64 ≤ deque_capacity t.answered = p.answered in
-      let as_many : deque_capacity t'.answered ≡ deque_capacity t.answered = c.places.answered in
+      let some : 64 ≤ t.answered.places = p.answered in
+      let as_many : t'.answered.places ≡ t.answered.places = c.places.answered.0 in
       record {
         labels = rw c.same_labels p.labels;
         answered = omega arith;
+        alike = c.places.answered.1 ∙ p.alike ∙ sym (ap (λ (q : QueueView Label). q.keeps) c.same_labels);
         untaken = omega arith;
         handles = rw c.same_handles p.handles;
         requests = rw c.places.requests p.requests;
       }
 
   -- one more answer is deferred, and one fewer request is open
-  pub few_after : (most : ℕ) → deque_len t.answered + slab_len t.requests ≤ most → deque_len t'.answered + slab_len t'.requests ≤ most
+  pub few_after : (most : ℕ) → length t.answered.items + slab_len t.requests ≤ most → length t'.answered.items + slab_len t'.requests ≤ most
   few_after most few =
       let n : slab_len t'.requests + 1 ≡ slab_len t.requests = c.fewer in
       let m : length t'.answered.items ≡ length t.answered.items + 1 = count_after (answer_for c.request done) t.answered.items t'.answered.items c.answered in
-      let now : deque_len t'.answered ≡ length t'.answered.items = t'.answered.ok.0 in
-      let before : deque_len t.answered ≡ length t.answered.items = t.answered.ok.0 in
       omega arith
 
   given_after : AreDistinct old.state → old.state.next_request ≤ t.next_request → All (WasGiven t.next_request) t.untaken.items → All (WasGiven t'.next_request) t'.untaken.items
@@ -213,8 +214,8 @@ module _ (takes_srb : Bool) (old new : DeviceView) (spot : ℕ) (irp : Box Irp) 
 
 SamePlaces-trans : (a b c : Tables) → SamePlaces a b → SamePlaces b c → SamePlaces a c
 SamePlaces-trans a b c p q = record {
-  labels = q.labels ∙ p.labels;
-  answered = q.answered ∙ p.answered;
+  labels = (q.labels.0 ∙ p.labels.0, q.labels.1 ∙ p.labels.1);
+  answered = (q.answered.0 ∙ p.answered.0, q.answered.1 ∙ p.answered.1);
   untaken = q.untaken ∙ p.untaken;
   handles = q.handles ∙ p.handles;
   requests = q.requests ∙ p.requests;
@@ -237,7 +238,7 @@ gathers_none below tables none = record {
   same_next_handle = refl;
   same_next_request = refl;
   same_state = refl;
-  places = record { labels = refl; answered = refl; untaken = refl; handles = refl; requests = refl };
+  places = record { labels = (refl, refl); answered = (refl, refl); untaken = refl; handles = refl; requests = refl };
   quiet = λ still. (refl, still);
 }
   where
@@ -356,7 +357,7 @@ module _ (below mid new : DeviceView) (first t t' t'' : Tables) (g : Gathers bel
   requests_are = ap (λ (x : Tables). x.requests) e.after ∙ ap (λ (x : Tables). x.requests) kept
 
   pub collects : Settled mid.rules mid.state → AreHeld t.requests mid.state.requests
-      → deque_capacity t'.labels ≡ deque_capacity t.labels → deque_capacity t'.answered ≡ deque_capacity t.answered
+      → SameQueue t.labels t'.labels → SameQueue t.answered t'.answered
       → t'.labels.items ≡ (t.labels.items ++ map as_label mid.adapter.labels) ++ map as_answer t.answered.items → Collects below first new t''
   collects settled held label_places answer_places labels = record {
     starts = g.starts;
@@ -378,8 +379,8 @@ module _ (below mid new : DeviceView) (first t t' t'' : Tables) (g : Gathers bel
     same_next_request = ap (λ (x : Tables). x.next_request) e.after ∙ ap (λ (x : Tables). x.next_request) kept ∙ g.same_next_request;
     places =
         SamePlaces-trans first t t'' g.places (record {
-          labels = e.label_places ∙ label_places;
-          answered = ap (λ (x : Tables). deque_capacity x.answered) e.after ∙ answer_places;
+          labels = (e.label_places.0 ∙ label_places.0, e.label_places.1 ∙ label_places.1);
+          answered = (ap (λ (x : Tables). x.answered.places) e.after ∙ answer_places.0, ap (λ (x : Tables). x.answered.keeps) e.after ∙ answer_places.1);
           untaken = ap (λ (x : Tables). deque_capacity x.untaken) e.after ∙ ap (λ (x : Tables). deque_capacity x.untaken) kept;
           handles = ap (λ (x : Tables). x.handles.capacity) e.after ∙ ap (λ (x : Tables). x.handles.capacity) kept;
           requests = ap (λ (x : Tables). x.requests.capacity) e.after ∙ ap (λ (x : Tables). x.requests.capacity) kept;
@@ -399,7 +400,7 @@ ended_in_state false p p' s h k = subst (λ x. IsInState x s) (sym (h.not_ended 
 -- only labels, deferred answers and the state differ
 pub told_sound : (limits : Limits) (mid new : DeviceView) (t t' t'' : Tables) → new ≡ unlabelled mid → IsSoundWith t.answered.items limits mid t
     → t' ≡ record t { labels = t'.labels; answered = t'.answered } → t'.answered.items ≡ [] → (e : EndsRemoval t' t'') → EndsIf e.ends t.state mid.state t''.state
-    → deque_capacity t'.labels ≡ deque_capacity t.labels → deque_capacity t'.answered ≡ deque_capacity t.answered → IsSound limits new t''
+    → SameQueue t.labels t'.labels → SameQueue t.answered t'.answered → IsSound limits new t''
 told_sound limits mid new t t' t'' taken s kept none e removal label_places answer_places =
     subst (λ v. IsSound limits v t'') (sym taken) (subst (IsSound limits (unlabelled mid)) (sym (e.after ∙ ap (λ (x : Tables). record x { state = t''.state; labels = t''.labels }) kept)) (record {
       fits = FitsBelow-same limits mid (unlabelled mid) refl refl s.fits;
@@ -407,8 +408,9 @@ told_sound limits mid new t t' t'' taken s kept none e removal label_places answ
       held = s.held;
       few = s.few;
       places = record {
-        labels = subst (λ n. 256 ≤ n) (sym (e.label_places ∙ label_places)) s.places.labels;
-        answered = subst (λ n. 64 ≤ n) (sym answer_places) s.places.answered;
+        labels = subst (λ n. 256 ≤ n) (sym (e.label_places.0 ∙ label_places.0)) s.places.labels;
+        answered = subst (λ n. 64 ≤ n) (sym answer_places.0) s.places.answered;
+        alike = answer_places.1 ∙ s.places.alike ∙ sym (e.label_places.1 ∙ label_places.1);
         untaken = s.places.untaken;
         handles = s.places.handles;
         requests = s.places.requests;
@@ -427,10 +429,9 @@ told_sound limits mid new t t' t'' taken s kept none e removal label_places answ
     }))
 
 -- the bounds of the tables' places
-pub few_open : (limits : Limits) (below : DeviceView) (tables : Tables) → IsSound limits below tables → deque_len tables.answered + slab_len tables.requests ≤ 64
+pub few_open : (limits : Limits) (below : DeviceView) (tables : Tables) → IsSound limits below tables → length tables.answered.items + slab_len tables.requests ≤ 64
 few_open limits below tables s =
     let none : length tables.answered.items ≡ 0 = ap length s.none_put_by in
-    let same : deque_len tables.answered ≡ length tables.answered.items = tables.answered.ok.0 in
     let few : slab_len tables.requests ≤ limits.open_requests = s.few in
     let short : limits.open_requests ≤ 64 = s.fits.some_open.1 in
     omega arith

@@ -73,6 +73,7 @@ given_sound limits below old handles counts partition slot h free in_range count
       places = record {
         labels = h.places.labels;
         answered = h.places.answered;
+        alike = h.places.alike;
         untaken = h.places.untaken;
         handles = slots ∙ h.places.handles;
         requests = h.places.requests;
@@ -119,8 +120,8 @@ opened_right limits below old partition (HandleReply handle) new h none_told non
         },
       );
       by =
-          right_alone (view_of limits below old) [] (view_of limits below old).state below.adapter.reserved new.handles.slots (old.next_handle + 1) old.labels.items old.untaken.items
-          (IsSame-refl _) (reserves_none below.adapter) none_recorded none_told refl;
+          right_alone (view_of limits below old) [] (view_of limits below old).state below.adapter.reserved new.handles.slots (old.next_handle + 1) old.labels.items old.untaken.items old.labels.keeps
+          (IsSame-refl _) (reserves_none below.adapter) none_recorded none_told refl refl;
     })
 opened_right limits below old partition (Refused reason bytes) new h none_told none_recorded opens =
     subst (λ t. IsRight (OpenReplies (view_of limits below old) partition (Refused reason bytes) (view_of limits below t)) (view_of limits below old) (view_of limits below t)) (sym opens.2) (record {

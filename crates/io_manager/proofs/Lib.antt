@@ -1,3 +1,4 @@
+mod Walks
 pub mod Ordering
 pub mod Inserting
 pub mod Chaining

@@ -259,8 +259,9 @@ marked_sound limits below below' tables tables' slot place h distinct m cancels 
           (distinct_first request_number below.state.requests cancels.request cancels.others distinct.requests cancels.is_open) h.held);
       few = rw m.counted h.few;
       places = record {
-        labels = subst (λ n. 256 ≤ n) (sym m.label_places) h.places.labels;
+        labels = subst (λ n. 256 ≤ n) (sym m.label_places.0) h.places.labels;
         answered = h.places.answered;
+        alike = h.places.alike ∙ sym m.label_places.1;
         untaken = subst (λ n. deque_len tables.untaken + n ≤ deque_capacity tables.untaken) (sym m.counted) h.places.untaken;
         handles = h.places.handles;
         requests = rw m.slots h.places.requests;
@@ -344,7 +345,7 @@ cancels_none below tables handle = record {
   slots = refl;
   same_holders = refl;
   tells = sym (append-nil tables.labels.items);
-  label_places = refl;
+  label_places = (refl, refl);
   after = refl;
   run = IsSame-refl below.state;
   beside = record { same_rules = refl; same_packets = IsPermutation-refl _; same_rooms = λ spot. refl; same_submitted = refl; same_most = refl; same_adapter = refl };
@@ -452,7 +453,7 @@ module _ (below0 : DeviceView) (tables0 : Tables) (handle : ℕ) (below : Device
     slots = c.marks.slots ∙ h.slots;
     same_holders = holders_same tables.requests tables'.requests slot c.marks.request c.marks.there c.marks.slots_are ∙ h.same_holders;
     tells = told_more;
-    label_places = c.marks.label_places ∙ h.label_places;
+    label_places = (c.marks.label_places.0 ∙ h.label_places.0, c.marks.label_places.1 ∙ h.label_places.1);
     after = c.marks.after ∙ ap (λ (t : Tables). record t { requests = tables'.requests; chains = tables'.chains; labels = tables'.labels }) h.after;
     run = run_more;
     beside = IsBeside-trans below0 below below' h.beside c.beside;

@@ -106,6 +106,7 @@ module _ (limits : Limits) (below : DeviceView) (tables : Tables) (orderly : IsO
     some_bytes = some_bytes;
     max_transfer = for.max_transfer;
     some_transfer = for.some_transfer;
+    depth = for.depth;
     firsts = for.firsts;
     ends = ends;
     some_open = for.some_open;
@@ -176,4 +177,5 @@ module _ (limits : Limits) (below : DeviceView) (tables : Tables) (orderly : IsO
     no_requests = ap (λ (xs : List (Option OpenRequest)). holders_of (record tables.requests { slots = xs })) empty.no_requests;
     no_labels = empty.no_labels;
     no_answers = empty.no_answers;
+    keeps = empty.keeps;
   }

@@ -1,5 +1,5 @@
 -- Steps in which the device below does nothing: what is told of them, and how the tables stay sound.
-use Rattle.std.proofs.Common.{◌≡◌, ℕ, false, List, [], ◌++◌, Option, Some, None, refl, sym, ◌∙◌, ap, subst}
+use Rattle.std.proofs.Common.{◌≡◌, ℕ, Bool, false, List, [], ◌++◌, Option, Some, None, refl, sym, ◌∙◌, ap, subst}
 use Rattle.std.specs.Prelude.{IsPermutation}
 use Rattle.std.proofs.lemmas.List.{append-nil}
 use Rattle.std.proofs.lemmas.List.Sorted.{IsPermutation-refl}
@@ -26,14 +26,15 @@ abbrev pub tells_own : ManagerView → List Label → Told
 tells_own v own = record (tells_nothing v) { own = own }
 
 -- the machine, the labels and the handles may change, and more may be reserved
-pub right_alone : (v : ManagerView) (own : List Label) (s : State) (reserved : List Extent) (handles : List (Option OpenHandle)) (next_handle : ℕ) (labels : List Label) (answers : List Answer)
-    → Run v.rules v.state own s → ReservesMore v.adapter (record v.adapter { reserved = reserved }) → v.adapter.labels ≡ [] → labels ≡ own → answers ≡ v.answers
+pub right_alone : (v : ManagerView) (own : List Label) (s : State) (reserved : List Extent) (handles : List (Option OpenHandle)) (next_handle : ℕ) (labels : List Label) (answers : List Answer) (keeps : Bool)
+    → Run v.rules v.state own s → ReservesMore v.adapter (record v.adapter { reserved = reserved }) → v.adapter.labels ≡ [] → labels ≡ own → answers ≡ v.answers → keeps ≡ v.keeps
     → IsRightBy false (tells_own v own) v
-    (record v { state = s; adapter = record v.adapter { reserved = reserved }; handles = handles; next_handle = next_handle; labels = labels; answers = answers })
-right_alone v own s reserved handles next_handle labels answers run moves none_recorded told waits = record {
+    (record v { state = s; adapter = record v.adapter { reserved = reserved }; handles = handles; next_handle = next_handle; labels = labels; answers = answers; keeps = keeps })
+right_alone v own s reserved handles next_handle labels answers keeps run moves none_recorded told waits kept = record {
   in_order = told ∙ sym (append-nil own) ∙ sym (append-nil (own ++ [])) ∙ sym (append-nil ((own ++ []) ++ []));
   rising = tt;
   same_rules = refl;
+  same_keeps = kept;
   run = subst (λ told. Run v.rules v.state told s) (sym told) run;
   adapter = record {
     moved = record v.adapter { reserved = reserved };
@@ -48,7 +49,7 @@ right_alone v own s reserved handles next_handle labels answers run moves none_r
 -- nothing is told, and nothing changes
 pub IsRightBy-unmoved : (v : ManagerView) → v.labels ≡ [] → v.adapter.labels ≡ [] → IsRightBy false (tells_nothing v) v v
 IsRightBy-unmoved v none_told none_recorded =
-    right_alone v [] v.state v.adapter.reserved v.handles v.next_handle v.labels v.answers (IsSame-refl v.state) (reserves_none v.adapter) none_recorded none_told refl
+    right_alone v [] v.state v.adapter.reserved v.handles v.next_handle v.labels v.answers v.keeps (IsSame-refl v.state) (reserves_none v.adapter) none_recorded none_told refl refl
 
 pub none_reserved : (v : DeviceView) → Reserves v v
 none_reserved v = record { same = refl; adapter = reserves_none v.adapter }

@@ -32,6 +32,7 @@ use Rattle.io_manager.specs.declared.Reply.TheVariants.{Ok as OkReply, Refused}
 use Rattle.io_manager.specs.declared.tables.Tables.{Tables}
 use Rattle.io_manager.specs.Shown.{ManagerView}
 use Rattle.io_manager.specs.Right.{Told, SameHandles, tells_nothing, TellsOne, pnp_state, IsInvalid, IsRecalled, PnpReplies, RecallReplies, IsRight}
+use Rattle.io_manager.specs.inside.Queue.{SameQueue}
 use Rattle.io_manager.specs.inside.Sound.{shown_state, is_gone, view_of, IsSpotted, IsInState, IsSound, HasNoneToStart, Collects, ManagerKept}
 use Rattle.io_manager.specs.Opening.{rules_of}
 use Rattle.io_manager.proofs.AdapterJoins.{labels_moved}
@@ -94,7 +95,7 @@ no_starts rules (Return piece class ∷ starts) more s s' removing only run = ab
 -- the state moved on, and that is told
 pub record MovedTo (old : Tables) (p : PnpState) (label : Label) (new : Tables) : Type 0 where
   pub tells : new.labels.items ≡ old.labels.items ++ label ∷ []
-  pub label_places : deque_capacity new.labels ≡ deque_capacity old.labels
+  pub label_places : SameQueue old.labels new.labels
   pub after : new ≡ record old { state = p; labels = new.labels }
 
 beside_sound : (limits : Limits) (below below' : DeviceView) (tables tables1 : Tables) (p : PnpState) (label : Label) → IsSound limits below tables → IsBeside below below' → AsksSame below.state below'.state → IsInState p below'.state
@@ -111,8 +112,9 @@ beside_sound limits below below' tables tables1 p label h beside asks in_state m
       held = AreHeld-along tables.requests below.state below'.state asks h.held;
       few = h.few;
       places = record {
-        labels = subst (λ n. 256 ≤ n) (sym moved.label_places) h.places.labels;
+        labels = subst (λ n. 256 ≤ n) (sym moved.label_places.0) h.places.labels;
         answered = h.places.answered;
+        alike = h.places.alike ∙ sym moved.label_places.1;
         untaken = h.places.untaken;
         handles = h.places.handles;
         requests = h.places.requests;
@@ -182,6 +184,7 @@ module _ (limits : Limits) (below : DeviceView) (tables : Tables) (old : Manager
       same_rules = same_rules;
       device = device;
       recorded = recorded;
+      same_keeps = moved.label_places.1;
       own_labels = moved.tells ∙ ap (λ before. before ++ label ∷ []) none_told;
       same_untaken = ap (λ (t : Tables). t.untaken.items) moved.after;
     }
@@ -334,7 +337,7 @@ surprise_is RemovePending q s h k = (cc (h), refl, k.1)
 surprise_is Removing q s h k = cc (h)
 surprise_is Removed q s h k = cc (h)
 
-pub moved_to : (old : Tables) (q p : PnpState) (label : Label) (new : Tables) → q ≡ p → new.labels.items ≡ old.labels.items ++ label ∷ [] → deque_capacity new.labels ≡ deque_capacity old.labels
+pub moved_to : (old : Tables) (q p : PnpState) (label : Label) (new : Tables) → q ≡ p → new.labels.items ≡ old.labels.items ++ label ∷ [] → SameQueue old.labels new.labels
     → new ≡ record old { state = q; labels = new.labels } → MovedTo old p label new
 moved_to old q p label new same tells places after = record {
   tells = tells;

@@ -77,6 +77,7 @@ pub record IsServed (limits : Limits) (below : DeviceView) (tables : Tables) (ow
   pub none_untaken : below.adapter.labels ≡ []
   pub run : Run (rules_of limits below.rules) (view_of limits below tables).state own (shown_state tables1.next_request (is_gone tables1.state) opened)
   pub same_rules : below1.rules ≡ below.rules
+  pub same_keeps : tables1.labels.keeps ≡ tables.labels.keeps
   pub device : Run below.rules opened (map as_label labels) below1.state
   -- and recorded just these
   pub recorded : below1.adapter.labels ≡ labels
@@ -165,6 +166,7 @@ module _ (limits : Limits) (below : DeviceView) (tables : Tables) (own : List La
     in_order = all_labels;
     rising = c.rising;
     same_rules = ap (rules_of limits) same_rules;
+    same_keeps = c.places.labels.1 ∙ h.same_keeps;
     run =
         subst (λ all. Run over (view_of limits below tables).state all (view_of limits below2 tables2).state) (sym all_labels)
         (subst (λ n. Run over (view_of limits below tables).state (labels_of told_by) (shown_state n (is_gone tables2.state) below2.state)) (sym c.same_next_request) (whole_run k));

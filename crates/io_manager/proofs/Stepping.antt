@@ -1,14 +1,15 @@
 -- What holds between two steps, as the manager shows it.
-use Rattle.std.proofs.Common.{◌≡◌, ◌≢◌, ℕ, Bool, true, false, [], ◌++◌, Option, Some, None, refl, sym, ◌∙◌, ap, subst, map}
-use Rattle.std.specs.Prelude.{Contains, IsTrue, IsFalse, option_map, slice_index_or}
+use Rattle.std.proofs.Common.{◌≡◌, ◌≢◌, ◌<◌, ℕ, Bool, true, false, List, [], ◌∷◌, ◌++◌, Option, Some, None, refl, sym, ◌∙◌, ap, subst, map}
+use Rattle.std.specs.Prelude.{All, Contains, IsTrue, IsFalse, option_map, slice_index_or}
 use Rattle.std.proofs.Math.ListN.{get_or-map}
-use Rattle.std.proofs.lemmas.List.Elements.{All-weaker}
+use Rattle.std.proofs.lemmas.List.Elements.{All-weaker, All-map, All-nil, All-cons, All-head, All-tail}
+use Rattle.std.proofs.lemmas.List.Sorted.{All-permutation, IsPermutation-sym}
 use Rattle.slab.specs.Slab.{Slab, get}
-use Rattle.adapter.specs.View.{AdapterView}
-use Rattle.machine.specs.State.{OpenRequest, State}
+use Rattle.adapter.specs.View.{AdapterView, IsInOrder}
+use Rattle.machine.specs.State.{OpenRequest, Piece, State}
 use Rattle.machine.specs.Numbers.{request_number}
 use Rattle.machine.specs.Settled.{Settled, IsFinished}
-use Rattle.device.specs.View.{DeviceView, IsRead}
+use Rattle.device.specs.View.{DeviceView, IsRead, OnTag, piece_on_tag, use_on_tag}
 use Rattle.device.specs.Served.{Reserves}
 use Rattle.machine.proofs.Same.{Run-append}
 use Rattle.machine_laws.specs.Reached.{IsReached}
@@ -18,7 +19,7 @@ use Rattle.io_manager.specs.declared.Limits.{Limits}
 use Rattle.io_manager.specs.declared.tables.OpenRequest.{OpenRequest as OpenEntry}
 use Rattle.io_manager.specs.declared.tables.Tables.{Tables}
 use Rattle.io_manager.specs.Shown.{ManagerView, Holder}
-use Rattle.io_manager.specs.Right.{Told, HasSlot, IsRightBy, FitsTogether}
+use Rattle.io_manager.specs.Right.{Told, HasSlot, IsOnTag, IsRightBy, FitsTogether}
 use Rattle.io_manager.specs.inside.Sound.{is_gone, holder_of, holders_of, view_of, IsHeldAt, IsInState, EndsIf, IsSound, AsksInside, Collects, ManagerKept}
 use Rattle.io_manager.specs.Opening.{rules_of}
 use Rattle.io_manager.proofs.Over.{settled_over, read_over}
@@ -35,6 +36,10 @@ request_of_holder (Some request) holder e = (request, refl, same (holder_of requ
   where
     same : (a b : Holder) → Some a ≡ Some b → a ≡ b
     same a b e = cc
+
+-- a tag below this one
+abbrev IsTagBelow : ℕ → OnTag → Type 0
+IsTagBelow depth on = on.tag < depth
 
 module _ (limits : Limits) (below : DeviceView) (tables : Tables) (sound : IsSound limits below tables) where
   has_slot : (o : OpenRequest) → IsHeldAt tables.requests o → HasSlot (holders_of tables.requests) o
@@ -59,9 +64,23 @@ module _ (limits : Limits) (below : DeviceView) (tables : Tables) (sound : IsSou
   removed_last Removing h gone = absurd (false_true gone)
   removed_last Removed h gone = h.1
 
-  pub FitsTogether-view : IsRead below.rules below.state below.adapter → FitsTogether (view_of limits below tables)
-  FitsTogether-view read = record {
+  -- the adapter's tags are below its depth, and the pieces out are on these
+  on_tags : IsInOrder below.adapter → IsRead below.rules below.state below.adapter → All (IsOnTag below.rules.depth) below.state.pieces
+  on_tags order read =
+      let in_use : All (IsTagBelow below.adapter.depth) (map use_on_tag below.adapter.tags) = All-map (IsTagBelow below.adapter.depth) use_on_tag below.adapter.tags order.tags_below in
+      let out : All (IsTagBelow below.adapter.depth) (map piece_on_tag below.state.pieces) = All-permutation (IsTagBelow below.adapter.depth) _ _ (IsPermutation-sym _ _ read.pieces) in_use in
+      subst (λ depth. All (IsOnTag depth) below.state.pieces) (sym read.same_depth) (mapped below.state.pieces out)
+    where
+      mapped : (pieces : List Piece) → All (IsTagBelow below.adapter.depth) (map piece_on_tag pieces) → All (IsOnTag below.adapter.depth) pieces
+      mapped [] all = All-nil (IsOnTag below.adapter.depth)
+      mapped (piece ∷ pieces) all =
+          All-cons (IsOnTag below.adapter.depth) piece pieces (All-head (IsTagBelow below.adapter.depth) (piece_on_tag piece) (map piece_on_tag pieces) all)
+          (mapped pieces (All-tail (IsTagBelow below.adapter.depth) (piece_on_tag piece) (map piece_on_tag pieces) all))
+
+  pub FitsTogether-view : IsInOrder below.adapter → IsRead below.rules below.state below.adapter → FitsTogether (view_of limits below tables)
+  FitsTogether-view order read = record {
     read = read_over _ below.rules tables.next_request (is_gone tables.state) below.state below.adapter read;
+    on_tags = on_tags order read;
     has_slot = All-weaker (IsHeldAt tables.requests) (HasSlot (holders_of tables.requests)) has_slot below.state.requests sound.held.held;
     has_request = λ slot holder there.
         let at : (request : OpenEntry) × (get tables.requests slot ≡ Some request) × (holder_of request ≡ holder) = holder_is slot holder there in

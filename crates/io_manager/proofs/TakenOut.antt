@@ -1,5 +1,5 @@
--- One of the answers that wait is taken out.
-use Rattle.std.proofs.Common.{◌≡◌, ◌≤◌, ℕ, zero, suc, List, [], ◌∷◌, sym, subst, arith, map}
+-- One of the answers that wait is taken out, or the earliest label.
+use Rattle.std.proofs.Common.{◌≡◌, ◌≤◌, ℕ, zero, suc, List, [], ◌∷◌, None, refl, sym, ap, ◌∙◌, subst, arith, map}
 use Rattle.std.specs.Prelude.{All, Option, Some, OnSome, remove}
 use Rattle.std.specs.VecDeque.{deque_len, deque_capacity}
 use Rattle.std.proofs.lemmas.List.Elements.{All-head, All-tail, All-cons, All-nil}
@@ -9,9 +9,12 @@ use Rattle.io_manager.specs.declared.Answer.{Answer}
 use Rattle.io_manager.specs.declared.Limits.{Limits}
 use Rattle.io_manager.specs.declared.tables.OpenRequest.{OpenRequest}
 use Rattle.io_manager.specs.declared.tables.Tables.{Tables}
+use Rattle.machine.specs.declared.Label.{Label}
+use Rattle.io_manager.specs.Shown.{ManagerView}
 use Rattle.io_manager.specs.inside.Ordering.{HasOtherNumber}
-use Rattle.io_manager.specs.Right.{AreRising, IsAbove, answer_number}
-use Rattle.io_manager.specs.inside.Sound.{WasGiven, AreApart, ManagerKept}
+use Rattle.io_manager.specs.inside.Queue.{QueueView, SameQueue, TakesFirst}
+use Rattle.io_manager.specs.Right.{AreRising, IsAbove, TakesLabel, answer_number}
+use Rattle.io_manager.specs.inside.Sound.{WasGiven, AreApart, ManagerKept, view_of}
 
 all_but : {X : Type 0} (P : X → Type 0) (xs : List X) (at : ℕ) → All P xs → All P (remove xs at)
 all_but P [] zero all = All-nil _
@@ -51,6 +54,7 @@ with_fewer limits below tables other at kept items shorter same =
         places = record {
           labels = k.places.labels;
           answered = k.places.answered;
+          alike = k.places.alike;
           untaken = (let room = k.places.untaken in omega arith);
           handles = k.places.handles;
           requests = k.places.requests;
@@ -77,3 +81,14 @@ with_fewer limits below tables other at kept items shorter same =
 -- what is said of an answer that is there
 pub of_some : {X : Type 0} (found : Option X) (x : X) (P : Type 0) → found ≡ Some x → OnSome found P → P
 of_some found x P is h = subst (λ (o : Option _). OnSome o P) is h
+
+-- THE EARLIEST LABEL
+
+first_taken : (v : ManagerView) (queue : QueueView Label) (found : Option Label) → TakesFirst v.labels found queue.items → queue.keeps ≡ v.keeps → TakesLabel v found (record v { labels = queue.items; keeps = queue.keeps })
+first_taken v queue None takes keeps = (takes.0, ap (λ items. record v { labels = items; keeps = queue.keeps }) takes.1 ∙ ap (λ kept. record v { keeps = kept }) keeps)
+first_taken v queue (Some label) takes keeps = (queue.items, takes, ap (λ kept. record v { labels = queue.items; keeps = kept }) keeps)
+
+pub shown_first : (limits : Limits) (below : DeviceView) (tables : Tables) (queue : QueueView Label) (found : Option Label) (old : ManagerView) → view_of limits below tables ≡ old
+    → TakesFirst tables.labels.items found queue.items → SameQueue tables.labels queue → TakesLabel old found (view_of limits below (record tables { labels = queue }))
+shown_first limits below tables queue found old shown takes same =
+    subst (λ v. TakesLabel v found (view_of limits below (record tables { labels = queue }))) shown (first_taken (view_of limits below tables) queue found takes same.1)

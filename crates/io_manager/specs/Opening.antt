@@ -1,5 +1,5 @@
 -- A manager before its first call.
-use Rattle.std.specs.Prelude.{◌≡◌, ◌<◌, ◌≤◌, ℕ, List, [], Some, None, map, length, slice_get}
+use Rattle.std.specs.Prelude.{◌≡◌, ◌<◌, ◌≤◌, ℕ, IsTrue, List, [], Some, None, map, length, slice_get}
 use Rattle.machine.specs.Map.{IsMap}
 use Rattle.sector.specs.Extents.{sectors_in}
 use Rattle.machine.specs.State.{opening}
@@ -41,6 +41,7 @@ pub record AreFor (below : DeviceView) (limits : Limits) : Type 0 where
   pub sector_size : limits.sector_size ≡ below.rules.sector_size
   pub max_transfer : limits.max_transfer ≡ below.rules.max_transfer
   pub some_transfer : 0 < limits.max_transfer
+  pub depth : limits.depth ≡ below.rules.depth
   pub firsts : AreFirsts limits.first_sectors below.rules.partitions
   pub some_open : (1 ≤ limits.open_requests) × (limits.open_requests ≤ 64)
 
@@ -52,6 +53,7 @@ pub record AreEmpty (tables : Tables) : Type 0 where
   pub no_handles : tables.handles.slots ≡ []
   pub no_requests : tables.requests.slots ≡ []
   pub no_labels : tables.labels.items ≡ []
+  pub keeps : IsTrue tables.labels.keeps
   pub none_put_by : tables.answered.items ≡ []
   pub no_answers : tables.untaken.items ≡ []
   pub counts : length tables.open_counts ≡ 64
@@ -68,3 +70,4 @@ pub record IsFirstView (limits : Limits) (below : DeviceView) (view : ManagerVie
   pub no_requests : view.holders ≡ []
   pub no_labels : view.labels ≡ []
   pub no_answers : view.answers ≡ []
+  pub keeps : IsTrue view.keeps

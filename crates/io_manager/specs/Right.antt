@@ -456,6 +456,7 @@ pub record IsRightBy (reset : Bool) (told : Told) (old new : ManagerView) : Type
   pub in_order : new.labels ≡ labels_of told
   pub rising : AreRising (map answer_number told.answers)
   pub same_rules : new.rules ≡ old.rules
+  pub same_keeps : new.keeps ≡ old.keeps
   pub run : Run old.rules old.state new.labels new.state
   pub adapter : AdapterMoves reset old.adapter told.device new.adapter
   pub outside : KeepsOutside old.rules.partitions old.adapter new.adapter
@@ -484,10 +485,16 @@ abbrev pub HasSlot : List (Option Holder) → OpenRequest → Type 0
 HasSlot holders o = (slot : ℕ) × (holder : Holder) × (slice_index_or holders slot None ≡ Some holder)
     × (holder.number ≡ o.number)
 
+-- a piece is on a tag below this one
+abbrev pub IsOnTag : ℕ → Piece → Type 0
+IsOnTag depth piece = piece.tag < depth
+
 -- what is shown fits together
 pub record FitsTogether (v : ManagerView) : Type 0 where
   -- the arrays and the pieces out are read from the adapter
   pub read : IsRead v.rules v.state v.adapter
+  -- each piece out is on a tag of the adapter
+  pub on_tags : All (IsOnTag v.rules.depth) v.state.pieces
   -- each open request has a slot, each slot in use an open request, and no two slots the same
   pub has_slot : All (HasSlot v.holders) v.state.requests
   pub has_request : (slot : ℕ) (holder : Holder) → slice_index_or v.holders slot None ≡ Some holder

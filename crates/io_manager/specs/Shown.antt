@@ -1,5 +1,5 @@
 -- What an I/O manager shows of itself.
-use Rattle.std.specs.Prelude.{ℕ, List, Option}
+use Rattle.std.specs.Prelude.{ℕ, Bool, List, Option}
 use Rattle.adapter.specs.View.{AdapterView}
 use Rattle.machine.specs.declared.Label.{Label}
 use Rattle.machine.specs.Rules.{Rules}
@@ -22,7 +22,9 @@ pub record ManagerView : Type 0 where
   pub next_handle : ℕ
   -- the open requests, by slot
   pub holders : List (Option Holder)
-  -- not yet taken, in order
+  -- told and not yet taken, in order
   pub labels : List Label
   -- the answers of requests that were open, not yet taken, by rising numbers
   pub answers : List Answer
+  -- labels are kept until they are taken; else contracts alone read them
+  pub keeps : Bool

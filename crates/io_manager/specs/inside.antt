@@ -6,4 +6,5 @@ pub mod Completion
 pub mod Handover
 pub mod Inside
 pub mod Ordering
+pub mod Queue
 pub mod Sound

@@ -1,16 +1,18 @@
 //! What a call is answered at once, and what one that is admitted opens: its packet, its pieces, its extent on the
 //! disk.
 
-ghost use Rattle.std.specs.Prelude.{◌≡◌, ◌<◌, ℕ, Option, false, length, option_map, IfOk};
+ghost use Rattle.std.specs.Prelude.{◌≡◌, ◌<◌, ◌≤◌, ℕ, Option, false, length, option_map, IfOk};
+ghost use Rattle.srb.specs.declared.Kind.TheVariants.{Read};
 ghost use Rattle.machine.specs.Rules.{Rules, home, is_transfer, is_in_bounds, place_count};
 ghost use Rattle.machine.specs.State.{State};
 ghost use Rattle.machine.specs.Calling.{refusal};
 ghost use Rattle.irp.specs.declared.Payload.TheVariants.{Buffer};
-ghost use Rattle.io_manager.specs.Calls.{status_of_refusal};
+ghost use Rattle.io_manager.specs.Calls.{status_of_refusal, bytes_called};
 ghost use Rattle.io_manager.specs.Opening.{AreFirsts};
 ghost use Rattle.io_manager.specs.inside.Admitting.{asked_for, status_at_once, AreBoundsOf, IsKnown, request_of};
-ghost use Rattle.io_manager.specs.inside.Admitting.{HasLabelBytes, first_location, IsOnTop};
+ghost use Rattle.io_manager.specs.inside.Admitting.{HasLabelBytes, IsCopied, first_location, IsOnTop};
 
+use crate::noted::Noted;
 use crate::{Limits, Refusal};
 use device::{ClientRequest, Kind, Request, major_for};
 use irp::{Control, Driver, Irp, LocationFlags, Payload, StackLocation};
@@ -201,16 +203,89 @@ pub(crate) fn request_below(sector_size: u64, request: &ClientRequest) -> Reques
     }
 }
 
+/// The bytes that are told of a call.
+#[derive(Drop)]
+pub(crate) struct CallBytes {
+    /// A copy, where labels are kept.
+    pub(crate) copy: Option<Bytes>,
+    pub(crate) told: Noted<u8>,
+}
+
+/// Returns the bytes that are told of a call, for contracts alone: a write's.
+fn told_bytes(kind: Kind, buffer: &Bytes) -> Noted<u8>
+    ensures { result.items ≡ bytes_called kind buffer.now }
+{
+    let none = Noted::none();
+    match kind {
+        Kind::Write => none.with(buffer),
+        // No label tells what the buffer of a read holds at its call.
+        Kind::Read | Kind::Flush => none,
+    }
+}
+
+/// Copies the bytes that are told of a call.
+///
+/// # Errors
+///
+/// [`AllocError`] where memory was refused.
+fn copied_bytes(alloc: Global, kind: Kind, buffer: &Bytes) -> Result<Bytes, AllocError>
+    ensures { IfOk result (λ bytes. bytes ≡ bytes_called kind buffer.now) }
+{
+    let bytes = match kind {
+        Kind::Write => Vec::from_slice(alloc, buffer.as_slice())?,
+        Kind::Read | Kind::Flush => Vec::new(alloc),
+    };
+    Ok(Bytes::new(bytes))
+}
+
+/// The bytes that are told of a call, with a copy where labels are kept.
+///
+/// # Errors
+///
+/// [`AllocError`] where memory for the copy was refused.
+fn call_bytes_for(
+    alloc: Global,
+    kind: Kind,
+    buffer: &Bytes,
+    keeps: bool,
+) -> Result<CallBytes, AllocError>
+    ensures told { IfOk result (λ bytes. bytes.told.items ≡ bytes_called kind buffer.now) }
+    ensures copied { IfOk result (IsCopied keeps) }
+{
+    let told = told_bytes(kind, buffer);
+    if keeps {
+        let copy = copied_bytes(alloc, kind, buffer)?;
+        return Ok(CallBytes {
+            copy: Some(copy),
+            told,
+        });
+    }
+    Ok(CallBytes { copy: None, told })
+}
+
+/// The room for the label of an answer: as many bytes as a read's buffer has.
+///
+/// # Errors
+///
+/// [`AllocError`] where memory was refused.
+fn answer_room(alloc: Global, kind: Kind, buffer: &Bytes) -> Result<LabelRoom, AllocError>
+    ensures { IfOk result (λ room. kind ≡ Read → length buffer.now ≤ room) }
+{
+    match kind {
+        Kind::Read => LabelRoom::new(alloc, buffer.len()),
+        Kind::Write | Kind::Flush => Ok(LabelRoom::none(alloc)),
+    }
+}
+
 /// The buffers that a request needs for the manager's own labels.
 #[derive(Drop)]
 pub(crate) struct LabelBytes {
-    /// The bytes of a write, for the label of its call.
-    pub(crate) call_bytes: Bytes,
+    pub(crate) call_bytes: CallBytes,
     /// Room for the bytes of the label of a read's answer.
     pub(crate) label_bytes: LabelRoom,
 }
 
-/// A copy of a write's buffer, and room for as many bytes as a read's has.
+/// What a write's call is told with, and room for as many bytes as a read's buffer has.
 ///
 /// # Errors
 ///
@@ -219,18 +294,14 @@ pub(crate) fn label_bytes_for(
     alloc: Global,
     kind: Kind,
     buffer: &Bytes,
+    keeps: bool,
 ) -> Result<LabelBytes, AllocError>
-    ensures { IfOk result (λ copies. HasLabelBytes kind buffer.now copies) }
+    ensures { IfOk result (λ copies. HasLabelBytes keeps kind buffer.now copies) }
 {
-    let none = LabelRoom::none(alloc);
-    let (call_bytes, label_bytes) = match kind {
-        Kind::Write => (Vec::from_slice(alloc, buffer.as_slice())?, none),
-        // No label tells what the buffer of a read holds at its call.
-        Kind::Read => (Vec::new(alloc), LabelRoom::new(alloc, buffer.len())?),
-        Kind::Flush => (Vec::new(alloc), none),
-    };
+    let call_bytes = call_bytes_for(alloc, kind, buffer, keeps)?;
+    let label_bytes = answer_room(alloc, kind, buffer)?;
     Ok(LabelBytes {
-        call_bytes: Bytes::new(call_bytes),
+        call_bytes,
         label_bytes,
     })
 }

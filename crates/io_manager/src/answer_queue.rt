@@ -1,11 +1,14 @@
 //! Queues of answers by rising numbers.
 
-ghost use Rattle.std.specs.Prelude.{◌≡◌, ◌<◌, ◌+◌, map};
+ghost use Rattle.std.specs.Prelude.{◌≡◌, ◌<◌, ◌≤◌, ◌+◌, IsTrue, length, map};
 ghost use Rattle.std.specs.VecDeque.{deque_len, deque_capacity};
 ghost use Rattle.io_manager.specs.inside.Ordering.{inserted, lower_first};
+ghost use Rattle.io_manager.specs.inside.Queue.{SameQueue};
 ghost use Rattle.io_manager.specs.Right.{AreRising, answer_number};
 
 use crate::Answer;
+use crate::label_queue::LabelQueue;
+use sector::LabelRoom;
 use std::collections::VecDeque;
 
 /// Returns how many of the answers, by rising numbers, have lower ones. It looks from the back, at those that don't
@@ -35,4 +38,37 @@ pub(crate) fn insert_rising(answers: &mut VecDeque<Answer>, answer: Answer)
     answers.rotate_left(place);
     answers.push_front_reserved(answer);
     answers.rotate_right(place);
+}
+
+/// Puts an answer behind those with lower numbers, in a queue that memory keeps.
+fn keep_rising(answered: &mut LabelQueue<Answer>, answer: Answer)
+    requires kept { IsTrue answered.old.keeps }
+    requires place { length answered.old.items < answered.old.places }
+    requires rising { AreRising (map answer_number answered.old.items) }
+    ensures items { answered.new.items ≡ inserted answer answered.old.items }
+    ensures same { SameQueue answered.old answered.new }
+{
+    insert_rising(&mut answered.queue, answer);
+    answered.told = answered.told.with(&answered.queue);
+}
+
+/// Defers the label of an answer. Where labels are kept its bytes are copied, into their room.
+pub(crate) fn put_by(answered: &mut LabelQueue<Answer>, answer: &Answer, room: LabelRoom)
+    requires room { length answer.now.bytes ≤ room }
+    requires place { length answered.old.items < answered.old.places }
+    requires rising { AreRising (map answer_number answered.old.items) }
+    ensures items { answered.new.items ≡ inserted answer.now answered.old.items }
+    ensures same { SameQueue answered.old answered.new }
+{
+    if answered.keeps() {
+        let copy = Answer {
+            number: answer.number,
+            status: answer.status,
+            information: answer.information,
+            bytes: room.filled(answer.bytes.as_slice()),
+        };
+        keep_rising(answered, copy);
+    } else {
+        answered.note(answer);
+    }
 }

@@ -1,7 +1,6 @@
 //! Open requests are cancelled, each by the spot of its packet below.
 
-ghost use Rattle.std.specs.Prelude.{◌≡◌, ◌≤◌, ◌<◌, true, is_some, MatchBool, MatchOption};
-ghost use Rattle.std.specs.VecDeque.{deque_len, deque_capacity};
+ghost use Rattle.std.specs.Prelude.{◌≡◌, ◌≤◌, ◌<◌, true, length, is_some, MatchBool, MatchOption};
 ghost use Rattle.io_manager.specs.Calls.{partition_of};
 ghost use Rattle.io_manager.specs.inside.Chains.{AreChained};
 ghost use Rattle.io_manager.specs.inside.Cancelling.{IsUsed, IsToMark, IsMarkedOrNone, IsLowestToMark, HasNoneToMark};
@@ -45,7 +44,7 @@ impl Tables {
     fn mark_at(&mut self, slot: usize) -> PacketBelow
         requires chained { AreChained self.old.handles self.old.requests self.old.next_handle self.old.chains }
         requires there { IsToMark self.old.requests slot }
-        requires label_place { deque_len self.old.labels < deque_capacity self.old.labels }
+        requires label_place { length self.old.labels.items < self.old.labels.places }
         ensures { MarksAt self.old slot result self.new }
     {
         let Some(request) = self.requests.get_mut(slot) else {
@@ -57,7 +56,7 @@ impl Tables {
             number: request.number,
         };
         self.chains.take_out(slot);
-        self.labels.push_back_reserved(Label::Cancel {
+        self.labels.tell(Label::Cancel {
             number: place.number,
         });
         place
@@ -69,7 +68,7 @@ impl<D: Device> Parts<D> {
     pub(crate) fn cancel_slot(&mut self, slot: usize)
         requires sound { IsSound self.old.limits (D.view self.old.device) self.old.tables }
         requires there { IsToMark self.old.tables.requests slot }
-        requires label_place { deque_len self.old.tables.labels < deque_capacity self.old.tables.labels }
+        requires label_place { length self.old.tables.labels.items < self.old.tables.labels.places }
         ensures limits { self.new.limits ≡ self.old.limits }
         ensures sound { IsSound self.new.limits (D.view self.new.device) self.new.tables }
         ensures cancels { CancelsSlot (D.view self.old.device) self.old.tables slot (D.view self.new.device)
@@ -84,7 +83,7 @@ impl<D: Device> Parts<D> {
     pub(crate) fn cancel_if_open(&mut self, slot: usize)
         requires sound { IsSound self.old.limits (D.view self.old.device) self.old.tables }
         requires there { IsUsed self.old.tables.requests slot }
-        requires label_place { deque_len self.old.tables.labels < deque_capacity self.old.tables.labels }
+        requires label_place { length self.old.tables.labels.items < self.old.tables.labels.places }
         ensures limits { self.new.limits ≡ self.old.limits }
         ensures sound { IsSound self.new.limits (D.view self.new.device) self.new.tables }
         ensures cancels { CancelsUnlessMarked (D.view self.old.device) self.old.tables slot (D.view self.new.device)
@@ -99,12 +98,12 @@ impl<D: Device> Parts<D> {
     pub(crate) fn cancel_all_of(&mut self, handle: Handle)
         requires sound { IsSound self.old.limits (D.view self.old.device) self.old.tables }
         requires open { is_some (partition_of self.old.tables.handles.slots handle) ≡ true }
-        requires untold { deque_len self.old.tables.labels ≡ 0 }
+        requires untold { length self.old.tables.labels.items ≡ 0 }
         ensures limits { self.new.limits ≡ self.old.limits }
         ensures sound { IsSound self.new.limits (D.view self.new.device) self.new.tables }
         ensures cancels { CancelsAll (D.view self.old.device) self.old.tables handle.number (D.view self.new.device)
             self.new.tables }
-        ensures few_labels { deque_len self.new.tables.labels ≤ 64 }
+        ensures few_labels { length self.new.tables.labels.items ≤ 64 }
         ensures none_left { HasNoneToMark self.new.tables.requests handle.number }
     {
         'next: while let Some(slot) = self.tables.next_to_mark(handle) {

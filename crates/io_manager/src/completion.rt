@@ -1,7 +1,7 @@
 //! What becomes of requests that have ended: their slots, their answers, and the labels of a step.
 
 ghost use Rattle.std.specs.Prelude.{◌≡◌, ◌<◌, ◌≤◌, ◌+◌, ◌^◌, ◌++◌, ℕ, true, false, [], is_some, map, length};
-ghost use Rattle.std.specs.Prelude.{slice_index, MatchBool, MatchOption};
+ghost use Rattle.std.specs.Prelude.{slice_index, MatchBool, MatchOption, IsTrue};
 ghost use Rattle.std.specs.VecDeque.{deque_len, deque_capacity};
 ghost use Rattle.slab.specs.Slab.{slab_len};
 ghost use Rattle.ntstatus.specs.declared.NtStatus.TheVariants.{Success};
@@ -15,9 +15,12 @@ ghost use Rattle.io_manager.specs.inside.Chains.{AreChained, AreNumbered, AreCou
 ghost use Rattle.io_manager.specs.inside.Completion.{IsAt, HasNone, done_of, AreFilled, CountsOut, Closes, EndsRemoval};
 ghost use Rattle.io_manager.specs.inside.Completion.{TakesEnded, Gathers, brought, unlabelled};
 ghost use Rattle.io_manager.specs.Right.{as_answer, AreRising, answer_number};
+ghost use Rattle.io_manager.specs.inside.Queue.{SameQueue};
 ghost use Rattle.io_manager.specs.inside.Sound.{IsSound, IsSoundWith, TakesLabels, Collects};
 
-use crate::answer_queue::insert_rising;
+use crate::answer_queue::{insert_rising, put_by};
+use crate::label_queue::LabelQueue;
+use crate::noting::{note_answers, note_labels};
 use crate::parts::Parts;
 use crate::tables::{Tables, remainder_of};
 use crate::{Answer, Handle};
@@ -26,7 +29,6 @@ use irp::{Done, Irp, Payload};
 use ntstatus::NtStatus;
 use sector::Bytes;
 use std::alloc::Global;
-use std::collections::VecDeque;
 
 /// The bytes that a packet brings back; none where it is at the adapter.
 fn bytes_of(alloc: Global, payload: Payload) -> Bytes
@@ -104,7 +106,7 @@ impl Tables {
         requires counted { AreCounted self.old.handles self.old.requests self.old.open_counts }
         requires held { (slot : ℕ) × IsAt self.old.requests done.number slot }
         requires filled { AreFilled self.old.requests done }
-        requires answered_place { deque_len self.old.answered < deque_capacity self.old.answered }
+        requires answered_place { length self.old.answered.items < self.old.answered.places }
         requires untaken_place { deque_len self.old.untaken < deque_capacity self.old.untaken }
         requires answered_rising { AreRising (map answer_number self.old.answered.items) }
         requires untaken_rising { AreRising (map answer_number self.old.untaken.items) }
@@ -131,44 +133,34 @@ impl Tables {
         });
         let bytes = bytes_of(*self.untaken.allocator(), payload);
         let bytes = brought(open.kind, status, bytes);
-        let label_bytes = open.label_bytes.filled(bytes.as_slice());
-        insert_rising(
-            &mut self.answered,
-            Answer {
-                number,
-                status,
-                information,
-                bytes: label_bytes,
-            },
-        );
-        insert_rising(
-            &mut self.untaken,
-            Answer {
-                number,
-                status,
-                information,
-                bytes,
-            },
-        );
+        let answer = Answer {
+            number,
+            status,
+            information,
+            bytes,
+        };
+        put_by(&mut self.answered, &answer, open.label_bytes);
+        insert_rising(&mut self.untaken, answer);
     }
 }
 
-/// Appends the deferred answers to the labels, which have places for them.
-fn tell_answers(answered: &mut VecDeque<Answer>, labels: &mut VecDeque<Label>)
-    requires { deque_len labels.old + deque_len answered.old ≤ deque_capacity labels.old }
+/// Moves the deferred answers to the end of the labels, which have places for them.
+fn move_answers(answered: &mut LabelQueue<Answer>, labels: &mut LabelQueue<Label>)
+    requires kept { IsTrue answered.old.keeps }
+    requires places { length labels.old.items + length answered.old.items ≤ labels.old.places }
     ensures told { labels.new.items ≡ labels.old.items ++ map as_answer answered.old.items }
     ensures none_left { answered.new.items ≡ [] }
-    ensures labels_place { deque_capacity labels.new ≡ deque_capacity labels.old }
-    ensures answered_place { deque_capacity answered.new ≡ deque_capacity answered.old }
+    ensures labels { SameQueue labels.old labels.new }
+    ensures answered { SameQueue answered.old answered.new }
 {
-    while let Some(answer) = answered.pop_front() {
+    while let Some(answer) = answered.take_first() {
         let Answer {
             number,
             status,
             information,
             bytes,
         } = answer;
-        labels.push_back_reserved(Label::Answer {
+        labels.tell(Label::Answer {
             number,
             status,
             information,
@@ -177,22 +169,54 @@ fn tell_answers(answered: &mut VecDeque<Answer>, labels: &mut VecDeque<Label>)
     }
 }
 
+/// Tells the deferred answers behind the labels, which have places for them.
+fn tell_answers(answered: &mut LabelQueue<Answer>, labels: &mut LabelQueue<Label>)
+    requires alike { answered.old.keeps ≡ labels.old.keeps }
+    requires places { length labels.old.items + length answered.old.items ≤ labels.old.places }
+    ensures told { labels.new.items ≡ labels.old.items ++ map as_answer answered.old.items }
+    ensures none_left { answered.new.items ≡ [] }
+    ensures labels_place { SameQueue labels.old labels.new }
+    ensures answered_place { SameQueue answered.old answered.new }
+{
+    if labels.keeps() {
+        move_answers(answered, labels);
+    } else {
+        note_answers(labels, answered);
+        answered.forget();
+    }
+}
+
 /// Moves all labels of the device to the end of these, which have places for them.
-fn move_labels<D: Device>(device: &mut D, labels: &mut VecDeque<Label>)
-    requires places { deque_len labels.old + length (D.view device.old).adapter.labels ≤ deque_capacity labels.old }
+fn move_labels<D: Device>(device: &mut D, labels: &mut LabelQueue<Label>)
+    requires places { length labels.old.items + length (D.view device.old).adapter.labels ≤ labels.old.places }
     ensures moved { labels.new.items ≡ labels.old.items ++ map as_label (D.view device.old).adapter.labels }
     ensures taken { D.view device.new ≡ unlabelled (D.view device.old) }
-    ensures places { deque_capacity labels.new ≡ deque_capacity labels.old }
+    ensures places { SameQueue labels.old labels.new }
 {
     while let Some(label) = device.take_label() {
-        labels.push_back_reserved(Label::Device(label));
+        labels.tell(Label::Device(label));
+    }
+}
+
+/// Tells all labels of the device behind these, which have places for them.
+fn tell_labels<D: Device>(device: &mut D, labels: &mut LabelQueue<Label>)
+    requires places { length labels.old.items + length (D.view device.old).adapter.labels ≤ labels.old.places }
+    ensures moved { labels.new.items ≡ labels.old.items ++ map as_label (D.view device.old).adapter.labels }
+    ensures taken { D.view device.new ≡ unlabelled (D.view device.old) }
+    ensures places { SameQueue labels.old labels.new }
+{
+    if labels.keeps() {
+        move_labels(device, labels);
+    } else {
+        note_labels(labels, device);
+        device.forget_labels();
     }
 }
 
 impl Tables {
     /// Ends a removal once nothing is open, and tells that.
     fn end_removal(&mut self)
-        requires label_place { deque_len self.old.labels < deque_capacity self.old.labels }
+        requires label_place { length self.old.labels.items < self.old.labels.places }
         ensures { EndsRemoval self.old self.new }
     {
         if !self.requests.is_empty() {
@@ -209,12 +233,12 @@ impl<D: Device> Parts<D> {
     fn take_ended(&mut self) -> bool
         requires sound { IsSoundWith self.old.tables.answered.items self.old.limits (D.view self.old.device)
             self.old.tables }
-        requires few { deque_len self.old.tables.answered + slab_len self.old.tables.requests ≤ 64 }
+        requires few { length self.old.tables.answered.items + slab_len self.old.tables.requests ≤ 64 }
         requires rising { AreRising (map answer_number self.old.tables.answered.items) }
         ensures limits { self.new.limits ≡ self.old.limits }
         ensures sound { IsSoundWith self.new.tables.answered.items self.new.limits (D.view self.new.device)
             self.new.tables }
-        ensures few { deque_len self.new.tables.answered + slab_len self.new.tables.requests ≤ 64 }
+        ensures few { length self.new.tables.answered.items + slab_len self.new.tables.requests ≤ 64 }
         ensures takes { MatchBool result
             (TakesEnded (D.view self.old.device) self.old.tables (D.view self.new.device) self.new.tables)
             (HandsUpNone (D.view self.old.device) (D.view self.new.device)) }
@@ -239,7 +263,7 @@ impl<D: Device> Parts<D> {
         ensures limits { self.new.limits ≡ self.old.limits }
         ensures sound { IsSoundWith self.new.tables.answered.items self.new.limits (D.view self.new.device)
             self.new.tables }
-        ensures few { deque_len self.new.tables.answered ≤ 64 }
+        ensures few { length self.new.tables.answered.items ≤ 64 }
         ensures gathers { Gathers (D.view self.old.device) self.old.tables (D.view self.new.device) self.new.tables }
         ensures settled { Settled (D.view self.new.device).rules (D.view self.new.device).state }
     {
@@ -250,27 +274,27 @@ impl<D: Device> Parts<D> {
     /// Tells what the device did, where no request can have ended.
     pub(crate) fn tell_device(&mut self)
         requires sound { IsSound self.old.limits (D.view self.old.device) self.old.tables }
-        requires few_labels { deque_len self.old.tables.labels ≤ 64 }
+        requires few_labels { length self.old.tables.labels.items ≤ 64 }
         ensures limits { self.new.limits ≡ self.old.limits }
         ensures sound { IsSound self.new.limits (D.view self.new.device) self.new.tables }
         ensures takes { TakesLabels (D.view self.old.device) self.old.tables (D.view self.new.device) self.new.tables }
     {
         self.device.shows_order();
-        move_labels(&mut self.device, &mut self.tables.labels);
+        tell_labels(&mut self.device, &mut self.tables.labels);
     }
 
     /// Takes all requests that have ended, tells what the device did, then the answers, and then whether a removal
     /// ended.
     pub(crate) fn collect(&mut self)
         requires sound { IsSound self.old.limits (D.view self.old.device) self.old.tables }
-        requires few_labels { deque_len self.old.tables.labels ≤ 64 }
+        requires few_labels { length self.old.tables.labels.items ≤ 64 }
         ensures limits { self.new.limits ≡ self.old.limits }
         ensures sound { IsSound self.new.limits (D.view self.new.device) self.new.tables }
         ensures collects { Collects (D.view self.old.device) self.old.tables (D.view self.new.device) self.new.tables }
     {
         self.take_all_ended();
         self.device.shows_order();
-        move_labels(&mut self.device, &mut self.tables.labels);
+        tell_labels(&mut self.device, &mut self.tables.labels);
         tell_answers(&mut self.tables.answered, &mut self.tables.labels);
         self.tables.end_removal();
     }

@@ -1,6 +1,6 @@
 //! All labels of a step are taken at once, and an answer by its number.
 
-ghost use Rattle.std.specs.Prelude.{◌≡◌, ◌≤◌, ◌<◌, [], IfOk, All, MatchOption, length, slice_get, Some};
+ghost use Rattle.std.specs.Prelude.{◌≡◌, ◌≤◌, ◌<◌, [], IfOk, IsTrue, All, MatchOption, length, slice_get, Some};
 ghost use Rattle.std.specs.VecDeque.{deque_capacity};
 ghost use Rattle.io_manager.specs.Right.{IsOfAnother, TakesAnswerOf};
 ghost use Rattle.io_manager.specs.inside.Handover.{IsAt};
@@ -11,7 +11,6 @@ use crate::tables::LABEL_PLACES;
 use device::{Device, Label};
 use std::alloc::{AllocError, Global};
 use std::collections::VecDeque;
-use std::mem;
 
 /// Returns where the answer of a number waits.
 fn place_of(answers: &VecDeque<Answer>, number: u64) -> Option<usize>
@@ -52,10 +51,11 @@ impl<D: Device> IoManager<D> {
     pub fn take_labels(&mut self, spare: VecDeque<Label>) -> Vec<Label>
         requires empty { spare.items ≡ [] }
         requires places { 256 ≤ deque_capacity spare }
+        requires kept { IsTrue self.old.keeps }
         ensures labels { result.items ≡ self.old.labels }
         ensures taken { self.new ≡ record self.old { labels = [] } }
     {
-        let mut labels = mem::replace(&mut self.parts.tables.labels, spare).into_vec();
+        let mut labels = self.parts.tables.labels.take_all(spare);
         labels.shrink_to_fit();
         labels
     }

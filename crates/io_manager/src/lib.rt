@@ -6,8 +6,9 @@
 //! the table (`specs/Right`) holds. [`IoManager::shows_whole`] says what holds between two calls: what is shown is
 //! settled, and fits together. It is proved over any device that holds (`Hold`) and takes packets with a buffer. All
 //! that a request needs is made before it is admitted: its packet (WDK: IoAllocateIrp), its room in the device below,
-//! and the buffers and places of its labels and its answer. It does not promise that a request completes, nor an order
-//! between requests that overlap.
+//! and the buffers and places of its labels and its answer. A quiet manager ([`IoManager::hush`]) keeps no labels:
+//! contracts alone read what it tells. It does not promise that a request completes, nor an order between requests that
+//! overlap.
 #![tactic(auto)]
 
 mod admission;
@@ -16,7 +17,10 @@ mod cancelling;
 mod chains;
 mod completion;
 mod handover;
+mod label_queue;
 mod manager;
+mod noted;
+mod noting;
 mod opening;
 mod parts;
 mod removal;
@@ -56,6 +60,8 @@ pub struct Limits {
     pub sector_size: u64,
     /// Sectors of the longest piece, from 1 on.
     pub max_transfer: u32,
+    /// Tags of the adapter.
+    pub depth: u8,
     /// Requests open at once, 1 to 64.
     pub open_requests: u32,
     /// The sector of the disk where each partition begins, by the partition's number.

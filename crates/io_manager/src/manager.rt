@@ -1,6 +1,6 @@
 //! Client calls and adapter steps over any device stack. Each call restores the manager's invariant.
 
-ghost use Rattle.std.specs.Prelude.{◌≡◌, ◌<◌, [], false, length, Some, None, MatchOption};
+ghost use Rattle.std.specs.Prelude.{◌≡◌, ◌<◌, [], false, length, Some, None, IsTrue, MatchOption};
 ghost use Rattle.adapter.specs.View.{IsInOrder};
 ghost use Rattle.adapter.specs.Calls.{HasNoneFresh};
 ghost use Rattle.adapter.specs.Booking.{IsArmed, handed};
@@ -25,7 +25,7 @@ use std::alloc::Global;
 use std::marker::Model;
 
 /// A device stack with the handles and requests that are open on it, between two steps. All labels of a step have to be
-/// taken before the next.
+/// taken or forgotten before the next.
 pub struct IoManager<D: Shown> {
     pub(crate) parts: Parts<D>,
 }
@@ -183,6 +183,13 @@ impl<D: Device> IoManager<D> {
         self.parts.limits.sector_size
     }
 
+    /// Tags of the adapter.
+    pub fn depth(&self) -> u8
+        ensures { result ≡ self.now.rules.depth }
+    {
+        self.parts.limits.depth
+    }
+
     /// Sectors of a partition, counted from 0. There are none where there is no such partition.
     pub fn sectors(&self, partition: u8) -> u64
         ensures { result ≡ sectors_of self.now.rules (Some partition) }
@@ -271,11 +278,27 @@ impl<D: Device> IoManager<D> {
         self.parts.tell_device();
     }
 
+    /// From here on no step keeps a label, or makes its bytes: contracts alone read what is told.
+    pub fn hush(&mut self)
+        requires taken { self.old.labels ≡ [] }
+        ensures quiet { self.new ≡ record self.old { keeps = false } }
+    {
+        self.parts.tables.hush();
+    }
+
     /// Takes the earliest label of the last step that was not taken yet.
     pub fn take_label(&mut self) -> Option<Label>
+        requires kept { IsTrue self.old.keeps }
         ensures takes { TakesFirst self.old result self.new }
     {
-        self.parts.tables.labels.pop_front()
+        self.parts.tables.labels.take_first()
+    }
+
+    /// Forgets all labels of the last step that were not taken.
+    pub fn forget_labels(&mut self)
+        ensures forgets { self.new ≡ record self.old { labels = [] } }
+    {
+        self.parts.tables.labels.forget();
     }
 
     /// Takes the waiting answer with the lowest number.

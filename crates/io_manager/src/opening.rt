@@ -6,6 +6,7 @@ ghost use Rattle.io_manager.specs.Opening.{IsUnasked, AreFor, AreEmpty, IsFirstV
 
 use crate::Limits;
 use crate::chains::Chains;
+use crate::label_queue::LabelQueue;
 use crate::manager::IoManager;
 use crate::parts::Parts;
 use crate::tables::{HANDLE_LIMIT, LABEL_PLACES, Tables};
@@ -54,8 +55,8 @@ impl Tables {
             chains: Chains::new(),
             by_number: Chains::new(),
             open_counts: [0; HANDLE_LIMIT],
-            labels: VecDeque::with_capacity(alloc, LABEL_PLACES)?,
-            answered: VecDeque::with_capacity(alloc, ANSWER_PLACES)?,
+            labels: LabelQueue::new(alloc, LABEL_PLACES)?,
+            answered: LabelQueue::new(alloc, ANSWER_PLACES)?,
             untaken: VecDeque::new(alloc),
         })
     }

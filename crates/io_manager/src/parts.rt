@@ -56,12 +56,12 @@ impl<D: Device> Parts<D> {
         ensures unless_write { below.now.kind ≢ Write
             → (D.view self.new.device).adapter ≡ (D.view self.old.device).adapter }
         ensures tables { KeepsAnswers self.old.tables self.new.tables }
-        ensures copies { IfOk result (λ made. HasLabelBytes below.now.kind buffer.now made.copies) }
+        ensures copies { IfOk result (λ made. HasLabelBytes self.new.tables.labels.keeps below.now.kind buffer.now made.copies) }
         ensures place { OnOk result (deque_len self.new.tables.untaken + (slab_len self.new.tables.requests + 1)
             ≤ deque_capacity self.new.tables.untaken) }
     {
         self.tables.cover_answers()?;
-        let copies = label_bytes_for(alloc, below.kind, buffer)?;
+        let copies = label_bytes_for(alloc, below.kind, buffer, self.tables.labels.keeps())?;
         let irp = Box::new(alloc, Irp::new(0, Payload::Sent))?;
         let room = self.device.reserve(below)?;
         Ok(Prepared { irp, room, copies })
@@ -83,7 +83,7 @@ impl<D: Device> Parts<D> {
         requires untold { self.old.tables.labels.items ≡ [] }
         requires open { is_some (partition_of self.old.tables.handles.slots handle) ≡ true }
         requires admissible { IsAdmissible (view_of self.old.limits (D.view self.old.device) self.old.tables) request }
-        requires copies { HasLabelBytes request.kind buffer prepared.copies }
+        requires copies { HasLabelBytes self.old.tables.labels.keeps request.kind buffer prepared.copies }
         requires length { request.length ≡ length buffer }
         requires place { deque_len self.old.tables.untaken + (slab_len self.old.tables.requests + 1)
             ≤ deque_capacity self.old.tables.untaken }

@@ -1,6 +1,6 @@
 //! What the manager keeps beside the device: handles, open requests, the plug and play state, labels and answers.
 
-ghost use Rattle.std.specs.Prelude.{◌≡◌, ◌≤◌, ◌<◌, ◌+◌, ◌^◌, ◌++◌, ◌∷◌, [], true, false, is_some, OnOk, MatchBool};
+ghost use Rattle.std.specs.Prelude.{◌≡◌, ◌≤◌, ◌<◌, ◌+◌, ◌^◌, ◌++◌, ◌∷◌, [], true, false, length, is_some, OnOk, MatchBool};
 ghost use Rattle.std.specs.VecDeque.{deque_len, deque_capacity};
 ghost use Rattle.slab.specs.Slab.{HasRoomFor, slab_len};
 ghost use Rattle.io_manager.specs.declared.Reply.TheVariants.{Refused as RefusedReply};
@@ -8,10 +8,14 @@ ghost use Rattle.io_manager.specs.Calls.{partition_of, are_used_up, handle_limit
 ghost use Rattle.io_manager.specs.inside.Chains.{AreChained, AreNumbered, AreCounted, remainder_of};
 ghost use Rattle.io_manager.specs.inside.Cancelling.{ClosesSlot, HasSome, HasNoneOf, IsOpenAt, IsNotOpenAt};
 ghost use Rattle.io_manager.specs.inside.Admitting.{AnswersAtOnce, KeepsAnswers, Admits, OpensHandle, status_at_once};
-ghost use Rattle.io_manager.specs.inside.Admitting.{reply_at_once, is_going};
+ghost use Rattle.io_manager.specs.inside.Admitting.{reply_at_once, is_going, IsCopied};
+ghost use Rattle.io_manager.specs.inside.Queue.{SameQueue};
+ghost use Rattle.machine.specs.declared.Label.TheVariants.{Call};
 
-use crate::admission::{AtOnce, LabelBytes};
+use crate::admission::{AtOnce, CallBytes, LabelBytes};
 use crate::chains::{CHAIN_LIMIT, Chains, REQUEST_LIMIT};
+use crate::label_queue::LabelQueue;
+use crate::noted::Noted;
 use crate::{Answer, Handle, Id, OpenHandle, Refusal, Reply};
 use device::{ClientRequest, Kind, Label};
 use ntstatus::NtStatus;
@@ -63,9 +67,9 @@ pub(crate) struct Tables {
     /// By slots: the requests that are open on the handle there.
     pub(crate) open_counts: [u8; HANDLE_LIMIT],
     /// Not yet taken, in order.
-    pub(crate) labels: VecDeque<Label>,
+    pub(crate) labels: LabelQueue<Label>,
     /// The labels of the answers of this step, by rising numbers.
-    pub(crate) answered: VecDeque<Answer>,
+    pub(crate) answered: LabelQueue<Answer>,
     /// Answers not yet taken, by rising numbers.
     pub(crate) untaken: VecDeque<Answer>,
 }
@@ -92,6 +96,36 @@ pub(crate) fn refused_alone(alloc: Global, refusal: Refusal) -> Reply
     refused(refusal, Bytes::new(Vec::new(alloc)))
 }
 
+/// A call as contracts alone read it.
+#[derive(Drop)]
+struct NotedCall {
+    number: u64,
+    request: ClientRequest,
+    bytes: Noted<u8>,
+}
+
+/// Tells a call, with the bytes that are told of it.
+fn tell_call(labels: &mut LabelQueue<Label>, number: u64, request: ClientRequest, bytes: CallBytes)
+    requires place { length labels.old.items < labels.old.places }
+    requires copied { IsCopied labels.old.keeps bytes }
+    ensures tells { labels.new.items ≡ labels.old.items ++ Call number (record request { bytes = bytes.told.items }) ∷ [] }
+    ensures one_more { length labels.new.items ≡ length labels.old.items + 1 }
+    ensures same { SameQueue labels.old labels.new }
+{
+    let CallBytes { copy, told } = bytes;
+    match copy {
+        Some(bytes) => {
+            let request = ClientRequest { bytes, ..request };
+            labels.tell(Label::Call { number, request });
+        }
+        None => labels.note(&NotedCall {
+            number,
+            request,
+            bytes: told,
+        }),
+    }
+}
+
 impl Tables {
     /// Whether the device is being removed, or is gone.
     pub(crate) fn is_going(&self) -> bool
@@ -103,16 +137,26 @@ impl Tables {
         }
     }
 
+    /// From here on contracts alone read what is told.
+    pub(crate) fn hush(&mut self)
+        ensures labels { self.new.labels ≡ record self.old.labels { keeps = false } }
+        ensures answered { self.new.answered ≡ record self.old.answered { keeps = false } }
+        ensures after { self.new ≡ record self.old { labels = self.new.labels; answered = self.new.answered } }
+    {
+        self.labels.hush();
+        self.answered.hush();
+    }
+
     /// Sets the PnP state and records its label.
     pub(crate) fn move_to(&mut self, state: State, label: Label)
-        requires label_place { deque_len self.old.labels < deque_capacity self.old.labels }
+        requires label_place { length self.old.labels.items < self.old.labels.places }
         ensures tells { self.new.labels.items ≡ self.old.labels.items ++ label ∷ [] }
-        ensures one_more { deque_len self.new.labels ≡ deque_len self.old.labels + 1 }
-        ensures label_places { deque_capacity self.new.labels ≡ deque_capacity self.old.labels }
+        ensures one_more { length self.new.labels.items ≡ length self.old.labels.items + 1 }
+        ensures label_places { SameQueue self.old.labels self.new.labels }
         ensures after { self.new ≡ record self.old { state = state; labels = self.new.labels } }
     {
         self.state = state;
-        self.labels.push_back_reserved(label);
+        self.labels.tell(label);
     }
 
     /// The partition that a handle is open on.
@@ -193,16 +237,15 @@ impl Tables {
         buffer: Bytes,
     ) -> Reply
         requires numbers_last { are_used_up self.old.next_request ≡ false }
-        requires places { deque_len self.old.labels + 2 ≤ deque_capacity self.old.labels }
+        requires places { length self.old.labels.items + 2 ≤ self.old.labels.places }
         requires no_bytes { request.bytes ≡ [] }
         ensures tells { AnswersAtOnce self.old request (status_at_once at_once) self.new }
         ensures replies { result ≡ reply_at_once self.old.next_request buffer at_once }
     {
         let number = self.next_request;
         self.next_request += 1;
-        self.labels
-            .push_back_reserved(Label::Call { number, request });
-        self.labels.push_back_reserved(Label::Answer {
+        self.labels.tell(Label::Call { number, request });
+        self.labels.tell(Label::Answer {
             number,
             status: at_once.status(),
             information: 0,
@@ -246,7 +289,8 @@ impl Tables {
         copies: LabelBytes,
     ) -> u32
         requires numbers_last { are_used_up self.old.next_request ≡ false }
-        requires label_place { deque_len self.old.labels < deque_capacity self.old.labels }
+        requires label_place { length self.old.labels.items < self.old.labels.places }
+        requires copied { IsCopied self.old.labels.keeps copies.call_bytes }
         requires free_slot { HasRoomFor self.old.requests 1 }
         requires slots { self.old.requests.capacity ≤ 64 }
         requires chained { AreChained self.old.handles self.old.requests self.old.next_handle self.old.chains }
@@ -273,12 +317,7 @@ impl Tables {
         self.chains.put_last(handle.slot as usize, slot);
         self.by_number.put_last(remainder_of(number), slot);
         self.open_counts[handle.slot as usize] += 1;
-        let request = ClientRequest {
-            bytes: call_bytes,
-            ..request
-        };
-        self.labels
-            .push_back_reserved(Label::Call { number, request });
+        tell_call(&mut self.labels, number, request, call_bytes);
         slot as u32
     }
 }

@@ -1,6 +1,6 @@
 -- A call at the manager's door: what it is answered at once, and the request and the packet of one that is admitted.
-use Rattle.std.specs.Prelude.{◌≡◌, ◌<◌, ◌≤◌, ℕ, true, false, Bool, ◌+◌, ◌/◌, max, nat_le, List, [], ◌∷◌, ◌++◌}
-use Rattle.std.specs.Prelude.{Option, Some, None, length, slice_index, slice_set, if◌then◌else◌}
+use Rattle.std.specs.Prelude.{◌≡◌, ◌≢◌, ◌<◌, ◌≤◌, ℕ, true, false, Bool, ◌+◌, ◌/◌, max, nat_le, List, [], ◌∷◌, ◌++◌}
+use Rattle.std.specs.Prelude.{Option, Some, None, MatchOption, IsFalse, length, slice_index, slice_set, if◌then◌else◌}
 use Rattle.std.specs.VecDeque.{deque_len, deque_capacity}
 use Rattle.slab.specs.Slab.{get, slab_len, Updates}
 use Rattle.ntstatus.specs.declared.NtStatus.{NtStatus}
@@ -36,9 +36,11 @@ use Rattle.io_manager.specs.declared.admission.Decision.TheVariants.{UsedUp, End
 use Rattle.io_manager.specs.declared.admission.AtOnce.{AtOnce}
 use Rattle.io_manager.specs.declared.admission.AtOnce.TheVariants.{Empty, Refused as RefusedFor}
 use Rattle.io_manager.specs.declared.admission.Bounds.{Bounds}
+use Rattle.io_manager.specs.declared.admission.CallBytes.{CallBytes}
 use Rattle.io_manager.specs.declared.admission.LabelBytes.{LabelBytes}
 use Rattle.io_manager.specs.Calls.{status_of_refusal, bytes_called, are_used_up, handle_limit}
 use Rattle.io_manager.specs.inside.Chains.{PutsLast, remainder_of}
+use Rattle.io_manager.specs.inside.Queue.{SameQueue}
 use Rattle.io_manager.specs.Shown.{ManagerView}
 
 -- the status of a call that ends where it begins
@@ -89,9 +91,14 @@ request_of sector_size q = record {
   through = q.through;
 }
 
+-- where labels are kept, there is a copy of the bytes that are told of a call
+abbrev pub IsCopied : Bool → CallBytes → Type 0
+IsCopied keeps bytes = MatchOption bytes.copy (IsFalse keeps) (λ copy. copy ≡ bytes.told.items)
+
 -- the buffers that a request needs for the manager's own labels
-pub record HasLabelBytes (kind : Kind) (buffer : List ℕ) (copies : LabelBytes) : Type 0 where
-  pub call_bytes : copies.call_bytes ≡ bytes_called kind buffer
+pub record HasLabelBytes (keeps : Bool) (kind : Kind) (buffer : List ℕ) (copies : LabelBytes) : Type 0 where
+  pub told : copies.call_bytes.told.items ≡ bytes_called kind buffer
+  pub copied : IsCopied keeps copies.call_bytes
   pub label_bytes : kind ≡ Read → length buffer ≤ copies.label_bytes
 
 -- the first location of a request: of its kind and its extent, with SL_WRITE_THROUGH or no flags, and no routine
@@ -116,7 +123,7 @@ pub record IsOnTop (number : ℕ) (request : Request) (irp : Irp) : Type 0 where
 pub record AnswersAtOnce (old : Tables) (q : ClientRequest) (status : NtStatus) (new : Tables) : Type 0 where
   pub tells : new.labels.items ≡ old.labels.items
       ++ Call old.next_request q ∷ AnswerLabel old.next_request status 0 [] ∷ []
-  pub label_places : deque_capacity new.labels ≡ deque_capacity old.labels
+  pub label_places : SameQueue old.labels new.labels
   pub after : new ≡ record old { next_request = old.next_request + 1; labels = new.labels }
 
 -- the reply to a call that ends where it begins
@@ -141,9 +148,9 @@ pub record Admits (old : Tables) (handle : Handle) (q : ClientRequest) (copies :
       }))
   pub counted : slab_len new.requests ≡ slab_len old.requests + 1
   pub slots : new.requests.capacity ≡ old.requests.capacity
-  pub tells : new.labels.items ≡ old.labels.items ++ Call old.next_request (record q { bytes = copies.call_bytes }) ∷ []
-  pub one_more : deque_len new.labels ≡ deque_len old.labels + 1
-  pub label_places : deque_capacity new.labels ≡ deque_capacity old.labels
+  pub tells : new.labels.items ≡ old.labels.items ++ Call old.next_request (record q { bytes = copies.call_bytes.told.items }) ∷ []
+  pub one_more : length new.labels.items ≡ length old.labels.items + 1
+  pub label_places : SameQueue old.labels new.labels
   pub chains : PutsLast old.chains handle.slot slot new.chains
   pub by_number : PutsLast old.by_number (remainder_of old.next_request) slot new.by_number
   pub counts : new.open_counts ≡ slice_set old.open_counts handle.slot (slice_index old.open_counts handle.slot + 1)

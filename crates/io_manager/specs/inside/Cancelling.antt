@@ -1,7 +1,6 @@
 -- What a cancellation does to the tables and to the device below.
 use Rattle.std.specs.Prelude.{◌≡◌, ◌≢◌, ◌≤◌, ◌<◌, ◌⊎◌, ◌+◌, ℕ, true, false, List, [], ◌∷◌, ◌++◌, Some, None, map}
-use Rattle.std.specs.Prelude.{slice_set, All, Contains}
-use Rattle.std.specs.VecDeque.{deque_len, deque_capacity}
+use Rattle.std.specs.Prelude.{slice_set, length, All, Contains}
 use Rattle.slab.specs.Slab.{Slab, get, slab_len, Updates}
 use Rattle.machine.specs.declared.Label.TheVariants.{Cancel}
 use Rattle.machine.specs.Holding.{Cancels}
@@ -13,6 +12,7 @@ use Rattle.io_manager.specs.declared.cancelling.PacketBelow.{PacketBelow}
 use Rattle.io_manager.specs.declared.tables.OpenRequest.{OpenRequest}
 use Rattle.io_manager.specs.declared.tables.Tables.{Tables}
 use Rattle.io_manager.specs.inside.Chains.{TakesOut}
+use Rattle.io_manager.specs.inside.Queue.{SameQueue}
 use Rattle.io_manager.specs.Right.{as_cancel, AreRising}
 use Rattle.io_manager.specs.inside.Sound.{holders_of}
 
@@ -90,8 +90,8 @@ pub record MarksAt (old : Tables) (slot : ℕ) (place : PacketBelow) (new : Tabl
   pub counted : slab_len new.requests ≡ slab_len old.requests
   pub slots : new.requests.capacity ≡ old.requests.capacity
   pub tells : new.labels.items ≡ old.labels.items ++ Cancel request.number ∷ []
-  pub one_more : deque_len new.labels ≡ deque_len old.labels + 1
-  pub label_places : deque_capacity new.labels ≡ deque_capacity old.labels
+  pub one_more : length new.labels.items ≡ length old.labels.items + 1
+  pub label_places : SameQueue old.labels new.labels
   pub chains : TakesOut old.chains slot new.chains
   pub after : new ≡ record old { requests = new.requests; chains = new.chains; labels = new.labels }
 
@@ -138,7 +138,7 @@ pub record CancelsAll (below : DeviceView) (tables : Tables) (handle : ℕ) (bel
   pub slots : tables'.requests.capacity ≡ tables.requests.capacity
   pub same_holders : holders_of tables'.requests ≡ holders_of tables.requests
   pub tells : tables'.labels.items ≡ tables.labels.items ++ map as_cancel numbers
-  pub label_places : deque_capacity tables'.labels ≡ deque_capacity tables.labels
+  pub label_places : SameQueue tables.labels tables'.labels
   pub after : tables' ≡ record tables { requests = tables'.requests; chains = tables'.chains; labels = tables'.labels }
   pub run : Run below.rules below.state (map as_cancel numbers) below'.state
   pub beside : IsBeside below below'

@@ -1,7 +1,6 @@
 -- What becomes of requests that have ended, until their answers are told.
 use Rattle.std.specs.Prelude.{◌≡◌, ◌≢◌, ◌<◌, ◌≤◌, ℕ, ◌+◌, ◌-◌, Bool, IsTrue, IsFalse, List, [], ◌++◌, Some, None}
 use Rattle.std.specs.Prelude.{option_map, map, length, All, IsPermutation, MatchBool, is_some, slice_index, slice_set}
-use Rattle.std.specs.VecDeque.{deque_capacity}
 use Rattle.slab.specs.Slab.{Slab, get, slab_len, Updates}
 use Rattle.ntstatus.specs.declared.NtStatus.{NtStatus}
 use Rattle.ntstatus.specs.declared.NtStatus.TheVariants.{Success}
@@ -11,11 +10,12 @@ use Rattle.irp.specs.declared.Done.{Done}
 use Rattle.irp.specs.declared.Irp.{Irp}
 use Rattle.srb.specs.declared.Kind.{Kind}
 use Rattle.srb.specs.declared.Kind.TheVariants.{Read}
+use Rattle.machine.specs.declared.Label.{Label}
 use Rattle.machine.specs.State.{State}
 use Rattle.machine.specs.Answering.{AnswersWith}
 use Rattle.machine.specs.Step.{Run, as_label}
 use Rattle.machine.specs.Sending.{IsStart}
-use Rattle.device.specs.View.{DeviceView, payload_bytes}
+use Rattle.device.specs.View.{DeviceView, payload_bytes, room_at}
 use Rattle.device.specs.Served.{SameRooms}
 use Rattle.io_manager.specs.declared.Answer.{Answer}
 use Rattle.io_manager.specs.declared.Handle.{Handle}
@@ -25,6 +25,7 @@ use Rattle.pnp.specs.declared.State.TheVariants.{Removing, Removed}
 use Rattle.io_manager.specs.Calls.{partition_of}
 use Rattle.io_manager.specs.inside.Chains.{TakesOut}
 use Rattle.io_manager.specs.inside.Ordering.{inserted}
+use Rattle.io_manager.specs.inside.Queue.{SameQueue}
 use Rattle.io_manager.specs.Right.{AreRising, answer_number, as_answer, unless_answered, end_labels}
 use Rattle.io_manager.specs.inside.Sound.{holder_of, SamePlaces, HasNoneToStart}
 
@@ -40,6 +41,14 @@ done_of irp = record {
 -- a layer whose adapter's labels are all taken
 abbrev pub unlabelled : DeviceView → DeviceView
 unlabelled below = record below { adapter = record below.adapter { labels = [] } }
+
+-- what was told, and then what the device recorded
+abbrev pub and_recorded : List Label → DeviceView → List Label
+and_recorded told below = told ++ map as_label below.adapter.labels
+
+-- what was told, and then these answers
+abbrev pub and_answers : List Label → List Answer → List Label
+and_answers told answers = told ++ map as_answer answers
 
 -- an open request of this number at this slot
 pub record IsAt (requests : Slab OpenRequest) (number slot : ℕ) : Type 0 where
@@ -109,7 +118,7 @@ pub record EndsRemoval (old new : Tables) : Type 0 where
   pub ended : IsTrue ends → (old.state ≡ Removing) × (slab_len old.requests ≡ 0) × (new.state ≡ Removed)
   pub not_ended : IsFalse ends → (new.state ≡ old.state) × (old.state ≡ Removing → slab_len old.requests ≢ 0)
   pub tells : new.labels.items ≡ old.labels.items ++ end_labels ends
-  pub label_places : deque_capacity new.labels ≡ deque_capacity old.labels
+  pub label_places : SameQueue old.labels new.labels
   pub after : new ≡ record old { state = new.state; labels = new.labels }
 
 -- one request that has ended is taken from the device and closed

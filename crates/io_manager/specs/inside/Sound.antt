@@ -1,6 +1,6 @@
 -- What the manager's tables and the device below say of each other between two calls.
 use Rattle.std.specs.Prelude.{◌≡◌, ◌≢◌, ◌<◌, ◌≤◌, ℕ, ◌+◌, ◌^◌, ◌⊎◌, Bool, true, false, List, [], ◌++◌, Option, Some}
-use Rattle.std.specs.Prelude.{option_map, is_some, map, length, IsTrue, IsFalse, All, Contains}
+use Rattle.std.specs.Prelude.{option_map, is_some, map, length, slice_get, IsTrue, IsFalse, All, Contains}
 use Rattle.std.specs.Prelude.{IsPermutation}
 use Rattle.std.specs.VecDeque.{deque_len, deque_capacity}
 use Rattle.slab.specs.Slab.{Slab, get, slab_len}
@@ -28,6 +28,7 @@ use Rattle.io_manager.specs.Calls.{number_limit, handle_limit}
 use Rattle.io_manager.specs.Opening.{AreFirsts, rules_of}
 use Rattle.io_manager.specs.inside.Chains.{AreChained, AreNumbered, AreCounted}
 use Rattle.io_manager.specs.inside.Ordering.{HasOtherNumber}
+use Rattle.io_manager.specs.inside.Queue.{SameQueue}
 use Rattle.io_manager.specs.inside.Inside.{AllWriteInside}
 use Rattle.io_manager.specs.Right.{AreRising, answer_number, as_answer, unless_answered, AdapterMoves, end_labels}
 
@@ -61,6 +62,7 @@ view_of limits below tables = record {
   holders = holders_of tables.requests;
   labels = tables.labels.items;
   answers = tables.untaken.items;
+  keeps = tables.labels.keeps;
 }
 
 -- it ends where no sum of sectors goes past a word
@@ -73,6 +75,7 @@ pub record FitsBelow (limits : Limits) (below : DeviceView) : Type 0 where
   pub some_bytes : 0 < limits.sector_size
   pub max_transfer : limits.max_transfer ≡ below.rules.max_transfer
   pub some_transfer : 0 < limits.max_transfer
+  pub depth : limits.depth ≡ below.rules.depth
   pub firsts : AreFirsts limits.first_sectors below.rules.partitions
   pub ends : All EndsInRange below.rules.partitions
   pub some_open : (1 ≤ limits.open_requests) × (limits.open_requests ≤ 64)
@@ -106,10 +109,12 @@ pub record AreHeld (requests : Slab OpenRequest) (below : List OpenBelow) : Type
       → request.number ≡ same.number → slot ≡ other
   pub counted : slab_len requests ≡ length below
 
--- places for what a step may add, so that it takes no memory; and as many slots as requests may be open
+-- places for what a step may add, so that it takes no memory, and memory keeps all that is told or none of it; and as
+-- many slots as requests may be open
 pub record HasPlaces (limits : Limits) (tables : Tables) : Type 0 where
-  pub labels : 256 ≤ deque_capacity tables.labels
-  pub answered : 64 ≤ deque_capacity tables.answered
+  pub labels : 256 ≤ tables.labels.places
+  pub answered : 64 ≤ tables.answered.places
+  pub alike : tables.answered.keeps ≡ tables.labels.keeps
   pub untaken : deque_len tables.untaken + slab_len tables.requests ≤ deque_capacity tables.untaken
   pub handles : tables.handles.capacity ≡ handle_limit
   pub requests : tables.requests.capacity ≡ limits.open_requests
@@ -170,8 +175,8 @@ AsksInside below = AllWriteInside below.rules.partitions below.adapter
 
 -- the tables have as many places as before, so nothing took memory
 pub record SamePlaces (old new : Tables) : Type 0 where
-  pub labels : deque_capacity new.labels ≡ deque_capacity old.labels
-  pub answered : deque_capacity new.answered ≡ deque_capacity old.answered
+  pub labels : SameQueue old.labels new.labels
+  pub answered : SameQueue old.answered new.answered
   pub untaken : deque_capacity new.untaken ≡ deque_capacity old.untaken
   pub handles : new.handles.capacity ≡ old.handles.capacity
   pub requests : new.requests.capacity ≡ old.requests.capacity
@@ -185,7 +190,7 @@ pub record EndsIf (ends : Bool) (old : PnpState) (s : State) (new : PnpState) : 
 pub record TakesLabels (below : DeviceView) (tables : Tables) (below' : DeviceView) (tables' : Tables) : Type 0 where
   pub taken : below' ≡ record below { adapter = record below.adapter { labels = [] } }
   pub tells : tables'.labels.items ≡ tables.labels.items ++ map as_label below.adapter.labels
-  pub label_places : deque_capacity tables'.labels ≡ deque_capacity tables.labels
+  pub label_places : SameQueue tables.labels tables'.labels
   pub after : tables' ≡ record tables { labels = tables'.labels }
 
 -- neither started nor cancelled, it is held by the pause, or the window is full

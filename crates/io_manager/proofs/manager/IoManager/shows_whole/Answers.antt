@@ -21,7 +21,7 @@ pub returns-clause-whole : goal.returns-clause-whole
 returns-clause-whole g c =
     let below : DeviceView = g.D.Shown.view c.self.inside.parts.device in
     let orderly : IsOrderly below = c.shows_order.ensures.order in
-    subst FitsTogether c.self.view_is (FitsTogether-view c.self.inside.parts.limits below c.self.inside.parts.tables c.self.invariant.kept.sound orderly.read)
+    subst FitsTogether c.self.view_is (FitsTogether-view c.self.inside.parts.limits below c.self.inside.parts.tables c.self.invariant.kept.sound orderly.adapter orderly.read)
 
 pub returns-clause-in_order : goal.returns-clause-in_order
 returns-clause-in_order g c =

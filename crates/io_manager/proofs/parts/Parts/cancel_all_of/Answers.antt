@@ -1,7 +1,6 @@
 -- Each that is cancelled is one fewer that can be.
-use Rattle.std.proofs.Common.{◌≡◌, ◌≤◌, ◌<◌, ◌+◌, ◌∙◌, ℕ, true, sym, subst, arith}
+use Rattle.std.proofs.Common.{◌≡◌, ◌≤◌, ◌<◌, ◌+◌, ◌∙◌, ℕ, true, sym, subst, arith, length}
 use Rattle.std.specs.Prelude.{count_by, is_some}
-use Rattle.std.specs.VecDeque.{deque_len}
 use Rattle.io_manager.specs.declared.Handle.{Handle}
 use Rattle.io_manager.specs.declared.cancelling.PacketBelow.{PacketBelow}
 use Rattle.io_manager.specs.declared.tables.Tables.{Tables}
@@ -24,8 +23,8 @@ pub next-preserved : goal.next-preserved
 next-preserved g c =
     let fewer : count_by is_unmarked (g.D.Shown.view c.cancel_slot.new.self.device).state.requests + 1 ≡ count_by is_unmarked (g.D.Shown.view c.next.self.device).state.requests =
     one_fewer (g.D.Shown.view c.next.self.device).state c.cancel_slot.ensures.cancels.place.number (g.D.Shown.view c.cancel_slot.new.self.device).state c.cancel_slot.ensures.cancels.cancels in
-    let more : deque_len c.cancel_slot.new.self.tables.labels ≡ deque_len c.next.self.tables.labels + 1 = c.cancel_slot.ensures.cancels.marks.one_more in
-    let few : deque_len c.next.self.tables.labels + count_by is_unmarked (g.D.Shown.view c.next.self.device).state.requests ≤ 64 = c.next.invariant.few in
+    let more : length c.cancel_slot.new.self.tables.labels.items ≡ length c.next.self.tables.labels.items + 1 = c.cancel_slot.ensures.cancels.marks.one_more in
+    let few : length c.next.self.tables.labels.items + count_by is_unmarked (g.D.Shown.view c.next.self.device).state.requests ≤ 64 = c.next.invariant.few in
     record {
       limits = c.cancel_slot.ensures.limits ∙ c.next.invariant.limits;
       sound = c.cancel_slot.ensures.sound;

@@ -1,6 +1,5 @@
-use Rattle.std.proofs.Common.{◌≡◌, ◌≤◌, ◌+◌, true}
+use Rattle.std.proofs.Common.{◌≡◌, ◌≤◌, ◌+◌, true, length}
 use Rattle.std.specs.Prelude.{count_by, is_some}
-use Rattle.std.specs.VecDeque.{deque_len}
 use Rattle.io_manager.specs.Calls.{partition_of}
 use Rattle.io_manager.specs.inside.Cancelling.{CancelsAll}
 use Rattle.io_manager.specs.inside.Sound.{IsSound}
@@ -12,7 +11,7 @@ invariant-next g l = record {
   limits : l.self.limits ≡ l.initial.self.limits;
   sound : IsSound l.self.limits (g.D.Shown.view l.self.device) l.self.tables;
   is_open : is_some (partition_of l.self.tables.handles.slots l.handle) ≡ true;
-  few : deque_len l.self.tables.labels + count_by is_unmarked (g.D.Shown.view l.self.device).state.requests ≤ 64;
+  few : length l.self.tables.labels.items + count_by is_unmarked (g.D.Shown.view l.self.device).state.requests ≤ 64;
   cancels : CancelsAll (g.D.Shown.view l.initial.self.device) l.initial.self.tables l.handle.number (g.D.Shown.view l.self.device) l.self.tables;
 }
 

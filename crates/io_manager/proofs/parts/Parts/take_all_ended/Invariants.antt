@@ -1,5 +1,4 @@
 use Rattle.std.proofs.Common.{◌≡◌, ◌≤◌, ◌+◌, length}
-use Rattle.std.specs.VecDeque.{deque_len}
 use Rattle.slab.specs.Slab.{slab_len}
 use Rattle.io_manager.specs.inside.Completion.{Gathers}
 use Rattle.io_manager.specs.inside.Sound.{IsSoundWith}
@@ -9,7 +8,7 @@ abbrev pub invariant-ended : goal.invariant-ended
 invariant-ended g l = record {
   limits : l.self.limits ≡ l.initial.self.limits;
   sound : IsSoundWith l.self.tables.answered.items l.self.limits (g.D.Shown.view l.self.device) l.self.tables;
-  few : deque_len l.self.tables.answered + slab_len l.self.tables.requests ≤ 64;
+  few : length l.self.tables.answered.items + slab_len l.self.tables.requests ≤ 64;
   gathers : Gathers (g.D.Shown.view l.initial.self.device) l.initial.self.tables (g.D.Shown.view l.self.device) l.self.tables;
 }
 

@@ -1,5 +1,5 @@
 -- The packet is of an open request, whose slot and places are there.
-use Rattle.std.proofs.Common.{◌<◌, ◌≤◌, ◌^◌, sym, subst, arith, deque_len, deque_capacity}
+use Rattle.std.proofs.Common.{◌<◌, ◌≤◌, ◌^◌, sym, subst, arith, length}
 use Rattle.device.specs.View.{DeviceView}
 use Rattle.device.specs.Served.{HandsUp}
 use Rattle.io_manager.specs.inside.Completion.{TakesEnded}
@@ -34,9 +34,9 @@ close-requires-clause-filled g c =
 
 pub close-requires-clause-answered_place : goal.close-requires-clause-answered_place
 close-requires-clause-answered_place g c =
-    let low : deque_len c.args.self.now.tables.answered < 64 =
+    let low : length c.args.self.now.tables.answered.items < 64 =
     answered_place _ _ _ _ c.in-Finished.irp c.done_of.result c.done_of.ensures _ (handed _ _ _ _ c.in-Finished.irp _ c.in-Finished.is c.in-Some.ensures.hands_up) c.requires.sound.held _ 64 c.requires.few in
-    let places : 64 ≤ deque_capacity c.args.self.now.tables.answered = c.requires.sound.places.answered in
+    let places : 64 ≤ c.args.self.now.tables.answered.places = c.requires.sound.places.answered in
     omega arith
 
 pub close-requires-clause-untaken_place : goal.close-requires-clause-untaken_place

@@ -21,10 +21,9 @@ count_out-requires c is_open =
     can_count_out c.args.self.now.handles c.args.self.now.requests c.args.self.now.next_handle c.args.self.now.chains c.args.self.now.open_counts c.requires.chained c.requires.counted c.in-Some.slot c.in-Some-try_remove.open _
     (sym c.try_remove.ensures.value ∙ c.in-Some-try_remove.is) refl is_open
 
-pub filled-label_bytes-requires : goal.filled-label_bytes-requires
-filled-label_bytes-requires c =
-    subst (λ bytes. length bytes ≤ c.in-Some-try_remove.open.label_bytes) (sym c.as_slice.ensures)
-    (subst (λ bytes. length bytes ≤ c.in-Some-try_remove.open.label_bytes) (sym c.brought-bytes.ensures)
+pub put_by-requires-clause-room : goal.put_by-requires-clause-room
+put_by-requires-clause-room c =
+    subst (λ bytes. length bytes ≤ c.in-Some-try_remove.open.label_bytes) (sym c.brought-bytes.ensures)
     (room_takes c.in-Some-try_remove.open.kind c.args.done.status c.bytes_of-bytes.result c.in-Some-try_remove.open.label_bytes
     (λ reads succeeded. subst (λ bytes. length bytes ≤ c.in-Some-try_remove.open.label_bytes) (sym c.bytes_of-bytes.ensures)
-    (filled_at c.args.self.now.requests c.args.done c.in-Some.slot c.in-Some-try_remove.open c.requires.filled c.in-Some.ensures (sym c.try_remove.ensures.value ∙ c.in-Some-try_remove.is) reads succeeded))))
+    (filled_at c.args.self.now.requests c.args.done c.in-Some.slot c.in-Some-try_remove.open c.requires.filled c.in-Some.ensures (sym c.try_remove.ensures.value ∙ c.in-Some-try_remove.is) reads succeeded)))

@@ -1,0 +1,37 @@
+//! A list that contracts alone read.
+
+ghost use Rattle.std.specs.Prelude.{◌≡◌, List, []};
+ghost use Rattle.std.specs.Borrow.{ftrue};
+
+use std::marker::{Model, PhantomData};
+
+/// A list that contracts alone read. No memory holds any of it.
+#[derive(Drop)]
+pub(crate) struct Noted<T> {
+    of: PhantomData<T>,
+    pub(crate) ghost items: { List T },
+}
+
+impl<T> Model for Noted<T> {
+    ghost also_owns = { λ _. ftrue };
+}
+
+// It owns nothing.
+unsafe impl<T> Send for Noted<T> {}
+
+impl<T> Noted<T> {
+    /// No items.
+    pub(crate) fn none() -> Noted<T>
+        ensures { result.items ≡ [] }
+    {
+        Noted { of: PhantomData }
+    }
+
+    /// Any items, which whoever calls this reads off this list and off what it lends.
+    pub(crate) fn with<S>(&self, _from: &S) -> Noted<T>
+        ghost items: { List T }
+        ensures { result.items ≡ items }
+    {
+        Noted { of: PhantomData }
+    }
+}
