@@ -68,9 +68,9 @@ module _ (disk v : AdapterView) (settings : Settings) (in_range : AreInRange set
       })
 
       -- what the probe and the adapter tell are the limits of a manager over them
-      pub limits_for : IsInOrder v → (limits : Limits) → limits.sector_size ≡ probed.sector_size → limits.max_transfer ≡ v.max_transfer → limits.open_requests ≡ settings.open_requests
+      pub limits_for : IsInOrder v → (limits : Limits) → limits.sector_size ≡ probed.sector_size → limits.max_transfer ≡ v.max_transfer → limits.depth ≡ v.depth → limits.open_requests ≡ settings.open_requests
           → AreFirsts limits.first_sectors probed.partitions.items → AreFor t limits
-      limits_for order limits sector_size max_transfer open_requests firsts =
+      limits_for order limits sector_size max_transfer depth open_requests firsts =
           let some_transfer : 1 ≤ v.max_transfer = order.max_transfer.0 in
           let some_open : 1 ≤ settings.open_requests = in_range.open_requests.0 in
           let few_open : settings.open_requests ≤ 64 = in_range.open_requests.1 in
@@ -78,6 +78,7 @@ module _ (disk v : AdapterView) (settings : Settings) (in_range : AreInRange set
             sector_size = sector_size ∙ are.sector_size ∙ sym same.sector_size;
             max_transfer = max_transfer;
             some_transfer = omega arith;
+            depth = depth;
             firsts = firsts;
             some_open = (omega arith, omega arith);
           })

@@ -10,3 +10,4 @@ pub mod JournaledStep
 pub mod JournaledOthers
 pub mod JournaledKept
 pub mod JournaledArmed
+pub mod KeepsLabels

@@ -1,5 +1,5 @@
 -- When a step is right, and what it would open: by what the I/O manager promises of the call that the event stands for.
-use Rattle.std.specs.Prelude.{◌≡◌, ℕ, [], false, Option, None}
+use Rattle.std.specs.Prelude.{◌≡◌, ℕ, [], false, true, Option, None}
 use Rattle.sector.specs.declared.Extent.{Extent}
 use Rattle.srb.specs.declared.Kind.TheVariants.{Read, Write, Flush}
 use Rattle.io_manager.specs.declared.Reply.{Reply}
@@ -33,6 +33,12 @@ IsRight old SurpriseRemove reply new = IsRightCall (SurpriseReplies old reply ne
 IsRight old (Act tag) reply new = IsRightCall (ActReplies old tag reply new) old new
 IsRight old (Finish tag) reply new = IsRightCall (FinishReplies old tag reply new) old new
 IsRight old Reset reply new = (reply ≡ OkReply) × IsRightReset old new
+
+-- a step whose labels are not kept, and then are forgotten
+pub record StepsUntraced (old : ManagerView) (event : Event) (reply : Reply) (new : ManagerView) : Type 0 where
+  pub stepped : ManagerView
+  pub right : IsRight (record old { keeps = false }) event reply stepped
+  pub after : new ≡ record stepped { labels = []; keeps = true }
 
 -- what the next call of this event would open, if anything: the number of pieces, and its sectors of the disk
 abbrev pub opened_by : ManagerView → Event → Option (ℕ × Extent)

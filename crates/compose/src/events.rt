@@ -1,10 +1,10 @@
 //! Events carried out one by one over any device stack.
 
-ghost use Rattle.std.specs.Prelude.{◌≡◌, ◌≤◌, [], MatchResult};
+ghost use Rattle.std.specs.Prelude.{◌≡◌, ◌≤◌, [], IsTrue, MatchResult};
 ghost use Rattle.std.specs.VecDeque.{deque_capacity};
 ghost use Rattle.machine.specs.Settled.{Settled, IsFinished};
 ghost use Rattle.io_manager.specs.Right.{FitsTogether};
-ghost use Rattle.compose.specs.Right.{IsRight, opened_by};
+ghost use Rattle.compose.specs.Right.{IsRight, StepsUntraced, opened_by};
 ghost use Rattle.compose.specs.Runs.{Carries, CarriesAll, IsLawful, RunsAreQuietOnceRemoved, RunsObeyLaws};
 ghost use Rattle.compose.specs.Runs.{StopsAfter};
 
@@ -56,6 +56,26 @@ pub(crate) fn step<D: Hold>(manager: &mut IoManager<D>, alloc: Global, event: Ev
     reply
 }
 
+/// Carries one event out as [`step`] does, and forgets its labels: none is kept, and none has its bytes made.
+pub(crate) fn step_untraced<D: Hold>(
+    manager: &mut IoManager<D>,
+    alloc: Global,
+    event: Event,
+) -> Reply
+    requires taken { manager.old.labels ≡ [] }
+    ensures untraced { StepsUntraced manager.old event result manager.new }
+    ensures settled { Settled manager.new.rules manager.new.state }
+    ensures finished { IsFinished manager.new.state }
+    ensures whole { FitsTogether manager.new }
+{
+    manager.keep_labels(false);
+    let reply = step(manager, alloc, event);
+    manager.forget_labels();
+    manager.keep_labels(true);
+    manager.shows_whole();
+    reply
+}
+
 /// Returns what the next call of an event would open, if anything: the number of pieces, and the sectors of the disk.
 pub(crate) fn admits<D: Hold>(manager: &IoManager<D>, event: &Event) -> Option<(u64, Extent)>
     ensures { result ≡ opened_by manager.now event.now }
@@ -89,11 +109,13 @@ pub(crate) fn run<D: Hold>(
     events: Vec<Event>,
 ) -> Result<Vec<Shown>, RunStopped>
     requires taken { manager.old.labels ≡ [] }
+    requires kept { IsTrue manager.old.keeps }
     ensures carries { MatchResult result (λ shown. CarriesAll manager.old events.items shown.items manager.new)
         (λ stopped. StopsAfter manager.old events.items stopped manager.new) }
     ensures lawful { MatchResult result (λ shown. IsLawful manager.old shown.items manager.new)
         (λ stopped. IsLawful manager.old stopped.shown.items manager.new) }
     ensures taken { manager.new.labels ≡ [] }
+    ensures kept { IsTrue manager.new.keeps }
     ensures settled { Settled manager.new.rules manager.new.state }
     ensures finished { IsFinished manager.new.state }
     ensures whole { FitsTogether manager.new }
@@ -116,9 +138,11 @@ fn carry_all<D: Hold>(
     events: Vec<Event>,
 ) -> Result<Vec<Shown>, RunStopped>
     requires taken { manager.old.labels ≡ [] }
+    requires kept { IsTrue manager.old.keeps }
     ensures carries { MatchResult result (λ shown. CarriesAll manager.old events.items shown.items manager.new)
         (λ stopped. StopsAfter manager.old events.items stopped manager.new) }
     ensures taken { manager.new.labels ≡ [] }
+    ensures kept { IsTrue manager.new.keeps }
 {
     if events.is_empty() {
         return Ok(Vec::new(alloc));
@@ -149,8 +173,10 @@ fn carry_out<D: Hold>(
     requires taken { manager.old.labels ≡ [] }
     requires empty { spare.items ≡ [] }
     requires places { 256 ≤ deque_capacity spare }
+    requires kept { IsTrue manager.old.keeps }
     ensures carries { Carries manager.old event result manager.new }
     ensures taken { manager.new.labels ≡ [] }
+    ensures kept { IsTrue manager.new.keeps }
 {
     let reply = step(manager, alloc, event);
     let labels = manager.take_labels(spare);

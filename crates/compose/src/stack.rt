@@ -10,7 +10,7 @@ ghost use Rattle.machine_laws.specs.Reached.{IsReached};
 ghost use Rattle.probe.specs.Exchange.{IsIdle};
 ghost use Rattle.io_manager.specs.Right.{BooksPiece, FitsTogether, TakesAnswer, TakesAnswerOf};
 ghost use Rattle.io_manager.specs.Right.{TakesLabel as TakesFirst};
-ghost use Rattle.compose.specs.Right.{IsRight, opened_by};
+ghost use Rattle.compose.specs.Right.{IsRight, StepsUntraced, opened_by};
 ghost use Rattle.compose.specs.Opening.{IsFirstView, IsSpent};
 ghost use Rattle.compose.specs.Runs.{CarriesAll, IsLawful, StopsAfter};
 
@@ -37,11 +37,14 @@ impl<A: Adapter> Drop for Stack<A> {
 }
 
 impl<A: Adapter> Model for Stack<A> {
+    ghost use Rattle.std.specs.Prelude.{IsTrue};
     ghost use Rattle.io_manager.specs.Shown.{ManagerView};
 
     ghost Value = { ManagerView };
 
     ghost view = { λ s. s.manager };
+
+    ghost invariant = { λ s. IsTrue s.manager.keeps };
 }
 
 impl<A: Adapter> Stack<A> {
@@ -78,6 +81,17 @@ impl<A: Adapter> Stack<A> {
         events::step(&mut self.manager, alloc, event)
     }
 
+    /// Carries one event out as [`Stack::step`] does, and forgets its labels: none has its bytes made.
+    pub fn step_untraced(&mut self, alloc: Global, event: Event) -> Reply
+        requires taken { self.old.labels ≡ [] }
+        ensures untraced { StepsUntraced self.old event result self.new }
+        ensures settled { Settled self.new.rules self.new.state }
+        ensures finished { IsFinished self.new.state }
+        ensures whole { FitsTogether self.new }
+    {
+        events::step_untraced(&mut self.manager, alloc, event)
+    }
+
     /// Returns what a read, a write or a flush would open if it were the next event: the number of pieces that its
     /// request is cut into, and its sectors of the disk, in order. A flush has one piece, and an empty extent where its
     /// partition begins. It takes no memory.
@@ -95,6 +109,13 @@ impl<A: Adapter> Stack<A> {
         ensures { result ≡ self.now.rules.sector_size }
     {
         self.manager.sector_size()
+    }
+
+    /// Tags of the adapter.
+    pub fn depth(&self) -> u8
+        ensures { result ≡ self.now.rules.depth }
+    {
+        self.manager.depth()
     }
 
     /// Sectors of a partition, counted from 0. There are none where there is no such partition.

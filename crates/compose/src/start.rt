@@ -107,10 +107,12 @@ pub(crate) fn manager_over<A: Adapter>(
     requires idle { IsIdle (A.view adapter) }
     requires unasked { (A.view adapter).accepted ≡ 0 }
     ensures view { IfOk result (IsFirstView (A.view adapter) settings) }
+    ensures kept { IfOk result (λ manager. IsTrue manager.keeps) }
     ensures fault { IfErr result (λ fault. (spent : A) × IsSpent (A.view adapter) settings fault (A.view spent)) }
 {
     let probed = prepare(alloc, &mut adapter, settings)?;
     let max_transfer = adapter.max_transfer();
+    let depth = adapter.depth();
     let first_sectors = first_sectors_of(probed.partitions.as_slice());
     let port = Port::new(alloc, adapter)?;
     let disk = Disk::new(alloc, port, probed.sector_size as u32);
@@ -119,6 +121,7 @@ pub(crate) fn manager_over<A: Adapter>(
     let limits = Limits {
         sector_size: probed.sector_size,
         max_transfer,
+        depth,
         open_requests: settings.open_requests,
         first_sectors,
     };

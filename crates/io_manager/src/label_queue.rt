@@ -1,6 +1,6 @@
 //! Queues of what a step tells. Memory keeps it until it is taken; or contracts alone read it.
 
-ghost use Rattle.std.specs.Prelude.{◌≡◌, ◌<◌, ◌+◌, ◌++◌, ◌∷◌, [], true, false, List, length, IfOk, IsTrue, IsFalse};
+ghost use Rattle.std.specs.Prelude.{◌≡◌, ◌<◌, ◌+◌, ◌++◌, ◌∷◌, [], true, List, length, IfOk, IsTrue, IsFalse};
 ghost use Rattle.std.specs.VecDeque.{deque_capacity};
 ghost use Rattle.io_manager.specs.inside.Queue.{QueueView, SameQueue, TakesFirst};
 
@@ -53,11 +53,13 @@ impl<T: Drop> LabelQueue<T> {
         self.keeps
     }
 
-    /// From here on contracts alone read what is told.
-    pub(crate) fn hush(&mut self)
-        ensures { self.new ≡ record self.old { keeps = false } }
+    /// From here on memory keeps what is told, or contracts alone read it.
+    pub(crate) fn keep(&mut self, keep: bool)
+        requires empty { self.old.items ≡ [] }
+        ensures { self.new ≡ record self.old { keeps = keep } }
     {
-        self.keeps = false;
+        self.queue.clear();
+        self.keeps = keep;
     }
 
     /// Tells one more.

@@ -6,9 +6,9 @@
 //! the table (`specs/Right`) holds. [`IoManager::shows_whole`] says what holds between two calls: what is shown is
 //! settled, and fits together. It is proved over any device that holds (`Hold`) and takes packets with a buffer. All
 //! that a request needs is made before it is admitted: its packet (WDK: IoAllocateIrp), its room in the device below,
-//! and the buffers and places of its labels and its answer. A quiet manager ([`IoManager::hush`]) keeps no labels:
-//! contracts alone read what it tells. It does not promise that a request completes, nor an order between requests that
-//! overlap.
+//! and the buffers and places of its labels and its answer. Where no labels are kept
+//! ([`IoManager::keep_labels`]) contracts alone read them. It does not promise that a request completes, nor an order
+//! between requests that overlap.
 #![tactic(auto)]
 
 mod admission;

@@ -278,12 +278,13 @@ impl<D: Device> IoManager<D> {
         self.parts.tell_device();
     }
 
-    /// From here on no step keeps a label, or makes its bytes: contracts alone read what is told.
-    pub fn hush(&mut self)
+    /// From here on the labels of each step are kept until they are taken; or none is kept and none has its bytes made,
+    /// and contracts alone read them.
+    pub fn keep_labels(&mut self, keep: bool)
         requires taken { self.old.labels ≡ [] }
-        ensures quiet { self.new ≡ record self.old { keeps = false } }
+        ensures keeps { self.new ≡ record self.old { keeps = keep } }
     {
-        self.parts.tables.hush();
+        self.parts.tables.keep_labels(keep);
     }
 
     /// Takes the earliest label of the last step that was not taken yet.

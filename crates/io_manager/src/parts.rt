@@ -56,7 +56,8 @@ impl<D: Device> Parts<D> {
         ensures unless_write { below.now.kind ≢ Write
             → (D.view self.new.device).adapter ≡ (D.view self.old.device).adapter }
         ensures tables { KeepsAnswers self.old.tables self.new.tables }
-        ensures copies { IfOk result (λ made. HasLabelBytes self.new.tables.labels.keeps below.now.kind buffer.now made.copies) }
+        ensures copies { IfOk result
+            (λ made. HasLabelBytes self.new.tables.labels.keeps below.now.kind buffer.now made.copies) }
         ensures place { OnOk result (deque_len self.new.tables.untaken + (slab_len self.new.tables.requests + 1)
             ≤ deque_capacity self.new.tables.untaken) }
     {

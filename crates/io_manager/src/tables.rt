@@ -1,6 +1,7 @@
 //! What the manager keeps beside the device: handles, open requests, the plug and play state, labels and answers.
 
-ghost use Rattle.std.specs.Prelude.{◌≡◌, ◌≤◌, ◌<◌, ◌+◌, ◌^◌, ◌++◌, ◌∷◌, [], true, false, length, is_some, OnOk, MatchBool};
+ghost use Rattle.std.specs.Prelude.{◌≡◌, ◌≤◌, ◌<◌, ◌+◌, ◌^◌, ◌++◌, ◌∷◌, [], true, false, length, is_some, OnOk};
+ghost use Rattle.std.specs.Prelude.{MatchBool};
 ghost use Rattle.std.specs.VecDeque.{deque_len, deque_capacity};
 ghost use Rattle.slab.specs.Slab.{HasRoomFor, slab_len};
 ghost use Rattle.io_manager.specs.declared.Reply.TheVariants.{Refused as RefusedReply};
@@ -108,7 +109,8 @@ struct NotedCall {
 fn tell_call(labels: &mut LabelQueue<Label>, number: u64, request: ClientRequest, bytes: CallBytes)
     requires place { length labels.old.items < labels.old.places }
     requires copied { IsCopied labels.old.keeps bytes }
-    ensures tells { labels.new.items ≡ labels.old.items ++ Call number (record request { bytes = bytes.told.items }) ∷ [] }
+    ensures tells { labels.new.items
+        ≡ labels.old.items ++ Call number (record request { bytes = bytes.told.items }) ∷ [] }
     ensures one_more { length labels.new.items ≡ length labels.old.items + 1 }
     ensures same { SameQueue labels.old labels.new }
 {
@@ -137,14 +139,16 @@ impl Tables {
         }
     }
 
-    /// From here on contracts alone read what is told.
-    pub(crate) fn hush(&mut self)
-        ensures labels { self.new.labels ≡ record self.old.labels { keeps = false } }
-        ensures answered { self.new.answered ≡ record self.old.answered { keeps = false } }
+    /// From here on memory keeps what is told, or contracts alone read it.
+    pub(crate) fn keep_labels(&mut self, keep: bool)
+        requires labels { self.old.labels.items ≡ [] }
+        requires answered { self.old.answered.items ≡ [] }
+        ensures labels { self.new.labels ≡ record self.old.labels { keeps = keep } }
+        ensures answered { self.new.answered ≡ record self.old.answered { keeps = keep } }
         ensures after { self.new ≡ record self.old { labels = self.new.labels; answered = self.new.answered } }
     {
-        self.labels.hush();
-        self.answered.hush();
+        self.labels.keep(keep);
+        self.answered.keep(keep);
     }
 
     /// Sets the PnP state and records its label.

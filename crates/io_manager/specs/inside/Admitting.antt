@@ -148,7 +148,8 @@ pub record Admits (old : Tables) (handle : Handle) (q : ClientRequest) (copies :
       }))
   pub counted : slab_len new.requests ≡ slab_len old.requests + 1
   pub slots : new.requests.capacity ≡ old.requests.capacity
-  pub tells : new.labels.items ≡ old.labels.items ++ Call old.next_request (record q { bytes = copies.call_bytes.told.items }) ∷ []
+  pub tells : new.labels.items ≡ old.labels.items
+      ++ Call old.next_request (record q { bytes = copies.call_bytes.told.items }) ∷ []
   pub one_more : length new.labels.items ≡ length old.labels.items + 1
   pub label_places : SameQueue old.labels new.labels
   pub chains : PutsLast old.chains handle.slot slot new.chains

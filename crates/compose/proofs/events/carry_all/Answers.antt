@@ -57,6 +57,7 @@ loop-event-preserved g c =
     let same : vec_capacity c.push_reserved.new.self ≡ vec_capacity c.loop-event.shown = c.push_reserved.ensures.capacity in
     record {
       taken = c.carry_out.ensures.taken;
+      kept = c.carry_out.ensures.kept;
       counted = omega arith;
       places = omega arith;
       carries =

@@ -1,4 +1,4 @@
-use Rattle.std.proofs.Common.{◌≡◌, ◌≤◌, [], length}
+use Rattle.std.proofs.Common.{◌≡◌, ◌≤◌, [], length, IsTrue}
 use Rattle.std.specs.Vec.{vec_len, vec_capacity}
 use Rattle.compose.specs.Runs.{CarriesAll}
 use Rattle.compose.proofs.events.carry_all.Given as goal
@@ -6,6 +6,7 @@ use Rattle.compose.proofs.events.carry_all.Given as goal
 abbrev pub invariant-loop-event : goal.invariant-loop-event
 invariant-loop-event g l = record {
   taken : l.manager.labels ≡ [];
+  kept : IsTrue l.manager.keeps;
   counted : vec_len l.shown ≡ length l.yielded;
   places : length l.fn.events.items ≤ vec_capacity l.shown;
   carries : CarriesAll l.initial.manager l.yielded l.shown.items l.manager;
