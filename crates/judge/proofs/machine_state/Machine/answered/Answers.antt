@@ -11,15 +11,15 @@ use Rattle.judge.proofs.machine_state.Machine.answered.Goals as goal
 
 -- whether an open request may be answered so is asked once it was taken out, which changes no other
 by_answer :
-  (rules : Rules) (s s' : State) (o : OpenRequest) (number : ℕ) (status : NtStatus) (informed : ℕ) (bytes : List ℕ)
-  → TakesOpen s number (Some o) s' → only (may_answer rules s' o status informed bytes) s' ≡ answered rules s number status informed bytes
+    (rules : Rules) (s s' : State) (o : OpenRequest) (number : ℕ) (status : NtStatus) (informed : ℕ) (bytes : List ℕ)
+    → TakesOpen s number (Some o) s' → only (may_answer rules s' o status informed bytes) s' ≡ answered rules s number status informed bytes
 by_answer rules s s' o number status informed bytes (takes, is) =
     subst (λ (x : State). only (may_answer rules x o status informed bytes) x ≡ answered rules s number status informed bytes) (sym is)
-      (sym (ap (answered_of rules s status informed bytes) takes))
+    (sym (ap (answered_of rules s status informed bytes) takes))
 
 pub returns : goal.returns
 returns c =
     subst (λ (y : Option State). IfOk c.answered_one.result (λ next. next ≡ y))
-      (by_answer (rules_of c.args.rules.now) c.args.self c.take_open.new.self c.in-Some.entry c.args.number c.args.status
-        c.args.information c.args.bytes.now c.in-Some.ensures)
-      c.answered_one.ensures
+    (by_answer (rules_of c.args.rules.now) c.args.self c.take_open.new.self c.in-Some.entry c.args.number c.args.status
+    c.args.information c.args.bytes.now c.in-Some.ensures)
+    c.answered_one.ensures
