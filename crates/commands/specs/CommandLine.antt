@@ -1,28 +1,29 @@
 -- The command line that the program takes, in the words of its parser.
-use Rattle.std.specs.Prelude.{◌≡◌, ◌≤◌, ℕ, true, List, Option, Some, IsSomeAnd, codes}
+use Rattle.std.specs.Prelude.{◌≡◌, ◌≤◌, ℕ, true, refl, List, Option, Some, IsSomeAnd, codes}
 use Rattle.std.specs.Str.Parse.{IsNumeral, digits_value}
-use Rattle.clap.specs.Words.{App, Row, Rule, Text, first_of, new_app, new_rule, subcommand_of, with_rule, with_subcommand}
+use Rattle.clap.specs.Words.{App, Row, Text, first_of, is_simple, new_app, subcommand_of, with_rule, with_subcommand}
 use Rattle.clap.specs.Takes.{takes}
-use Rattle.clap.specs.declared.builder.ArgAction.TheVariants.{Set}
+use Rattle.clap.proofs.OnLiterals.{clap_on_literals}
+use Rattle.command_line.specs.Grammar.{word_rule}
 use Rattle.commands.specs.declared.words.asked.Command.{Command}
 use Rattle.commands.specs.declared.words.asked.Command.TheVariants.{Trace, Clients}
 
--- a word that has to be there
-abbrev pub word_rule : Text → Rule
-word_rule name = record (new_rule name) { required = true; action = Some Set }
-
 -- trace CONFIG SCRIPT
 abbrev pub trace_words : App
-trace_words = with_rule (with_rule (new_app (codes "trace")) (word_rule (codes "CONFIG"))) (word_rule (codes "SCRIPT"))
+trace_words = with_rule (with_rule (new_app (codes "trace")) (word_rule (codes "CONFIG") true)) (word_rule (codes "SCRIPT") true)
 
 -- clients CONFIG THREADS CALLS
 abbrev pub clients_words : App
 clients_words =
-    with_rule (with_rule (with_rule (new_app (codes "clients")) (word_rule (codes "CONFIG"))) (word_rule (codes "THREADS"))) (word_rule (codes "CALLS"))
+    with_rule (with_rule (with_rule (new_app (codes "clients")) (word_rule (codes "CONFIG") true)) (word_rule (codes "THREADS") true)) (word_rule (codes "CALLS") true)
 
 -- the program, with its two subcommands
 abbrev pub program : App
 program = with_subcommand (with_subcommand (new_app (codes "stackrun")) trace_words.top) clients_words.top
+
+pub is_simple_program : is_simple program ≡ true
+unfolding clap_on_literals
+is_simple_program = refl
 
 -- a word spells a number in decimal, which is from 1 to so many
 pub record IsCount (most : ℕ) (word : Text) (n : ℕ) : Type 0 where

@@ -2,18 +2,17 @@
 
 pub mod asked;
 
-ghost use Rattle.std.specs.Prelude.{◌≡◌, ◌≢◌, ◌⊎◌, ℕ, IfErr, IfOk, IsSomeAnd, codes, false, map, option_map};
-ghost use Rattle.clap.specs.Words.{app_of, found_of, rule_of, subcommand_rows_of};
+ghost use Rattle.std.specs.Prelude.{◌≡◌, ◌⊎◌, ℕ, IfErr, IfOk, IsSomeAnd, MatchOption, codes, map, option_map};
+ghost use Rattle.clap.specs.Words.{found_of};
 ghost use Rattle.clap.specs.Walk.{rows_of};
-ghost use Rattle.clap.specs.declared.error.ErrorKind.TheVariants.{OutOfMemory};
 ghost use Rattle.commands.specs.declared.faults.Error.TheVariants.{NoMemory, Usage};
 ghost use Rattle.commands.specs.declared.words.asked.Command.{Command};
-ghost use Rattle.commands.specs.CommandLine.{AsksForNothing, HasWords, IsAsked, IsCount, IsFoundIn, name_of, program, word_rule};
+ghost use Rattle.commands.specs.CommandLine.{AsksForNothing, HasWords, IsAsked, IsCount, name_of};
 
 use crate::faults::Error;
 use crate::words::asked::Command;
-use clap::error::ErrorKind;
-use clap::{Arg, ArgAction, ArgMatches};
+use clap::ArgMatches;
+use command_line::{Parser, Refusal, read, subcommand, word};
 use std::alloc::{AllocError, Global};
 use std::convert::AsStr;
 
@@ -32,77 +31,71 @@ pub fn command<'a, S: AsStr>(alloc: Global, words: &'a [S]) -> Result<Command<'a
     ensures asked { IfOk result (IsAsked (map S.text words.now)) }
     ensures fault { IfErr result (λ fault. (fault ≡ NoMemory) ⊎ ((fault ≡ Usage) × AsksForNothing (map S.text words.now))) }
 {
-    let Ok(grammar) = grammar(alloc) else {
-        return Err(Error::NoMemory);
-    };
-    match grammar.try_get_matches_from(words) {
-        Ok(matches) => found_in(&matches),
-        Err(error) => Err(fault_of(error.kind())),
+    match read(alloc, words) {
+        Ok(command) => Ok(command),
+        Err(Refusal::Usage) => Err(Error::Usage),
+        Err(Refusal::NoMemory) => Err(Error::NoMemory),
     }
 }
 
-/// The words that the program takes.
-fn grammar<'a>(alloc: Global) -> Result<clap::Command<'a>, AllocError>
-    ensures { IfOk result (λ command. app_of command ≡ program) }
-{
-    let trace = clap::Command::new(alloc, "trace")
-        .arg(word(alloc, "CONFIG"))?
-        .arg(word(alloc, "SCRIPT"))?;
-    let clients = clap::Command::new(alloc, "clients")
-        .arg(word(alloc, "CONFIG"))?
-        .arg(word(alloc, "THREADS"))?
-        .arg(word(alloc, "CALLS"))?;
-    clap::Command::new(alloc, "stackrun")
-        .subcommand(trace)?
-        .subcommand(clients)
-}
+impl<'a> Parser<'a> for Command<'a> {
+    ghost use Rattle.commands.specs.CommandLine.{IsFoundIn, is_simple_program, program as program_words};
 
-fn word<'a>(alloc: Global, name: &'a str) -> Arg<'a>
-    ensures rule { rule_of result ≡ word_rule name.entry.now }
-    ensures local { result.global ≡ false }
-{
-    Arg::new(alloc, name).required(true).action(ArgAction::Set)
-}
+    ghost program = { program_words };
 
-fn found_in<'a>(matches: &ArgMatches<'a>) -> Result<Command<'a>, Error>
-    ensures found { IfOk result (IsFoundIn (subcommand_rows_of matches.now)) }
-    ensures fault { IfErr result (λ fault. fault ≡ Usage) }
-    ensures none { IfErr result (λ _. (command : Command) → ¬ (IsFoundIn (subcommand_rows_of matches.now) command)) }
-{
-    if let Some(words) = matches.subcommand_matches("trace") {
-        return trace_of(words);
+    ghost is_found = { λ found command. IsFoundIn found.subcommand command };
+
+    fn grammar(alloc: Global) -> Result<clap::Command<'a>, AllocError> {
+        let trace = clap::Command::new(alloc, "trace")
+            .arg(word(alloc, "CONFIG", true))?
+            .arg(word(alloc, "SCRIPT", true))?;
+        let clients = clap::Command::new(alloc, "clients")
+            .arg(word(alloc, "CONFIG", true))?
+            .arg(word(alloc, "THREADS", true))?
+            .arg(word(alloc, "CALLS", true))?;
+        clap::Command::new(alloc, "stackrun")
+            .subcommand(trace)?
+            .subcommand(clients)
     }
-    match matches.subcommand_matches("clients") {
-        Some(words) => clients_of(words),
-        None => Err(Error::Usage),
+
+    fn found_in(matches: &ArgMatches<'a>) -> Option<Command<'a>> {
+        if let Some(words) = subcommand(matches, "trace") {
+            return trace_of(words);
+        }
+        match subcommand(matches, "clients") {
+            Some(words) => clients_of(words),
+            None => None,
+        }
     }
+
+    ghost simple = { is_simple_program };
 }
 
-fn trace_of<'a>(words: &ArgMatches<'a>) -> Result<Command<'a>, Error>
-    ensures words { IfOk result (λ command. (name_of command ≡ codes "trace") × HasWords (rows_of (found_of words.now)) command) }
-    ensures fault { IfErr result (λ fault. fault ≡ Usage) }
-    ensures none { IfErr result (λ _. (command : Command) → name_of command ≡ codes "trace" → ¬ (HasWords (rows_of (found_of words.now)) command)) }
+fn trace_of<'a>(words: &ArgMatches<'a>) -> Option<Command<'a>>
+    ensures { MatchOption result ((command : Command) → name_of command ≡ codes "trace" → ¬ (HasWords (rows_of (found_of words.now)) command)) (λ command. (name_of command ≡ codes "trace") × HasWords (rows_of (found_of words.now)) command) }
 {
     let Some(config) = words.get_str("CONFIG") else {
-        return Err(Error::Usage);
+        return None;
     };
     let Some(script) = words.get_str("SCRIPT") else {
-        return Err(Error::Usage);
+        return None;
     };
-    Ok(Command::Trace { config, script })
+    Some(Command::Trace { config, script })
 }
 
-fn clients_of<'a>(words: &ArgMatches<'a>) -> Result<Command<'a>, Error>
-    ensures words { IfOk result (λ command. (name_of command ≡ codes "clients") × HasWords (rows_of (found_of words.now)) command) }
-    ensures fault { IfErr result (λ fault. fault ≡ Usage) }
-    ensures none { IfErr result (λ _. (command : Command) → name_of command ≡ codes "clients" → ¬ (HasWords (rows_of (found_of words.now)) command)) }
+fn clients_of<'a>(words: &ArgMatches<'a>) -> Option<Command<'a>>
+    ensures { MatchOption result ((command : Command) → name_of command ≡ codes "clients" → ¬ (HasWords (rows_of (found_of words.now)) command)) (λ command. (name_of command ≡ codes "clients") × HasWords (rows_of (found_of words.now)) command) }
 {
     let Some(config) = words.get_str("CONFIG") else {
-        return Err(Error::Usage);
+        return None;
     };
-    let threads = count_of(words.get_str("THREADS"), MOST_THREADS)?;
-    let rounds = count_of(words.get_str("CALLS"), MOST_ROUNDS)?;
-    Ok(Command::Clients {
+    let Some(threads) = count_of(words.get_str("THREADS"), MOST_THREADS) else {
+        return None;
+    };
+    let Some(rounds) = count_of(words.get_str("CALLS"), MOST_ROUNDS) else {
+        return None;
+    };
+    Some(Command::Clients {
         config,
         threads,
         rounds,
@@ -110,32 +103,18 @@ fn clients_of<'a>(words: &ArgMatches<'a>) -> Result<Command<'a>, Error>
 }
 
 /// The number that a word spells in decimal, where there is one from 1 to `most`.
-fn count_of(word: Option<&str>, most: u16) -> Result<u16, Error>
-    ensures count { IfOk result (λ n. IsSomeAnd (option_map (λ w. w.now) word.entry) (λ text. IsCount most text n)) }
-    ensures fault { IfErr result (λ fault. fault ≡ Usage) }
-    ensures none { IfErr result (λ _. (n : ℕ) → ¬ (IsSomeAnd (option_map (λ w. w.now) word.entry) (λ text. IsCount most text n))) }
+fn count_of(word: Option<&str>, most: u16) -> Option<u16>
+    ensures { MatchOption result ((n : ℕ) → ¬ (IsSomeAnd (option_map (λ w. w.now) word.entry) (λ text. IsCount most text n))) (λ n. IsSomeAnd (option_map (λ w. w.now) word.entry) (λ text. IsCount most text n)) }
 {
     let Some(word) = word else {
-        return Err(Error::Usage);
+        return None;
     };
     // A plus sign would be taken by `parse`.
     if word.starts_with('+') {
-        return Err(Error::Usage);
+        return None;
     }
     match word.parse::<u16>() {
-        Ok(count) if count >= 1 && count <= most => Ok(count),
-        _ => Err(Error::Usage),
-    }
-}
-
-/// Returns what it means that the words were refused.
-fn fault_of(kind: ErrorKind) -> Error
-    ensures memory { kind ≡ OutOfMemory → result ≡ NoMemory }
-    ensures usage { kind ≢ OutOfMemory → result ≡ Usage }
-    ensures either { (result ≡ NoMemory) ⊎ (result ≡ Usage) }
-{
-    match kind {
-        ErrorKind::OutOfMemory => Error::NoMemory,
-        _ => Error::Usage,
+        Ok(count) if count >= 1 && count <= most => Some(count),
+        _ => None,
     }
 }

@@ -1,42 +1,31 @@
 -- The command line that the program takes, in the words of its parser.
-use Rattle.std.specs.Prelude.{◌≡◌, Bool, true, false, List, Option, None, Some, codes}
-use Rattle.clap.specs.Words.{App, Row, Rule, Text, first_of, one_of, new_app, new_rule, subcommand_of, with_rule, with_subcommand}
+use Rattle.std.specs.Prelude.{◌≡◌, Bool, true, false, refl, List, Option, None, Some, codes}
+use Rattle.clap.specs.Words.{App, Row, Text, first_of, is_simple, one_of, new_app, subcommand_of, with_rule, with_subcommand}
 use Rattle.clap.specs.Takes.{takes}
-use Rattle.clap.specs.declared.builder.ArgAction.TheVariants.{Set, SetTrue}
+use Rattle.clap.proofs.OnLiterals.{clap_on_literals}
+use Rattle.command_line.specs.Grammar.{flag_rule, word_rule}
 use Rattle.judging.specs.declared.words.asked.Command.{Command}
 use Rattle.judging.specs.declared.words.asked.Command.TheVariants.{Check, Picture, Record}
 
--- a word that has to be there
-abbrev pub word_rule : Text → Rule
-word_rule name = record (new_rule name) { required = true; action = Some Set }
-
--- --any-cut, which may be there
-abbrev pub any_cut_rule : Rule
-any_cut_rule = record (new_rule (codes "any-cut")) { long = Some (codes "any-cut"); action = Some SetTrue }
-
--- --progress, which may be there
-abbrev pub progress_rule : Rule
-progress_rule = record (new_rule (codes "progress")) { long = Some (codes "progress"); action = Some SetTrue }
-
 -- check [--any-cut] [--progress] CONFIG TRACE
 abbrev pub check_words : App
-check_words = with_rule (with_rule (with_rule (with_rule (new_app (codes "check")) (word_rule (codes "CONFIG"))) (word_rule (codes "TRACE"))) any_cut_rule) progress_rule
+check_words = with_rule (with_rule (with_rule (with_rule (new_app (codes "check")) (word_rule (codes "CONFIG") true)) (word_rule (codes "TRACE") true)) (flag_rule (codes "any-cut"))) (flag_rule (codes "progress"))
 
 -- record CONFIG SCRIPT
 abbrev pub record_words : App
-record_words = with_rule (with_rule (new_app (codes "record")) (word_rule (codes "CONFIG"))) (word_rule (codes "SCRIPT"))
-
--- --events, which may be there
-abbrev pub events_rule : Rule
-events_rule = record (new_rule (codes "events")) { long = Some (codes "events"); action = Some SetTrue }
+record_words = with_rule (with_rule (new_app (codes "record")) (word_rule (codes "CONFIG") true)) (word_rule (codes "SCRIPT") true)
 
 -- picture [--events] TRACE
 abbrev pub picture_words : App
-picture_words = with_rule (with_rule (new_app (codes "picture")) (word_rule (codes "TRACE"))) events_rule
+picture_words = with_rule (with_rule (new_app (codes "picture")) (word_rule (codes "TRACE") true)) (flag_rule (codes "events"))
 
 -- the program, with its three subcommands
 abbrev pub program : App
 program = with_subcommand (with_subcommand (with_subcommand (new_app (codes "stackjudge")) check_words.top) record_words.top) picture_words.top
+
+pub is_simple_program : is_simple program ≡ true
+unfolding clap_on_literals
+is_simple_program = refl
 
 -- a flag is as the parser read the text of its argument, and not set where it has none
 abbrev pub IsFlag : Option Text → Bool → Type 0

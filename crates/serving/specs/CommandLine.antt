@@ -1,30 +1,23 @@
 -- The command line that the program takes, in the words of its parser.
-use Rattle.std.specs.Prelude.{◌≡◌, ◌<◌, ℕ, Bool, true, false, List, MatchOption, Some, codes, option_map}
+use Rattle.std.specs.Prelude.{◌≡◌, ◌<◌, ℕ, true, false, refl, List, MatchOption, Some, codes, option_map}
 use Rattle.std.specs.Str.Parse.{IsNumeral, digits_value}
-use Rattle.clap.specs.Words.{App, Row, Rule, Text, first_of, matches_of, new_app, new_rule, with_rule}
+use Rattle.clap.specs.Words.{App, Row, Text, first_of, is_simple, matches_of, new_app, with_rule}
 use Rattle.clap.specs.Takes.{takes}
-use Rattle.clap.specs.declared.builder.ArgAction.TheVariants.{Set, SetTrue}
+use Rattle.clap.proofs.OnLiterals.{clap_on_literals}
+use Rattle.command_line.specs.Grammar.{flag_rule, option_rule, word_rule}
 use Rattle.serving.specs.declared.words.asked.Asked.{Asked}
-
--- an argument of one word
-abbrev pub argument_rule : Text → Bool → Rule
-argument_rule name required = record (new_rule name) { required = required; action = Some Set }
-
--- --disk FILE, which may be there
-abbrev pub disk_rule : Rule
-disk_rule = record (new_rule (codes "disk")) { long = Some (codes "disk"); action = Some Set }
-
--- --create, which may be there
-abbrev pub create_rule : Rule
-create_rule = record (new_rule (codes "create")) { long = Some (codes "create"); action = Some SetTrue }
 
 -- CONFIG [PARTITION]
 abbrev pub words : App
-words = with_rule (with_rule (new_app (codes "nbd_disk")) (argument_rule (codes "CONFIG") true)) (argument_rule (codes "PARTITION") false)
+words = with_rule (with_rule (new_app (codes "nbd_disk")) (word_rule (codes "CONFIG") true)) (word_rule (codes "PARTITION") false)
 
 -- nbd_disk CONFIG [PARTITION] [--disk FILE] [--create]
 abbrev pub program : App
-program = with_rule (with_rule words disk_rule) create_rule
+program = with_rule (with_rule words (option_rule (codes "disk"))) (flag_rule (codes "create"))
+
+pub is_simple_program : is_simple program ≡ true
+unfolding clap_on_literals
+is_simple_program = refl
 
 -- the word is decimal digits, which spell a number below 256
 pub record SpellsPartition (word : List ℕ) (n : ℕ) : Type 0 where

@@ -2,18 +2,14 @@
 
 pub mod asked;
 
-ghost use Rattle.std.specs.Prelude.{◌≡◌, ◌≢◌, ◌⊎◌, ℕ, IfErr, IfOk, false, map};
-ghost use Rattle.clap.specs.Words.{app_of, found_of, rule_of};
-ghost use Rattle.clap.specs.Walk.{rows_of};
-ghost use Rattle.clap.specs.declared.error.ErrorKind.TheVariants.{OutOfMemory};
-ghost use Rattle.serving.specs.declared.words.asked.Asked.{Asked};
+ghost use Rattle.std.specs.Prelude.{◌≡◌, ◌⊎◌, ℕ, IfErr, IfOk, MatchOption, map, option_map};
 ghost use Rattle.serving.specs.declared.faults.Error.TheVariants.{NoMemory, Usage};
-ghost use Rattle.serving.specs.CommandLine.{AsksForNothing, IsAsked, IsFoundIn, SpellsPartition, argument_rule, create_rule, disk_rule, program};
+ghost use Rattle.serving.specs.CommandLine.{AsksForNothing, IsAsked, SpellsPartition};
 
 use crate::faults::Error;
 use crate::words::asked::Asked;
-use clap::error::ErrorKind;
-use clap::{Arg, ArgAction, ArgMatches, Command};
+use clap::{ArgMatches, Command};
+use command_line::{Parser, Refusal, flag, option, read, word};
 use std::alloc::{AllocError, Global};
 use std::convert::AsStr;
 
@@ -26,104 +22,68 @@ pub fn command<'a, S: AsStr>(alloc: Global, words: &'a [S]) -> Result<Asked<'a>,
     ensures asked { IfOk result (IsAsked (map S.text words.now)) }
     ensures fault { IfErr result (λ fault. (fault ≡ NoMemory) ⊎ ((fault ≡ Usage) × AsksForNothing (map S.text words.now))) }
 {
-    let Ok(grammar) = grammar(alloc) else {
-        return Err(Error::NoMemory);
-    };
-    match grammar.try_get_matches_from(words) {
-        Ok(matches) => asked_by(&matches),
-        Err(error) => Err(fault_of(error.kind())),
+    match read(alloc, words) {
+        Ok(asked) => Ok(asked),
+        Err(Refusal::Usage) => Err(Error::Usage),
+        Err(Refusal::NoMemory) => Err(Error::NoMemory),
     }
 }
 
-/// The words that the program takes.
-fn grammar<'a>(alloc: Global) -> Result<Command<'a>, AllocError>
-    ensures { IfOk result (λ command. app_of command ≡ program) }
-{
-    Command::new(alloc, "nbd_disk")
-        .arg(argument(alloc, "CONFIG", true))?
-        .arg(argument(alloc, "PARTITION", false))?
-        .arg(disk_option(alloc))?
-        .arg(create_flag(alloc))
-}
+impl<'a> Parser<'a> for Asked<'a> {
+    ghost use Rattle.serving.specs.CommandLine.{IsFoundIn, is_simple_program, program as program_words};
 
-fn disk_option<'a>(alloc: Global) -> Arg<'a>
-    ensures rule { rule_of result ≡ disk_rule }
-    ensures local { result.global ≡ false }
-{
-    Arg::new(alloc, "disk").long("disk").action(ArgAction::Set)
-}
+    ghost program = { program_words };
 
-fn create_flag<'a>(alloc: Global) -> Arg<'a>
-    ensures rule { rule_of result ≡ create_rule }
-    ensures local { result.global ≡ false }
-{
-    Arg::new(alloc, "create")
-        .long("create")
-        .action(ArgAction::SetTrue)
-}
+    ghost is_found = { λ found asked. IsFoundIn found.rows asked };
 
-fn argument<'a>(alloc: Global, name: &'a str, required: bool) -> Arg<'a>
-    ensures rule { rule_of result ≡ argument_rule name.entry.now required }
-    ensures local { result.global ≡ false }
-{
-    Arg::new(alloc, name)
-        .required(required)
-        .action(ArgAction::Set)
-}
+    fn grammar(alloc: Global) -> Result<Command<'a>, AllocError> {
+        Command::new(alloc, "nbd_disk")
+            .arg(word(alloc, "CONFIG", true))?
+            .arg(word(alloc, "PARTITION", false))?
+            .arg(option(alloc, "disk"))?
+            .arg(flag(alloc, "create"))
+    }
 
-fn asked_by<'a>(matches: &ArgMatches<'a>) -> Result<Asked<'a>, Error>
-    ensures found { IfOk result (IsFoundIn (rows_of (found_of matches.now))) }
-    ensures fault { IfErr result (λ fault. fault ≡ Usage) }
-    ensures none { IfErr result (λ _. (asked : Asked) → ¬ (IsFoundIn (rows_of (found_of matches.now)) asked)) }
-{
-    let Some(config) = matches.get_str("CONFIG") else {
-        return Err(Error::Usage);
-    };
-    let disk = matches.get_str("disk");
-    let create = matches.get_flag("create");
-    match matches.get_str("PARTITION") {
-        None => Ok(Asked {
+    fn found_in(matches: &ArgMatches<'a>) -> Option<Asked<'a>> {
+        let Some(config) = matches.get_str("CONFIG") else {
+            return None;
+        };
+        let Some(partition) = partition_of(matches.get_str("PARTITION")) else {
+            return None;
+        };
+        let disk = matches.get_str("disk");
+        let create = matches.get_flag("create");
+        Some(Asked {
             config,
-            partition: 0,
+            partition,
             disk,
             create,
-        }),
-        Some(word) => {
-            let partition = number(word)?;
-            Ok(Asked {
-                config,
-                partition,
-                disk,
-                create,
-            })
-        }
+        })
+    }
+
+    ghost simple = { is_simple_program };
+}
+
+/// The partition that a word spells; the first one where there is no word.
+fn partition_of(word: Option<&str>) -> Option<u8>
+    ensures { MatchOption result ((n : ℕ) → ¬ (MatchOption (option_map (λ w. w.now) word.entry) (n ≡ 0) (λ text. SpellsPartition text n))) (λ n. MatchOption (option_map (λ w. w.now) word.entry) (n ≡ 0) (λ text. SpellsPartition text n)) }
+{
+    match word {
+        Some(word) => number(word),
+        None => Some(0),
     }
 }
 
 /// A number of decimal digits, below 256.
-fn number(word: &str) -> Result<u8, Error>
-    ensures spelled { IfOk result (SpellsPartition word.now) }
-    ensures fault { IfErr result (λ fault. fault ≡ Usage) }
-    ensures none { IfErr result (λ _. (n : ℕ) → ¬ (SpellsPartition word.now n)) }
+fn number(word: &str) -> Option<u8>
+    ensures { MatchOption result ((n : ℕ) → ¬ (SpellsPartition word.now n)) (SpellsPartition word.now) }
 {
     // A plus sign would be taken by `parse`.
     if word.starts_with('+') {
-        return Err(Error::Usage);
+        return None;
     }
     match word.parse::<u8>() {
-        Ok(number) => Ok(number),
-        Err(_) => Err(Error::Usage),
-    }
-}
-
-/// Returns what it means that the words were refused.
-fn fault_of(kind: ErrorKind) -> Error
-    ensures memory { kind ≡ OutOfMemory → result ≡ NoMemory }
-    ensures usage { kind ≢ OutOfMemory → result ≡ Usage }
-    ensures either { (result ≡ NoMemory) ⊎ (result ≡ Usage) }
-{
-    match kind {
-        ErrorKind::OutOfMemory => Error::NoMemory,
-        _ => Error::Usage,
+        Ok(number) => Some(number),
+        Err(_) => None,
     }
 }

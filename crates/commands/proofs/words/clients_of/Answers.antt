@@ -1,5 +1,4 @@
-use Rattle.std.proofs.Common.{◌≡◌, ◌∙◌, ℕ, List, Option, None, Some, IsSomeAnd, Result, Ok, Err, codes, refl, subst, sym}
-use Rattle.std.specs.Prelude.{IfErr}
+use Rattle.std.proofs.Common.{◌≡◌, ◌∙◌, ℕ, List, Option, None, Some, IsSomeAnd, codes, refl, subst, sym}
 use Rattle.clap.specs.Words.{Row, Text, found_of}
 use Rattle.clap.specs.Walk.{first_of, rows_of}
 use Rattle.clap.proofs.WalkLemmas.{first_value-rows}
@@ -8,14 +7,14 @@ use Rattle.commands.specs.declared.words.asked.Command.TheVariants.{Trace, Clien
 use Rattle.commands.specs.CommandLine.{HasWords, IsCount, name_of}
 use Rattle.commands.proofs.words.clients_of.Goals as goal
 
-pub returns-clause-words : goal.returns-clause-words
-returns-clause-words c =
+pub returns : goal.returns
+returns c =
     let found = found_of c.args.words.now in (
       refl,
       (
         sym (c.in-Some.ensures ∙ first_value-rows found (codes "CONFIG")),
-        subst (λ t. IsSomeAnd t (λ word. IsCount 32 word c.in_ok-threads.threads)) (c.get_str-2.ensures ∙ first_value-rows found (codes "THREADS")) c.in_ok-threads.ensures.count,
-        subst (λ t. IsSomeAnd t (λ word. IsCount 10000 word c.in_ok-rounds.rounds)) (c.get_str-3.ensures ∙ first_value-rows found (codes "CALLS")) c.in_ok-rounds.ensures.count,
+        subst (λ t. IsSomeAnd t (λ word. IsCount 32 word c.in-Some-count_of.threads)) (c.get_str-2.ensures ∙ first_value-rows found (codes "THREADS")) c.in-Some-count_of.ensures,
+        subst (λ t. IsSomeAnd t (λ word. IsCount 10000 word c.in-Some-count_of-2.rounds)) (c.get_str-3.ensures ∙ first_value-rows found (codes "CALLS")) c.in-Some-count_of-2.ensures,
       ),
     )
 
@@ -38,23 +37,17 @@ no_rounds : (rows : List Row) (word : Option Text) (command : Command) → name_
 no_rounds rows word (Trace config script) name is none has = absurd (cc (name))
 no_rounds rows word (Clients config threads rounds) name is none has = none rounds (subst (λ t. IsSomeAnd t (λ text. IsCount 10000 text rounds)) (sym is) has.2)
 
-if_err : {T E : Type 0} (r : Result T E) (A : Type 0) → A → IfErr r (λ _. A)
-if_err (Ok t) A a = tt
-if_err (Err e) A a = a
-
-pub returns-in_default-clause-none : goal.returns-in_default-clause-none
-returns-in_default-clause-none c = λ command _ has.
+pub returns-in_default : goal.returns-in_default
+returns-in_default c = λ command _ has.
     let found = found_of c.args.words.now in
     no_config (rows_of found) command (c.in_default.ensures ∙ first_value-rows found (codes "CONFIG")) has
 
-pub returns-in_err-threads-clause-none : goal.returns-in_err-threads-clause-none
-returns-in_err-threads-clause-none c =
+pub returns-in_default-count_of : goal.returns-in_default-count_of
+returns-in_default-count_of c = λ command name has.
     let found = found_of c.args.words.now in
-    if_err c.from_residual.result _ (λ command name has.
-    no_threads (rows_of found) _ command name (c.get_str-2.ensures ∙ first_value-rows found (codes "THREADS")) c.in_err-threads.ensures.none has)
+    no_threads (rows_of found) _ command name (c.get_str-2.ensures ∙ first_value-rows found (codes "THREADS")) c.in_default-count_of.ensures has
 
-pub returns-in_err-rounds-clause-none : goal.returns-in_err-rounds-clause-none
-returns-in_err-rounds-clause-none c =
+pub returns-in_default-count_of-2 : goal.returns-in_default-count_of-2
+returns-in_default-count_of-2 c = λ command name has.
     let found = found_of c.args.words.now in
-    if_err c.from_residual-in_err-rounds.result _ (λ command name has.
-    no_rounds (rows_of found) _ command name (c.get_str-3.ensures ∙ first_value-rows found (codes "CALLS")) c.in_err-rounds.ensures.none has)
+    no_rounds (rows_of found) _ command name (c.get_str-3.ensures ∙ first_value-rows found (codes "CALLS")) c.in_default-count_of-2.ensures has

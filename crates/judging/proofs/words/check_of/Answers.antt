@@ -8,8 +8,8 @@ use Rattle.judging.specs.declared.words.asked.Command.{Command}
 use Rattle.judging.specs.declared.words.asked.Command.TheVariants.{Check, Picture, Record}
 use Rattle.judging.proofs.words.check_of.Goals as goal
 
-pub returns-clause-words : goal.returns-clause-words
-returns-clause-words c =
+pub returns : goal.returns
+returns c =
     let found = found_of c.args.words.now in (
       refl,
       (
@@ -36,12 +36,12 @@ no_trace rows (Check config trace any_cut progress) name none has =
 no_trace rows (Record config other) name none has = absurd (cc (name))
 no_trace rows (Picture other events) name none has = absurd (cc (name))
 
-pub returns-in_default-clause-none : goal.returns-in_default-clause-none
-returns-in_default-clause-none c = λ command name has.
+pub returns-in_default : goal.returns-in_default
+returns-in_default c = λ command name has.
     let found = found_of c.args.words.now in
     no_config (rows_of found) command name (c.in_default.ensures ∙ first_value-rows found (codes "CONFIG")) has
 
-pub returns-in_default-get_str-clause-none : goal.returns-in_default-get_str-clause-none
-returns-in_default-get_str-clause-none c = λ command name has.
+pub returns-in_default-get_str : goal.returns-in_default-get_str
+returns-in_default-get_str c = λ command name has.
     let found = found_of c.args.words.now in
     no_trace (rows_of found) command name (c.in_default-get_str.ensures ∙ first_value-rows found (codes "TRACE")) has

@@ -8,8 +8,8 @@ use Rattle.judging.specs.declared.words.asked.Command.{Command}
 use Rattle.judging.specs.declared.words.asked.Command.TheVariants.{Check, Picture, Record}
 use Rattle.judging.proofs.words.picture_of.Goals as goal
 
-pub returns-in-Some-clause-words : goal.returns-in-Some-clause-words
-returns-in-Some-clause-words c =
+pub returns-in-Some : goal.returns-in-Some
+returns-in-Some c =
     let found = found_of c.args.matches.now in (
       refl,
       (
@@ -25,7 +25,7 @@ no_trace rows (Picture trace events) name none has =
     let both : ◌≡◌ {A = Option Text} None (Some trace.now) = none ∙ has.0 in
     absurd (cc)
 
-pub returns-in-None-clause-none : goal.returns-in-None-clause-none
-returns-in-None-clause-none c = λ command name has.
+pub returns-in-None : goal.returns-in-None
+returns-in-None c = λ command name has.
     let found = found_of c.args.matches.now in
     no_trace (rows_of found) command name (c.in-None.ensures ∙ first_value-rows found (codes "TRACE")) has
