@@ -1,10 +1,10 @@
 -- A call on a stack on which nothing else is open: it goes, or ends at once.
 use Rattle.std.proofs.Common.{◌≡◌, ◌<◌, ◌≤◌, ◌⊎◌, inl, inr, ℕ, ◌+◌, ◌-◌, ◌/◌, Bool, true, false, List, [], ◌∷◌, ◌++◌, Option, Some, None, refl, sym, ◌∙◌, ap, subst, arith, length, take, drop, map}
-use Rattle.std.specs.Prelude.{All, Any, IsPermutation, IsNone, IsFalse, slice_get, ◌&&◌, ◌==◌, not, nat_le, is_none, if◌then◌else◌}
+use Rattle.std.specs.Prelude.{All, Any, IsPermutation, IsNone, IsFalse, slice_get, ◌&&◌, ◌==◌, not, nat_le, is_none, is_some, if◌then◌else◌}
 use Rattle.std.specs.List.{concat}
 use Rattle.std.proofs.lemmas.Bool.Decides.{nat_tests}
 use Rattle.std.proofs.Math.Nat.{mod-add-div'}
-use Rattle.std.proofs.lemmas.List.Elements.{All-nil, All-tail, All-append}
+use Rattle.std.proofs.lemmas.List.Elements.{All-append}
 use Rattle.std.proofs.lemmas.List.Sorted.{IsPermutation-sym, IsPermutation-trans, IsPermutation-append_right, IsPermutation-append_comm}
 use Rattle.ntstatus.specs.declared.NtStatus.{NtStatus}
 use Rattle.ntstatus.specs.declared.NtStatus.TheVariants.{Success, InvalidHandle as InvalidHandleStatus, InvalidParameter as InvalidParameterStatus, DeletePending as DeletePendingStatus, DeviceBusy as DeviceBusyStatus, InsufficientResources as ResourcesStatus, InvalidDeviceRequest as RequestStatus, NotFound as FoundStatus}
@@ -17,7 +17,6 @@ use Rattle.machine.specs.declared.Label.TheVariants.{Call, Answer}
 use Rattle.machine.specs.Rules.{Rules, is_transfer, is_in_bounds, place_count}
 use Rattle.machine.specs.State.{OpenRequest, Owed, State, IsSame}
 use Rattle.machine.specs.Calling.{refusal, is_full, Opens, Refuses, Admits, bytes_carried}
-use Rattle.machine.specs.Settled.{Settled}
 use Rattle.machine.specs.Step.{Step, Run, as_label}
 use Rattle.machine.proofs.Same.{Run-append, none_there}
 use Rattle.machine_laws.specs.Reached.{IsReached}
@@ -30,14 +29,15 @@ use Rattle.io_manager.specs.declared.Reply.{Reply}
 use Rattle.io_manager.specs.declared.Reply.TheVariants.{Handle as HandleReply, Request as Requested, Answered, Refused}
 use Rattle.io_manager.specs.Shown.{ManagerView}
 use Rattle.io_manager.specs.Calls.{number_limit, status_of_refusal, without_bytes}
-use Rattle.io_manager.specs.Right.{Told, IsRight as IsRightCall, IsRightBy, SameHandles, FitsTogether, CallReplies, IsAdmitted, IsAnsweredAtOnce, IsTurnedAway, tells_nothing, as_answer, end_labels}
+use Rattle.io_manager.specs.Right.{Told, IsRight as IsRightCall, IsRightBy, SameHandles, CallReplies, IsAdmitted, IsAnsweredAtOnce, IsTurnedAway, TakesAnswer, tells_nothing, as_answer, end_labels}
 use Rattle.compose.specs.declared.Event.{Event}
 use Rattle.compose.specs.declared.Event.TheVariants.{Open, Close, Read as ReadEvent, Write as WriteEvent, Flush as FlushEvent, CancelIoEx, Mark, QueryRemove, CancelRemove, Remove, SurpriseRemove, Act, Finish, Reset}
 use Rattle.compose.specs.Right.{IsRight}
 use Rattle.volume.specs.Ready.{AreUsable, IsIdle, IsReady}
-use Rattle.volume.specs.Working.{IsQuiet, answers_of, StartsBelow, IsBelow, IsBetween, tags_out, Quietly, Goes, Asks, Leaves, Ends, HasReason, Turns, disk_first, sectors_on}
-use Rattle.device.specs.Served.{piece_tag}
-use Rattle.volume.proofs.Steps.{answers-append, rest_of, quiet_rest, untaken_told, goes_on_reached, below_run}
+use Rattle.volume.specs.Working.{IsBetween, IsQuiet, answers_of, Quietly, Goes, Asks, Leaves, Ends, HasReason, Turns, disk_first, sectors_on}
+use Rattle.device.specs.View.{IsRead}
+use Rattle.volume.proofs.Steps.{answers-append, rest_of, quiet_rest, untaken_told, goes_on_reached}
+use Rattle.volume.proofs.Untraced.{untraced, forgotten}
 use Rattle.volume.proofs.Disk.{same_sectors}
 use Rattle.volume.proofs.Ending.{in_bounds}
 
@@ -47,26 +47,26 @@ use Rattle.volume.proofs.Ending.{in_bounds}
 pub record IsCalled (old : ManagerView) (q : ClientRequest) (reply : Reply) (new : ManagerView) : Type 0 where
   pub handle : Handle
   pub buffer : List ℕ
-  pub right : IsRightCall (CallReplies old handle q buffer reply new) old new
+  pub right : IsRightCall (CallReplies (untraced old) handle q buffer reply new) (untraced old) new
   pub carries : length q.bytes ≡ bytes_carried q.kind q.length
 
-pub called : (old : ManagerView) (event : Event) (q : ClientRequest) (reply : Reply) (new : ManagerView) → Asks old event q → IsRight old event reply new → IsCalled old q reply new
+pub called : (old : ManagerView) (event : Event) (q : ClientRequest) (reply : Reply) (new : ManagerView) → Asks old event q → IsRight (untraced old) event reply new → IsCalled old q reply new
 called old (ReadEvent handle offset buffer) q reply new e h = record {
   handle = handle;
   buffer = buffer;
-  right = subst (λ (r : ClientRequest). IsRightCall (CallReplies old handle r buffer reply new) old new) (sym e) h;
+  right = subst (λ (r : ClientRequest). IsRightCall (CallReplies (untraced old) handle r buffer reply new) (untraced old) new) (sym e) h;
   carries = subst (λ (r : ClientRequest). length r.bytes ≡ bytes_carried r.kind r.length) (sym e) refl;
 }
 called old (WriteEvent handle offset bytes through) q reply new e h = record {
   handle = handle;
   buffer = bytes;
-  right = subst (λ (r : ClientRequest). IsRightCall (CallReplies old handle r bytes reply new) old new) (sym e) h;
+  right = subst (λ (r : ClientRequest). IsRightCall (CallReplies (untraced old) handle r bytes reply new) (untraced old) new) (sym e) h;
   carries = subst (λ (r : ClientRequest). length r.bytes ≡ bytes_carried r.kind r.length) (sym e) refl;
 }
 called old (FlushEvent handle) q reply new e h = record {
   handle = handle;
   buffer = [];
-  right = subst (λ (r : ClientRequest). IsRightCall (CallReplies old handle r [] reply new) old new) (sym e) h;
+  right = subst (λ (r : ClientRequest). IsRightCall (CallReplies (untraced old) handle r [] reply new) (untraced old) new) (sym e) h;
   carries = subst (λ (r : ClientRequest). length r.bytes ≡ bytes_carried r.kind r.length) (sym e) refl;
 }
 called old (Open partition) q reply new e h = absurd e
@@ -87,7 +87,7 @@ no_handle old q given new h = h.right.replies.replies
 -- IT GOES
 
 module _ (old : ManagerView) (ready : IsReady old) (handle : Handle) (q : ClientRequest) (slot number : ℕ) (new : ManagerView) (told : Told)
-    (admitted : IsAdmitted old handle q slot number told) (by : IsRightBy false told old new) where
+    (admitted : IsAdmitted (untraced old) handle q slot number told) (by : IsRightBy false told (untraced old) new) where
   labels_are : new.labels ≡ Call number q ∷ rest_of told
   labels_are = by.in_order ∙ ap (λ o. ((o ++ map as_label told.device) ++ map as_answer told.answers) ++ end_labels told.ends) admitted.own
 
@@ -105,7 +105,7 @@ module _ (old : ManagerView) (ready : IsReady old) (handle : Handle) (q : Client
       no_more [] = refl
       no_more (x ∷ xs) = ap (λ ys. x ∷ ys) (no_more xs)
 
-  pub goes : SameHandles old new → Goes old number q (record new { labels = [] })
+  pub goes : SameHandles (untraced old) new → Goes old number q (forgotten new)
   goes handles = record {
     called = run.0;
     is_next = admitted.next_number;
@@ -118,14 +118,6 @@ module _ (old : ManagerView) (ready : IsReady old) (handle : Handle) (q : Client
     outside = by.outside;
     handles = record { handles = handles.handles; next_handle = handles.next_handle };
   }
-
-  -- its first pieces are on tags below this
-  pub goes_below : (tags : ℕ) → All (StartsBelow tags) new.labels → All (IsBelow tags) (tags_out new.state)
-  goes_below tags low =
-      let rest : All (StartsBelow tags) (rest_of told) = All-tail (StartsBelow tags) (Call number q) (rest_of told) (subst (λ ls. All (StartsBelow tags) ls) labels_are low) in
-      let opens : Opens old.rules old.state number q run.0 = opens_by run.0 run.1 in
-      let none : run.0.pieces ≡ [] = none_there old.state.pieces run.0.pieces ready.idle.none_out (IsPermutation-sym _ _ opens.after.pieces) in
-      below_run tags old.rules run.0 (rest_of told) new.state (quiet_rest told) rest (subst (λ ps. All (IsBelow tags) (map piece_tag ps)) (sym none) (All-nil (IsBelow tags))) run.2
 
 -- ENDS AT ONCE
 
@@ -174,21 +166,21 @@ rests_refused rules s number q status s' idle is_next refused run = by run.0 run
         }
 
 -- what it leaves of the stack
-module _ (old : ManagerView) (ready : IsReady old) (new : ManagerView) (told : Told) (by : IsRightBy false told old new) (handles : SameHandles old new) (whole : FitsTogether new)
+module _ (old : ManagerView) (ready : IsReady old) (new : ManagerView) (told : Told) (by : IsRightBy false told (untraced old) new) (handles : SameHandles (untraced old) new) (read : IsRead new.rules new.state new.adapter)
     (rests : Rests old.state new.state) (none_told : told.answers ≡ []) where
   pub same_disk : new.adapter.sectors ≡ old.adapter.sectors
   same_disk =
       same_sectors old.adapter.sectors new.adapter.sectors old.rules.partitions
-      (ap (λ (r : Rules). map (sectors_in new.adapter.sectors) r.partitions) (sym by.same_rules) ∙ sym whole.read.arrays ∙ rests.arrays ∙ ready.read.arrays)
+      (ap (λ (r : Rules). map (sectors_in new.adapter.sectors) r.partitions) (sym by.same_rules) ∙ sym read.arrays ∙ rests.arrays ∙ ready.read.arrays)
       by.outside
 
-  pub leaves_rest : Leaves old (record new { labels = [] })
+  pub leaves_rest : Leaves old (forgotten new)
   leaves_rest = record {
     ready = record {
       usable = subst AreUsable (sym by.same_rules) ready.usable;
       idle = rests.idle;
       reached = subst (λ rules. IsReached rules new.state) (sym by.same_rules) (goes_on_reached old.rules old.state new.labels new.state ready.reached by.run);
-      read = whole.read;
+      read = read;
       whole_sectors =
           subst (λ (r : Rules). All (IsSector r.sector_size) new.adapter.sectors) (sym by.same_rules)
           (subst (λ xs. All (IsSector old.rules.sector_size) xs) (sym same_disk) ready.whole_sectors);
@@ -283,9 +275,9 @@ no_sectors rules q sectors none =
     take_none [] = refl
     take_none (x ∷ xs) = refl
 
-module _ (old : ManagerView) (ready : IsReady old) (q : ClientRequest) (known : is_none q.partition ≡ false) (new : ManagerView) (told : Told) (by : IsRightBy false told old new)
-    (handles : SameHandles old new) (whole : FitsTogether new) where
-  told_at_once : (status : NtStatus) → IsAnsweredAtOnce old q status new told → Rests old.state new.state
+module _ (old : ManagerView) (ready : IsReady old) (q : ClientRequest) (known : is_none q.partition ≡ false) (new : ManagerView) (told : Told) (by : IsRightBy false told (untraced old) new)
+    (handles : SameHandles (untraced old) new) (read : IsRead new.rules new.state new.adapter) where
+  told_at_once : (status : NtStatus) → IsAnsweredAtOnce (untraced old) q status new told → Rests old.state new.state
   told_at_once status h =
       let own : told.own ≡ Call old.state.next_request (without_bytes q) ∷ Answer old.state.next_request status 0 [] ∷ [] = ap (λ (t : Told). t.own) h.tells in
       let none : told.answers ≡ [] = ap (λ (t : Told). t.answers) h.tells in
@@ -299,24 +291,24 @@ module _ (old : ManagerView) (ready : IsReady old) (q : ClientRequest) (known : 
           → ((own ++ map as_label device) ++ map as_answer answers) ++ end_labels ends ≡ Call old.state.next_request (without_bytes q) ∷ Answer old.state.next_request status 0 [] ∷ []
       told_is own device answers ends a b c d = rw (a, b, c, d) refl
 
-  turned_at_once : (reason : Refusal) → IsAnsweredAtOnce old q (status_of_refusal reason) new told → Turns old q reason (record new { labels = [] })
+  turned_at_once : (reason : Refusal) → IsAnsweredAtOnce (untraced old) q (status_of_refusal reason) new told → Turns old q reason (forgotten new)
   turned_at_once reason h =
       let rests : Rests old.state new.state = told_at_once (status_of_refusal reason) h in
       let none : told.answers ≡ [] = ap (λ (t : Told). t.answers) h.tells in
       record {
-        leaves = leaves_rest old ready new told by handles whole rests none;
+        leaves = leaves_rest old ready new told by handles read rests none;
         why = reason_of old q reason (refused_for old.rules old.state q (status_of_refusal reason) ready.idle ready.usable.takes_one known h.is_refused);
-        same_sectors = same_disk old ready new told by handles whole rests none;
+        same_sectors = same_disk old ready new told by handles read rests none;
         none_sent = rests.none_sent;
       }
 
-  turned_still : (reason : Refusal) → told ≡ tells_nothing old → new.state ≡ old.state → HasReason old q reason → Turns old q reason (record new { labels = [] })
+  turned_still : (reason : Refusal) → told ≡ tells_nothing (untraced old) → new.state ≡ old.state → HasReason old q reason → Turns old q reason (forgotten new)
   turned_still reason nothing same why =
       let rests : Rests old.state new.state = rests_same old.state new.state ready.idle same in
       let none : told.answers ≡ [] = ap (λ (t : Told). t.answers) nothing in
-      record { leaves = leaves_rest old ready new told by handles whole rests none; why = why; same_sectors = same_disk old ready new told by handles whole rests none; none_sent = rests.none_sent }
+      record { leaves = leaves_rest old ready new told by handles read rests none; why = why; same_sectors = same_disk old ready new told by handles read rests none; none_sent = rests.none_sent }
 
-  turned_away : (reason : Refusal) → IsTurnedAway old q reason new told → Turns old q reason (record new { labels = [] })
+  turned_away : (reason : Refusal) → IsTurnedAway (untraced old) q reason new told → Turns old q reason (forgotten new)
   turned_away DeviceBusy h = turned_still DeviceBusy h.1.nothing h.1.same_state (used_up h.0)
     where
       used_up : nat_le number_limit old.state.next_request ≡ true → number_limit ≤ old.state.next_request
@@ -328,23 +320,23 @@ module _ (old : ManagerView) (ready : IsReady old) (q : ClientRequest) (known : 
   turned_away InvalidDeviceRequest h = absurd h
   turned_away NotFound h = absurd h
 
-  pub turns : (reason : Refusal) → IsAnsweredAtOnce old q (status_of_refusal reason) new told ⊎ IsTurnedAway old q reason new told → Turns old q reason (record new { labels = [] })
+  pub turns : (reason : Refusal) → IsAnsweredAtOnce (untraced old) q (status_of_refusal reason) new told ⊎ IsTurnedAway (untraced old) q reason new told → Turns old q reason (forgotten new)
   turns reason (inl h) = turned_at_once reason h
   turns reason (inr h) = turned_away reason h
 
   -- one of no bytes succeeds
-  pub ends_empty : (answer : AnswerOf) → length q.bytes ≡ bytes_carried q.kind q.length → IsAnsweredAtOnce old q Success new told
-      → answer ≡ record { number = old.state.next_request; status = Success; information = 0; bytes = [] } → Ends old q answer (record new { labels = [] })
+  pub ends_empty : (answer : AnswerOf) → length q.bytes ≡ bytes_carried q.kind q.length → IsAnsweredAtOnce (untraced old) q Success new told
+      → answer ≡ record { number = old.state.next_request; status = Success; information = 0; bytes = [] } → Ends old q answer (forgotten new)
   ends_empty answer carries h is = elim (refused_for old.rules old.state q Success ready.idle ready.usable.takes_one known h.is_refused).why [
     | inl bounds ↦ absurd (let k : Success ≡ InvalidParameterStatus = bounds.0 in cc)
     | inr success ↦
         let rests : Rests old.state new.state = told_at_once Success h in
         let none : told.answers ≡ [] = ap (λ (t : Told). t.answers) h.tells in
-        let same : new.adapter.sectors ≡ old.adapter.sectors = same_disk old ready new told by handles whole rests none in
+        let same : new.adapter.sectors ≡ old.adapter.sectors = same_disk old ready new told by handles read rests none in
         let empty : q.length ≡ 0 = is_empty q.length success.3 in
         let count : place_count old.rules q ≡ 0 = no_places old.rules q success.1 empty in
         record {
-          leaves = leaves_rest old ready new told by handles whole rests none;
+          leaves = leaves_rest old ready new told by handles read rests none;
           in_bounds = λ transfer. success.2;
           reads = λ is_read ok. ap (λ (a : AnswerOf). a.bytes) is ∙ sym (no_sectors old.rules q old.adapter.sectors count);
           writes = λ is_write ok.
@@ -376,35 +368,32 @@ goes_further before number q mid new g h = record {
   handles = record { handles = h.handles.handles ∙ g.handles.handles; next_handle = h.handles.next_handle ∙ g.handles.next_handle };
 }
 
+-- the answers were looked through behind quiet labels
+pub record Looks (old : ManagerView) (answer : Option AnswerOf) (now : ManagerView) : Type 0 where
+  pub looked : ManagerView
+  pub quietly : Quietly old looked
+  pub between : IsBetween looked
+  pub takes : TakesAnswer looked answer now
+
+-- and none was found
+pub none_yet : (old : ManagerView) (answer : Option AnswerOf) (now : ManagerView) → Looks old answer now → is_some answer ≡ false → Quietly old now × IsBetween now × (now.answers ≡ [])
+none_yet old None now h none = (
+  subst (λ (v : ManagerView). Quietly old v) (sym h.takes.1) h.quietly,
+  subst IsBetween (sym h.takes.1) h.between,
+  ap (λ (v : ManagerView). v.answers) h.takes.1 ∙ h.takes.0,
+)
+none_yet old (Some answer) now h none = absurd (let k : true ≡ false = none in cc)
+
 -- A CALL, BY ITS REPLY
 
-pub goes_called : (old : ManagerView) → IsReady old → (q : ClientRequest) (id : Id) (new : ManagerView) → IsCalled old q (Requested id) new → Goes old id.number q (record new { labels = [] })
+pub goes_called : (old : ManagerView) → IsReady old → (q : ClientRequest) (id : Id) (new : ManagerView) → IsCalled old q (Requested id) new → Goes old id.number q (forgotten new)
 goes_called old ready q id new h = goes old ready h.handle q id.slot id.number new h.right.told h.right.replies.replies h.right.by h.right.replies.handles
 
-pub called_below : (old : ManagerView) → IsReady old → (q : ClientRequest) (id : Id) (new : ManagerView) → IsCalled old q (Requested id) new → (tags : ℕ) → All (StartsBelow tags) new.labels → All (IsBelow tags) (tags_out new.state)
-called_below old ready q id new h tags low = goes_below old ready h.handle q id.slot id.number new h.right.told h.right.replies.replies h.right.by tags low
+pub turns_called : (old : ManagerView) → IsReady old → (q : ClientRequest) → is_none q.partition ≡ false → (reason : Refusal) (bytes : List ℕ) (new : ManagerView) → IsCalled old q (Refused reason bytes) new → IsRead new.rules new.state new.adapter
+    → Turns old q reason (forgotten new)
+turns_called old ready q known reason bytes new h read = turns old ready q known new h.right.told h.right.by h.right.replies.handles read reason h.right.replies.replies.1
 
-pub called_between : (old : ManagerView) → IsReady old → (q : ClientRequest) (reply : Reply) (new : ManagerView) → IsCalled old q reply new → Settled new.rules new.state → FitsTogether new → IsBetween (record new { labels = [] })
-called_between old ready q reply new h settled whole = record {
-  settled = settled;
-  whole = record {
-    read = whole.read;
-    has_slot = whole.has_slot;
-    has_request = whole.has_request;
-    one_slot = whole.one_slot;
-    rising = whole.rising;
-    one_state = whole.one_state;
-    removed_last = whole.removed_last;
-  };
-  reached = subst (λ rules. IsReached rules new.state) (sym h.right.by.same_rules) (goes_on_reached old.rules old.state new.labels new.state ready.reached h.right.by.run);
-  no_labels = refl;
-}
-
-pub turns_called : (old : ManagerView) → IsReady old → (q : ClientRequest) → is_none q.partition ≡ false → (reason : Refusal) (bytes : List ℕ) (new : ManagerView) → IsCalled old q (Refused reason bytes) new → FitsTogether new
-    → Turns old q reason (record new { labels = [] })
-turns_called old ready q known reason bytes new h whole = turns old ready q known new h.right.told h.right.by h.right.replies.handles whole reason h.right.replies.replies.1
-
-pub ends_called : (old : ManagerView) → IsReady old → (q : ClientRequest) → is_none q.partition ≡ false → (answer : AnswerOf) (new : ManagerView) → IsCalled old q (Answered answer) new → FitsTogether new
-    → Ends old q answer (record new { labels = [] })
-ends_called old ready q known answer new h whole =
-    ends_empty old ready q known new h.right.told h.right.by h.right.replies.handles whole answer h.carries h.right.replies.replies.0 h.right.replies.replies.1
+pub ends_called : (old : ManagerView) → IsReady old → (q : ClientRequest) → is_none q.partition ≡ false → (answer : AnswerOf) (new : ManagerView) → IsCalled old q (Answered answer) new → IsRead new.rules new.state new.adapter
+    → Ends old q answer (forgotten new)
+ends_called old ready q known answer new h read =
+    ends_empty old ready q known new h.right.told h.right.by h.right.replies.handles read answer h.carries h.right.replies.replies.0 h.right.replies.replies.1

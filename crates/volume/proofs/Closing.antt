@@ -16,6 +16,7 @@ use Rattle.machine.specs.State.{State}
 use Rattle.machine.specs.Step.{Step, Run, as_label}
 use Rattle.machine.proofs.Same.{none_there}
 use Rattle.machine_laws.specs.Reached.{IsReached}
+use Rattle.device.specs.View.{IsRead}
 use Rattle.io_manager.specs.declared.Answer.{Answer as AnswerOf}
 use Rattle.io_manager.specs.declared.Handle.{Handle}
 use Rattle.io_manager.specs.declared.Refusal.{Refusal}
@@ -25,13 +26,14 @@ use Rattle.io_manager.specs.declared.Reply.TheVariants.{Handle as HandleReply, O
 use Rattle.io_manager.specs.declared.OpenHandle.{OpenHandle}
 use Rattle.io_manager.specs.Shown.{ManagerView}
 use Rattle.io_manager.specs.Calls.{are_used_up, handle_limit, open_refusal, partition_at, partition_of, status_of_refusal}
-use Rattle.io_manager.specs.Right.{Told, IsRight, IsRightBy, FitsTogether, CloseReplies, OpenReplies, IsGiven, IsToCancel, tells_nothing, as_answer, as_cancel, end_labels}
+use Rattle.io_manager.specs.Right.{Told, IsRight, IsRightBy, CloseReplies, OpenReplies, IsGiven, IsToCancel, tells_nothing, as_answer, as_cancel, end_labels}
 use Rattle.volume.specs.Shown.{content_of, extent_at, parted_at}
 use Rattle.volume.specs.Ready.{AreUsable, IsReady}
 use Rattle.volume.specs.Opening.{IsOpenRefusal}
 use Rattle.volume.specs.Working.{answers_of}
 use Rattle.volume.proofs.Phases.{IsOver, none_in, run_over}
 use Rattle.volume.proofs.Steps.{answers_told, goes_on_reached, quiet_rest, rest_of}
+use Rattle.volume.proofs.Untraced.{untraced, forgotten}
 use Rattle.volume.proofs.Disk.{same_sectors}
 
 no_answers : (xs : List AnswerOf) → map as_answer xs ≡ [] → xs ≡ []
@@ -39,7 +41,7 @@ no_answers [] e = refl
 no_answers (x ∷ xs) e = absurd (let k : as_answer x ∷ map as_answer xs ≡ [] = e in cc)
 
 -- a step that tells nothing of its own and nothing of the device
-module _ (old : ManagerView) (ready : IsReady old) (new : ManagerView) (told : Told) (by : IsRightBy false told old new) (whole : FitsTogether new) (own : told.own ≡ []) (device : told.device ≡ []) where
+module _ (old : ManagerView) (ready : IsReady old) (new : ManagerView) (told : Told) (by : IsRightBy false told (untraced old) new) (read : IsRead new.rules new.state new.adapter) (own : told.own ≡ []) (device : told.device ≡ []) where
   is_over : IsOver old.state
   is_over = record { none_open = ready.idle.none_open; none_owed = ready.idle.none_owed; not_paused = ready.idle.not_paused; not_removing = ready.idle.not_removing }
 
@@ -72,7 +74,7 @@ module _ (old : ManagerView) (ready : IsReady old) (new : ManagerView) (told : T
   same_disk : new.adapter.sectors ≡ old.adapter.sectors
   same_disk =
       same_sectors old.adapter.sectors new.adapter.sectors old.rules.partitions
-      (ap (λ (r : Rules). map (sectors_in new.adapter.sectors) r.partitions) (sym by.same_rules) ∙ sym whole.read.arrays ∙ over.1 ∙ ready.read.arrays)
+      (ap (λ (r : Rules). map (sectors_in new.adapter.sectors) r.partitions) (sym by.same_rules) ∙ sym read.arrays ∙ over.1 ∙ ready.read.arrays)
       by.outside
 
   pub same_content : (p : ℕ) → content_of new p ≡ content_of old p
@@ -80,7 +82,7 @@ module _ (old : ManagerView) (ready : IsReady old) (new : ManagerView) (told : T
       ap (λ (r : Rules). parted_at r.sector_size new.adapter.sectors (extent_at r.partitions p)) by.same_rules
       ∙ ap (λ xs. parted_at old.rules.sector_size xs (extent_at old.rules.partitions p)) same_disk
 
-  pub ready_still : IsReady (record new { labels = [] })
+  pub ready_still : IsReady (forgotten new)
   ready_still = record {
     usable = subst AreUsable (sym by.same_rules) ready.usable;
     idle = record {
@@ -91,7 +93,7 @@ module _ (old : ManagerView) (ready : IsReady old) (new : ManagerView) (told : T
       not_removing = over.0.not_removing;
     };
     reached = subst (λ rules. IsReached rules new.state) (sym by.same_rules) (goes_on_reached old.rules old.state new.labels new.state ready.reached by.run);
-    read = whole.read;
+    read = read;
     whole_sectors =
         subst (λ (r : Rules). All (IsSector r.sector_size) new.adapter.sectors) (sym by.same_rules)
         (subst (λ xs. All (IsSector old.rules.sector_size) xs) (sym same_disk) ready.whole_sectors);
@@ -117,11 +119,11 @@ pub record IsSilent (old new : ManagerView) : Type 0 where
 unmoved : (old new : ManagerView) (told : Told) → IsRightBy false told old new → told ≡ tells_nothing old → IsSilent old new
 unmoved old new told by nothing = record { told = told; by = by; own = ap (λ (t : Told). t.own) nothing; device = ap (λ (t : Told). t.device) nothing }
 
-pub silent_close : (old : ManagerView) → IsReady old → (handle : Handle) (reply : Reply) (new : ManagerView) → IsRight (CloseReplies old handle reply new) old new → IsSilent old new
+pub silent_close : (old : ManagerView) → IsReady old → (handle : Handle) (reply : Reply) (new : ManagerView) → IsRight (CloseReplies (untraced old) handle reply new) (untraced old) new → IsSilent (untraced old) new
 silent_close old ready handle Done new h =
-    let numbers : h.replies.1.numbers ≡ [] = none_to_cancel old handle.number h.replies.1.numbers ready.idle.none_open h.replies.1.each in
+    let numbers : h.replies.1.numbers ≡ [] = none_to_cancel (untraced old) handle.number h.replies.1.numbers ready.idle.none_open h.replies.1.each in
     record { told = h.told; by = h.by; own = h.replies.1.own ∙ ap (λ ns. map as_cancel ns) numbers; device = h.replies.1.no_device }
-silent_close old ready handle (Refused reason bytes) new h = unmoved old new h.told h.by h.replies.1.unmoved.nothing
+silent_close old ready handle (Refused reason bytes) new h = unmoved (untraced old) new h.told h.by h.replies.1.unmoved.nothing
 silent_close old ready handle (HandleReply given) new h = absurd h.replies
 silent_close old ready handle (Requested id) new h = absurd h.replies
 silent_close old ready handle (Answered answer) new h = absurd h.replies

@@ -1,6 +1,6 @@
 -- A request from its call to its answer, on the disk.
 use Rattle.std.proofs.Common.{◌≡◌, ◌≢◌, ◌<◌, ◌≤◌, ◌⊎◌, inl, inr, ℕ, zero, suc, ◌+◌, ◌-◌, ◌*◌, ◌/◌, ◌%◌, Bool, true, false, List, [], ◌∷◌, Option, Some, None, refl, sym, ◌∙◌, ap, subst, arith, length, take, drop, map, length-take, length-drop}
-use Rattle.std.specs.Prelude.{All, IsPermutation, IsNone, IsFalse, IsTrue, slice_get, slice_range, ◌&&◌, ◌==◌, not, nat_le, is_none, unwrap_or, if◌then◌else◌}
+use Rattle.std.specs.Prelude.{All, Any, IsPermutation, IsNone, IsFalse, IsTrue, slice_get, slice_range, ◌&&◌, ◌==◌, not, nat_le, is_none, unwrap_or, if◌then◌else◌}
 use Rattle.std.specs.List.{concat}
 use Rattle.std.proofs.Math.Nat.{mul-le-mul_right, mod-add-div'}
 use Rattle.std.proofs.lemmas.Bool.{cases_lt}
@@ -16,10 +16,13 @@ use Rattle.machine.specs.declared.ClientRequest.{ClientRequest}
 use Rattle.machine.specs.declared.Label.{Label}
 use Rattle.machine.specs.declared.Label.TheVariants.{Call, Device, Answer, Cancel, Pause, Resume, Remove, Surprise, Removed}
 use Rattle.machine.specs.Rules.{Rules, is_transfer, is_in_bounds, first_sector, place_count, sectors_of}
-use Rattle.machine.specs.State.{State}
+use Rattle.machine.specs.State.{OpenRequest, Piece, State, opening}
+use Rattle.machine.specs.Pieces.{ArePlaced, IsOwner, IsPlaced}
 use Rattle.machine.specs.Calling.{refusal, Admits, new_request, bytes_carried}
 use Rattle.machine.specs.Sending.{array_at, partition_number}
 use Rattle.machine.specs.Solo.{IsAnswered}
+use Rattle.machine.proofs.Numbers.{AreDistinct-opening}
+use Rattle.machine.proofs.Placed.{ArePlaced-opening, ArePlaced-Run}
 use Rattle.machine.proofs.Places.{IsTakenIn, some_places, taken_in}
 use Rattle.machine.proofs.Same.{IsSame-refl, none_there}
 use Rattle.machine_laws.specs.NumberLaws.{CallsCount, call_numbers}
@@ -32,7 +35,7 @@ use Rattle.io_manager.specs.Shown.{ManagerView}
 use Rattle.io_manager.specs.Right.{TakesAnswer, as_answer}
 use Rattle.volume.specs.Shown.{extent_at}
 use Rattle.volume.specs.Ready.{AreUsable, IsReady}
-use Rattle.volume.specs.Working.{IsQuiet, IsBetween, Goes, IsPlaceOf, ChangesSome, Ends, disk_first, sectors_on}
+use Rattle.volume.specs.Working.{IsQuiet, answers_of, IsBetween, Goes, IsPlaceOf, ChangesSome, Ends, disk_first, sectors_on}
 use Rattle.volume.proofs.Commands.{IsWaiting, NoneSent, sent_by}
 use Rattle.volume.proofs.Phases.{IsWorking, IsServed, run_working, always_alone, of_sole, works_last, written_at, single}
 use Rattle.volume.proofs.Steps.{goes_on_reached}
@@ -169,11 +172,61 @@ no_calls (Resume ∷ labels) quiet = absurd (All-head IsQuiet Resume labels quie
 no_calls (Remove ∷ labels) quiet = absurd (All-head IsQuiet Remove labels quiet)
 no_calls (Surprise ∷ labels) quiet = absurd (All-head IsQuiet Surprise labels quiet)
 
+-- WHETHER IT WAS ANSWERED
+
+-- a piece out has an open request
+none_placed : (s : State) → ArePlaced s → s.requests ≡ [] → s.pieces ≡ []
+none_placed s placed none = by s.pieces placed.pieces
+  where
+    by : (pieces : List Piece) → All (IsPlaced s.requests) pieces → pieces ≡ []
+    by [] all = refl
+    by (piece ∷ pieces) all = absurd (not_owned s.requests none (All-head (IsPlaced s.requests) piece pieces all).owned)
+      where
+        not_owned : (os : List OpenRequest) → os ≡ [] → Any (IsOwner piece) os → ⊥
+        not_owned os e any = let h : Any (IsOwner piece) [] = subst (λ xs. Any (IsOwner piece) xs) e any in absurd (let low : h.0 < 0 = h.2 in omega arith)
+
+module _ (before : ManagerView) (ready : IsReady before) (number : ℕ) (q : ClientRequest) (now : ManagerView) (goes : Goes before number q now) where
+  abbrev pub working : IsWorking number q goes.called
+  working = record {
+    o = new_request before.rules before.state number q;
+    one =
+        single goes.called.requests (new_request before.rules before.state number q)
+        (subst (λ os. IsPermutation goes.called.requests (new_request before.rules before.state number q ∷ os)) ready.idle.none_open goes.opens.after.requests);
+    is_number = refl;
+    asks = refl;
+    none_owed = subst (λ x. IsNone x) (sym goes.opens.after.owed) ready.idle.none_owed;
+    not_paused = goes.opens.after.paused ∙ ready.idle.not_paused;
+    not_removing = goes.opens.after.removing ∙ ready.idle.not_removing;
+  }
+
+  outcome : (IsWorking number q now.state × (answers_of goes.labels ≡ [])) ⊎ IsServed number q before.rules goes.called goes.labels now.state
+  outcome = run_working number q before.rules goes.called goes.labels now.state working goes.quiet goes.run
+
+  -- an answer that waits is its own
+  served_by : (a : AnswerOf) (rest : List AnswerOf) → now.answers ≡ a ∷ rest → IsServed number q before.rules goes.called goes.labels now.state
+  served_by a rest is = elim outcome [
+    | inl still ↦
+        let none : map as_answer now.answers ≡ [] = none_there (answers_of goes.labels) (map as_answer now.answers) still.1 (IsPermutation-sym _ _ goes.untaken) in
+        absurd (let k : as_answer a ∷ map as_answer rest ≡ [] = ap (λ xs. map as_answer xs) (sym is) ∙ none in cc)
+    | inr done ↦ done
+  ]
+
+  -- until one waits, a piece is out
+  pub some_out : IsBetween now → now.answers ≡ [] → now.state.pieces ≢ []
+  some_out between none_answered none_out = elim outcome [
+    | inl still ↦
+        let none : now.state.requests ≡ [] = between.settled.idle_unpaused none_out still.0.not_paused in
+        absurd (let k : still.0.o ∷ [] ≡ [] = sym still.0.one ∙ none in cc)
+    | inr done ↦
+        let none : answers_of goes.labels ≡ [] = none_there (map as_answer now.answers) (answers_of goes.labels) (ap (λ xs. map as_answer xs) none_answered) goes.untaken in
+        absurd (let k : Answer number done.status done.informed done.bytes ∷ [] ≡ [] = sym done.told ∙ none in cc)
+  ]
+
 -- FROM ITS CALL TO ITS ANSWER
 
 module _ (reads : SoloReadsHold) (writes : SoloWritesHold) (failed : FailedWritesHold) (keeps : RunsKeepSectors) (counts : CallsCount)
     (before : ManagerView) (ready : IsReady before) (number : ℕ) (q : ClientRequest) (now : ManagerView) (goes : Goes before number q now) (between : IsBetween now)
-    (none_out : now.state.pieces ≡ []) where
+    (served : IsServed number q before.rules goes.called goes.labels now.state) where
   abbrev rules : Rules
   rules = before.rules
 
@@ -183,30 +236,10 @@ module _ (reads : SoloReadsHold) (writes : SoloWritesHold) (failed : FailedWrite
   abbrev last_sectors : List (List ℕ)
   last_sectors = now.adapter.sectors
 
-  working : IsWorking number q goes.called
-  working = record {
-    o = new_request rules before.state number q;
-    one =
-        single goes.called.requests (new_request rules before.state number q)
-        (subst (λ os. IsPermutation goes.called.requests (new_request rules before.state number q ∷ os)) ready.idle.none_open goes.opens.after.requests);
-    is_number = refl;
-    asks = refl;
-    none_owed = subst (λ x. IsNone x) (sym goes.opens.after.owed) ready.idle.none_owed;
-    not_paused = goes.opens.after.paused ∙ ready.idle.not_paused;
-    not_removing = goes.opens.after.removing ∙ ready.idle.not_removing;
-  }
-
-  still_not : IsWorking number q now.state → ⊥
-  still_not still =
-      let none : now.state.requests ≡ [] = between.settled.idle_unpaused none_out still.not_paused in
-      let one : now.state.requests ≡ still.o ∷ [] = still.one in
-      let e : still.o ∷ [] ≡ [] = sym one ∙ none in cc
-
-  served : IsServed number q rules goes.called goes.labels now.state
-  served = elim (run_working number q rules goes.called goes.labels now.state working goes.quiet goes.run) [
-    | inl still ↦ absurd (still_not still.0)
-    | inr done ↦ done
-  ]
+  none_out : now.state.pieces ≡ []
+  none_out =
+      let r : IsReached now.rules now.state = between.reached in
+      none_placed now.state (ArePlaced-Run now.rules (opening r.arrays) r.labels now.state (AreDistinct-opening r.arrays) (ArePlaced-opening r.arrays) r.run) served.over.none_open
 
   called_reached : IsReached rules goes.called
   called_reached =
@@ -341,13 +374,12 @@ module _ (reads : SoloReadsHold) (writes : SoloWritesHold) (failed : FailedWrite
 
   -- a command was sent for it
   sent : before.state.next_piece < now.state.next_piece
-  unfolding working
   sent =
       let first : goes.called.next_piece ≡ before.state.next_piece = goes.opens.after.next_piece in
       let some : 0 < place_count rules q = some_places rules before.state q (some_bytes rules.sector_size ready.usable.sector_size) goes.opens.not_refused in
       let none : NoneSent (place_count rules q) goes.called = record {
         none_out = none_there before.state.pieces goes.called.pieces ready.idle.none_out (IsPermutation-sym _ _ goes.opens.after.pieces);
-        waiting = of_sole (IsWaiting (place_count rules q)) working.o goes.called.requests working.one (record { untouched = refl; not_cancelled = refl });
+        waiting = of_sole (IsWaiting (place_count rules q)) (working before ready number q now goes).o goes.called.requests (working before ready number q now goes).one (record { untouched = refl; not_cancelled = refl });
       } in
       let staying : IsFalse served.ended.removing = works_last number q rules goes.called served.between served.ended served.run served.working in
       let more : goes.called.next_piece < served.after.next_piece =
@@ -358,9 +390,6 @@ module _ (reads : SoloReadsHold) (writes : SoloWritesHold) (failed : FailedWrite
       some_bytes : (size : ℕ) → (size ≡ 512) ⊎ (size ≡ 4096) → 0 < size
       some_bytes size (inl e) = omega arith
       some_bytes size (inr e) = omega arith
-
-  pub answer_is_there : (new : ManagerView) → TakesAnswer now None new → ⊥
-  answer_is_there new t = let e : map as_answer [] ≡ Answer number served.status served.informed served.bytes ∷ [] = ap (λ xs. map as_answer xs) (sym t.0) ∙ one_answer in cc
 
   asked : now.state.next_request ≤ before.state.next_request + 1
   asked =
@@ -412,5 +441,8 @@ module _ (reads : SoloReadsHold) (writes : SoloWritesHold) (failed : FailedWrite
       empty_of [] h = refl
       empty_of (x ∷ xs) h = absurd (let k : as_answer x ∷ map as_answer xs ≡ [] = h in cc)
 
-  pub ends : (a : AnswerOf) (new : ManagerView) → TakesAnswer now (Some a) new → Ends before q a new
-  ends a new t = subst (λ (v : ManagerView). Ends before q a v) (sym t.3) (ends_with a t.0 t.1)
+pub ends : SoloReadsHold → SoloWritesHold → FailedWritesHold → RunsKeepSectors → CallsCount → (before : ManagerView) → IsReady before → (number : ℕ) (q : ClientRequest) (now : ManagerView) → Goes before number q now → IsBetween now
+    → (a : AnswerOf) (new : ManagerView) → TakesAnswer now (Some a) new → Ends before q a new
+ends reads writes failed keeps counts before ready number q now goes between a new t =
+    subst (λ (v : ManagerView). Ends before q a v) (sym t.3)
+    (ends_with reads writes failed keeps counts before ready number q now goes between (served_by before ready number q now goes a t.0 t.1) a t.0 t.1)

@@ -1,4 +1,4 @@
-pub mod Labels
+pub mod Untraced
 pub mod Phases
 pub mod Commands
 pub mod Using

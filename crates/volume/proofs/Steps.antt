@@ -3,8 +3,8 @@ use Rattle.std.proofs.Common.{◌≡◌, ◌≢◌, ◌<◌, ◌≤◌, ◌↔�
 use Rattle.std.specs.Prelude.{All, Any, Contains, IsPermutation, IsTrue, MatchBool, count_by}
 use Rattle.std.specs.List.{sum_by}
 use Rattle.std.proofs.lemmas.List.{map-append}
-use Rattle.std.proofs.lemmas.List.Elements.{All-nil, All-cons, All-head, All-tail, All-append, All-weaker}
-use Rattle.std.proofs.lemmas.List.Sorted.{IsPermutation-refl, IsPermutation-sym, IsPermutation-trans, IsPermutation-map, IsPermutation-append_left, IsPermutation-append_right, IsPermutation-append_comm, Contains-permutation, sum_by-IsPermutation, sum_by_popped, length_permutation, All-permutation}
+use Rattle.std.proofs.lemmas.List.Elements.{All-nil, All-cons, All-head, All-tail, All-append}
+use Rattle.std.proofs.lemmas.List.Sorted.{IsPermutation-refl, IsPermutation-sym, IsPermutation-trans, IsPermutation-map, IsPermutation-append_left, IsPermutation-append_right, IsPermutation-append_comm, Contains-permutation, sum_by-IsPermutation, sum_by_popped, length_permutation}
 use Rattle.sector.specs.Extents.{IsIn}
 use Rattle.srb.specs.declared.Class.{Class}
 use Rattle.srb.specs.declared.Class.TheVariants.{Busy}
@@ -15,21 +15,21 @@ use Rattle.machine.specs.declared.Label.{Label}
 use Rattle.machine.specs.declared.Label.TheVariants.{Call, Device, Answer, Cancel, Pause, Resume, Remove, Surprise, Removed}
 use Rattle.machine.specs.Rules.{Rules}
 use Rattle.machine.specs.State.{Piece, State, IsSame, opening}
-use Rattle.machine.specs.Sending.{IsStart, HasOtherTag, LeavesMarks, Returns, with_fate, new_piece}
-use Rattle.machine.specs.Settled.{Settled}
+use Rattle.machine.specs.Sending.{IsStart, HasOtherTag, LeavesMarks, Returns, with_fate}
 use Rattle.machine.specs.Step.{DeviceStep, Step, Run, as_label}
 use Rattle.machine.specs.Numbers.{AreDistinct, piece_number}
 use Rattle.machine.proofs.Numbers.{AreDistinct-opening, AreDistinct-Run}
 use Rattle.machine.proofs.Permuting.{distinct_first, is_first}
-use Rattle.machine.proofs.Same.{IsSame-refl, Run-append}
+use Rattle.machine.proofs.Same.{IsSame-refl, Run-append, none_there}
 use Rattle.machine_laws.specs.Reached.{IsReached}
 use Rattle.device.specs.Served.{IsFreshOn, IsActOrFault, is_fresh_piece, piece_tag}
 use Rattle.io_manager.specs.declared.Answer.{Answer as AnswerOf}
 use Rattle.io_manager.specs.declared.Reply.{Reply}
 use Rattle.io_manager.specs.declared.Reply.TheVariants.{Handle as HandleReply, Ok as Done, Request as Requested, Answered, Refused, Ignored}
 use Rattle.io_manager.specs.Shown.{ManagerView}
-use Rattle.io_manager.specs.Right.{Told, IsRight, IsRightBy, SameHandles, FitsTogether, ActReplies, FinishReplies, TellsAct, TellsFinish, HasNoneFresh, tells_nothing, as_answer, end_labels}
-use Rattle.volume.specs.Working.{IsQuiet, answers_of, StartsBelow, IsBetween, IsBelow, Quietly, tags_out, unsent_places, work, fresh_count}
+use Rattle.io_manager.specs.Right.{Told, IsRight, IsRightBy, SameHandles, ActReplies, FinishReplies, TellsAct, TellsFinish, HasNoneFresh, IsOnTag, tells_nothing, as_answer, end_labels}
+use Rattle.volume.specs.Working.{IsQuiet, answers_of, Quietly, tags_out, unsent_places, work, fresh_count}
+use Rattle.volume.proofs.Untraced.{untraced, forgotten}
 use Rattle.volume.proofs.Using.{starts_use, returns_use, acts_keep, faults_keep, answers_use, same_work}
 
 -- LABELS
@@ -97,8 +97,8 @@ untaken_told told old new p =
     map-append as_answer told.answers old ∙ ap (λ ls. ls ++ map as_answer old) (sym (answers_told told)) in
     subst (λ ls. IsPermutation (map as_answer new) ls) e (IsPermutation-map as_answer new (told.answers ++ old) p)
 
--- a step with no label of its own, whose labels are then taken
-pub quietly_by : (told : Told) (old new : ManagerView) → told.own ≡ [] → IsRightBy false told old new → SameHandles old new → Quietly old (record new { labels = [] })
+-- a step with no label of its own, whose labels are then forgotten
+pub quietly_by : (told : Told) (old new : ManagerView) → told.own ≡ [] → IsRightBy false told (untraced old) new → SameHandles (untraced old) new → Quietly old (forgotten new)
 quietly_by told old new own by handles =
     let e : new.labels ≡ rest_of told = by.in_order ∙ ap (λ o. ((o ++ map as_label told.device) ++ map as_answer told.answers) ++ end_labels told.ends) own in
     record {
@@ -119,22 +119,6 @@ goes_on_reached rules s labels s' reached run = record {
   labels = reached.labels ++ labels;
   whole = reached.whole;
   run = Run-append rules (opening reached.arrays) reached.labels s labels s' reached.run run;
-}
-
-pub between_after : (old new : ManagerView) → IsReached old.rules old.state → Quietly old (record new { labels = [] }) → Settled new.rules new.state → FitsTogether new → IsBetween (record new { labels = [] })
-between_after old new reached q settled whole = record {
-  settled = settled;
-  whole = record {
-    read = whole.read;
-    has_slot = whole.has_slot;
-    has_request = whole.has_request;
-    one_slot = whole.one_slot;
-    rising = whole.rising;
-    one_state = whole.one_state;
-    removed_last = whole.removed_last;
-  };
-  reached = subst (λ rules. IsReached rules new.state) (sym q.same_rules) (goes_on_reached old.rules old.state q.labels new.state reached q.run);
-  no_labels = refl;
 }
 
 pub Quietly-refl : (v : ManagerView) → Quietly v v
@@ -227,7 +211,7 @@ acted_same s t s' h same =
     }
 
 -- the label of an act is all that its step tells
-act_told : (old new : ManagerView) (tag : ℕ) (told : Told) → TellsAct old tag told → IsRightBy false told old new → IsActed old.state new.state
+act_told : (old new : ManagerView) (tag : ℕ) (told : Told) → TellsAct (untraced old) tag told → IsRightBy false told (untraced old) new → IsActed old.state new.state
 act_told old new tag told h by =
     let none : told.answers ≡ [] = h.ends_none.none_answered in
     let ends : told.ends ≡ false = h.ends_none.not_ended in
@@ -244,7 +228,7 @@ abbrev pub ActsOr : ManagerView → ℕ → ManagerView → Reply → Type 0
 ActsOr old tag new Done = IsActed old.state new.state
 ActsOr old tag new reply = (new.state ≡ old.state) × HasNoneFresh new tag
 
-pub acts_or : (old new : ManagerView) (tag : ℕ) (reply : Reply) → IsRight (ActReplies old tag reply new) old new → ActsOr old tag (record new { labels = [] }) reply
+pub acts_or : (old new : ManagerView) (tag : ℕ) (reply : Reply) → IsRight (ActReplies (untraced old) tag reply new) (untraced old) new → ActsOr old tag (forgotten new) reply
 acts_or old new tag Done h = act_told old new tag h.told h.replies.0 h.by
 acts_or old new tag Ignored h =
     let same : new.state ≡ old.state = h.replies.0.same_state in
@@ -257,9 +241,9 @@ acts_or old new tag (Refused reason bytes) h = absurd h.replies
 own_none : (told : Told) (old : ManagerView) → told ≡ tells_nothing old → told.own ≡ []
 own_none told old e = ap (λ (t : Told). t.own) e
 
-pub act_quietly : (old new : ManagerView) (tag : ℕ) (reply : Reply) → IsRight (ActReplies old tag reply new) old new → Quietly old (record new { labels = [] })
+pub act_quietly : (old new : ManagerView) (tag : ℕ) (reply : Reply) → IsRight (ActReplies (untraced old) tag reply new) (untraced old) new → Quietly old (forgotten new)
 act_quietly old new tag Done h = quietly_by h.told old new h.replies.0.no_own h.by h.replies.1
-act_quietly old new tag Ignored h = quietly_by h.told old new (own_none h.told old h.replies.0.nothing) h.by h.replies.2
+act_quietly old new tag Ignored h = quietly_by h.told old new (own_none h.told (untraced old) h.replies.0.nothing) h.by h.replies.2
 act_quietly old new tag (HandleReply given) h = absurd h.replies
 act_quietly old new tag (Requested id) h = absurd h.replies
 act_quietly old new tag (Answered answer) h = absurd h.replies
@@ -325,7 +309,7 @@ not_busy rules s tag piece class s' reached is_out is_tag none_fresh h is_busy =
     none_fresh piece (record { is_out = is_out; is_tag = is_tag; is_fresh = ap (λ (p : Piece). p.fate) (sym same) ∙ busy.0 })
 
 -- a return uses something up
-finish_told : (old new : ManagerView) (tag : ℕ) (told : Told) → IsReached old.rules old.state → HasNoneFresh old tag → TellsFinish old tag told → IsRightBy false told old new → work new.state < work old.state
+finish_told : (old new : ManagerView) (tag : ℕ) (told : Told) → IsReached old.rules old.state → HasNoneFresh old tag → TellsFinish (untraced old) tag told → IsRightBy false told (untraced old) new → work new.state < work old.state
 finish_told old new tag told reached none_fresh h by =
     let e : new.labels ≡ Device (Return h.piece.number h.class) ∷ ((map as_label h.starts ++ map as_answer told.answers) ++ end_labels told.ends) =
     by.in_order ∙ told_is told.own told.device h.no_own h.device in
@@ -348,8 +332,8 @@ abbrev pub FinishesOr : ManagerView → ℕ → ManagerView → Reply → Type 0
 FinishesOr old tag new Done = work new.state < work old.state
 FinishesOr old tag new reply = (new.state ≡ old.state) × All (HasOtherTag tag) new.state.pieces
 
-pub finishes_or : (old new : ManagerView) (tag : ℕ) (reply : Reply) → IsReached old.rules old.state → HasNoneFresh old tag → IsRight (FinishReplies old tag reply new) old new
-    → FinishesOr old tag (record new { labels = [] }) reply
+pub finishes_or : (old new : ManagerView) (tag : ℕ) (reply : Reply) → IsReached old.rules old.state → HasNoneFresh old tag → IsRight (FinishReplies (untraced old) tag reply new) (untraced old) new
+    → FinishesOr old tag (forgotten new) reply
 finishes_or old new tag Done reached none_fresh h = finish_told old new tag h.told reached none_fresh h.replies.0 h.by
 finishes_or old new tag Ignored reached none_fresh h =
     let same : new.state ≡ old.state = h.replies.0.same_state in
@@ -359,78 +343,13 @@ finishes_or old new tag (Requested id) reached none_fresh h = absurd h.replies
 finishes_or old new tag (Answered answer) reached none_fresh h = absurd h.replies
 finishes_or old new tag (Refused reason bytes) reached none_fresh h = absurd h.replies
 
-pub finish_quietly : (old new : ManagerView) (tag : ℕ) (reply : Reply) → IsRight (FinishReplies old tag reply new) old new → Quietly old (record new { labels = [] })
+pub finish_quietly : (old new : ManagerView) (tag : ℕ) (reply : Reply) → IsRight (FinishReplies (untraced old) tag reply new) (untraced old) new → Quietly old (forgotten new)
 finish_quietly old new tag Done h = quietly_by h.told old new h.replies.0.no_own h.by h.replies.1
-finish_quietly old new tag Ignored h = quietly_by h.told old new (own_none h.told old h.replies.0.nothing) h.by h.replies.2
+finish_quietly old new tag Ignored h = quietly_by h.told old new (own_none h.told (untraced old) h.replies.0.nothing) h.by h.replies.2
 finish_quietly old new tag (HandleReply given) h = absurd h.replies
 finish_quietly old new tag (Requested id) h = absurd h.replies
 finish_quietly old new tag (Answered answer) h = absurd h.replies
 finish_quietly old new tag (Refused reason bytes) h = absurd h.replies
-
--- TAGS
-
-module _ (tags : ℕ) (rules : Rules) where
-  below_device : (s : State) (label : DeviceLabel) (s' : State) → StartsBelow tags (Device label) → All (IsBelow tags) (tags_out s) → DeviceStep rules s label s' → All (IsBelow tags) (tags_out s')
-  below_device s (Start number tag block) s' low all h =
-      All-permutation (IsBelow tags) (map piece_tag (new_piece s tag h.owner h.places ∷ s.pieces)) (tags_out s')
-      (IsPermutation-sym _ _ (IsPermutation-map piece_tag s'.pieces (new_piece s tag h.owner h.places ∷ s.pieces) h.after.pieces))
-      (All-cons (IsBelow tags) tag (tags_out s) low all)
-  below_device s (Act number bytes) s' low all h =
-      All-permutation (IsBelow tags) (tags_out s) (tags_out s') (same_tags_out s.pieces s'.pieces h.piece h.other_pieces (Acted h.sectors) h.fresh.is_out h.after.pieces) all
-  below_device s (Fault number) s' low all h =
-      All-permutation (IsBelow tags) (tags_out s) (tags_out s') (same_tags_out s.pieces s'.pieces h.piece h.other_pieces Faulted h.fresh.is_out h.after.pieces) all
-  below_device s (Return number class) s' low all h =
-      All-permutation (IsBelow tags) (map piece_tag h.other_pieces) (tags_out s') (IsPermutation-sym _ _ (IsPermutation-map piece_tag s'.pieces h.other_pieces h.after.pieces))
-      (All-tail (IsBelow tags) h.piece.tag (map piece_tag h.other_pieces) (All-permutation (IsBelow tags) (tags_out s) (map piece_tag (h.piece ∷ h.other_pieces)) (IsPermutation-map piece_tag s.pieces (h.piece ∷ h.other_pieces) h.is_out) all))
-
-  below_same : (s s' : State) → IsPermutation s'.pieces s.pieces → All (IsBelow tags) (tags_out s) → All (IsBelow tags) (tags_out s')
-  below_same s s' p all = All-permutation (IsBelow tags) (tags_out s) (tags_out s') (IsPermutation-sym _ _ (IsPermutation-map piece_tag s'.pieces s.pieces p)) all
-
-  below_step : (s : State) (label : Label) (s' : State) → IsQuiet label → StartsBelow tags label → All (IsBelow tags) (tags_out s) → Step rules s label s' → All (IsBelow tags) (tags_out s')
-  below_step s (Device label) s' quiet low all (inl h) = below_device s label s' low all h.1
-  below_step s (Device label) s' quiet low all (inr h) = absurd h
-  below_step s (Answer number status informed bytes) s' quiet low all (inl h) = below_same s s' h.1.answers.after.pieces all
-  below_step s (Answer number status informed bytes) s' quiet low all (inr h) = below_same s s' h.after.pieces all
-  below_step s Removed s' quiet low all (inl h) = below_same s s' h.1.after.pieces all
-  below_step s Removed s' quiet low all (inr h) = absurd h
-  below_step s (Call number q) s' quiet low all step = absurd quiet
-  below_step s (Cancel number) s' quiet low all step = absurd quiet
-  below_step s Pause s' quiet low all step = absurd quiet
-  below_step s Resume s' quiet low all step = absurd quiet
-  below_step s Remove s' quiet low all step = absurd quiet
-  below_step s Surprise s' quiet low all step = absurd quiet
-
-  -- the pieces out are on tags below this, if those started are
-  pub below_run : (s : State) (labels : List Label) (s' : State) → All IsQuiet labels → All (StartsBelow tags) labels → All (IsBelow tags) (tags_out s) → Run rules s labels s' → All (IsBelow tags) (tags_out s')
-  below_run s [] s' quiet low all run = below_same s s' (IsPermutation-sym _ _ run.pieces) all
-  below_run s (label ∷ labels) s' quiet low all run =
-      below_run run.0 labels s' (All-tail IsQuiet label labels quiet) (All-tail (StartsBelow tags) label labels low)
-      (below_step s label run.0 (All-head IsQuiet label labels quiet) (All-head (StartsBelow tags) label labels low) all run.1) run.2
-
--- THE TAGS OF A STEP
-
-quiet_step : (told : Told) (old new : ManagerView) → told.own ≡ [] → IsRightBy false told old new → All IsQuiet new.labels
-quiet_step told old new own by =
-    let e : new.labels ≡ rest_of told = by.in_order ∙ ap (λ o. ((o ++ map as_label told.device) ++ map as_answer told.answers) ++ end_labels told.ends) own in
-    subst (λ ls. All IsQuiet ls) (sym e) (quiet_rest told)
-
-below_told : (tags : ℕ) (told : Told) (old new : ManagerView) → told.own ≡ [] → IsRightBy false told old new → All (StartsBelow tags) new.labels → All (IsBelow tags) (tags_out old.state) → All (IsBelow tags) (tags_out new.state)
-below_told tags told old new own by low all = below_run tags old.rules old.state new.labels new.state (quiet_step told old new own by) low all by.run
-
-pub finish_below : (tags : ℕ) (old new : ManagerView) (tag : ℕ) (reply : Reply) → IsRight (FinishReplies old tag reply new) old new → All (StartsBelow tags) new.labels → All (IsBelow tags) (tags_out old.state)
-    → All (IsBelow tags) (tags_out new.state)
-finish_below tags old new tag Done h low all = below_told tags h.told old new h.replies.0.no_own h.by low all
-finish_below tags old new tag Ignored h low all = below_told tags h.told old new (own_none h.told old h.replies.0.nothing) h.by low all
-finish_below tags old new tag (HandleReply given) h low all = absurd h.replies
-finish_below tags old new tag (Requested id) h low all = absurd h.replies
-finish_below tags old new tag (Answered answer) h low all = absurd h.replies
-finish_below tags old new tag (Refused reason bytes) h low all = absurd h.replies
-
-pub tags_below_more : (low high : ℕ) → low ≤ high → (ts : List ℕ) → All (IsBelow low) ts → All (IsBelow high) ts
-tags_below_more low high le ts h = All-weaker (IsBelow low) (IsBelow high) (λ t lt. more lt) ts h
-  where
-    more : {t : ℕ} → t < low → t < high
-    more lt = omega arith
 
 -- WHETHER A STEP WAS DONE
 
@@ -505,10 +424,18 @@ from_next tag (piece ∷ pieces) from free =
     next : (t : ℕ) → tag ≤ t → t ≢ tag → tag + 1 ≤ t
     next t le other = omega arith
 
+-- where none is out, none was
+pub none_before : (old new : State) → IsPermutation (tags_out old) (tags_out new) → new.pieces ≡ [] → old.pieces ≡ []
+none_before old new same none = no_tags old.pieces (none_there (tags_out new) (tags_out old) (ap (λ ps. map piece_tag ps) none) (IsPermutation-sym _ _ same))
+  where
+    no_tags : (pieces : List Piece) → map piece_tag pieces ≡ [] → pieces ≡ []
+    no_tags [] e = refl
+    no_tags (piece ∷ pieces) e = absurd (let k : piece.tag ∷ map piece_tag pieces ≡ [] = e in cc)
+
 -- all tags are free
-pub none_left : (limit tag : ℕ) (pieces : List Piece) → limit ≤ tag → All (IsBelow limit) (map piece_tag pieces) → All (IsFrom tag) (map piece_tag pieces) → pieces ≡ []
-none_left limit tag [] le below from = refl
-none_left limit tag (piece ∷ pieces) le below from =
-    let lt : piece.tag < limit = All-head (IsBelow limit) piece.tag (map piece_tag pieces) below in
+pub none_left : (depth tag : ℕ) (pieces : List Piece) → depth ≤ tag → All (IsOnTag depth) pieces → All (IsFrom tag) (map piece_tag pieces) → pieces ≡ []
+none_left depth tag [] le on_tags from = refl
+none_left depth tag (piece ∷ pieces) le on_tags from =
+    let lt : piece.tag < depth = All-head (IsOnTag depth) piece pieces on_tags in
     let ge : tag ≤ piece.tag = All-head (IsFrom tag) piece.tag (map piece_tag pieces) from in
     absurd (omega arith)

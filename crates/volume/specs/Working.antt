@@ -2,7 +2,6 @@
 use Rattle.std.specs.Prelude.{◌≡◌, ◌<◌, ◌≤◌, ◌⊎◌, ◌≢◌, ℕ, ◌+◌, ◌*◌, false, List, [], ◌∷◌, ◌++◌, Some, map, length, slice_get, slice_range, count_by, All, IsPermutation, IsTrue, IsFalse}
 use Rattle.std.specs.List.{sum_by, concat}
 use Rattle.ntstatus.specs.declared.NtStatus.TheVariants.{Success}
-use Rattle.srb.specs.declared.DeviceLabel.TheVariants.{Start}
 use Rattle.srb.specs.declared.Kind.TheVariants.{Read, Write, Flush}
 use Rattle.machine.specs.declared.ClientRequest.{ClientRequest}
 use Rattle.machine.specs.declared.Label.{Label}
@@ -43,11 +42,6 @@ answers_of [] = []
 answers_of (Answer number status informed bytes ∷ labels) = Answer number status informed bytes ∷ answers_of labels
 answers_of (_ ∷ labels) = answers_of labels
 
--- no piece was started on this tag or above
-abbrev pub StartsBelow : ℕ → Label → Type 0
-StartsBelow tags (Device (Start piece tag block)) = tag < tags
-StartsBelow tags _ = Unit {0}
-
 -- WHAT A STACK SHOWS BETWEEN TWO STEPS
 
 pub record IsBetween (v : ManagerView) : Type 0 where
@@ -59,9 +53,6 @@ pub record IsBetween (v : ManagerView) : Type 0 where
 -- the tags of the pieces out
 abbrev pub tags_out : State → List ℕ
 tags_out s = map piece_tag s.pieces
-
-abbrev pub IsBelow : ℕ → ℕ → Type 0
-IsBelow tags tag = tag < tags
 
 -- places of open requests that wait to be sent, and pieces out: each return uses some of that up
 abbrev pub unsent_places : OpenRequest → ℕ

@@ -6,7 +6,7 @@ ghost use Rattle.volume.specs.Ready.{IsReady};
 ghost use Rattle.volume.specs.Opening.{IsOn, IsOpenFault, IsOpenRefusal, ShowsDisk};
 ghost use Rattle.probe.specs.Exchange.{IsIdle};
 
-use crate::carrying::take_labels;
+use crate::carrying::step;
 use crate::{OpenFault, Sizes, Volume};
 use adapter::Adapter;
 use compose::{Event, Handle, Refusal, Reply, Settings, Stack};
@@ -90,8 +90,7 @@ fn open_handle<A: Adapter>(
     ensures content { content_of stack.new partition ≡ content_of stack.old partition }
     ensures opens { MatchResult result (λ handle. IsOn stack.new handle partition) (IsOpenRefusal stack.old partition) }
 {
-    let reply = stack.step(alloc, Event::Open { partition });
-    take_labels(stack);
+    let reply = step(stack, alloc, Event::Open { partition });
     match reply {
         Reply::Handle(handle) => Ok(handle),
         Reply::Refused { refusal, .. } => Err(refusal),

@@ -5,7 +5,7 @@ ghost use Rattle.volume.specs.Shown.{content_of};
 ghost use Rattle.volume.specs.Ready.{IsReady};
 ghost use Rattle.volume.specs.Calls.{AreInBounds, IsFault, IsSameDisk, IsWriteFault, Reads, WasSent, Writes};
 
-use crate::carrying::{carry_out, take_labels};
+use crate::carrying::{carry_out, step};
 use crate::{Error, Sizes};
 use adapter::Adapter;
 use compose::{Event, Handle, Stack};
@@ -149,8 +149,7 @@ impl<A: Adapter> Volume<A> {
             partition: _,
             sizes: _,
         } = self;
-        let _ = stack.step(alloc, Event::Close { handle });
-        take_labels(&mut stack);
+        let _ = step(&mut stack, alloc, Event::Close { handle });
         stack
     }
 }

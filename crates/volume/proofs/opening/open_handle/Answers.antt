@@ -1,38 +1,40 @@
 use Rattle.std.proofs.Common.{◌<◌, sym, subst, ap, ◌∙◌, length}
 use Rattle.machine.specs.Rules.{Rules}
 use Rattle.io_manager.specs.Calls.{partition_of}
+use Rattle.io_manager.specs.declared.Reply.TheVariants.{Handle as HandleReply}
 use Rattle.io_manager.specs.Shown.{ManagerView}
 use Rattle.volume.specs.Shown.{content_of}
 use Rattle.volume.specs.Ready.{IsReady}
 use Rattle.volume.proofs.Closing.{IsSilent, given_known, given_on, ready_still, refused_open, same_content, silent_open}
+use Rattle.volume.proofs.Untraced.{read_stepped, untraced}
 use Rattle.volume.proofs.opening.open_handle.Goals.{in-Handle, in-Refused}
 use Rattle.volume.proofs.opening.open_handle.Goals as goal
 
 pub returns-clause-ready : goal.returns-clause-ready
 returns-clause-ready g c =
-    let silent : IsSilent c.args.stack.now c.step-reply.new.self = silent_open _ c.args.partition c.step-reply.result c.step-reply.new.self c.step-reply.ensures.right in
-    subst IsReady (sym c.take_labels.ensures.taken)
-    (ready_still c.args.stack.now c.requires.ready c.step-reply.new.self silent.told silent.by c.step-reply.ensures.whole silent.own silent.device)
+    let silent : IsSilent (untraced c.args.stack.now) c.step-reply.ensures.steps.stepped = silent_open _ c.args.partition c.step-reply.result c.step-reply.ensures.steps.stepped c.step-reply.ensures.steps.right in
+    subst IsReady (sym c.step-reply.ensures.steps.after)
+    (ready_still c.args.stack.now c.requires.ready c.step-reply.ensures.steps.stepped silent.told silent.by (read_stepped _ _ _ _ c.step-reply.ensures.steps c.step-reply.ensures.between) silent.own silent.device)
 
 pub returns-clause-content : goal.returns-clause-content
 returns-clause-content g c =
-    let silent : IsSilent c.args.stack.now c.step-reply.new.self = silent_open _ c.args.partition c.step-reply.result c.step-reply.new.self c.step-reply.ensures.right in
-    ap (λ (v : ManagerView). content_of v c.args.partition) c.take_labels.ensures.taken
-    ∙ same_content c.args.stack.now c.requires.ready c.step-reply.new.self silent.told silent.by c.step-reply.ensures.whole silent.own silent.device c.args.partition
+    let silent : IsSilent (untraced c.args.stack.now) c.step-reply.ensures.steps.stepped = silent_open _ c.args.partition c.step-reply.result c.step-reply.ensures.steps.stepped c.step-reply.ensures.steps.right in
+    ap (λ (v : ManagerView). content_of v c.args.partition) c.step-reply.ensures.steps.after
+    ∙ same_content c.args.stack.now c.requires.ready c.step-reply.ensures.steps.stepped silent.told silent.by (read_stepped _ _ _ _ c.step-reply.ensures.steps c.step-reply.ensures.between) silent.own silent.device c.args.partition
 
 pub returns-clause-opens : goal.returns-clause-opens
 returns-clause-opens g c =
     elim c.match-reply.branch [
       | in-Handle w ↦
-          let silent : IsSilent c.args.stack.now c.step-reply.new.self = silent_open _ c.args.partition c.step-reply.result c.step-reply.new.self c.step-reply.ensures.right in
+          let silent : IsSilent (untraced c.args.stack.now) w.in-Handle.ensures.steps.stepped = silent_open _ c.args.partition (HandleReply w.in-Handle.handle) w.in-Handle.ensures.steps.stepped w.in-Handle.ensures.steps.right in
           rw w.result-is (record {
             is_open =
-                ap (λ (v : ManagerView). partition_of v.handles w.in-Handle.handle) c.take_labels.ensures.taken
-                ∙ given_on c.args.stack.now c.args.partition w.in-Handle.handle c.step-reply.new.self w.in-Handle.ensures.right.replies.1;
+                ap (λ (v : ManagerView). partition_of v.handles w.in-Handle.handle) w.in-Handle.ensures.steps.after
+                ∙ given_on (untraced c.args.stack.now) c.args.partition w.in-Handle.handle w.in-Handle.ensures.steps.stepped w.in-Handle.ensures.steps.right.replies.1;
             known =
-                subst (λ (v : ManagerView). c.args.partition < length v.rules.partitions) (sym c.take_labels.ensures.taken)
+                subst (λ (v : ManagerView). c.args.partition < length v.rules.partitions) (sym w.in-Handle.ensures.steps.after)
                 (subst (λ (r : Rules). c.args.partition < length r.partitions) (sym silent.by.same_rules)
-                (given_known c.args.stack.now c.args.partition w.in-Handle.ensures.right.replies.1.not_refused));
+                (given_known c.args.stack.now c.args.partition w.in-Handle.ensures.steps.right.replies.1.not_refused));
           })
-      | in-Refused w ↦ rw w.result-is (refused_open c.args.stack.now c.requires.ready c.args.partition w.in-Refused.refusal w.in-Refused.ensures.right.replies.0)
+      | in-Refused w ↦ rw w.result-is (refused_open c.args.stack.now c.requires.ready c.args.partition w.in-Refused.refusal w.in-Refused.ensures.steps.right.replies.0)
     ]
