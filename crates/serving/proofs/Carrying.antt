@@ -8,7 +8,9 @@ use Rattle.srb.specs.declared.Entry.{Entry}
 use Rattle.srb.specs.declared.Srb.{Srb}
 use Rattle.srb.specs.declared.Completion.{Completion}
 use Rattle.adapter.specs.View.{AdapterView, IsInOrder}
-use Rattle.adapter.specs.Booking.{IsBookable, Suits, with_booking, Books}
+use Rattle.srb.specs.declared.Booked.TheVariants.{Sent}
+use Rattle.adapter.specs.Booking.{IsArmed, IsBookable, Suits, with_booking, Books, entry_sent, handed, sent_of}
+use Rattle.adapter.proofs.Handed.{srb_on_is}
 use Rattle.adapter.specs.Calls.{HasNoneFresh}
 use Rattle.machine.specs.declared.ClientRequest.{ClientRequest}
 use Rattle.machine.specs.declared.Label.{Label}
@@ -626,6 +628,27 @@ module _ (keep : StepsKeepEntries) (apart : StepsStayApart) (first now : Manager
     files = drained.files;
     answered = inr (goes_unanswered takes.0);
   }
+
+-- A PIECE'S ENTRY, HANDED OVER
+
+-- where it was sent, the entry is told by its SRB
+pub sent_given : (v : AdapterView) (tag piece : ℕ) (srb : Srb) → IsInOrder v → IsArmed v tag piece srb → handed v tag piece Sent ≡ Ok (entry_sent tag piece srb)
+sent_given v tag piece srb order armed =
+    ap (λ (found : Option Srb). sent_of tag piece found) (srb_on_is v tag armed.use' armed.others order.tags_differ armed.is_on ∙ ap (λ (s : Srb). Some s) armed.is_srb)
+
+pub has_booked : (old new : ManagerView) (before after : DiskView) (tag piece : ℕ) (srb : Srb) (what given : Result Entry Completion) → given ≡ what → IsArmed old.adapter tag piece srb
+    → Transfers before tag piece srb what after → Suits before.sector_size before.sectors srb what → IsOfPiece tag piece what → BooksPiece old tag piece given new → BooksArmed old before tag new after
+has_booked old new before after tag piece srb what given same armed transfers suits of_piece books =
+    inl (record {
+      piece = piece;
+      srb = srb;
+      what = what;
+      armed = armed;
+      transfers = transfers;
+      suits = suits;
+      of_piece = of_piece;
+      books = subst (λ (w : Result Entry Completion). BooksPiece old tag piece w new) same books;
+    })
 
 -- BOOKING LEAVES THE MACHINE
 
