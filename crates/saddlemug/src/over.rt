@@ -17,7 +17,7 @@ use compose::Stack;
 use miniport::BookedAdapter;
 use ntstatus::NtStatus;
 use sector::Bytes;
-use srb::{Entry, Srb};
+use srb::{Booked, Entry, Srb};
 use std::alloc::{AllocError, Global};
 use std::marker::Model;
 
@@ -211,7 +211,7 @@ impl Over {
             kind,
             bytes: Bytes::new(bytes),
         };
-        self.stack.book(tag, piece, srb::Booked::Taken(&mut entry));
+        self.stack.book(tag, piece, Booked::Taken(&mut entry));
         Ok(())
     }
 
@@ -234,7 +234,7 @@ impl Over {
         let Some(failure) = booking.completion.failure() else {
             return Err(NtStatus::InvalidParameter);
         };
-        self.stack.book(tag, piece, srb::Booked::Failed(failure));
+        self.stack.book(tag, piece, Booked::Failed(failure));
         self.places[tag as usize] = None;
         Ok(())
     }
