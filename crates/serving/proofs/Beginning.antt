@@ -15,7 +15,7 @@ use Rattle.settings.specs.Medium.{extents_of}
 use Rattle.io_manager.specs.Shown.{ManagerView}
 use Rattle.compose.specs.Journaled.{IsStartedUse}
 use Rattle.file_disk.specs.Transfers.{DiskView}
-use Rattle.serving.specs.Carried.{IsTold, StandsIn}
+use Rattle.serving.specs.Carried.{IsTold, StandsIn, quiet}
 use Rattle.serving.specs.OnDisk.{IsStartedOver}
 
 module _ (c : Config) (table : List ℕ) (stack : ManagerView) (started : IsStartedOver c table stack) where
@@ -23,7 +23,7 @@ module _ (c : Config) (table : List ℕ) (stack : ManagerView) (started : IsStar
   abbrev pub first_arrays : List (List (List ℕ))
   first_arrays = map (sectors_in started.disk.sectors) started.first.partitions
 
-  pub told_at_first : IsTold first_arrays [] [] stack
+  pub told_at_first : IsTold first_arrays [] [] (quiet stack)
   told_at_first = record {
     run = subst (λ (s : State). IsSame (opening first_arrays) s) (sym started.first.state) (IsSame-refl (opening first_arrays));
     journaled = record {
@@ -32,7 +32,7 @@ module _ (c : Config) (table : List ℕ) (stack : ManagerView) (started : IsStar
     };
   }
 
-  pub stands_at_first : (disk : DiskView) → disk.sector_size ≡ c.sector_size → disk.sectors ≡ c.sectors → StandsIn stack disk
+  pub stands_at_first : (disk : DiskView) → disk.sector_size ≡ c.sector_size → disk.sectors ≡ c.sectors → StandsIn (quiet stack) disk
   stands_at_first disk size count = record {
     apart = started.first.same_disk.faithful ∙ started.apart;
     sector_size = size ∙ sym started.sector_size ∙ ap (λ (r : Rules). r.sector_size) (sym started.first.rules);

@@ -42,7 +42,7 @@ use Rattle.machine.specs.Sending.{HasOtherTag}
 use Rattle.volume.specs.Working.{Asks, answers_of, fresh_count, work}
 use Rattle.volume.proofs.Steps.{answers-append, rest_of, untaken_told}
 use Rattle.volume.specs.Opening.{IsOn}
-use Rattle.volume.proofs.Calling.{IsCalled, called}
+use Rattle.serving.proofs.Called.{IsCalled, called}
 use Rattle.volume.proofs.Closing.{given_known, given_on}
 use Rattle.file_disk.specs.Transfers.{DiskView, IsOfPiece, Transfers}
 use Rattle.serving.specs.Carried.{BooksArmed, CarriedView, Deed, Files, Goes, GoesUnanswered, HasBooked, HasNoneToBook, IsAnsweredBy, IsNoAnswerTo, IsNotAnswered, IsTold, Requests, StandsIn, TellsOn, entries_of, entry_in, over}

@@ -1,3 +1,5 @@
+mod Called
+mod Quiet
 mod Opening
 mod Spelled
 mod Sessions

@@ -1,5 +1,5 @@
 -- A stack whose sectors stand in a storage: what is told of it, and what its pieces did there.
-use Rattle.std.specs.Prelude.{◌≡◌, ◌≢◌, ◌⊎◌, ℕ, List, [], ◌∷◌, ◌++◌, map, All, Contains, IsFalse, IsPermutation, Result, Ok, Err, MatchResult}
+use Rattle.std.specs.Prelude.{◌≡◌, ◌≢◌, ◌⊎◌, ℕ, false, List, [], ◌∷◌, ◌++◌, map, All, Contains, IsFalse, IsPermutation, Result, Ok, Err, MatchResult}
 use Rattle.srb.specs.declared.Srb.{Srb}
 use Rattle.srb.specs.declared.Entry.{Entry}
 use Rattle.srb.specs.declared.Completion.{Completion}
@@ -26,6 +26,10 @@ use Rattle.file_disk.specs.Transfers.{DiskView, IsOfPiece, Transfers}
 pub record CarriedView : Type 0 where
   pub stack : ManagerView
   pub disk : DiskView
+
+-- the stack, none of whose labels is kept
+abbrev pub quiet : ManagerView → ManagerView
+quiet stack = record stack { keeps = false }
 
 abbrev pub over : ManagerView → DiskView → CarriedView
 over stack disk = record { stack = stack; disk = disk }

@@ -33,14 +33,14 @@ pub struct Filed<S: Storage + Drop> {
 }
 
 impl<S: Storage + Drop> Model for Filed<S> {
-    ghost use Rattle.serving.specs.Carried.{over};
+    ghost use Rattle.serving.specs.Carried.{over, quiet};
     ghost use Rattle.serving.specs.Filed.{FiledKept, FiledView};
 
     ghost Value = { FiledView };
 
-    ghost view = { λ f. record { carried = over f.stack f.disk; handle = f.handle; sizes = f.sizes } };
+    ghost view = { λ f. record { carried = over (quiet f.stack) f.disk; handle = f.handle; sizes = f.sizes } };
 
-    ghost invariant = { λ f. FiledKept (over f.stack f.disk) f.sizes };
+    ghost invariant = { λ f. FiledKept (over (quiet f.stack) f.disk) f.sizes };
 }
 
 impl<S: Storage + Drop> Filed<S> {

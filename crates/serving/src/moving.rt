@@ -7,13 +7,12 @@ ghost use Rattle.compose.specs.Journaled.{ArmedMayBeBooked, BookedActsAddEntries
 ghost use Rattle.compose.specs.StepLaws.{IsTransferEvent};
 ghost use Rattle.volume.specs.Working.{fresh_count, work};
 ghost use Rattle.file_disk.specs.Transfers.{DiskView};
-ghost use Rattle.serving.specs.Carried.{BooksArmed, Goes, Requests, StandsIn, over};
+ghost use Rattle.serving.specs.Carried.{BooksArmed, Goes, Requests, StandsIn, over, quiet};
 
 use compose::{Answer, Event, Refusal, Reply, Stack};
 use file_disk::{FileDisk, Moved, Storage};
-use machine::Label;
 use miniport::BookedAdapter;
-use srb::{Booked, DeviceLabel};
+use srb::Booked;
 use std::alloc::Global;
 
 /// Which steps add an entry to a trace, for who calls this.
@@ -43,19 +42,18 @@ pub(crate) fn carry_out<S: Storage + Drop>(
     event: Event,
 ) -> Result<Answer, Refusal>
     requires taken { stack.old.labels ≡ [] }
-    requires stands { StandsIn stack.old disk.old }
+    requires stands { StandsIn (quiet stack.old) disk.old }
     requires transfer { IsTransferEvent event }
-    ensures requests { Requests (over stack.old disk.old) event result (over stack.new disk.new) }
+    ensures requests { Requests (over (quiet stack.old) disk.old) event result (over (quiet stack.new) disk.new) }
     ensures taken { stack.new.labels ≡ [] }
-    ensures stands { StandsIn stack.new disk.new }
+    ensures stands { StandsIn (quiet stack.new) disk.new }
 {
     laws_of_entries();
     forget_answers(stack);
-    let reply = stack.step(alloc, event);
-    let tags = take_labels(stack);
+    let reply = stack.step_untraced(alloc, event);
     match reply {
         Reply::Request(id) => {
-            drain(stack, disk, alloc, tags);
+            drain(stack, disk, alloc);
             match stack.take_answer_of(id.number) {
                 Some(answer) => Ok(answer),
                 // Nothing is out any more, so that there is one: a law of the machine that isn't told here.
@@ -77,20 +75,14 @@ fn forget_answers(stack: &mut Stack<BookedAdapter>)
     }
 }
 
-/// Lets the adapter act and hand back until nothing is out. The first pieces are on tags below `tags`.
-fn drain<S: Storage + Drop>(
-    stack: &mut Stack<BookedAdapter>,
-    disk: &mut FileDisk<S>,
-    alloc: Global,
-    tags: u16,
-)
+/// Lets the adapter act and hand back until nothing is out.
+fn drain<S: Storage + Drop>(stack: &mut Stack<BookedAdapter>, disk: &mut FileDisk<S>, alloc: Global)
     requires taken { stack.old.labels ≡ [] }
-    requires stands { StandsIn stack.old disk.old }
-    ensures goes { Goes (over stack.old disk.old) (over stack.new disk.new) }
+    requires stands { StandsIn (quiet stack.old) disk.old }
+    ensures goes { Goes (over (quiet stack.old) disk.old) (over (quiet stack.new) disk.new) }
     ensures taken { stack.new.labels ≡ [] }
 {
-    let mut tags = tags;
-    'finishing: while finish_one(stack, disk, alloc, &mut tags) {}
+    'finishing: while finish_one(stack, disk, alloc) {}
 }
 
 /// Lets a piece act, and come back. Whether there was one.
@@ -98,19 +90,17 @@ fn finish_one<S: Storage + Drop>(
     stack: &mut Stack<BookedAdapter>,
     disk: &mut FileDisk<S>,
     alloc: Global,
-    tags: &mut u16,
 ) -> bool
     requires taken { stack.old.labels ≡ [] }
-    requires stands { StandsIn stack.old disk.old }
-    ensures goes { Goes (over stack.old disk.old) (over stack.new disk.new) }
+    requires stands { StandsIn (quiet stack.old) disk.old }
+    ensures goes { Goes (over (quiet stack.old) disk.old) (over (quiet stack.new) disk.new) }
     ensures taken { stack.new.labels ≡ [] }
     ensures less { MatchBool result (work stack.new.state < work stack.old.state) ⊤ }
 {
-    // A tag is a byte.
-    let limit = (*tags).min(256);
-    for tag in 0..limit {
-        act(stack, disk, alloc, tag as u8);
-        if finishes(stack, alloc, tag as u8, tags) {
+    let depth = stack.depth();
+    for tag in 0..depth {
+        act(stack, disk, alloc, tag);
+        if finishes(stack, alloc, tag) {
             return true;
         }
     }
@@ -125,8 +115,8 @@ fn act<S: Storage + Drop>(
     tag: u8,
 )
     requires taken { stack.old.labels ≡ [] }
-    requires stands { StandsIn stack.old disk.old }
-    ensures goes { Goes (over stack.old disk.old) (over stack.new disk.new) }
+    requires stands { StandsIn (quiet stack.old) disk.old }
+    ensures goes { Goes (over (quiet stack.old) disk.old) (over (quiet stack.new) disk.new) }
     ensures taken { stack.new.labels ≡ [] }
     ensures same_work { work stack.new.state ≡ work stack.old.state }
     ensures none_fresh { HasNoneFresh stack.new tag }
@@ -142,8 +132,8 @@ fn acts<S: Storage + Drop>(
     tag: u8,
 ) -> bool
     requires taken { stack.old.labels ≡ [] }
-    requires stands { StandsIn stack.old disk.old }
-    ensures goes { Goes (over stack.old disk.old) (over stack.new disk.new) }
+    requires stands { StandsIn (quiet stack.old) disk.old }
+    ensures goes { Goes (over (quiet stack.old) disk.old) (over (quiet stack.new) disk.new) }
     ensures taken { stack.new.labels ≡ [] }
     ensures same_work { work stack.new.state ≡ work stack.old.state }
     ensures done { MatchBool result (fresh_count stack.new.state < fresh_count stack.old.state) (HasNoneFresh stack.new tag) }
@@ -152,14 +142,13 @@ fn acts<S: Storage + Drop>(
     stack.shows_whole();
     book_armed(stack, disk, tag);
     stack.shows_whole();
-    let reply = stack.step(alloc, Event::Act { tag });
-    take_labels(stack);
+    let reply = stack.step_untraced(alloc, Event::Act { tag });
     is_done(reply)
 }
 
 /// The piece of a tag is moved by the storage, if one could act, and what came of it is booked.
 fn book_armed<S: Storage + Drop>(stack: &mut Stack<BookedAdapter>, disk: &mut FileDisk<S>, tag: u8)
-    ensures { BooksArmed stack.old disk.old tag stack.new disk.new }
+    ensures { BooksArmed (quiet stack.old) disk.old tag (quiet stack.new) disk.new }
 {
     stack.shows_whole();
     let Some((piece, srb)) = stack.armed(tag) else {
@@ -176,18 +165,16 @@ fn book_armed<S: Storage + Drop>(stack: &mut Stack<BookedAdapter>, disk: &mut Fi
 }
 
 /// Whether a piece came back from the tag. A piece on it has acted, or failed.
-fn finishes(stack: &mut Stack<BookedAdapter>, alloc: Global, tag: u8, tags: &mut u16) -> bool
+fn finishes(stack: &mut Stack<BookedAdapter>, alloc: Global, tag: u8) -> bool
     requires taken { stack.old.labels ≡ [] }
     requires none_fresh { HasNoneFresh stack.old tag }
-    ensures goes { (disk : DiskView) → Goes (over stack.old disk) (over stack.new disk) }
+    ensures goes { (disk : DiskView) → Goes (over (quiet stack.old) disk) (over (quiet stack.new) disk) }
     ensures taken { stack.new.labels ≡ [] }
     ensures done { MatchBool result (work stack.new.state < work stack.old.state) (stack.new.state ≡ stack.old.state) }
 {
     laws_of_entries();
     stack.shows_whole();
-    let reply = stack.step(alloc, Event::Finish { tag });
-    let started = take_labels(stack);
-    *tags = started.max(*tags);
+    let reply = stack.step_untraced(alloc, Event::Finish { tag });
     is_done(reply)
 }
 
@@ -198,24 +185,5 @@ fn is_done(reply: Reply) -> bool
     match reply {
         Reply::Ok => true,
         _ => false,
-    }
-}
-
-/// Takes all labels. Pieces were started on tags below the result.
-pub(crate) fn take_labels(stack: &mut Stack<BookedAdapter>) -> u16
-    ensures { stack.new ≡ record stack.old { labels = [] } }
-{
-    let mut tags = 0;
-    while let Some(label) = stack.take_label() {
-        tags = tags_with(label, tags);
-    }
-    tags
-}
-
-/// Returns how many tags there are, with the tag of the piece that the label starts.
-fn tags_with(label: Label, tags: u16) -> u16 {
-    match label {
-        Label::Device(DeviceLabel::Start { tag, .. }) => tags.max(u16::from(tag) + 1),
-        _ => tags,
     }
 }

@@ -12,12 +12,12 @@ ghost use Rattle.volume.specs.Opening.{IsOn};
 ghost use Rattle.volume.specs.Shown.{extent_at};
 ghost use Rattle.file_disk.specs.Calls.{ReadsAll, Since};
 ghost use Rattle.file_disk.specs.Transfers.{DiskView, SyncsAfter};
-ghost use Rattle.serving.specs.Carried.{StandsIn, TellsOn};
+ghost use Rattle.serving.specs.Carried.{StandsIn, TellsOn, quiet};
 ghost use Rattle.serving.specs.OnDisk.{IsFileSession, IsOpened, IsStartedOver};
 
 use crate::faults::{DiskFault, Error};
 use crate::filed::Filed;
-use crate::moving::{laws_of_entries, take_labels};
+use crate::moving::laws_of_entries;
 use crate::serving::outcome;
 use arrayvec::ArrayVec;
 use compose::{Event, Handle, Refusal, Reply, Settings, Stack};
@@ -280,13 +280,12 @@ fn opened(stack: &mut Stack<BookedAdapter>, alloc: Global, partition: u8) -> Res
     requires taken { stack.old.labels ≡ [] }
     ensures taken { stack.new.labels ≡ [] }
     ensures rules { stack.new.rules ≡ stack.old.rules }
-    ensures stands { (disk : DiskView) → StandsIn stack.old disk → StandsIn stack.new disk }
-    ensures told { (labels : List Label) × TellsOn stack.old labels [] stack.new }
-    ensures on { IfOk result (λ handle. IsOn stack.new handle partition) }
+    ensures stands { (disk : DiskView) → StandsIn (quiet stack.old) disk → StandsIn (quiet stack.new) disk }
+    ensures told { (labels : List Label) × TellsOn (quiet stack.old) labels [] (quiet stack.new) }
+    ensures on { IfOk result (λ handle. IsOn (quiet stack.new) handle partition) }
 {
     laws_of_entries();
-    let reply = stack.step(alloc, Event::Open { partition });
-    take_labels(stack);
+    let reply = stack.step_untraced(alloc, Event::Open { partition });
     handle_in(reply)
 }
 

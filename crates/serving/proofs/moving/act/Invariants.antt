@@ -1,11 +1,11 @@
 use Rattle.std.proofs.Common.{◌≡◌, []}
 use Rattle.volume.specs.Working.{fresh_count, work}
-use Rattle.serving.specs.Carried.{Goes, over}
+use Rattle.serving.specs.Carried.{Goes, over, quiet}
 use Rattle.serving.proofs.moving.act.Given as goal
 
 abbrev pub invariant-acting : goal.invariant-acting
 invariant-acting g l = record {
-  goes : Goes (over l.initial.stack l.initial.disk) (over l.stack l.disk);
+  goes : Goes (over (quiet l.initial.stack) l.initial.disk) (over (quiet l.stack) l.disk);
   taken : l.stack.labels ≡ [];
   same_work : work l.stack.state ≡ work l.initial.stack.state;
 }

@@ -1,29 +1,31 @@
 use Rattle.std.proofs.Common.{sym, subst, ap, ◌∙◌}
 use Rattle.io_manager.specs.Shown.{ManagerView}
 use Rattle.machine.specs.State.{State}
-use Rattle.volume.specs.Working.{fresh_count, work}
+use Rattle.volume.specs.Working.{work}
 use Rattle.volume.proofs.Steps.{ActsOr, acts_done, acts_kept, acts_or}
-use Rattle.serving.specs.Carried.{Goes, over}
+use Rattle.serving.specs.Carried.{Goes, over, quiet}
 use Rattle.serving.proofs.Carrying.{act_goes, booked_labels, booked_state, fewer_since}
+use Rattle.serving.proofs.Quiet.{quiet_after, quiet_fits}
 use Rattle.serving.proofs.moving.acts.Goals as goal
 
-pub step-reply-requires : goal.step-reply-requires
-step-reply-requires g c = record { taken = booked_labels _ _ _ _ _ c.book_armed.ensures ∙ c.requires.taken }
+pub step_untraced-reply-requires : goal.step_untraced-reply-requires
+step_untraced-reply-requires g c = record { taken = booked_labels _ _ _ _ _ c.book_armed.ensures ∙ c.requires.taken }
 
 pub returns-clause-goes : goal.returns-clause-goes
 returns-clause-goes g c =
-    subst (λ (v : ManagerView). Goes (over c.args.stack.now c.args.disk.now) (over v c.book_armed.new.disk)) (sym c.take_labels.ensures)
-    (act_goes c.laws_of_entries.ensures.idle c.laws_of_entries.ensures.booked c.laws_of_entries.ensures.armed c.laws_of_entries.ensures.apart _ _ _ _ _ _ _
-    c.requires.stands c.shows_whole.ensures.whole c.shows_whole-2.ensures.in_order c.shows_whole-2.ensures.whole c.shows_whole-2.ensures.reached c.step-reply.ensures.right c.book_armed.ensures)
+    subst (λ (v : ManagerView). Goes (over (quiet c.args.stack.now) c.args.disk.now) (over v c.book_armed.new.disk)) (sym (quiet_after _ _ _ _ c.step_untraced-reply.ensures.untraced))
+    (act_goes c.laws_of_entries.ensures.idle c.laws_of_entries.ensures.booked c.laws_of_entries.ensures.armed c.laws_of_entries.ensures.apart (quiet c.args.stack.now) (quiet c.book_armed.new.stack) _ _ _ _ _
+    c.requires.stands (quiet_fits c.args.stack.now c.shows_whole.ensures.whole) c.shows_whole-2.ensures.in_order (quiet_fits c.book_armed.new.stack c.shows_whole-2.ensures.whole) c.shows_whole-2.ensures.reached
+    c.step_untraced-reply.ensures.untraced.right c.book_armed.ensures)
 
 pub returns-clause-same_work : goal.returns-clause-same_work
 returns-clause-same_work g c =
-    (acts_kept c.book_armed.new.stack c.take_labels.new.stack c.args.tag c.step-reply.result
-    (subst (λ (v : ManagerView). ActsOr c.book_armed.new.stack c.args.tag v c.step-reply.result) (sym c.take_labels.ensures) (acts_or _ _ _ _ c.step-reply.ensures.right))).1
+    (acts_kept c.book_armed.new.stack c.step_untraced-reply.new.self c.args.tag c.step_untraced-reply.result
+    (subst (λ (v : ManagerView). ActsOr c.book_armed.new.stack c.args.tag v c.step_untraced-reply.result) (sym c.step_untraced-reply.ensures.untraced.after) (acts_or _ _ _ _ c.step_untraced-reply.ensures.untraced.right))).1
     ∙ ap (λ (s : State). work s) (booked_state _ _ _ _ _ c.book_armed.ensures)
 
 pub returns-clause-done : goal.returns-clause-done
 returns-clause-done g c =
-    fewer_since c.is_done.result c.args.stack.now c.book_armed.new.stack c.take_labels.new.stack c.args.tag (booked_state _ _ _ _ _ c.book_armed.ensures)
-    (acts_done c.is_done.result c.book_armed.new.stack c.take_labels.new.stack c.args.tag c.step-reply.result c.is_done.ensures
-    (subst (λ (v : ManagerView). ActsOr c.book_armed.new.stack c.args.tag v c.step-reply.result) (sym c.take_labels.ensures) (acts_or _ _ _ _ c.step-reply.ensures.right)))
+    fewer_since c.is_done.result c.args.stack.now c.book_armed.new.stack c.step_untraced-reply.new.self c.args.tag (booked_state _ _ _ _ _ c.book_armed.ensures)
+    (acts_done c.is_done.result c.book_armed.new.stack c.step_untraced-reply.new.self c.args.tag c.step_untraced-reply.result c.is_done.ensures
+    (subst (λ (v : ManagerView). ActsOr c.book_armed.new.stack c.args.tag v c.step_untraced-reply.result) (sym c.step_untraced-reply.ensures.untraced.after) (acts_or _ _ _ _ c.step_untraced-reply.ensures.untraced.right)))

@@ -1,63 +1,62 @@
 use Rattle.std.proofs.Common.{ap, ◌∙◌, Some, None}
-use Rattle.io_manager.specs.Shown.{ManagerView}
-use Rattle.io_manager.specs.declared.Reply.TheVariants.{Request as Requested, Answered, Refused}
-use Rattle.serving.specs.Carried.{over}
+use Rattle.serving.specs.Carried.{over, quiet}
 use Rattle.serving.proofs.Carrying.{carry_answers, carry_later, carry_refused, carry_stands, carry_unanswered, labels_still, stands_still}
+use Rattle.serving.proofs.Quiet.{quiet_after, quiet_takes}
 use Rattle.serving.proofs.moving.carry_out.Goals as goal
 
 pub drain-requires-clause-stands : goal.drain-requires-clause-stands
 drain-requires-clause-stands g c =
-    carry_stands c.laws_of_entries.ensures.kept c.laws_of_entries.ensures.apart c.args.stack.now c.forget_answers.new.stack c.step-reply.new.self c.take_labels-tags.new.stack c.args.disk.now
-    c.args.event c.requires.transfer c.forget_answers.ensures c.take_labels-tags.ensures _ c.step-reply.ensures.right c.requires.stands
+    carry_stands c.laws_of_entries.ensures.kept c.laws_of_entries.ensures.apart (quiet c.args.stack.now) (quiet c.forget_answers.new.stack) c.step_untraced-reply.ensures.untraced.stepped (quiet c.step_untraced-reply.new.self) c.args.disk.now
+    c.args.event c.requires.transfer (ap quiet c.forget_answers.ensures) (quiet_after _ _ _ _ c.step_untraced-reply.ensures.untraced) _ c.step_untraced-reply.ensures.untraced.right c.requires.stands
 
 pub returns-in-Answered-clause-requests : goal.returns-in-Answered-clause-requests
 returns-in-Answered-clause-requests g c =
-    carry_answers c.laws_of_entries.ensures.kept c.laws_of_entries.ensures.apart c.args.stack.now c.forget_answers.new.stack c.step-reply.new.self c.take_labels-tags.new.stack c.args.disk.now
-    c.args.event c.requires.transfer c.forget_answers.ensures c.take_labels-tags.ensures c.in-Answered.answer c.in-Answered.ensures.right
+    carry_answers c.laws_of_entries.ensures.kept c.laws_of_entries.ensures.apart (quiet c.args.stack.now) (quiet c.forget_answers.new.stack) c.in-Answered.ensures.untraced.stepped (quiet c.step_untraced-reply.new.self) c.args.disk.now
+    c.args.event c.requires.transfer (ap quiet c.forget_answers.ensures) (quiet_after _ _ _ _ c.in-Answered.ensures.untraced) c.in-Answered.answer c.in-Answered.ensures.untraced.right
 
 pub returns-in-Answered-clause-stands : goal.returns-in-Answered-clause-stands
 returns-in-Answered-clause-stands g c =
-    carry_stands c.laws_of_entries.ensures.kept c.laws_of_entries.ensures.apart c.args.stack.now c.forget_answers.new.stack c.step-reply.new.self c.take_labels-tags.new.stack c.args.disk.now
-    c.args.event c.requires.transfer c.forget_answers.ensures c.take_labels-tags.ensures _ c.step-reply.ensures.right c.requires.stands
+    carry_stands c.laws_of_entries.ensures.kept c.laws_of_entries.ensures.apart (quiet c.args.stack.now) (quiet c.forget_answers.new.stack) c.step_untraced-reply.ensures.untraced.stepped (quiet c.step_untraced-reply.new.self) c.args.disk.now
+    c.args.event c.requires.transfer (ap quiet c.forget_answers.ensures) (quiet_after _ _ _ _ c.step_untraced-reply.ensures.untraced) _ c.step_untraced-reply.ensures.untraced.right c.requires.stands
 
 pub returns-in-Refused-clause-requests : goal.returns-in-Refused-clause-requests
 returns-in-Refused-clause-requests g c =
-    carry_refused c.laws_of_entries.ensures.kept c.laws_of_entries.ensures.apart c.args.stack.now c.forget_answers.new.stack c.step-reply.new.self c.take_labels-tags.new.stack c.args.disk.now
-    c.args.event c.requires.transfer c.forget_answers.ensures c.take_labels-tags.ensures c.in-Refused.refusal _ c.in-Refused.ensures.right
+    carry_refused c.laws_of_entries.ensures.kept c.laws_of_entries.ensures.apart (quiet c.args.stack.now) (quiet c.forget_answers.new.stack) c.in-Refused.ensures.untraced.stepped (quiet c.step_untraced-reply.new.self) c.args.disk.now
+    c.args.event c.requires.transfer (ap quiet c.forget_answers.ensures) (quiet_after _ _ _ _ c.in-Refused.ensures.untraced) c.in-Refused.refusal _ c.in-Refused.ensures.untraced.right
 
 pub returns-in-Refused-clause-stands : goal.returns-in-Refused-clause-stands
 returns-in-Refused-clause-stands g c =
-    carry_stands c.laws_of_entries.ensures.kept c.laws_of_entries.ensures.apart c.args.stack.now c.forget_answers.new.stack c.step-reply.new.self c.take_labels-tags.new.stack c.args.disk.now
-    c.args.event c.requires.transfer c.forget_answers.ensures c.take_labels-tags.ensures _ c.step-reply.ensures.right c.requires.stands
+    carry_stands c.laws_of_entries.ensures.kept c.laws_of_entries.ensures.apart (quiet c.args.stack.now) (quiet c.forget_answers.new.stack) c.step_untraced-reply.ensures.untraced.stepped (quiet c.step_untraced-reply.new.self) c.args.disk.now
+    c.args.event c.requires.transfer (ap quiet c.forget_answers.ensures) (quiet_after _ _ _ _ c.step_untraced-reply.ensures.untraced) _ c.step_untraced-reply.ensures.untraced.right c.requires.stands
 
 pub returns-in-Some-clause-requests : goal.returns-in-Some-clause-requests
 returns-in-Some-clause-requests g c =
-    carry_later c.laws_of_entries.ensures.kept c.laws_of_entries.ensures.apart c.args.stack.now c.forget_answers.new.stack c.step-reply.new.self c.take_labels-tags.new.stack c.args.disk.now
-    c.args.event c.requires.transfer c.forget_answers.ensures c.take_labels-tags.ensures c.in-Request.id c.in-Request.ensures.right (over c.drain.new.stack c.drain.new.disk) c.drain.ensures.goes
-    c.in-Some.answer c.take_answer_of.new.self c.in-Some.ensures
+    carry_later c.laws_of_entries.ensures.kept c.laws_of_entries.ensures.apart (quiet c.args.stack.now) (quiet c.forget_answers.new.stack) c.in-Request.ensures.untraced.stepped (quiet c.step_untraced-reply.new.self) c.args.disk.now
+    c.args.event c.requires.transfer (ap quiet c.forget_answers.ensures) (quiet_after _ _ _ _ c.in-Request.ensures.untraced) c.in-Request.id c.in-Request.ensures.untraced.right (over (quiet c.drain.new.stack) c.drain.new.disk)
+    c.drain.ensures.goes c.in-Some.answer (quiet c.take_answer_of.new.self) (quiet_takes _ _ _ _ c.in-Some.ensures)
 
 pub returns-in-Some-clause-taken : goal.returns-in-Some-clause-taken
 returns-in-Some-clause-taken g c = labels_still c.drain.new.stack c.take_answer_of.new.self c.in-Request.id.number (Some c.in-Some.answer) c.in-Some.ensures c.drain.ensures.taken
 
 pub returns-in-Some-clause-stands : goal.returns-in-Some-clause-stands
 returns-in-Some-clause-stands g c =
-    stands_still c.drain.new.stack c.take_answer_of.new.self c.drain.new.disk c.in-Request.id.number (Some c.in-Some.answer) c.in-Some.ensures
+    stands_still (quiet c.drain.new.stack) (quiet c.take_answer_of.new.self) c.drain.new.disk c.in-Request.id.number (Some c.in-Some.answer) (quiet_takes _ _ _ _ c.in-Some.ensures)
     (c.drain.ensures.goes.stands
-    (carry_stands c.laws_of_entries.ensures.kept c.laws_of_entries.ensures.apart c.args.stack.now c.forget_answers.new.stack c.step-reply.new.self c.take_labels-tags.new.stack c.args.disk.now
-    c.args.event c.requires.transfer c.forget_answers.ensures c.take_labels-tags.ensures _ c.step-reply.ensures.right c.requires.stands))
+    (carry_stands c.laws_of_entries.ensures.kept c.laws_of_entries.ensures.apart (quiet c.args.stack.now) (quiet c.forget_answers.new.stack) c.step_untraced-reply.ensures.untraced.stepped (quiet c.step_untraced-reply.new.self) c.args.disk.now
+    c.args.event c.requires.transfer (ap quiet c.forget_answers.ensures) (quiet_after _ _ _ _ c.step_untraced-reply.ensures.untraced) _ c.step_untraced-reply.ensures.untraced.right c.requires.stands))
 
 pub returns-in-Request-clause-requests : goal.returns-in-Request-clause-requests
 returns-in-Request-clause-requests g c =
-    carry_unanswered c.laws_of_entries.ensures.kept c.laws_of_entries.ensures.apart c.args.stack.now c.forget_answers.new.stack c.step-reply.new.self c.take_labels-tags.new.stack c.args.disk.now
-    c.args.event c.requires.transfer c.forget_answers.ensures c.take_labels-tags.ensures c.in-Request.id c.in-Request.ensures.right (over c.drain.new.stack c.drain.new.disk) c.drain.ensures.goes
-    c.take_answer_of.new.self c.in-None.ensures
+    carry_unanswered c.laws_of_entries.ensures.kept c.laws_of_entries.ensures.apart (quiet c.args.stack.now) (quiet c.forget_answers.new.stack) c.in-Request.ensures.untraced.stepped (quiet c.step_untraced-reply.new.self) c.args.disk.now
+    c.args.event c.requires.transfer (ap quiet c.forget_answers.ensures) (quiet_after _ _ _ _ c.in-Request.ensures.untraced) c.in-Request.id c.in-Request.ensures.untraced.right
+    (over (quiet c.drain.new.stack) c.drain.new.disk) c.drain.ensures.goes (quiet c.take_answer_of.new.self) (quiet_takes _ _ _ _ c.in-None.ensures)
 
 pub returns-in-Request-clause-taken : goal.returns-in-Request-clause-taken
 returns-in-Request-clause-taken g c = labels_still c.drain.new.stack c.take_answer_of.new.self c.in-Request.id.number None c.in-None.ensures c.drain.ensures.taken
 
 pub returns-in-Request-clause-stands : goal.returns-in-Request-clause-stands
 returns-in-Request-clause-stands g c =
-    stands_still c.drain.new.stack c.take_answer_of.new.self c.drain.new.disk c.in-Request.id.number None c.in-None.ensures
+    stands_still (quiet c.drain.new.stack) (quiet c.take_answer_of.new.self) c.drain.new.disk c.in-Request.id.number None (quiet_takes _ _ _ _ c.in-None.ensures)
     (c.drain.ensures.goes.stands
-    (carry_stands c.laws_of_entries.ensures.kept c.laws_of_entries.ensures.apart c.args.stack.now c.forget_answers.new.stack c.step-reply.new.self c.take_labels-tags.new.stack c.args.disk.now
-    c.args.event c.requires.transfer c.forget_answers.ensures c.take_labels-tags.ensures _ c.step-reply.ensures.right c.requires.stands))
+    (carry_stands c.laws_of_entries.ensures.kept c.laws_of_entries.ensures.apart (quiet c.args.stack.now) (quiet c.forget_answers.new.stack) c.step_untraced-reply.ensures.untraced.stepped (quiet c.step_untraced-reply.new.self) c.args.disk.now
+    c.args.event c.requires.transfer (ap quiet c.forget_answers.ensures) (quiet_after _ _ _ _ c.step_untraced-reply.ensures.untraced) _ c.step_untraced-reply.ensures.untraced.right c.requires.stands))

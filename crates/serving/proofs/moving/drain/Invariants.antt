@@ -1,11 +1,11 @@
 use Rattle.std.proofs.Common.{◌≡◌, []}
 use Rattle.volume.specs.Working.{work}
-use Rattle.serving.specs.Carried.{Goes, over}
+use Rattle.serving.specs.Carried.{Goes, over, quiet}
 use Rattle.serving.proofs.moving.drain.Given as goal
 
 abbrev pub invariant-finishing : goal.invariant-finishing
 invariant-finishing g l = record {
-  goes : Goes (over l.initial.stack l.initial.disk) (over l.stack l.disk);
+  goes : Goes (over (quiet l.initial.stack) l.initial.disk) (over (quiet l.stack) l.disk);
   taken : l.stack.labels ≡ [];
 }
 
