@@ -1,5 +1,5 @@
 -- The call that an event stands for.
-use Rattle.std.proofs.Common.{◌≡◌, List, [], length, refl, sym, subst}
+use Rattle.std.proofs.Common.{◌≡◌, ℕ, List, [], length, refl, sym, subst}
 use Rattle.machine.specs.declared.ClientRequest.{ClientRequest}
 use Rattle.machine.specs.Calling.{bytes_carried}
 use Rattle.io_manager.specs.declared.Handle.{Handle}

@@ -21,11 +21,13 @@ returns-clause-goes g c =
 pub returns-clause-same_work : goal.returns-clause-same_work
 returns-clause-same_work g c =
     (acts_kept c.book_armed.new.stack c.step_untraced-reply.new.self c.args.tag c.step_untraced-reply.result
-    (subst (λ (v : ManagerView). ActsOr c.book_armed.new.stack c.args.tag v c.step_untraced-reply.result) (sym c.step_untraced-reply.ensures.untraced.after) (acts_or _ _ _ _ c.step_untraced-reply.ensures.untraced.right))).1
+    (subst (λ (v : ManagerView). ActsOr c.book_armed.new.stack c.args.tag v c.step_untraced-reply.result) (sym c.step_untraced-reply.ensures.untraced.after) (acts_or c.book_armed.new.stack c.step_untraced-reply.ensures.untraced.stepped c.args.tag c.step_untraced-reply.result
+    c.step_untraced-reply.ensures.untraced.right))).1
     ∙ ap (λ (s : State). work s) (booked_state _ _ _ _ _ c.book_armed.ensures)
 
 pub returns-clause-done : goal.returns-clause-done
 returns-clause-done g c =
     fewer_since c.is_done.result c.args.stack.now c.book_armed.new.stack c.step_untraced-reply.new.self c.args.tag (booked_state _ _ _ _ _ c.book_armed.ensures)
     (acts_done c.is_done.result c.book_armed.new.stack c.step_untraced-reply.new.self c.args.tag c.step_untraced-reply.result c.is_done.ensures
-    (subst (λ (v : ManagerView). ActsOr c.book_armed.new.stack c.args.tag v c.step_untraced-reply.result) (sym c.step_untraced-reply.ensures.untraced.after) (acts_or _ _ _ _ c.step_untraced-reply.ensures.untraced.right)))
+    (subst (λ (v : ManagerView). ActsOr c.book_armed.new.stack c.args.tag v c.step_untraced-reply.result) (sym c.step_untraced-reply.ensures.untraced.after) (acts_or c.book_armed.new.stack c.step_untraced-reply.ensures.untraced.stepped c.args.tag c.step_untraced-reply.result
+    c.step_untraced-reply.ensures.untraced.right)))

@@ -33,14 +33,14 @@ pub returns-in-Some-clause-requests : goal.returns-in-Some-clause-requests
 returns-in-Some-clause-requests g c =
     carry_later c.laws_of_entries.ensures.kept c.laws_of_entries.ensures.apart (quiet c.args.stack.now) (quiet c.forget_answers.new.stack) c.in-Request.ensures.untraced.stepped (quiet c.step_untraced-reply.new.self) c.args.disk.now
     c.args.event c.requires.transfer (ap quiet c.forget_answers.ensures) (quiet_after _ _ _ _ c.in-Request.ensures.untraced) c.in-Request.id c.in-Request.ensures.untraced.right (over (quiet c.drain.new.stack) c.drain.new.disk)
-    c.drain.ensures.goes c.in-Some.answer (quiet c.take_answer_of.new.self) (quiet_takes _ _ _ _ c.in-Some.ensures)
+    c.drain.ensures.goes c.in-Some.answer (quiet c.take_answer_of.new.self) (quiet_takes c.drain.new.stack c.in-Request.id.number (Some c.in-Some.answer) c.take_answer_of.new.self c.in-Some.ensures)
 
 pub returns-in-Some-clause-taken : goal.returns-in-Some-clause-taken
 returns-in-Some-clause-taken g c = labels_still c.drain.new.stack c.take_answer_of.new.self c.in-Request.id.number (Some c.in-Some.answer) c.in-Some.ensures c.drain.ensures.taken
 
 pub returns-in-Some-clause-stands : goal.returns-in-Some-clause-stands
 returns-in-Some-clause-stands g c =
-    stands_still (quiet c.drain.new.stack) (quiet c.take_answer_of.new.self) c.drain.new.disk c.in-Request.id.number (Some c.in-Some.answer) (quiet_takes _ _ _ _ c.in-Some.ensures)
+    stands_still (quiet c.drain.new.stack) (quiet c.take_answer_of.new.self) c.drain.new.disk c.in-Request.id.number (Some c.in-Some.answer) (quiet_takes c.drain.new.stack c.in-Request.id.number (Some c.in-Some.answer) c.take_answer_of.new.self c.in-Some.ensures)
     (c.drain.ensures.goes.stands
     (carry_stands c.laws_of_entries.ensures.kept c.laws_of_entries.ensures.apart (quiet c.args.stack.now) (quiet c.forget_answers.new.stack) c.step_untraced-reply.ensures.untraced.stepped (quiet c.step_untraced-reply.new.self) c.args.disk.now
     c.args.event c.requires.transfer (ap quiet c.forget_answers.ensures) (quiet_after _ _ _ _ c.step_untraced-reply.ensures.untraced) _ c.step_untraced-reply.ensures.untraced.right c.requires.stands))
@@ -49,14 +49,14 @@ pub returns-in-Request-clause-requests : goal.returns-in-Request-clause-requests
 returns-in-Request-clause-requests g c =
     carry_unanswered c.laws_of_entries.ensures.kept c.laws_of_entries.ensures.apart (quiet c.args.stack.now) (quiet c.forget_answers.new.stack) c.in-Request.ensures.untraced.stepped (quiet c.step_untraced-reply.new.self) c.args.disk.now
     c.args.event c.requires.transfer (ap quiet c.forget_answers.ensures) (quiet_after _ _ _ _ c.in-Request.ensures.untraced) c.in-Request.id c.in-Request.ensures.untraced.right
-    (over (quiet c.drain.new.stack) c.drain.new.disk) c.drain.ensures.goes (quiet c.take_answer_of.new.self) (quiet_takes _ _ _ _ c.in-None.ensures)
+    (over (quiet c.drain.new.stack) c.drain.new.disk) c.drain.ensures.goes (quiet c.take_answer_of.new.self) (quiet_takes c.drain.new.stack c.in-Request.id.number None c.take_answer_of.new.self c.in-None.ensures)
 
 pub returns-in-Request-clause-taken : goal.returns-in-Request-clause-taken
 returns-in-Request-clause-taken g c = labels_still c.drain.new.stack c.take_answer_of.new.self c.in-Request.id.number None c.in-None.ensures c.drain.ensures.taken
 
 pub returns-in-Request-clause-stands : goal.returns-in-Request-clause-stands
 returns-in-Request-clause-stands g c =
-    stands_still (quiet c.drain.new.stack) (quiet c.take_answer_of.new.self) c.drain.new.disk c.in-Request.id.number None (quiet_takes _ _ _ _ c.in-None.ensures)
+    stands_still (quiet c.drain.new.stack) (quiet c.take_answer_of.new.self) c.drain.new.disk c.in-Request.id.number None (quiet_takes c.drain.new.stack c.in-Request.id.number None c.take_answer_of.new.self c.in-None.ensures)
     (c.drain.ensures.goes.stands
     (carry_stands c.laws_of_entries.ensures.kept c.laws_of_entries.ensures.apart (quiet c.args.stack.now) (quiet c.forget_answers.new.stack) c.step_untraced-reply.ensures.untraced.stepped (quiet c.step_untraced-reply.new.self) c.args.disk.now
     c.args.event c.requires.transfer (ap quiet c.forget_answers.ensures) (quiet_after _ _ _ _ c.step_untraced-reply.ensures.untraced) _ c.step_untraced-reply.ensures.untraced.right c.requires.stands))
