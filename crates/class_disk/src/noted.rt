@@ -16,6 +16,9 @@ impl Model for Noted {
     ghost also_owns = { λ _. ftrue };
 }
 
+// It owns nothing.
+unsafe impl Send for Noted {}
+
 impl Noted {
     /// No bytes yet.
     pub fn new() -> Noted
