@@ -1,5 +1,5 @@
 -- An entry that is booked is that of the next step of its tag, and every step keeps the starts of what is out in the trace.
-use Rattle.std.proofs.Common.{◌≡◌, ◌≢◌, ℕ, zero, suc, ◌+◌, Bool, true, false, IsTrue, IsFalse, List, [], ◌∷◌, ◌++◌, map, Ok, Err, Result, IsPermutation, refl, sym, ap, subst, ◌∙◌, arith, length-append, if◌then◌else◌}
+use Rattle.std.proofs.Common.{◌≡◌, ◌≢◌, ℕ, zero, suc, Bool, true, false, IsTrue, IsFalse, List, [], ◌∷◌, ◌++◌, map, Ok, Err, Result, IsPermutation, refl, sym, ap, subst, ◌∙◌, arith, length-append, if◌then◌else◌}
 use Rattle.std.specs.Prelude.{All, Contains, eqb}
 use Rattle.std.specs.List.{IsDistinct}
 use Rattle.std.proofs.lemmas.Bool.Decides.{Decides-eqb}

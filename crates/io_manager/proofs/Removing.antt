@@ -3,7 +3,6 @@ use Rattle.pnp.specs.declared.InvalidDeviceRequest.{InvalidDeviceRequest as Inva
 use Rattle.std.specs.Result.{result_ok}
 use Rattle.std.proofs.Common.{◌≡◌, ◌⊎◌, ◌≤◌, Result, Ok, Err, inl, inr, ℕ, Bool, true, false, List, [], ◌∷◌, ◌++◌, Option, Some, None, refl, sym, ◌∙◌, ap, subst, map}
 use Rattle.std.specs.Prelude.{IsPermutation, IsTrue, IsFalse, All, if◌then◌else◌}
-use Rattle.std.specs.VecDeque.{deque_capacity}
 use Rattle.std.proofs.lemmas.List.Sorted.{IsPermutation-sym, IsPermutation-refl, IsPermutation-map, All-permutation}
 use Rattle.std.proofs.lemmas.List.Elements.{All-head, All-append}
 use Rattle.slab.specs.Slab.{Slab}

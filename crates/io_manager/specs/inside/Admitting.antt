@@ -1,5 +1,5 @@
 -- A call at the manager's door: what it is answered at once, and the request and the packet of one that is admitted.
-use Rattle.std.specs.Prelude.{◌≡◌, ◌≢◌, ◌<◌, ◌≤◌, ℕ, true, false, Bool, ◌+◌, ◌/◌, max, nat_le, List, [], ◌∷◌, ◌++◌}
+use Rattle.std.specs.Prelude.{◌≡◌, ◌<◌, ◌≤◌, ℕ, true, false, Bool, ◌+◌, ◌/◌, max, nat_le, List, [], ◌∷◌, ◌++◌}
 use Rattle.std.specs.Prelude.{Option, Some, None, MatchOption, IsFalse, length, slice_index, slice_set, if◌then◌else◌}
 use Rattle.std.specs.VecDeque.{deque_len, deque_capacity}
 use Rattle.slab.specs.Slab.{get, slab_len, Updates}

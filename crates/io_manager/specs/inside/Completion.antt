@@ -15,7 +15,7 @@ use Rattle.machine.specs.State.{State}
 use Rattle.machine.specs.Answering.{AnswersWith}
 use Rattle.machine.specs.Step.{Run, as_label}
 use Rattle.machine.specs.Sending.{IsStart}
-use Rattle.device.specs.View.{DeviceView, payload_bytes, room_at}
+use Rattle.device.specs.View.{DeviceView, payload_bytes}
 use Rattle.device.specs.Served.{SameRooms}
 use Rattle.io_manager.specs.declared.Answer.{Answer}
 use Rattle.io_manager.specs.declared.Handle.{Handle}

@@ -1,5 +1,5 @@
 -- What a step tells, in order: in memory, or for contracts alone.
-use Rattle.std.specs.Prelude.{◌≡◌, ℕ, Bool, List, [], ◌∷◌, ◌++◌, Option, Some, None}
+use Rattle.std.specs.Prelude.{◌≡◌, ℕ, Bool, List, [], ◌∷◌, Option, Some, None}
 
 -- what was told, the places that there are for it, and whether memory keeps it
 pub record QueueView (X : Type 0) : Type 0 where

@@ -1,6 +1,6 @@
 -- What the manager's tables and the device below say of each other between two calls.
 use Rattle.std.specs.Prelude.{◌≡◌, ◌≢◌, ◌<◌, ◌≤◌, ℕ, ◌+◌, ◌^◌, ◌⊎◌, Bool, true, false, List, [], ◌++◌, Option, Some}
-use Rattle.std.specs.Prelude.{option_map, is_some, map, length, slice_get, IsTrue, IsFalse, All, Contains}
+use Rattle.std.specs.Prelude.{option_map, is_some, map, length, IsTrue, IsFalse, All, Contains}
 use Rattle.std.specs.Prelude.{IsPermutation}
 use Rattle.std.specs.VecDeque.{deque_len, deque_capacity}
 use Rattle.slab.specs.Slab.{Slab, get, slab_len}
