@@ -28,7 +28,7 @@ use Rattle.io_manager.specs.inside.Ordering.{HasOtherNumber}
 use Rattle.io_manager.specs.inside.Chains.{IsOpenIn}
 use Rattle.io_manager.specs.inside.Sound.{shown_state, is_gone, view_of, IsHeldAt, AreHeld, IsSpotted, WasGiven, AreApart, IsInState, IsSound}
 use Rattle.io_manager.specs.Opening.{rules_of}
-use Rattle.io_manager.specs.inside.Admitting.{request_of, HasLabelBytes, Admits, SendsDown, IsAdmissible}
+use Rattle.io_manager.specs.inside.Admitting.{request_of, answer_room_of, HasLabelBytes, Admits, SendsDown, IsAdmissible}
 use Rattle.io_manager.proofs.Chained.{AreChained-more}
 use Rattle.io_manager.proofs.Numbered.{AreNumbered-more}
 use Rattle.io_manager.proofs.Counted.{AreCounted-more}
@@ -232,7 +232,7 @@ module _ (limits : Limits) (below : DeviceView) (tables : Tables) (q : ClientReq
                 (record below.state { next_request = sends.packet.number + 1; requests = new_request below.rules below.state sends.packet.number asked ∷ below.state.requests }) sends.submits.opened
                 (asks_same _ _ (KeepsAsked-same _ _ (IsSame-sym _ _ sends.submits.opens.after)))
                 (AreHeld-more tables.requests tables1.requests slot _ (new_request below.rules below.state sends.packet.number asked) below.state.requests below.state.next_request admits.was_free admits.holds counted (sym number) refl refl refl
-                (λ reads. subst (λ n. n ≤ copies.label_bytes) (sym same_length ∙ asks.length_is) (buffers.label_bytes reads)) distinct.given h.numbers.rising h.held);
+                (λ reads. subst (λ n. n ≤ copies.label_bytes) (sym same_length ∙ asks.length_is) (let e : copies.label_bytes ≡ length buffer = buffers.label_bytes ∙ ap (λ kind. answer_room_of kind (length buffer)) reads in omega (arith, e))) distinct.given h.numbers.rising h.held);
             few = omega arith;
             places = record {
               labels = subst (λ capacity. 256 ≤ capacity) (sym labels) h.places.labels;

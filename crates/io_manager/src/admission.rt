@@ -10,7 +10,7 @@ ghost use Rattle.irp.specs.declared.Payload.TheVariants.{Buffer};
 ghost use Rattle.io_manager.specs.Calls.{status_of_refusal, bytes_called};
 ghost use Rattle.io_manager.specs.Opening.{AreFirsts};
 ghost use Rattle.io_manager.specs.inside.Admitting.{asked_for, status_at_once, AreBoundsOf, IsKnown, request_of};
-ghost use Rattle.io_manager.specs.inside.Admitting.{HasLabelBytes, IsCopied, first_location, IsOnTop};
+ghost use Rattle.io_manager.specs.inside.Admitting.{HasLabelBytes, IsCopied, answer_room_of, first_location, IsOnTop};
 
 use crate::noted::Noted;
 use crate::{Limits, Refusal};
@@ -269,7 +269,7 @@ fn call_bytes_for(
 ///
 /// [`AllocError`] where memory was refused.
 fn answer_room(alloc: Global, kind: Kind, buffer: &Bytes) -> Result<LabelRoom, AllocError>
-    ensures { IfOk result (λ room. kind ≡ Read → length buffer.now ≤ room) }
+    ensures { IfOk result (λ room. room ≡ answer_room_of kind (length buffer.now)) }
 {
     match kind {
         Kind::Read => LabelRoom::new(alloc, buffer.len()),

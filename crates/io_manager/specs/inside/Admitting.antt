@@ -13,7 +13,7 @@ use Rattle.irp.specs.declared.Irp.{Irp}
 use Rattle.irp.specs.declared.StackLocation.{StackLocation}
 use Rattle.irp.specs.declared.Payload.{Payload}
 use Rattle.srb.specs.declared.Kind.{Kind}
-use Rattle.srb.specs.declared.Kind.TheVariants.{Read, Flush}
+use Rattle.srb.specs.declared.Kind.TheVariants.{Read, Write, Flush}
 use Rattle.machine.specs.declared.Request.{Request}
 use Rattle.machine.specs.declared.ClientRequest.{ClientRequest}
 use Rattle.machine.specs.declared.Label.TheVariants.{Call, Answer as AnswerLabel}
@@ -95,11 +95,17 @@ request_of sector_size q = record {
 abbrev pub IsCopied : Bool → CallBytes → Type 0
 IsCopied keeps bytes = MatchOption bytes.copy (IsFalse keeps) (λ copy. copy ≡ bytes.told.items)
 
+-- how many bytes the label of an answer has room for: as many as a read's buffer has, and none for another request
+abbrev pub answer_room_of : Kind → ℕ → ℕ
+answer_room_of Read bytes = bytes
+answer_room_of Write bytes = 0
+answer_room_of Flush bytes = 0
+
 -- the buffers that a request needs for the manager's own labels
 pub record HasLabelBytes (keeps : Bool) (kind : Kind) (buffer : List ℕ) (copies : LabelBytes) : Type 0 where
   pub told : copies.call_bytes.told.items ≡ bytes_called kind buffer
   pub copied : IsCopied keeps copies.call_bytes
-  pub label_bytes : kind ≡ Read → length buffer ≤ copies.label_bytes
+  pub label_bytes : copies.label_bytes ≡ answer_room_of kind (length buffer)
 
 -- the first location of a request: of its kind and its extent, with SL_WRITE_THROUGH or no flags, and no routine
 abbrev pub first_location : Request → StackLocation
