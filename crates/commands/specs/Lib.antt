@@ -1,5 +1,4 @@
 pub mod Clients
 pub mod CommandLine
 pub mod Faults
-pub mod Input
 pub mod Trace

@@ -13,7 +13,6 @@
 
 pub mod clients;
 mod faults;
-pub mod input;
 pub mod trace;
 pub mod words;
 

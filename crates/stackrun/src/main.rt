@@ -6,12 +6,12 @@
 //! files, threads and output alone, of which nothing is promised: no contract says what a file holds.
 #![tactic(auto)]
 
+use commands::Error;
 use commands::clients::clients;
 use commands::trace::trace;
 use commands::words::asked::Command;
 use commands::words::command;
-use commands::{Error, input};
-use startup::{Verdict, ended, fault_of};
+use startup::{Verdict, ended, fault_of, open_input};
 use std::env;
 use std::process::ExitCode;
 use std::sync::Wait;
@@ -26,8 +26,8 @@ fn run<H: Threads + Wait + Sync>(rt: &HostRuntime, host: &H) -> Result<Verdict, 
     };
     match command(alloc, words.as_slice())? {
         Command::Trace { config, script } => {
-            let config = input::open(rt, config);
-            let script = input::open(rt, script);
+            let config = open_input(rt, config);
+            let script = open_input(rt, script);
             trace(alloc, config, script, &mut rt.stdout())?;
             Ok(Verdict::Passed)
         }
@@ -38,7 +38,7 @@ fn run<H: Threads + Wait + Sync>(rt: &HostRuntime, host: &H) -> Result<Verdict, 
         } => clients(
             host,
             alloc,
-            input::open(rt, config),
+            open_input(rt, config),
             threads,
             rounds,
             &mut rt.stdout(),

@@ -1,4 +1,5 @@
 pub mod Ending
+pub mod Input
 pub mod Reading
 pub mod Started
 pub mod Texts

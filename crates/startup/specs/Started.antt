@@ -80,9 +80,9 @@ IsStartOf c view = IsStartOver true c view
 abbrev pub IsStartApart : Config → ManagerView → Type 0
 IsStartApart c view = IsStartOver false c view
 
--- the same as what a stack shows over an adapter of these settings before its first event
+-- what a stack shows over an adapter of these settings before its first event
 pub record IsFirstOf (c : Config) (view : ManagerView) : Type 0 where
-  -- with nothing asked of it
+  -- of which nothing was asked
   pub adapter : MemView
   pub new : IsNewAdapter c adapter
   pub blank : HasBlankPartitions c adapter.shown.sectors

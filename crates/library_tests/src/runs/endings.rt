@@ -3,13 +3,12 @@
 use crate::expect::{same, same_at};
 use crate::runs::given::{Narrow, Stuck, Torn, run};
 use commands::Error;
-use commands::input::Input;
 use compose::{MbrFault, StartFault};
 use ntstatus::NtStatus;
 use script::ScriptFault;
 use settings::ConfigFault;
 use startup::Error::{ConfigUnreadable, Settings, Start};
-use startup::{Verdict, ended, say};
+use startup::{Input, Verdict, ended, say};
 use std::io;
 use std::io::ErrorKind;
 use std::test::Fail;

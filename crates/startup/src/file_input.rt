@@ -2,14 +2,14 @@
 
 ghost use Rattle.std.specs.Prelude.{◌≡◌, MatchResult};
 ghost use Rattle.std.specs.IoError.{error_kind};
-ghost use Rattle.commands.specs.declared.input.Input.TheVariants.{Opened, Refused};
+ghost use Rattle.startup.specs.declared.file_input.Input.TheVariants.{Opened, Refused};
 
 use std::fs::File;
 use std::io;
 use std::io::{ErrorKind, Read};
 use std::rt::Files;
 
-/// A file that was opened, or why it was not, which its reads answer.
+/// A file that was opened, or why it was not, which each read of it says.
 #[derive(Drop)]
 pub enum Input<F: Read + Drop> {
     /// It was opened, and is read.
@@ -31,7 +31,7 @@ impl<F: Read + Drop> Input<F> {
 }
 
 impl<F: Read + Drop> Read for Input<F> {
-    ghost use Rattle.commands.specs.Input.{remaining_of};
+    ghost use Rattle.startup.specs.Input.{remaining_of};
 
     ghost remaining = { remaining_of F.remaining };
 
@@ -44,6 +44,6 @@ impl<F: Read + Drop> Read for Input<F> {
 }
 
 /// Opens the file at a path for its reads. Where that fails, its reads say so: there is no error here.
-pub fn open<R: Files>(rt: &R, path: &str) -> Input<R::File> {
+pub fn open_input<R: Files>(rt: &R, path: &str) -> Input<R::File> {
     Input::of(File::open(rt, path))
 }

@@ -1,9 +1,9 @@
 -- What is left of a file that may not be there.
 use Rattle.std.specs.Prelude.{ℕ, List, Option, None}
-use Rattle.commands.specs.declared.input.Input.{Input}
-use Rattle.commands.specs.declared.input.Input.TheVariants.{Opened, Refused}
+use Rattle.startup.specs.declared.file_input.Input.{Input}
+use Rattle.startup.specs.declared.file_input.Input.TheVariants.{Opened, Refused}
 
--- that of the file; nothing is known of one that was refused
+-- what is left of a file that was opened; of one that was refused nothing is known
 abbrev pub remaining_of : {F : Type 0} → (F → Option (List ℕ)) → Input F → Option (List ℕ)
 remaining_of remaining (Opened file) = remaining file
 remaining_of remaining (Refused kind) = None
