@@ -49,7 +49,7 @@ const GREETING: [Part; 3] = [
     Short(3),
 ];
 
-/// Behind the greeting.
+/// Sessions behind the greeting.
 const HANDSHAKES: [Session; 8] = [
     Session {
         name: "the names of the exports, and leaving",
@@ -221,7 +221,7 @@ const HANDSHAKES: [Session; 8] = [
     },
 ];
 
-/// Behind NBD_OPT_GO.
+/// Sessions behind NBD_OPT_GO.
 const REQUESTS: [Session; 9] = [
     Session {
         name: "write past caches, flush and two reads at once",

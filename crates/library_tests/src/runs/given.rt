@@ -8,7 +8,7 @@ use std::io::{ErrorKind, Read, Write};
 
 /// A reader that gives some bytes, and then fails.
 #[derive(Drop)]
-pub struct Torn<'a> {
+pub(crate) struct Torn<'a> {
     pub bytes: &'a [u8],
     pub kind: ErrorKind,
 }
@@ -24,7 +24,7 @@ impl Read for Torn<'_> {
 
 /// A writer that takes this many bytes, and then fails.
 #[derive(Drop)]
-pub struct Narrow<'a> {
+pub(crate) struct Narrow<'a> {
     pub taken: &'a mut Vec<u8>,
     pub room: usize,
     pub kind: ErrorKind,
@@ -48,7 +48,7 @@ impl Write for Narrow<'_> {
 
 /// A writer that takes all, and can't be flushed.
 #[derive(Drop)]
-pub struct Stuck<'a> {
+pub(crate) struct Stuck<'a> {
     pub taken: &'a mut Vec<u8>,
     pub kind: ErrorKind,
 }
@@ -66,12 +66,12 @@ impl Write for Stuck<'_> {
 
 /// What was said of a run, and its exit status.
 #[derive(Debug, Drop)]
-pub struct Outcome {
+pub(crate) struct Outcome {
     pub faults: Vec<u8>,
     pub status: u8,
 }
 
-pub fn run<C: Read + Drop, S: Read + Drop, O: Write>(
+pub(crate) fn run<C: Read + Drop, S: Read + Drop, O: Write>(
     alloc: Global,
     config: C,
     script: S,

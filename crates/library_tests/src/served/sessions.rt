@@ -155,7 +155,7 @@ const NO_PROTOCOL: Session = Session {
     fault: "nbd_disk: malformed input\n",
 };
 
-/// Behind NBD_OPT_GO.
+/// Sessions behind NBD_OPT_GO.
 const REQUESTS: [Session; 4] = [
     Session {
         name: "out of bounds, and a bad sector written and read",
