@@ -9,9 +9,10 @@ ghost use Rattle.traced.specs.Opening.{AreClientsOf, AreHandlesOf, IsFirst};
 ghost use Rattle.traced.specs.Sizes.{AreSizes, sizes_of};
 ghost use Rattle.traced.specs.Sound.{IsNamed};
 
+use crate::expect::same;
 use crate::opened::Opened as Ready;
 use crate::orders::{Order, step};
-use crate::told::{self, same};
+use crate::texts;
 use book::{Book, Naming};
 use cancel_marks::{Marks, Seat};
 use chronicle::{History, Opened};
@@ -110,7 +111,7 @@ fn go<M: Medium, N: Naming, R: Wait + Abort>(
         assert!(rt; book.len() == before);
         return Err(AllocError);
     }
-    same(rt, &told::reply(alloc, &reply)?.as_str(), &want);
+    same(rt, &texts::reply(alloc, &reply)?.as_str(), &want);
     Ok(())
 }
 
@@ -132,7 +133,7 @@ fn fail<M: Medium, N: Naming, R: Wait + Abort>(
         panic!(rt; "the piece of tag {tag} didn't fail")
     };
     let reply = book.act_failed(rt, alloc, history, marks, journal, words, tag, completion);
-    same(rt, &told::reply(alloc, &reply)?.as_str(), &want);
+    same(rt, &texts::reply(alloc, &reply)?.as_str(), &want);
     Ok(())
 }
 
@@ -223,7 +224,7 @@ fn book_rest<M: Medium, N: Naming, R: Wait + Abort>(
 {
     let mut journal = journal.lock(rt);
     book.book_rest(alloc, history, marks, &mut journal, words);
-    let entries = told::entries(alloc, journal.entries())?;
+    let entries = texts::entries(alloc, journal.entries())?;
     same(rt, &entries.as_str(), &want);
     Ok(())
 }
@@ -313,7 +314,7 @@ fn compare<N: Naming>(
     let (trace, mut rows, _receipts) = book.into_rows();
     same(
         rt,
-        &told::trace(alloc, trace.as_slice())?.as_str(),
+        &texts::trace(alloc, trace.as_slice())?.as_str(),
         &run.trace,
     );
     let (Some(second), Some(first), None) = (rows.pop(), rows.pop(), rows.pop()) else {

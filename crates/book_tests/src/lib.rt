@@ -5,10 +5,12 @@
 #[cfg(test)]
 mod desk;
 #[cfg(test)]
+mod expect;
+#[cfg(test)]
 mod opened;
 #[cfg(test)]
 mod orders;
 #[cfg(test)]
 mod rows;
 #[cfg(test)]
-mod told;
+mod texts;

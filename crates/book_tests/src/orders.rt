@@ -15,7 +15,7 @@ use std::alloc::{AllocError, Global};
 use std::sync::{Mutex, Wait};
 use traced::{Share, TraceEntry};
 
-/// What is asked of a book. Those of a client's are on its handle.
+/// What is asked of a book. A client's orders are on its handle.
 #[derive(Debug, Clone, Copy)]
 pub(crate) enum Order {
     /// A read of so many bytes.

@@ -5,16 +5,9 @@ use machine::Label;
 use sector_journal::Entered;
 use srb::{DeviceLabel, Kind};
 use std::alloc::{AllocError, Global};
-use std::fmt::Debug;
-use std::process::Abort;
 use traced::TraceEntry;
 
-/// Ends the test, and names both, where what was got is not what was wanted.
-pub(crate) fn same<T: PartialEq + Debug>(rt: &impl Abort, got: &T, wanted: &T) {
-    assert_eq!(rt; got, wanted);
-}
-
-/// As `request 1 at 0`.
+/// A reply, as `request 1 at 0`.
 pub(crate) fn reply(alloc: Global, reply: &Reply) -> Result<String, AllocError> {
     let mut text = String::new(alloc);
     match reply {
@@ -30,8 +23,8 @@ pub(crate) fn reply(alloc: Global, reply: &Reply) -> Result<String, AllocError> 
     Ok(text)
 }
 
-/// As `call 1 of 0 / start 1 / act 1 a5 / return 1 / answer 1 SUCCESS of 0`: of an act the first byte, of a call and an
-/// answer the row.
+/// A trace, as `call 1 of 0 / start 1 / act 1 a5 / return 1 / answer 1 SUCCESS of 0`. An act tells its first byte; a
+/// call and an answer tell their row.
 pub(crate) fn trace(alloc: Global, entries: &[TraceEntry]) -> Result<String, AllocError> {
     let mut text = String::new(alloc);
     for entry in entries {
@@ -79,7 +72,8 @@ fn tell_first(text: &mut String, bytes: &[u8]) -> Result<(), AllocError> {
     }
 }
 
-/// As `write 2049 02 / read 2049 02 / flush`: of a read and a write the first sector of the disk and the first byte.
+/// Entries, as `write 2049 02 / read 2049 02 / flush`. A read and a write tell their first sector of the disk and their
+/// first byte.
 pub(crate) fn entries(alloc: Global, entries: &[Entered]) -> Result<String, AllocError> {
     let mut text = String::new(alloc);
     for entered in entries {
