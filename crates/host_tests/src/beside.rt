@@ -5,7 +5,7 @@ ghost use Rattle.std.specs.Prelude.{◌≡◌, ◌<◌, IfOk};
 use crate::disks::{ONE, disk, start_for};
 use crate::holding::Holding;
 use crate::scenes::{Scene, Want, play_scene};
-use crate::told;
+use crate::texts;
 use cancel_marks::Marking;
 use compose::Refusal as Why;
 use disk::{BadSector, Medium, NoMemory};
@@ -117,7 +117,7 @@ fn read_past<M: Medium, N: Naming, R: Wait>(
         Ok(_) => Err(AllocError),
         Err(refusal) => match refusal.reason {
             Reason::Refused(Why::InsufficientResources) => Err(AllocError),
-            _ => told::refusal(alloc, &refusal),
+            _ => texts::refusal(alloc, &refusal),
         },
     }
 }
@@ -130,7 +130,7 @@ fn seen(
     answered: &Answered,
 ) -> Result<String, AllocError> {
     let second = second?;
-    let answered = told::answered(alloc, answered)?;
+    let answered = texts::answered(alloc, answered)?;
     let mut text = String::new(alloc);
     write!(text, "{first} / {second} / {answered}")?;
     Ok(text)
@@ -188,7 +188,7 @@ impl<'a, C: Clock> Scene for BesideReset<'a, C> {
         let reply = host.reset(rt);
         self.holding.let_go(rt);
         let answered = first.wait(rt, host, ticket);
-        seen(alloc, "reset", told::reply(alloc, &reply), &answered)
+        seen(alloc, "reset", texts::reply(alloc, &reply), &answered)
     }
 }
 
@@ -209,7 +209,7 @@ fn read_and_wait<M: Medium, N: Naming, R: Wait>(
     ensures { client.new.client ≡ client.old.client }
 {
     let ticket = read_first(rt, host, client, buffer)?;
-    told::answered(alloc, &client.wait(rt, host, ticket))
+    texts::answered(alloc, &client.wait(rt, host, ticket))
 }
 
 impl<'a, C: Clock> Scene for BesideTurnstile<'a, C> {

@@ -8,8 +8,8 @@ use crate::disks::TWO;
 use crate::expect::{same, same_at};
 use crate::opening::open_host;
 use crate::replaying::replay;
+use crate::texts;
 use crate::user::{Deed, User};
-use crate::{texts, told};
 use compose::{Refusal as Why, Reply};
 use disk::Medium;
 use host::{Client, Closed, Host, Keeper, Naming, Opened};
@@ -78,7 +78,7 @@ fn step<M: Medium, N: Naming, R: Wait>(
     }
 }
 
-// One that has just this reply.
+// A step that is no client's, and has just this reply.
 fn go<M: Medium, N: Naming, R: Wait + Abort>(
     rt: &R,
     alloc: Global,
@@ -95,7 +95,7 @@ fn go<M: Medium, N: Naming, R: Wait + Abort>(
     {
         return Err(AllocError);
     }
-    same_at(rt, &told::reply(alloc, &reply)?.as_str(), &want, &drive);
+    same_at(rt, &texts::reply(alloc, &reply)?.as_str(), &want, &drive);
     Ok(())
 }
 

@@ -41,7 +41,7 @@ pub(crate) fn sector_0(entries: &[Entry]) -> [u8; 512] {
 /// One partition, of the sectors 2,048 to 3,071.
 pub(crate) const ONE: &[Entry] = &[(7, 2048, 1024)];
 
-/// Two, of which the second has the sectors 3,072 to 4,095.
+/// Two partitions. The second has the sectors 3,072 to 4,095.
 pub(crate) const TWO: &[Entry] = &[(7, 2048, 1024), (7, 3072, 1024)];
 
 fn no_memory(_refused: NoMemory) -> AllocError {
@@ -121,7 +121,7 @@ pub(crate) fn start(
     start_over(rt, alloc, adapter, open_requests)
 }
 
-/// The same, for the disk that a medium has.
+/// A stack for the disk that a medium has, whose table this is.
 pub(crate) fn start_for<M: Medium>(
     rt: &impl Abort,
     alloc: Global,

@@ -10,7 +10,7 @@ use crate::disks::{ONE, disk, start_for};
 use crate::expect::same;
 use crate::holding::Holding;
 use crate::opening::open_host;
-use crate::told;
+use crate::texts;
 use disk::Medium;
 use host::{Call, Client, Host, HostFault, Keeper, Naming, Opened, Ticket};
 use lanes::{Completions, Desk, Pass, Step, Woken, serve_completions, serve_lane};
@@ -121,7 +121,7 @@ fn read_at<M: Medium, N: Naming, R: Wait>(
     }
 }
 
-// The same, and it waits for the answer.
+// A client reads the sector at an offset, and waits for the answer.
 fn read_and_wait<M: Medium, N: Naming, R: Wait>(
     rt: &R,
     alloc: Global,
@@ -130,11 +130,11 @@ fn read_and_wait<M: Medium, N: Naming, R: Wait>(
     offset: u64,
 ) -> Result<String, AllocError> {
     let ticket = read_at(rt, alloc, host, client, offset)?;
-    told::answered(alloc, &client.wait(rt, host, ticket))
+    texts::answered(alloc, &client.wait(rt, host, ticket))
 }
 
-// The first reads once the worker is held, the second once an item was put; then the worker is let go. What both are told,
-// the second first.
+// The first client reads once the worker is held, the second once an item was put; then the worker is let go. Returns
+// what both are told, the second first.
 fn read_both<M: Medium, N: Naming, R: Wait, C: Clock>(
     rt: &R,
     alloc: Global,
@@ -148,13 +148,13 @@ fn read_both<M: Medium, N: Naming, R: Wait, C: Clock>(
     let seen = read_and_wait(rt, alloc, desk.host, second, 512);
     desk.worker.let_go(rt);
     let answered = first.wait(rt, desk.host, ticket);
-    let (seen, answered) = (seen?, told::answered(alloc, &answered)?);
+    let (seen, answered) = (seen?, texts::answered(alloc, &answered)?);
     let mut text = String::new(alloc);
     write!(text, "{seen} / {answered}")?;
     Ok(text)
 }
 
-// The same; then nobody is held, and the device is removed.
+// Both clients read; then nobody is held, and the device is removed.
 fn read_and_remove<M: Medium, N: Naming, R: Wait, C: Clock>(
     rt: &R,
     alloc: Global,
@@ -207,7 +207,7 @@ fn run_threads<
     )
 }
 
-// The second's lane finishes its piece, while the item of the first fills the queue.
+// The lane of the second client finishes its piece, while the item of the first fills the queue.
 fn run<
     M: Medium + Send,
     N: Naming + Send + Sync,

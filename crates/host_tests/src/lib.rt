@@ -26,6 +26,4 @@ mod scenes;
 #[cfg(test)]
 mod texts;
 #[cfg(test)]
-mod told;
-#[cfg(test)]
 mod user;

@@ -1,14 +1,15 @@
-//! A trace and answers as text.
+//! Traces, and what a host says, as text.
 
-use compose::Answer;
+use compose::{Answer, Reply};
+use host::{Answered, Reason, Refusal};
 use machine::Label;
 use sector::Bytes;
 use srb::DeviceLabel;
 use std::alloc::{AllocError, Global};
 use traced::TraceEntry;
 
-/// As `call 1 of 0 / start 1 through / act 1 / return 1 / answer 1 SUCCESS of 0`: of a call and an answer the row as well, of a
-/// start whether its block has FUA.
+/// A trace, as `call 1 of 0 / start 1 through / act 1 / return 1 / answer 1 SUCCESS of 0`. A call and an answer tell
+/// their row, and a start tells whether its block has FUA.
 pub(crate) fn trace(alloc: Global, entries: &[TraceEntry]) -> Result<String, AllocError> {
     let mut text = String::new(alloc);
     for entry in entries {
@@ -58,7 +59,7 @@ fn tell_through(text: &mut String, block: &[u8]) -> Result<(), AllocError> {
 }
 
 /// An answer, as `1 SUCCESS 512 a5*512`.
-pub(crate) fn tell_answer(text: &mut String, answer: &Answer) -> Result<(), AllocError> {
+fn tell_answer(text: &mut String, answer: &Answer) -> Result<(), AllocError> {
     write!(
         text,
         "{} {} {} ",
@@ -82,4 +83,47 @@ fn tell_bytes(text: &mut String, bytes: &Bytes) -> Result<(), AllocError> {
         count = count.saturating_add(1);
     }
     write!(text, "{of:02x}*{count}")
+}
+
+/// A ticket, as `request 1`.
+pub(crate) fn ticket(alloc: Global, number: u64) -> Result<String, AllocError> {
+    let mut text = String::new(alloc);
+    write!(text, "request {number}")?;
+    Ok(text)
+}
+
+/// A refusal, as `InvalidParameter 512 at 0, 1`, with the number of the bytes that came back.
+pub(crate) fn refusal(alloc: Global, refusal: &Refusal) -> Result<String, AllocError> {
+    let mut text = String::new(alloc);
+    match refusal.reason {
+        Reason::Refused(why) => write!(text, "{why:?}")?,
+        Reason::TooManyTickets => write!(text, "TooManyTickets")?,
+    }
+    write!(text, " {}", refusal.bytes.as_slice().len())?;
+    if let Some(places) = refusal.places {
+        write!(text, " at {}, {}", places.call, places.answer)?;
+    }
+    Ok(text)
+}
+
+/// An answer, as `answer 1 SUCCESS 512 00*512 at 0, 9`, with the number of bytes transferred, and the bytes of a read.
+pub(crate) fn answered(alloc: Global, answered: &Answered) -> Result<String, AllocError> {
+    let mut text = String::new(alloc);
+    let places = answered.places;
+    write!(text, "answer ")?;
+    tell_answer(&mut text, &answered.answer)?;
+    write!(text, " at {}, {}", places.call, places.answer)?;
+    Ok(text)
+}
+
+/// A reply, as `ok`.
+pub(crate) fn reply(alloc: Global, reply: &Reply) -> Result<String, AllocError> {
+    let mut text = String::new(alloc);
+    match reply {
+        Reply::Ok => write!(text, "ok")?,
+        Reply::Ignored => write!(text, "ignored")?,
+        Reply::Refused { refusal, .. } => write!(text, "{refusal:?}")?,
+        _ => write!(text, "another reply")?,
+    }
+    Ok(text)
 }

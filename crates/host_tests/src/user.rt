@@ -3,7 +3,7 @@
 ghost use Rattle.std.specs.Prelude.{◌≡◌};
 
 use crate::expect::same_at;
-use crate::told;
+use crate::texts;
 use compose::Refusal as Why;
 use disk::Medium;
 use host::{Call, Client, Host, Naming, Reason, Ticket};
@@ -20,7 +20,7 @@ pub(crate) enum Deed {
     Read(u64, usize),
     /// A write at this offset of so many equal bytes.
     Write(u64, usize, u8),
-    /// The same past volatile caches.
+    /// Such a write past volatile caches.
     WriteThrough(u64, usize, u8),
     Flush,
     /// Reads of a sector each, from the first on, sixty-four of them. The last one's ticket is left.
@@ -96,11 +96,11 @@ impl<N: Naming> User<N> {
             Ok(ticket) => {
                 let number = ticket.number();
                 self.ticket = Some(ticket);
-                told::ticket(alloc, number)
+                texts::ticket(alloc, number)
             }
             Err(refusal) => match refusal.reason {
                 Reason::Refused(Why::InsufficientResources) => Err(AllocError),
-                _ => told::refusal(alloc, &refusal),
+                _ => texts::refusal(alloc, &refusal),
             },
         }
     }
@@ -135,7 +135,7 @@ impl<N: Naming> User<N> {
             panic!(rt; "no ticket")
         };
         let answered = self.client.wait(rt, host, ticket);
-        told::answered(alloc, &answered)
+        texts::answered(alloc, &answered)
     }
 
     // Marks the request of the last call.
@@ -201,7 +201,7 @@ impl<N: Naming> User<N> {
         Ok(())
     }
 
-    /// Compares its number, and the places of its calls and of the answers that it was told of.
+    /// Compares the client's number, and the places of its calls and of the answers that it was told of.
     pub(crate) fn compare(
         &self,
         rt: &impl Abort,

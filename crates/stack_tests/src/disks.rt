@@ -49,7 +49,7 @@ pub(crate) const ONE: PartitionTable = PartitionTable {
     entries: [MIDDLE, UNUSED, UNUSED, UNUSED],
 };
 
-/// A table of two, of which the second has the sectors 3,072 to 4,095.
+/// A table of two partitions. The second has the sectors 3,072 to 4,095.
 pub(crate) const TWO: PartitionTable = PartitionTable {
     signature: SIGNATURE,
     entries: [MIDDLE, (7, 3072, 1024), UNUSED, UNUSED],
@@ -87,7 +87,7 @@ pub(crate) fn adapter<M: Medium>(
     MemAdapter::new(alloc, medium, max_transfer, 2, false).map_err(no_memory)
 }
 
-/// A medium that refuses to reserve, this many times. Nothing is reserved in it until it has refused so often.
+/// A medium that refuses to reserve sectors, this many times. Then it reserves them.
 #[derive(Drop)]
 pub(crate) struct Reluctant<M: Medium> {
     pub medium: M,

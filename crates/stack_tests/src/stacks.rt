@@ -9,4 +9,4 @@ mod journal;
 mod refused_memory;
 mod starting;
 mod steps;
-pub(crate) mod told;
+pub(crate) mod texts;

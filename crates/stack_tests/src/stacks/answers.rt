@@ -6,7 +6,7 @@ use crate::disks::ONE;
 use crate::expect::same;
 use crate::stacks::disks::{disk_adapter, stack_on};
 use crate::stacks::steps::{FIRST, Row, Step, go_and_answer};
-use crate::stacks::told::tell_answer;
+use crate::stacks::texts::tell_answer;
 use compose::{Answer, Stack};
 use miniport::Adapter;
 use std::alloc::{AllocError, Global};

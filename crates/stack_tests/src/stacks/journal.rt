@@ -17,12 +17,13 @@ use adapter::Adapter;
 use compose::{Answer, Event, Reply, Settings, Stack, StartFault};
 use device::Label;
 use disk::{Medium, VecDisk};
+use journal_replay::ReplayFault;
 use journaled::Journaled;
 use miniport::{BookedAdapter, MemAdapter};
 use ntstatus::Sense;
 use sector::Extent;
 use sector_journal::{Entered, History, Journal, Naming, Opened};
-use srb::{Completion, Entry, Kind};
+use srb::{Completion, Kind};
 use std::alloc::{AllocError, Global};
 use std::marker::Brand;
 use std::process::Abort;
@@ -87,7 +88,7 @@ fn adapter_apart(alloc: Global) -> Result<BookedAdapter, AllocError>
     BookedAdapter::new(alloc, first, 4096, 2, 2).map_err(|_| AllocError)
 }
 
-/// A stack over it.
+/// A stack over such an adapter.
 fn stack_apart(rt: &impl Abort, alloc: Global) -> Result<Stack<BookedAdapter>, AllocError>
     ensures started { IfOk result IsStarted }
     ensures apart { IfOk result (λ s. IsFalse s.adapter.faithful) }
@@ -120,56 +121,6 @@ fn journaled_on<M: Medium, N: Naming>(
     Ok(Journaled::new(stack, journal, history, 2))
 }
 
-/// The bytes of sectors that can be read.
-fn read_all<M: Medium>(
-    rt: &impl Abort,
-    alloc: Global,
-    medium: &mut M,
-    extent: Extent,
-) -> Result<Vec<u8>, AllocError> {
-    let sectors = medium.sectors();
-    assert!(rt; extent.first <= sectors && extent.count <= sectors - extent.first);
-    assert!(rt; extent.count <= 64 && medium.sector_size() == 512);
-    assert!(rt; medium.failures() < 1000);
-    let mut bytes = vec![in alloc; 0; extent.count as usize * 512]?;
-    assert!(rt; medium.read(extent, bytes.as_mut_slice()).is_ok());
-    Ok(bytes)
-}
-
-/// Writes sectors that can be written.
-fn write_all<M: Medium>(
-    rt: &impl Abort,
-    medium: &mut M,
-    extent: Extent,
-    bytes: &[u8],
-) -> Result<(), AllocError> {
-    let sectors = medium.sectors();
-    assert!(rt; extent.first <= sectors && extent.count <= sectors - extent.first);
-    medium.reserve(extent).map_err(|_| AllocError)?;
-    assert!(rt; extent.count <= 64 && medium.sector_size() == 512);
-    assert!(rt; bytes.len() == extent.count as usize * 512 && medium.failures() < 1000);
-    assert!(rt; medium.write(extent, bytes).is_ok());
-    Ok(())
-}
-
-/// An entry on a disk as it was before: a read's bytes are read again.
-fn replay_one<M: Medium>(
-    rt: &impl Abort,
-    alloc: Global,
-    fresh: &mut M,
-    entry: &Entry,
-) -> Result<(), AllocError> {
-    match entry.kind {
-        Kind::Read => {
-            let bytes = read_all(rt, alloc, fresh, entry.extent)?;
-            assert!(rt; bytes.as_slice() == entry.bytes.as_slice());
-        }
-        Kind::Write => write_all(rt, fresh, entry.extent, entry.bytes.as_slice())?,
-        Kind::Flush => assert!(rt; entry.bytes.len() == 0),
-    }
-    Ok(())
-}
-
 /// The sectors that a test may move.
 const MOVED: Extent = Extent {
     first: 2048,
@@ -184,13 +135,11 @@ fn replay<M: Medium>(
     entries: &[Entered],
 ) -> Result<(), AllocError> {
     let mut fresh = disk(alloc, &ONE, &[])?;
-    for entered in entries {
-        replay_one(rt, alloc, &mut fresh, &entered.entry)?;
+    match journal_replay::replay(alloc, entries, &mut fresh, medium, &[MOVED]) {
+        Ok(()) => Ok(()),
+        Err(ReplayFault::NoMemory) => Err(AllocError),
+        Err(fault) => panic!(rt; "{fault}"),
     }
-    let one = read_all(rt, alloc, medium, MOVED)?;
-    let other = read_all(rt, alloc, &mut fresh, MOVED)?;
-    assert!(rt; one.as_slice() == other.as_slice());
-    Ok(())
 }
 
 /// Returns how many rows show an act.

@@ -5,7 +5,7 @@ ghost use Rattle.probe.specs.Exchange.{IsIdle};
 
 use crate::expect::{same, same_at};
 use crate::stacks::disks::stack_on;
-use crate::stacks::told::{tell_answer, told};
+use crate::stacks::texts::{step_text, tell_answer};
 use compose::{Answer, Event, Handle, Id, Refusal, Reply, RunStopped, Shown, Stack};
 use device::Label;
 use miniport::Adapter;
@@ -105,7 +105,7 @@ fn compare(
             assert!(rt; shown.labels.is_empty(), "{step:?}");
             return Err(AllocError);
         }
-        same_at(rt, &told(alloc, shown)?.as_str(), want, &step);
+        same_at(rt, &step_text(alloc, shown)?.as_str(), want, &step);
     }
     Ok(())
 }
@@ -224,7 +224,7 @@ fn go_one<S: Carrier>(
         assert!(rt; shown.labels.is_empty(), "{step:?}");
         shown = show_step(alloc, stack, step)?;
     }
-    same_at(rt, &told(alloc, &shown)?.as_str(), &want, &step);
+    same_at(rt, &step_text(alloc, &shown)?.as_str(), &want, &step);
     Ok(())
 }
 

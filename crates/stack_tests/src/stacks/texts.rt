@@ -7,7 +7,7 @@ use srb::{Class, CommandBlock, DeviceLabel};
 use std::alloc::{AllocError, Global};
 
 /// The reply and then the labels, as `ok / return 1 good / answer 1 SUCCESS 512 a5*512`.
-pub(crate) fn told(alloc: Global, shown: &Shown) -> Result<String, AllocError> {
+pub(crate) fn step_text(alloc: Global, shown: &Shown) -> Result<String, AllocError> {
     let mut text = String::new(alloc);
     tell_reply(&mut text, &shown.reply)?;
     for label in &shown.labels {
