@@ -1,4 +1,5 @@
-mod TellingLines
+mod LinesRead
+mod Courses
 mod Written
 mod RecordedLabels
 mod PlayedLines

@@ -1,107 +1,104 @@
--- Labels, taken by a judge one by one.
-use Rattle.std.proofs.Common.{◌≡◌, ◌<◌, ℕ, zero, suc, ◌+◌, List, [], ◌∷◌, ◌++◌, Option, None, Some, All, refl, sym, ◌∙◌, ap, subst, arith, length, take, get_or, slice_get}
-use Rattle.std.proofs.lemmas.List.{take_more}
+-- The first label that a judge refuses.
+use Rattle.std.proofs.Common.{◌≡◌, ◌<◌, ◌≤◌, ℕ, zero, suc, ◌+◌, List, [], ◌∷◌, ◌++◌, Some, All, refl, sym, ◌∙◌, ap, subst, arith, length, length-append, slice_get, take, take_all, take_at}
 use Rattle.std.proofs.lemmas.List.Elements.{All-head}
 use Rattle.machine.specs.declared.Label.{Label}
 use Rattle.machine.specs.Rules.{Rules}
 use Rattle.machine.specs.State.{State, opening}
 use Rattle.machine.specs.Step.{Run}
 use Rattle.judge.specs.Judging.{IsRun}
-use Rattle.judge.specs.Following.{HasTaken, IsRefused, JudgeView, Refuses, Takes}
-use Rattle.judge.specs.Refusals.{IsRefusal}
+use Rattle.judge.specs.Following.{HasTaken, IsRefused, JudgeView, Refuses}
 use Rattle.judge.specs.declared.label_rules.Rule.{Rule}
-use Rattle.judge.specs.declared.stepwise.Refusal.{Refusal}
-use Rattle.judge.specs.declared.stepwise.Refusal.TheVariants as refusal
+use Rattle.judging.specs.Checked.{IsFirstBroken, arrays_of, rules_by}
+use Rattle.judging.specs.declared.course.Stop.{Stop}
+use Rattle.judging.specs.declared.course.Trial.{Trial}
 use Rattle.judging.specs.declared.opened.Standard.{Standard}
-use Rattle.std.specs.Io.KnownBytes.{Appends}
-use Rattle.startup.specs.declared.ending.Verdict.TheVariants.{Failed}
-use Rattle.judging.specs.Checked.{IsFirstBroken, arrays_of, refused_line, rules_by}
-use Rattle.judging.specs.inside.Checked.{AreJudged, IsFound, IsJudged, IsSaid}
-use Rattle.judging.specs.declared.told.Told.{Told}
-use Rattle.judging.specs.declared.checking.Stop.{Stop}
+use Rattle.judging.specs.inside.Course.{HasStopped, HasTried}
 
--- a judge has taken this many of the labels, and its rules are the same
-pub record HasTakenSome (start now : JudgeView) (labels : List Label) (at : ℕ) : Type 0 where
-  pub same_rules : now.rules ≡ start.rules
-  pub taken : (arrays : List (List (List ℕ))) → HasTaken start arrays [] → HasTaken now arrays (take at labels)
+-- LISTS WITH MORE BEHIND THEM
 
-pub none_taken : (start : JudgeView) (labels : List Label) → HasTakenSome start start labels 0
-none_taken start labels = record { same_rules = refl; taken = λ arrays h. h }
+front_of : {A : Type 0} (xs ys : List A) (k : ℕ) → k ≤ length xs → take k (xs ++ ys) ≡ take k xs
+front_of xs ys zero le = refl
+front_of [] ys (suc k) le = absurd (omega arith)
+front_of (x ∷ xs) ys (suc k) le = ap (λ l. x ∷ l) (front_of xs ys k (omega arith))
 
--- with one label more
-further : (labels : List Label) (at : ℕ) (label : Label) → at < length labels → label ≡ get_or labels at label → take (at + 1) labels ≡ take at labels ++ label ∷ []
-further labels at label low is = take_more labels at label low ∙ ap (λ l. take at labels ++ l ∷ []) (sym is)
+got_before : {A : Type 0} (xs ys : List A) (k : ℕ) → k < length xs → slice_get (xs ++ ys) k ≡ slice_get xs k
+got_before [] ys k low = absurd (omega arith)
+got_before (x ∷ xs) ys zero low = refl
+got_before (x ∷ xs) ys (suc k) low = got_before xs ys k (omega arith)
 
-pub one_taken : (start now new : JudgeView) (labels : List Label) (at : ℕ) (label : Label) → HasTakenSome start now labels at → at < length labels → label ≡ get_or labels at label
-    → new.rules ≡ now.rules → Takes now label new → HasTakenSome start new labels (at + 1)
-one_taken start now new labels at label h low is rules takes = record {
-  same_rules = rules ∙ h.same_rules;
-  taken = λ arrays first. subst (HasTaken new arrays) (sym (further labels at label low is)) (takes arrays (take at labels) (h.taken arrays first));
-}
+got_last : {A : Type 0} (xs : List A) (y : A) (k : ℕ) → k ≡ length xs → slice_get (xs ++ y ∷ []) k ≡ Some y
+got_last [] y zero is = refl
+got_last [] y (suc k) is = absurd (omega arith)
+got_last (x ∷ xs) y zero is = absurd (omega arith)
+got_last (x ∷ xs) y (suc k) is = got_last xs y k (omega arith)
 
 -- a judge holds a state
 some_state : (P : State → Type 0) (states : List State) → All P states → 0 < length states → (s : State) × P s
 some_state P [] all some = absurd (omega arith)
 some_state P (s ∷ states) all some = (s, All-head P s states all)
 
-is_run : (j : JudgeView) (arrays : List (List (List ℕ))) (labels : List Label) → HasTaken j arrays labels → IsRun j.rules (opening arrays) labels
+pub is_run : (j : JudgeView) (arrays : List (List (List ℕ))) (labels : List Label) → HasTaken j arrays labels → IsRun j.rules (opening arrays) labels
 is_run j arrays labels h = some_state (Run j.rules (opening arrays) labels) j.states h.reached.each h.some
 
-pub all_taken : (start now : JudgeView) (labels : List Label) (at : ℕ) → HasTakenSome start now labels at → take at labels ≡ labels → IsFound start labels None
-all_taken start now labels at h all arrays first =
-    subst (λ r. IsRun r (opening arrays) labels) h.same_rules (subst (IsRun now.rules (opening arrays)) all (is_run now arrays (take at labels) (h.taken arrays first)))
+-- the label behind those that were taken is the first that is broken
+broken_last : (rules : Rules) (arrays : List (List (List ℕ))) (labels : List Label) (label : Label) (rule : Rule) → IsRun rules (opening arrays) labels
+    → IsRefused rules arrays labels label rule → IsFirstBroken rules arrays (labels ++ label ∷ []) (length labels) rule
+broken_last rules arrays labels label rule run refused =
+    let long : length (labels ++ label ∷ []) ≡ length labels + 1 = length-append labels (label ∷ []) in
+    let front : take (length labels) (labels ++ label ∷ []) ≡ labels = take_at labels (label ∷ []) (length labels) refl in
+    let all : take (length labels + 1) (labels ++ label ∷ []) ≡ labels ++ label ∷ [] = take_all (length labels + 1) (labels ++ label ∷ []) (omega (arith, long)) in
+    record {
+      stops = record {
+        within = omega (arith, long);
+        before = subst (IsRun rules (opening arrays)) (sym front) run;
+        none = λ more. refused.no_run (subst (IsRun rules (opening arrays)) all more);
+      };
+      label = label;
+      there = got_last labels label (length labels) refl;
+      state = refused.broken.0;
+      reached = subst (λ ls. Run rules (opening arrays) ls refused.broken.0) (sym front) refused.broken.1;
+      broken = refused.broken.2;
+    }
 
-here : (labels : List Label) (at : ℕ) (label : Label) → at < length labels → label ≡ get_or labels at label → slice_get labels at ≡ Some label
-here [] at label low is = absurd (omega arith)
-here (x ∷ labels) zero label low is = ap (λ l. Some l) (sym is)
-here (x ∷ labels) (suc at) label low is = here labels at label (omega arith) is
-
-broken : (rules : Rules) (arrays : List (List (List ℕ))) (labels : List Label) (at : ℕ) (label : Label) (rule : Rule) → at < length labels → label ≡ get_or labels at label
-    → IsRun rules (opening arrays) (take at labels) → IsRefused rules arrays (take at labels) label rule → IsFirstBroken rules arrays labels at rule
-broken rules arrays labels at label rule low is before refused = record {
-  stops = record {
-    within = low;
-    before = before;
-    none = λ run. refused.no_run (subst (IsRun rules (opening arrays)) (further labels at label low is) run);
-  };
-  label = label;
-  there = here labels at label low is;
-  state = refused.broken.0;
-  reached = refused.broken.1;
-  broken = refused.broken.2;
-}
-
-pub stops_here : (start now : JudgeView) (labels : List Label) (at : ℕ) (label : Label) (rule : Rule) → HasTakenSome start now labels at → at < length labels
-    → label ≡ get_or labels at label → Refuses now label rule → IsFound start labels (Some (at, rule))
-stops_here start now labels at label rule h low is refuses arrays first =
-    subst (λ r. IsFirstBroken r arrays labels at rule) h.same_rules
-    (broken now.rules arrays labels at label rule low is (is_run now arrays (take at labels) (h.taken arrays first)) (refuses arrays (take at labels) (h.taken arrays first)))
-
-pub refused_here : (start now : JudgeView) (labels : List Label) (at : ℕ) (label : Label) (r : Refusal) (rule : Rule) → HasTakenSome start now labels at → at < length labels
-    → label ≡ get_or labels at label → r ≡ refusal.Breaks rule → IsRefusal now label r → IsFound start labels (Some (at, rule))
-refused_here start now labels at label r rule h low is breaks refuses = stops_here start now labels at label rule h low is (subst (IsRefusal now label) breaks refuses)
+-- it stays the first, whatever follows
+broken_still : (rules : Rules) (arrays : List (List (List ℕ))) (labels more : List Label) (at : ℕ) (rule : Rule) → IsFirstBroken rules arrays labels at rule
+    → IsFirstBroken rules arrays (labels ++ more) at rule
+broken_still rules arrays labels more at rule h =
+    let low : at < length labels = h.stops.within in
+    let front : take at (labels ++ more) ≡ take at labels = front_of labels more at (omega arith) in
+    let through : take (at + 1) (labels ++ more) ≡ take (at + 1) labels = front_of labels more (at + 1) (omega arith) in
+    record {
+      stops = record {
+        within = omega (arith, length-append labels more);
+        before = subst (IsRun rules (opening arrays)) (sym front) h.stops.before;
+        none = λ run. h.stops.none (subst (IsRun rules (opening arrays)) through run);
+      };
+      label = h.label;
+      there = got_before labels more at low ∙ h.there;
+      state = h.state;
+      reached = subst (λ ls. Run rules (opening arrays) ls h.state) (sym front) h.reached;
+      broken = h.broken;
+    }
 
 -- over the machine of settings
-module _ (c : Standard) (j : JudgeView) (arrays : List (List (List ℕ))) (labels : List Label)
-    (rules_are : j.rules ≡ rules_by c) (arrays_are : arrays ≡ arrays_of c.config) (none : HasTaken j arrays []) where
-  of_settings : (found : Option (ℕ × Rule)) → IsFound j labels found → AreJudged (rules_by c) (arrays_of c.config) labels found
-  of_settings found is = subst (λ a. AreJudged (rules_by c) a labels found) arrays_are (subst (λ r. AreJudged r arrays labels found) rules_are (is arrays none))
+pub stops_last : (c : Standard) (labels : List Label) (numbers : List ℕ) (trial : Trial) (label : Label) (stop : Stop) → HasTried c labels trial → length numbers ≡ length labels
+    → Refuses trial.judge label stop.rule → HasStopped c (labels ++ label ∷ []) (numbers ++ stop.line ∷ []) stop
+stops_last c labels numbers trial label stop h as_many refuses =
+    let arrays = arrays_of c.config in
+    record {
+      at = length labels;
+      first =
+          subst (λ r. IsFirstBroken r arrays (labels ++ label ∷ []) (length labels) stop.rule) h.rules_are
+          (broken_last trial.judge.rules arrays labels label stop.rule (is_run trial.judge arrays labels h.taken) (refuses arrays labels h.taken));
+      there = got_last numbers stop.line (length labels) (sym as_many);
+    }
 
-  pub judged_legal : IsFound j labels None → IsJudged c labels None
-  judged_legal is = of_settings None is
-
-  pub judged_broken : (stop : Stop) → IsFound j labels (Some (stop.at, stop.rule)) → IsJudged c labels (Some stop)
-  judged_broken stop is = of_settings (Some (stop.at, stop.rule)) is
-
--- it is one of the labels
-pub is_within : (c : Standard) (labels : List Label) (stop : Stop) → IsJudged c labels (Some stop) → stop.at < length labels
-is_within c labels stop is = is.stops.within
-
--- and is told with its line
-pub said_broken : (c : Standard) (told : Told) (stop : Stop) (number : ℕ) (sentence : List ℕ) (old new : Option (List ℕ)) → IsJudged c told.labels.items (Some stop)
-    → slice_get told.lines.items stop.at ≡ Some number → Appends old new (refused_line number sentence) → IsSaid c told old new Failed
-said_broken c told stop number sentence old new is there appends = record {
-  line = refused_line number sentence;
-  says = (stop.at, stop.rule, is, (number, there, (sentence, refl)));
-  appends = appends;
-}
+pub stops_still : (c : Standard) (labels : List Label) (numbers : List ℕ) (label : Label) (number : ℕ) (stop : Stop) → HasStopped c labels numbers stop → length numbers ≡ length labels
+    → HasStopped c (labels ++ label ∷ []) (numbers ++ number ∷ []) stop
+stops_still c labels numbers label number stop h as_many =
+    let low : h.at < length labels = h.first.stops.within in
+    record {
+      at = h.at;
+      first = broken_still (rules_by c) (arrays_of c.config) labels (label ∷ []) h.at stop.rule h.first;
+      there = got_before numbers (number ∷ []) h.at (omega (arith, as_many)) ∙ h.there;
+    }

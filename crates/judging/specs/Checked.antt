@@ -20,7 +20,6 @@ use Rattle.startup.specs.Started.{rules_of}
 use Rattle.startup.specs.declared.ending.Verdict.{Verdict}
 use Rattle.startup.specs.declared.ending.Verdict.TheVariants.{Passed, Failed}
 use Rattle.judging.specs.Told.{AreTold, IsFirstBad}
-use Rattle.judging.specs.declared.told.Told.{Told}
 use Rattle.judging.specs.declared.opened.Standard.{Standard}
 use Rattle.judging.specs.declared.faults.Error.{Error}
 use Rattle.judging.specs.declared.faults.Error.TheVariants.{Usage, Startup, TraceUnreadable, ScriptUnreadable, BadLine, Script, OutputFailed, NoMemory}
@@ -65,12 +64,12 @@ pub record IsFirstBroken (rules : Rules) (arrays : List (List (List ℕ))) (labe
   pub reached : Run rules (opening arrays) (take at labels) state
   pub broken : Breaks rules state label rule
 
--- a line that says what the labels of a trace are: a run of the settings' machine, or none from this line on
-abbrev pub Says : Standard → Told → Verdict → List ℕ → Type 0
-Says standard told Passed line = IsRun (rules_by standard) (opening_of standard.config) told.labels.items × (line ≡ legal_line told.labels.items)
-Says standard told Failed line =
-    (at : ℕ) × (rule : Rule) × IsFirstBroken (rules_by standard) (arrays_of standard.config) told.labels.items at rule
-    × ((number : ℕ) × (slice_get told.lines.items at ≡ Some number) × ((sentence : List ℕ) × (line ≡ refused_line number sentence)))
+-- a line that says what the labels of a trace are, which stand in lines with these numbers: a run of the settings' machine, or none from this line on
+abbrev pub Says : Standard → List Label → List ℕ → Verdict → List ℕ → Type 0
+Says standard labels numbers Passed line = IsRun (rules_by standard) (opening_of standard.config) labels × (line ≡ legal_line labels)
+Says standard labels numbers Failed line =
+    (at : ℕ) × (rule : Rule) × IsFirstBroken (rules_by standard) (arrays_of standard.config) labels at rule
+    × ((number : ℕ) × (slice_get numbers at ≡ Some number) × ((sentence : List ℕ) × (line ≡ refused_line number sentence)))
 
 -- the verdict on the trace that an input gives, over the settings that another gives, was printed; for any cut or not
 pub record PrintsVerdict (any_cut : Bool) (config trace : Option (List ℕ)) (old new : Option (List ℕ)) (verdict : Verdict) : Type 0 where
@@ -78,10 +77,11 @@ pub record PrintsVerdict (any_cut : Bool) (config trace : Option (List ℕ)) (ol
   pub are_read : AreRead config settings
   pub text : List ℕ
   pub all : IsAllOf trace text
-  pub told : Told
-  pub are_told : AreTold (lines text) told
+  pub labels : List Label
+  pub numbers : List ℕ
+  pub are_told : AreTold (lines text) labels numbers
   pub line : List ℕ
-  pub says : Says (record { config = settings; any_cut = any_cut }) told verdict line
+  pub says : Says (record { config = settings; any_cut = any_cut }) labels numbers verdict line
   pub appends : Appends old new line
 
 -- WHY NOTHING IS SAID
@@ -98,5 +98,5 @@ IsCheckFault config trace TraceUnreadable = (settings : Config) × AreRead confi
 IsCheckFault config trace ScriptUnreadable = ⊥
 IsCheckFault config trace (BadLine line column) = (settings : Config) × AreRead config settings × ((text : List ℕ) × IsAllOf trace text × IsBlamed text line)
 IsCheckFault config trace (Script fault) = ⊥
-IsCheckFault config trace OutputFailed = (settings : Config) × AreRead config settings × ((text : List ℕ) × IsAllOf trace text × (told : Told) × AreTold (lines text) told)
+IsCheckFault config trace OutputFailed = (settings : Config) × AreRead config settings × ((text : List ℕ) × IsAllOf trace text × (labels : List Label) × (numbers : List ℕ) × AreTold (lines text) labels numbers)
 IsCheckFault config trace NoMemory = Unit {0}

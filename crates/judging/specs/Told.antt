@@ -3,18 +3,17 @@ use Rattle.std.specs.Prelude.{◌≡◌, ℕ, ◌+◌, true, List, [], ◌∷◌
 use Rattle.std.specs.List.{AllZip}
 use Rattle.machine.specs.declared.Label.{Label}
 use Rattle.label_text.specs.Lines.{Spells, is_told}
-use Rattle.judging.specs.declared.told.Told.{Told}
 
 -- the numbers of the lines that tell a label, the first of these lines having this number
 abbrev pub numbers_from : ℕ → List (List ℕ) → List ℕ
 numbers_from n [] = []
 numbers_from n (line ∷ lines) = (if is_told line then n ∷ [] else []) ++ numbers_from (n + 1) lines
 
--- the labels of a trace's lines, each with the number of its line, from 1
-pub record AreTold (lines : List (List ℕ)) (told : Told) : Type 0 where
-  pub spelled : AllZip Spells (filter is_told lines) told.labels.items
-  pub numbers : told.lines.items ≡ numbers_from 1 lines
-  pub as_many : length told.lines.items ≡ length told.labels.items
+-- the labels of a trace's lines, and the number of each one's line, from 1
+pub record AreTold (lines : List (List ℕ)) (labels : List Label) (numbers : List ℕ) : Type 0 where
+  pub spelled : AllZip Spells (filter is_told lines) labels
+  pub counted : numbers ≡ numbers_from 1 lines
+  pub as_many : length numbers ≡ length labels
 
 -- a line is bad: it is to tell a label, and spells none
 abbrev pub IsBad : List ℕ → Type 0

@@ -1,4 +1,7 @@
 -- What no reader of the public clauses needs.
 pub mod Checked
+pub mod Course
 pub mod Faults
 pub mod Input
+pub mod Reading
+pub mod Telling

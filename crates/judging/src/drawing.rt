@@ -1,12 +1,15 @@
 //! A trace, drawn.
 
 use crate::Error;
-use crate::checking::bytes_of;
+use crate::reading::{is_ended, next_line, without_end};
 use crate::told::{Told, told_by};
 use startup::Verdict;
 use std::alloc::Global;
-use std::io::{Read, Write};
+use std::io::{BufRead, BufReader, Read, Write};
 use trace_picture::Picture;
+
+/// Bytes that are read at once.
+const BUFFER: usize = 65_536;
 
 /// Writes the picture of a trace, legal or not: an SVG, or Trace Event JSON where `events` are asked for. The writer is
 /// flushed behind it.
@@ -21,12 +24,10 @@ pub fn draw<T: Read + Drop, O: Write>(
     events: bool,
     out: &mut O,
 ) -> Result<Verdict, Error> {
-    let trace = bytes_of(alloc, trace)?;
-    let Ok(text) = std::str::from_utf8(trace.as_slice()) else {
-        return Err(Error::BadLine { line: 1, column: 1 });
+    let Ok(mut input) = BufReader::with_capacity(alloc, BUFFER, trace) else {
+        return Err(Error::NoMemory);
     };
-    let told = told_by(alloc, text)?;
-    let mut picture = taken(alloc, &told)?;
+    let mut picture = taken(alloc, &mut input)?;
     if events {
         picture.write_events(out)?;
     } else {
@@ -36,11 +37,29 @@ pub fn draw<T: Read + Drop, O: Write>(
     Ok(Verdict::Passed)
 }
 
-/// The picture of these labels.
-fn taken(alloc: Global, told: &Told) -> Result<Picture, Error> {
+/// The picture of the labels that the lines of an input tell, unless one of these is bad.
+fn taken<B: BufRead>(alloc: Global, input: &mut B) -> Result<Picture, Error> {
     let mut picture = Picture::new(alloc);
-    for (line, label) in told.lines.iter().zip(told.labels.iter()) {
-        picture.take(*line, label)?;
+    let mut bad = None;
+    let mut line = Vec::new(alloc);
+    for index in 0..u64::MAX {
+        next_line(input, &mut line)?;
+        let told = told_by(alloc, without_end(line.as_slice()))?;
+        match told {
+            Told::Label(label) => picture.take(index + 1, &label)?,
+            Told::Nothing => {}
+            Told::BadWord { column } => {
+                let line = index + 1;
+                bad = bad.or(Some(Error::BadLine { line, column }));
+            }
+            Told::NotUtf8 => bad = Some(Error::BadLine { line: 1, column: 1 }),
+        }
+        if !is_ended(line.as_slice()) {
+            return match bad {
+                Some(fault) => Err(fault),
+                None => Ok(picture),
+            };
+        }
     }
-    Ok(picture)
+    Err(Error::TraceUnreadable)
 }

@@ -14,11 +14,13 @@
 #![tactic(auto)]
 
 pub mod checking;
+mod course;
 pub mod drawing;
 mod faults;
 pub mod input;
 mod opened;
 pub mod progress;
+mod reading;
 mod recording;
 pub mod scripts;
 mod told;
