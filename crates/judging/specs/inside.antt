@@ -2,6 +2,5 @@
 pub mod Checked
 pub mod Course
 pub mod Faults
-pub mod Input
 pub mod Reading
 pub mod Telling

@@ -17,7 +17,6 @@ pub mod checking;
 mod course;
 pub mod drawing;
 mod faults;
-pub mod input;
 mod opened;
 pub mod progress;
 mod reading;

@@ -9,12 +9,11 @@
 use judging::Error;
 use judging::checking::{check, check_any_cut};
 use judging::drawing::draw;
-use judging::input::open;
 use judging::progress::Progress;
 use judging::scripts::record_script;
 use judging::words::asked::Command;
 use judging::words::command;
-use startup::{Verdict, ended, fault_of};
+use startup::{Verdict, ended, fault_of, open_input};
 use std::env;
 use std::io::{BufWriter, Write};
 use std::process::ExitCode;
@@ -62,11 +61,17 @@ fn judge<W: Write>(
     progress: &mut Progress<W>,
 ) -> Result<Verdict, Error> {
     let alloc = rt.alloc();
-    let config = open(rt, config);
+    let config = open_input(rt, config);
     if trace == "-" {
         return check(alloc, config, rt.stdin(), &mut rt.stdout(), progress);
     }
-    check(alloc, config, open(rt, trace), &mut rt.stdout(), progress)
+    check(
+        alloc,
+        config,
+        open_input(rt, trace),
+        &mut rt.stdout(),
+        progress,
+    )
 }
 
 /// Judges the same by any cut.
@@ -77,24 +82,30 @@ fn judge_any_cut<W: Write>(
     progress: &mut Progress<W>,
 ) -> Result<Verdict, Error> {
     let alloc = rt.alloc();
-    let config = open(rt, config);
+    let config = open_input(rt, config);
     if trace == "-" {
         return check_any_cut(alloc, config, rt.stdin(), &mut rt.stdout(), progress);
     }
-    check_any_cut(alloc, config, open(rt, trace), &mut rt.stdout(), progress)
+    check_any_cut(
+        alloc,
+        config,
+        open_input(rt, trace),
+        &mut rt.stdout(),
+        progress,
+    )
 }
 
 /// Writes the trace of the script at a path, or of that of standard input.
 fn write_trace(rt: &HostRuntime, config: &str, script: &str) -> Result<Verdict, Error> {
     let alloc = rt.alloc();
-    let config = open(rt, config);
+    let config = open_input(rt, config);
     let Ok(mut out) = BufWriter::with_capacity(alloc, BUFFER, rt.stdout()) else {
         return Err(Error::NoMemory);
     };
     if script == "-" {
         record_script(alloc, config, rt.stdin(), &mut out)?;
     } else {
-        record_script(alloc, config, open(rt, script), &mut out)?;
+        record_script(alloc, config, open_input(rt, script), &mut out)?;
     }
     Ok(Verdict::Passed)
 }
@@ -108,7 +119,7 @@ fn draw_trace(rt: &HostRuntime, trace: &str, events: bool) -> Result<Verdict, Er
     if trace == "-" {
         return draw(alloc, rt.stdin(), events, &mut out);
     }
-    draw(alloc, open(rt, trace), events, &mut out)
+    draw(alloc, open_input(rt, trace), events, &mut out)
 }
 
 fn main(rt: HostRuntime) -> ExitCode {
