@@ -47,6 +47,13 @@ static FAR: &str =
 
 static BAD: &str = "call 1 flush in 0\ncall 2 flush in  0\n";
 
+/// A request that has no number yet is answered, and behind that stands a bad line.
+static BROKEN_AND_BAD: &str = "answer 1 SUCCESS 0\ncall 1 flush in  0\ncall 1 flush in 0\n";
+
+/// Lines that end as in DOS, and a last one that has no end.
+static OTHER_ENDS: &str =
+    "call 1 flush in 0\r\n\r\nstart 1 tag 0 35000000000000000000\r\nact 1\r\nreturn 1 good";
+
 /// The verdict on a trace, and whether this is printed.
 fn judged(alloc: Global, trace: &str, wanted: &str) -> Option<(Verdict, bool)> {
     judged_over(alloc, CONFIG, trace, wanted)
@@ -172,6 +179,28 @@ fn a_bad_line_is_named(rt: HostRuntime) -> Result<(), Fail> {
         column: 17,
     };
     same(&rt, &fault(rt.alloc(), CONFIG, BAD), &Some(wanted));
+    Ok(())
+}
+
+#[test]
+fn a_bad_line_is_told_before_a_broken_rule(rt: HostRuntime) -> Result<(), Fail> {
+    let wanted = Error::BadLine {
+        line: 2,
+        column: 17,
+    };
+    same(
+        &rt,
+        &fault(rt.alloc(), CONFIG, BROKEN_AND_BAD),
+        &Some(wanted),
+    );
+    Ok(())
+}
+
+#[test]
+fn a_line_ends_as_in_dos_or_with_the_trace(rt: HostRuntime) -> Result<(), Fail> {
+    let legal = "legal: 4 labels, 1 requests, 1 pieces\n";
+    let got = judged(rt.alloc(), OTHER_ENDS, legal);
+    same(&rt, &got, &Some((Verdict::Passed, true)));
     Ok(())
 }
 
