@@ -411,7 +411,7 @@ impl<D: Device> IoManager<D> {
             self.old self.new }
     {
         let below = request_below(self.parts.limits.sector_size, &request);
-        let Ok(prepared) = self.parts.reserve(alloc, &below, &buffer) else {
+        let Ok(prepared) = self.parts.reserve(alloc, below, &buffer) else {
             return refused(Refusal::InsufficientResources, buffer);
         };
         let id = self.parts.send(handle, request, buffer, prepared);

@@ -11,7 +11,7 @@ ghost use Rattle.io_manager.specs.Calls.{partition_of};
 ghost use Rattle.io_manager.specs.inside.Admitting.{request_of, HasLabelBytes, IsSent, KeepsAnswers, IsAdmissible};
 ghost use Rattle.io_manager.specs.inside.Sound.{IsSound, view_of};
 
-use crate::admission::{LabelBytes, label_bytes_for, ready_packet, request_below};
+use crate::admission::{LabelBytes, label_bytes_for, ready_packet};
 use crate::tables::Tables;
 use crate::{Handle, Id, Limits};
 use device::{ClientRequest, Device, Request, Room, Shown};
@@ -27,9 +27,11 @@ pub(crate) struct Parts<D: Shown> {
     pub(crate) tables: Tables,
 }
 
-/// What a request needs to be sent: its packet, its room below, and the buffers for its labels.
+/// What a request needs to be sent: what it asks of the device below, its packet, its room there, and the buffers for
+/// its labels.
 #[derive(Drop)]
 pub(crate) struct Prepared {
+    pub(crate) below: Request,
     pub(crate) irp: Box<Irp>,
     pub(crate) room: Room,
     pub(crate) copies: LabelBytes,
@@ -44,28 +46,34 @@ impl<D: Device> Parts<D> {
     pub(crate) fn reserve(
         &mut self,
         alloc: Global,
-        below: &Request,
+        below: Request,
         buffer: &Bytes,
     ) -> Result<Prepared, AllocError>
-        requires bounded { IsBounded (D.view self.old.device).rules below.now }
+        requires bounded { IsBounded (D.view self.old.device).rules below }
         requires few { slab_len self.old.tables.requests < 64 }
         ensures limits { self.new.limits ≡ self.old.limits }
+        ensures asks { IfOk result (λ made. made.below ≡ below) }
         ensures reserved { IfOk result
-            (λ made. ReservesSpot (D.view self.old.device) made.room.spot below.now (D.view self.new.device)) }
+            (λ made. ReservesSpot (D.view self.old.device) made.room.spot below (D.view self.new.device)) }
         ensures refused { OnErr result (ReservesNone (D.view self.old.device) (D.view self.new.device)) }
-        ensures unless_write { below.now.kind ≢ Write
+        ensures unless_write { below.kind ≢ Write
             → (D.view self.new.device).adapter ≡ (D.view self.old.device).adapter }
         ensures tables { KeepsAnswers self.old.tables self.new.tables }
         ensures copies { IfOk result
-            (λ made. HasLabelBytes self.new.tables.labels.keeps below.now.kind buffer.now made.copies) }
+            (λ made. HasLabelBytes self.new.tables.labels.keeps below.kind buffer.now made.copies) }
         ensures place { OnOk result (deque_len self.new.tables.untaken + (slab_len self.new.tables.requests + 1)
             ≤ deque_capacity self.new.tables.untaken) }
     {
         self.tables.cover_answers()?;
         let copies = label_bytes_for(alloc, below.kind, buffer, self.tables.labels.keeps())?;
         let irp = Box::new(alloc, Irp::new(0, Payload::Sent))?;
-        let room = self.device.reserve(below)?;
-        Ok(Prepared { irp, room, copies })
+        let room = self.device.reserve(&below)?;
+        Ok(Prepared {
+            below,
+            irp,
+            room,
+            copies,
+        })
     }
 
     /// Opens a request, and sends its packet down.
@@ -78,6 +86,7 @@ impl<D: Device> Parts<D> {
     ) -> Id
         requires takes_buffers { IsFalse D.takes_srb }
         requires locations { D.stack_size ≤ 4 }
+        requires asks { prepared.below ≡ request_of self.old.limits.sector_size request }
         requires room { room_at (D.view self.old.device).rooms prepared.room.spot
             ≡ Some (whole_for (request_of self.old.limits.sector_size request)) }
         requires sound { IsSound self.old.limits (D.view self.old.device) self.old.tables }
@@ -95,9 +104,9 @@ impl<D: Device> Parts<D> {
             (request_of self.old.limits.sector_size request) prepared.copies buffer prepared.room.spot result.slot
             (D.view self.new.device) self.new.tables }
     {
-        let below = request_below(self.limits.sector_size, &request);
         let number = self.tables.next_request;
         let Prepared {
+            below,
             mut irp,
             room,
             copies,

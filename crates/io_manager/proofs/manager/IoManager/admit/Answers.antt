@@ -52,6 +52,10 @@ reserve-requires-clause-few g c =
     let most : c.self.inside.parts.limits.open_requests ≤ 64 = c.self.invariant.kept.sound.fits.some_open.1 in
     omega arith
 
+pub send-id-requires-clause-asks : goal.send-id-requires-clause-asks
+send-id-requires-clause-asks g c =
+    subst (λ (limits : Limits). c.in-Ok.prepared.below ≡ request_of limits.sector_size c.args.request) (sym c.reserve.ensures.limits) (c.in-Ok.ensures.asks ∙ c.request_below-below.ensures)
+
 pub send-id-requires-clause-room : goal.send-id-requires-clause-room
 send-id-requires-clause-room g c =
     subst (λ (n : ℕ). room_at (g.D.Shown.view c.reserve.new.self.device).rooms c.in-Ok.prepared.room.spot ≡ Some (whole_for (request_of n c.args.request))) (sym (ap (λ (l : Limits). l.sector_size) c.reserve.ensures.limits))

@@ -27,8 +27,8 @@ submit-requires-clause-carries g c =
 pub submit-requires-clause-own_location : goal.submit-requires-clause-own_location
 submit-requires-clause-own_location g c =
     subst (λ (b : Bool). AsksInLocation b (request_at (g.D.Shown.view c.args.self.now.device).rooms c.args.prepared.room.spot) c.ready_packet.new.irp) (sym c.requires.takes_buffers)
-    (subst (λ (r : Request). AsksInLocation false r c.ready_packet.new.irp) (c.request_below-below.ensures ∙ sym (asked_at (g.D.Shown.view c.args.self.now.device).rooms c.args.prepared.room.spot _ c.requires.room))
-    (asks_in_location c.request_below-below.result c.ready_packet.new.irp c.ready_packet.ensures.top.location))
+    (subst (λ (r : Request). AsksInLocation false r c.ready_packet.new.irp) (c.requires.asks ∙ sym (asked_at (g.D.Shown.view c.args.self.now.device).rooms c.args.prepared.room.spot _ c.requires.room))
+    (asks_in_location c.args.prepared.below c.ready_packet.new.irp c.ready_packet.ensures.top.location))
 
 pub admit-slot-requires-clause-free_slot : goal.admit-slot-requires-clause-free_slot
 admit-slot-requires-clause-free_slot g c =
