@@ -47,7 +47,7 @@ piece_told _ = None
 abbrev pub Claimed : Type 0
 Claimed = List (Option (List (ℕ × Armed)))
 
--- this is claimed of the tag's arming
+-- this arming is claimed of the tag
 abbrev pub IsClaimed : Claimed → ℕ → ℕ → Armed → Type 0
 IsClaimed tags tag number armed = claimed_at tags tag ≡ Some ((number, armed) ∷ [])
 
@@ -57,7 +57,7 @@ pub record IsOnTag (view : AdapterView) (tag : ℕ) (armed : Armed) : Type 0 whe
   pub is_armed : IsArmed view tag armed.piece srb
   pub same : AskTheSame armed.srb srb
 
--- so is all that is claimed
+-- all armings that are claimed are on their tags
 abbrev pub AreOnTags : AdapterView → Claimed → Type 0
 AreOnTags view tags = (tag number : ℕ) (armed : Armed) → IsClaimed tags tag number armed → IsOnTag view tag armed
 

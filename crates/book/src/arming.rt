@@ -40,7 +40,7 @@ fn arming_of<M: Medium, N: Naming>(journal: &Journal<M, N>, entry: u64) -> u64
 }
 
 impl<N: Naming> Arming<N> {
-    /// Of the piece that may act on a tag.
+    /// The arming of the piece that may act on a tag.
     pub fn of<M: Medium>(
         journal: &mut Journal<M, N>,
         words: &History<N>,

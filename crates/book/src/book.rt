@@ -44,7 +44,7 @@ pub struct Book<N: Naming> {
     traced: Traced<BookedAdapter, N>,
     taken: Taken<N>,
     tags: Tags<N>,
-    /// So many labels of the trace were looked at for what the journal is told.
+    /// How many labels of the trace were looked at for what the journal is told.
     seen: usize,
 }
 
@@ -164,7 +164,7 @@ impl<N: Naming> Book<N> {
     }
 
     /// Whenever a book is at rest, its trace is a run from the state that it was opened with to the state that the stack
-    /// shows, each label in its row, for who calls this.
+    /// shows, each label in its row. It does nothing; its contract is for callers.
     pub fn shows_whole(&self)
         ensures { IsTraced N.rules N.start N.partitions N.handles self.now.traced }
     {

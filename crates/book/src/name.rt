@@ -1,3 +1,5 @@
+//! The name of a book and its journal.
+
 use std::marker::Brand;
 
 /// Names one book and its journal, for contracts alone: what the book was opened with, and the histories of both. Each call

@@ -6,7 +6,7 @@ module _ {E : Type 0} where
   abbrev pub StandsIn : List E → ℕ × E → Type 0
   StandsIn history claim = slice_get history claim.0 ≡ Some claim.1
 
-  -- so does that of each claim
+  -- each claim stands in the history
   abbrev pub AllStand : List E → List (ℕ × E) → Type 0
   AllStand history [] = Unit {0}
   AllStand history (claim ∷ claims) = StandsIn history claim × AllStand history claims

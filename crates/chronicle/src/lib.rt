@@ -167,7 +167,7 @@ impl<E, N: Naming> Whole<E, N> {
         *claims = self.compare(history, taken);
     }
 
-    // The same, for claims that are handed in and back.
+    // Compares claims that are handed in and back.
     #[tactic(auto, using(crate::proofs::Steps::gathers, crate::proofs::Steps::parts))]
     fn compare(&mut self, history: &History<E, N>, claims: Claims<E, N>) -> Claims<E, N>
         ensures same { (self.new ≡ self.old) × (result ≡ claims) }

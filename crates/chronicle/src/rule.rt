@@ -1,4 +1,5 @@
-// The rule that ties claims to the history, and its kinds of step.
+//! The rule that ties claims to the history, and its kinds of step.
+
 ghost use Rattle.std.specs.Prelude.{List, ◌∷◌, []};
 ghost use Rattle.atomic_table.specs.Seated.{TableId};
 ghost use Rattle.chronicle.specs.History.{Adds, Checks, Kept, bearer, keeper, no_table, nobody, with_claims_of, without_claims};

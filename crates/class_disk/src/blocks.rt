@@ -1,4 +1,5 @@
-// The packet of a part, and its SRB.
+//! The packet of a part, and its SRB.
+
 ghost use Rattle.std.specs.Prelude.{◌≡◌, ◌<◌, ◌≤◌, ◌*◌, ◌^◌, ◌-◌, None, true, length};
 ghost use Rattle.machine.specs.Rules.{Rules};
 ghost use Rattle.machine.specs.Sending.{fits_ten, read_command, write_command, flush_command};

@@ -1,4 +1,4 @@
-// The buffers of parts, and the bytes of a request that they carry.
+//! The buffers of parts, and the bytes of a request that they carry.
 
 ghost use Rattle.std.specs.Prelude.{◌≡◌, ◌<◌, ◌≤◌, ◌+◌, ℕ, true, false, List, [], IfOk, slice_range};
 ghost use Rattle.std.specs.Prelude.{length as list_length, vec_capacity, if◌then◌else◌};

@@ -1,4 +1,4 @@
-// The class driver as a layer of the stack.
+//! The class driver as a layer of the stack.
 
 ghost use Rattle.std.specs.Prelude.{◌≡◌, refl, false};
 ghost use Rattle.class_disk.specs.Opening.{TakesParts, IsFreshPort, opening_over};

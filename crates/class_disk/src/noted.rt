@@ -1,4 +1,4 @@
-// The bytes of a buffer that went below, which contracts alone read.
+//! The bytes of a buffer that went below, which contracts alone read.
 
 ghost use Rattle.std.specs.Prelude.{◌≡◌, ℕ, List, []};
 ghost use Rattle.std.specs.Borrow.{ftrue};

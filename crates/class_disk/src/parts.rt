@@ -1,4 +1,5 @@
-// A part of a request: what becomes an SRB of its own.
+//! A part of a request: what becomes an SRB of its own.
+
 ghost use Rattle.std.specs.Prelude.{◌≡◌, ◌<◌, ◌+◌, Some};
 ghost use Rattle.class_disk.specs.declared.parts.Progress.TheVariants.{Ready, Below as SentBelow};
 ghost use Rattle.class_disk.specs.declared.parts.Progress.TheVariants.{Ended as HasEnded};

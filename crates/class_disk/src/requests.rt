@@ -1,4 +1,4 @@
-// A request, by its parts in the order of their places: reserved, open, or left behind by its packet.
+//! A request, by its parts in the order of their places: reserved, open, or left behind by its packet.
 
 ghost use Rattle.std.specs.Prelude.{◌≡◌, ◌==◌, ◌<◌, ◌≤◌, ◌-◌, ◌*◌, ◌^◌, ℕ, true, false, List, Some, IfNone, IfSome};
 ghost use Rattle.std.specs.Prelude.{length as list_length, slice_get, vec_capacity};

@@ -1,4 +1,4 @@
-// The requests, by their slots.
+//! The requests, by their slots.
 
 ghost use Rattle.std.specs.Prelude.{◌≡◌, ◌<◌, ◌≤◌, ◌+◌, ◌^◌, ℕ, Some, IfOk, IfSome, IsOk, IsSome, OnOk, OnErr};
 ghost use Rattle.std.specs.Prelude.{MatchOption, Contains, length};
@@ -32,7 +32,7 @@ pub struct Table {
     pub ended: VecDeque<usize>,
     /// The last number submitted; 0 before the first.
     pub last_request: u128,
-    /// One more than the packets sent so far.
+    /// The number of the next packet: one more than were sent so far.
     pub next_packet: u128,
     pub submitted: u128,
     pub removing: bool,

@@ -1,4 +1,4 @@
-// What becomes of the parts of an open request.
+//! What becomes of the parts of an open request.
 
 ghost use Rattle.std.specs.Prelude.{◌≡◌, ◌<◌, ◌+◌, ℕ, Some, All, IfNone, IfSome, IsTrue, MatchBool, length, slice_get};
 ghost use Rattle.class_disk.specs.declared.parts.Part.{Part};

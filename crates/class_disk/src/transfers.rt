@@ -1,4 +1,4 @@
-// What the class driver does with its parts.
+//! What the class driver does with its parts.
 
 ghost use Rattle.std.specs.Global.{Box};
 ghost use Rattle.std.specs.Prelude.{◌≡◌, ◌≢◌, ◌<◌, ◌≤◌, ◌*◌, ◌^◌, ℕ, List, [], ◌∷◌, ◌++◌, All, IfOk, OnOk, OnErr};

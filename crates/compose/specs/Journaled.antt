@@ -25,7 +25,7 @@ use Rattle.compose.specs.Right.{IsRight}
 abbrev pub IsStarted : List Label → ℕ → ℕ → List ℕ → Type 0
 IsStarted trace piece tag block = Contains trace (Device (Start piece tag block))
 
--- so does that of what is on a tag
+-- the piece on a tag was started in this trace
 abbrev pub IsStartedUse : List Label → TagInUse → Type 0
 IsStartedUse trace use' = IsStarted trace use'.piece use'.tag use'.srb.block
 

@@ -127,11 +127,11 @@ pub(crate) fn run<D: Hold>(
     result
 }
 
-/// Carries events out one after another, as [`run`].
+/// Carries events out one after another, as [`run`] does.
 ///
 /// # Errors
 ///
-/// As that.
+/// Where [`run`] stops.
 fn carry_all<D: Hold>(
     manager: &mut IoManager<D>,
     alloc: Global,

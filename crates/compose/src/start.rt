@@ -94,11 +94,11 @@ fn first_sectors_of(partitions: &[Extent]) -> [u64; 4]
 /// The manager of the partitions over a hold filter, the class driver and a port.
 pub(crate) type Manager<A> = IoManager<Partitions<Filter<Disk<Port<A>>>>>;
 
-/// The I/O manager of a stack over an adapter, as [`crate::Stack::start`].
+/// The I/O manager of a stack over an adapter, as [`crate::Stack::start`] makes it.
 ///
 /// # Errors
 ///
-/// As that.
+/// Those of [`crate::Stack::start`].
 pub(crate) fn manager_over<A: Adapter>(
     alloc: Global,
     mut adapter: A,

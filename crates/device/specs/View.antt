@@ -88,7 +88,7 @@ abbrev pub request_of : Option Reserved → Request
 request_of None = no_request
 request_of (Some reserved) = reserved.request
 
--- the same by spots
+-- the request for which a spot is reserved
 abbrev pub request_at : List (Option Reserved) → ℕ → Request
 request_at rooms spot = request_of (room_at rooms spot)
 

@@ -1,3 +1,5 @@
+//! What each layer is to the one above.
+
 ghost use Rattle.std.specs.Prelude.{◌≡◌, ◌≢◌, ◌<◌, ◌≤◌, ◌+◌, ℕ, Bool, length, Some, IsTrue, IsFalse, IfOk, OnErr};
 ghost use Rattle.std.specs.Prelude.{All, MatchBool, MatchOption};
 ghost use Rattle.srb.specs.declared.Kind.TheVariants.{Write};

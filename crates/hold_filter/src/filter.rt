@@ -1,4 +1,5 @@
-// The filter as its owner has it.
+//! The filter as its owner has it.
+
 ghost use Rattle.std.specs.Prelude.{◌≡◌, ◌<◌, ◌^◌, [], IsFalse, MatchBool};
 ghost use Rattle.linked.specs.Queue.{VisitsAtMost};
 ghost use Rattle.hold_filter.specs.Shown.{held_count, CancelsHeld, CancelsNone};

@@ -1,4 +1,5 @@
-// The filter as a layer of the stack.
+//! The filter as a layer of the stack.
+
 ghost use Rattle.std.specs.Prelude.{ℕ, Bool, false, refl};
 ghost use Rattle.std.proofs.Common.{ap};
 ghost use Rattle.hold_filter.specs.inside.Invariant.{stack_over};

@@ -1,4 +1,5 @@
-// What the filter does to a packet.
+//! What the filter does to a packet.
+
 ghost use Rattle.std.specs.Prelude.{◌≡◌, ◌<◌, ◌+◌, Some};
 ghost use Rattle.arrayvec.specs.ArrayVec.{array_vec_len};
 ghost use Rattle.irp.specs.Packet.{cancel_routine_of, with_cancel_routine};

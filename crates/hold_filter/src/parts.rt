@@ -1,4 +1,5 @@
-// The filter midway: the device below and the table, and what moves packets from the one to the other.
+//! The filter midway: the device below and the table, and what moves packets from the one to the other.
+
 ghost use Rattle.std.specs.Prelude.{◌≡◌, ◌<◌, ◌+◌, IsFalse, MatchBool};
 ghost use Rattle.device.specs.View.{IsOrderly};
 ghost use Rattle.hold_filter.specs.inside.TableView.{books_of};

@@ -1,4 +1,5 @@
-// The packets of the filter: those that it holds, those that were cancelled while it held them, and how many are below.
+//! The packets of the filter: those that it holds, those that were cancelled while it held them, and how many are below.
+
 use device::Room;
 use irp::{CancelRoutine, Irp};
 use linked::{Linked, Numbered};

@@ -1,4 +1,5 @@
-// What is done to the table.
+//! What is done to the table.
+
 ghost use Rattle.std.specs.Prelude.{◌≡◌, ◌<◌, ◌+◌, ◌^◌, ◌-◌, ◌&&◌, not, nat_lt, true, false};
 ghost use Rattle.std.specs.Prelude.{IsOk, OnOk, MatchBool, MatchOption, All};
 ghost use Rattle.linked.specs.Queue.{IsVacant, VisitsAtMost};

@@ -62,7 +62,7 @@ pub record LeaveNothing (rules : Rules) (opening : State) (labels : List Label) 
   pub run : Run rules opening labels last
   pub empty : (s : State) → Run rules opening labels s → IsEmpty s
 
--- so for the trace up to the end of a removal, and up to each place behind it
+-- the trace leaves nothing up to the end of a removal, and up to each place behind it
 abbrev pub SettledAtRemoved : Rules → State → List TraceEntry → Type 0
 SettledAtRemoved rules opening trace =
     (place count : ℕ) (e : TraceEntry) → slice_get trace place ≡ Some e → e.label ≡ Removed → place < count → LeaveNothing rules opening (take count (labels_of trace))

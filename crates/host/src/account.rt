@@ -1,3 +1,5 @@
+//! What a client has called and was answered.
+
 ghost use Rattle.std.specs.Prelude.{◌≡◌, ◌<◌, ◌≤◌, ◌+◌, ◌-◌, ◌^◌, ◌++◌, ◌↔◌, ℕ, [], IfErr, IfOk, IfSome, IfNone, IsTrue, OnOk, length, slice_index_or};
 ghost use Rattle.machine.specs.declared.ClientRequest.{ClientRequest};
 ghost use Rattle.machine.specs.declared.Label.TheVariants.{Call as CallLabel};
@@ -52,7 +54,7 @@ pub(crate) fn laws_of_numbers()
     machine_laws::numbers_rise();
 }
 
-// Those on its answers.
+// The laws of answers.
 fn laws_of_answers()
     ensures laws { AnswerLaws }
 {
@@ -128,7 +130,7 @@ fn take_answer<M: Medium, N: Naming>(
 }
 
 impl<N: Naming> Account<N> {
-    /// That of a client that has called nothing.
+    /// The account of a client that has called nothing.
     pub(crate) fn new(
         alloc: Global,
         client: usize,
@@ -255,7 +257,7 @@ impl<N: Naming> Account<N> {
         }
     }
 
-    /// The same, and whom the call concerns.
+    /// Issues a call, and says whom it concerns.
     pub(crate) fn issue_and_note<M: Medium, R: Wait>(
         &mut self,
         rt: &R,

@@ -86,7 +86,7 @@ fn conditions(alloc: Global, count: usize) -> Result<Vec<Condvar>, AllocError> {
 }
 
 impl Bells {
-    /// Those of so many clients.
+    /// The bells of so many clients.
     ///
     /// # Errors
     ///
@@ -106,17 +106,17 @@ impl Bells {
         })
     }
 
-    /// That of a tag's lane.
+    /// The bell of a tag's lane.
     pub(crate) fn lane(&self, tag: u8) -> &Condvar {
         self.lanes.get(usize::from(tag)).unwrap_or(&self.keeper)
     }
 
-    /// That of a client.
+    /// The bell of a client.
     pub(crate) fn client(&self, client: usize) -> &Condvar {
         self.clients.get(client).unwrap_or(&self.keeper)
     }
 
-    /// That of the keeper.
+    /// The bell of the keeper.
     pub(crate) fn keeper(&self) -> &Condvar {
         &self.keeper
     }

@@ -1,3 +1,5 @@
+//! A client of a host.
+
 ghost use Rattle.std.specs.Prelude.{◌≡◌, ◌-◌, IfErr, IfOk, slice_index_or};
 ghost use Rattle.remove_lock.specs.Answers.{IsHeld};
 ghost use Rattle.host.specs.Clients.{HasNoHold, IsIssued, IsMarked, IsRefused, IsWaited};

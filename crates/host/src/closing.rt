@@ -1,3 +1,5 @@
+//! What is left of a host that is closed.
+
 ghost use Rattle.std.specs.Prelude.{◌≡◌, ◌+◌, length};
 ghost use Rattle.chronicle.specs.Claims.{AllStand};
 ghost use Rattle.host.specs.Clients.{AreNumbered, client_at};
@@ -47,7 +49,7 @@ fn collect<N: Naming>(
     }
 }
 
-// Those of one client.
+// Collects the claims of one client.
 fn collect_one<N: Naming>(
     history: &History<TraceEntry, N>,
     book: &mut Book<N>,

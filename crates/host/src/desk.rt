@@ -18,7 +18,7 @@ use std::sync::{Mutex, Wait};
 /// What the trace has told of the tags.
 #[derive(Debug, Drop)]
 struct Tags {
-    // So many labels were looked at.
+    // How many labels were looked at.
     seen: usize,
     // By tag: a piece was started of which no lane was told.
     started: [bool; 32],
@@ -67,7 +67,7 @@ pub(crate) struct Board {
 }
 
 impl Board {
-    /// Of a book with no label.
+    /// The board of a book with no label.
     pub(crate) fn blank() -> Board {
         Board {
             tags: Mutex::new(Tags {

@@ -1,3 +1,5 @@
+//! The host, and its keeper.
+
 ghost use Rattle.std.specs.Prelude.{◌≡◌, ◌+◌, [], All, IfOk, None, false, length};
 ghost use mathlib.Core.Logic.{inl};
 ghost use Rattle.cancel_marks.specs.Marks.{IsOther};
@@ -250,7 +252,7 @@ impl<M: Medium, N: Naming> Host<M, N> {
         )
     }
 
-    // As above, and tells whom it concerns.
+    // Carries the step out, and tells whom it concerns.
     fn step_and_note<R: Wait>(&self, rt: &R, book: &mut Book<N>, event: Event) -> (Reply, Concerned)
         requires { (is_handle_event event ≡ false) × (call_handle event ≡ None) }
         ensures reply { IsReplyTo event result.0 }

@@ -1,3 +1,5 @@
+//! The name of a host.
+
 ghost use Rattle.atomic_table.specs.Seated.{TableId};
 ghost use Rattle.chronicle.specs.History.{no_table};
 

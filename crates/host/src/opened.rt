@@ -1,3 +1,5 @@
+//! A host as it is opened.
+
 ghost use Rattle.std.specs.Prelude.{◌≡◌, ◌≤◌, ◌+◌, Some, All, IfOk, IfErr, IsFalse, length, max};
 ghost use Rattle.cancel_marks.specs.Marks.{IsOther, standing, starting};
 ghost use Rattle.traced.specs.Opening.{AreOpened, IsNew};

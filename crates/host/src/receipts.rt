@@ -1,3 +1,5 @@
+//! Receipts of entries of the trace.
+
 ghost use Rattle.std.specs.Prelude.{◌≡◌, ◌<◌, ◌≤◌, ◌+◌, ◌-◌, ◌∷◌, ◌++◌, [], Some, OnOk, length, slice_get};
 ghost use Rattle.chronicle.specs.Claims.{AllStand};
 ghost use Rattle.traced.specs.declared.TraceEntry.{TraceEntry as EntryView};

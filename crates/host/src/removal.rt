@@ -74,7 +74,7 @@ impl<M: Medium, N: Naming> Host<M, N> {
         (reply, from)
     }
 
-    // As above, and tells whom it concerns.
+    // Begins the step, and tells whom it concerns.
     fn begin_and_note<R: Wait>(
         &self,
         rt: &R,
@@ -114,7 +114,7 @@ impl<M: Medium, N: Naming> Host<M, N> {
         reply
     }
 
-    // As above, and tells whom it concerns.
+    // Makes the query, and tells whom it concerns.
     fn query_and_note<R: Wait>(
         &self,
         rt: &R,

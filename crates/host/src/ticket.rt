@@ -1,3 +1,5 @@
+//! The ticket of a call.
+
 ghost use Rattle.std.specs.Prelude.{◌≡◌};
 
 use crate::name::Naming;

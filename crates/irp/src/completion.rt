@@ -1,3 +1,5 @@
+//! The completion of a packet: its way back up.
+
 ghost use Rattle.std.specs.Prelude.{◌≡◌};
 ghost use Rattle.irp.specs.Climb.{Climbs, BringsRoutine, above};
 ghost use Rattle.irp.specs.Packet.{cancel_routine_of};

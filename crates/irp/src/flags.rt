@@ -1,3 +1,5 @@
+//! Control flags and flags of a stack location.
+
 ghost use Rattle.std.specs.Prelude.{⊤, ◌≡◌, ◌==◌, [], ◌∷◌, codes};
 
 use crate::{Control, LocationFlags};

@@ -1,3 +1,5 @@
+//! The numbers of major and minor functions.
+
 ghost use Rattle.std.specs.Prelude.{◌≡◌};
 ghost use Rattle.irp.specs.Functions.{major_code_of, minor_code_of};
 

@@ -1,3 +1,5 @@
+//! A stack location.
+
 ghost use Rattle.std.specs.Prelude.{◌≡◌};
 ghost use Rattle.irp.specs.Climb.{asks};
 ghost use Rattle.irp.specs.Packet.{handed_to, with_routine};

@@ -1,3 +1,5 @@
+//! The packet.
+
 ghost use Rattle.std.specs.Prelude.{◌≡◌, ◌<◌, ◌≤◌, ◌+◌, [], ◌∷◌, ◌++◌, List, Bool, ◌&&◌, ◌||◌, Some, None, true, false, not};
 ghost use Rattle.arrayvec.specs.ArrayVec.{array_vec_len};
 ghost use Rattle.irp.specs.declared.StackLocation.{StackLocation};

@@ -50,7 +50,7 @@ pub record IsRecordTo (stack : ManagerView) (lines : List Line) (text : List ℕ
   pub no_request : given.requests.items ≡ []
   pub recorded : AreRecorded (record { stack = stack; given = given }) lines text end
 
--- the same, with the stack that is left
+-- the text of a run, with the stack that is left
 abbrev pub IsRecord : ManagerView → List Line → List ℕ → ManagerView → Type 0
 IsRecord stack lines text last = (end : Between) × IsRecordTo stack lines text end × (last ≡ end.stack)
 

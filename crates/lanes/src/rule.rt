@@ -1,4 +1,5 @@
-// The rule of the queue, and its kinds of step.
+//! The rule of the queue, and its kinds of step.
+
 ghost use Rattle.std.specs.Prelude.{◌≡◌};
 ghost use Rattle.lanes.specs.Queue.{QueueKept, Stands, fresh_lane, fresh_worker, with_lane, with_put, with_taken};
 

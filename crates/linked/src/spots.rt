@@ -1,4 +1,5 @@
-// The places of the entries, by spots that the caller picks.
+//! The places of the entries, by spots that the caller picks.
+
 ghost use Rattle.std.specs.Prelude.{[], ◌≡◌, ◌⊎◌, IsOk, ◌<◌, ◌≤◌, ◌+◌, Option, Some, None, is_some, option_copied};
 ghost use Rattle.std.specs.Prelude.{IfSome, IfNone, OnOk, OnSome, length, count_by, slice_set, slice_index_or};
 ghost use Rattle.slab.specs.Slab.{get, slab_len, Updates, SameValues, ContainsKey};

@@ -9,7 +9,7 @@ use Rattle.miniport.specs.Faults.{Disk, Decodes, fault_of, success, bus_reset}
 use Rattle.miniport.specs.inside.Slots.{Table, tags_of, slot_completion}
 
 pub record MemView : Type 0 where
-  -- as any adapter
+  -- what any adapter shows
   pub shown : AdapterView
   -- the numbers of the bad sectors
   pub bad : List ℕ

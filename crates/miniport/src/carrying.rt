@@ -113,7 +113,7 @@ pub(crate) fn long_capacity(last: u64, sector_size: u32) -> [u8; 12]
     told
 }
 
-/// Those bytes over others, cut where these end; what stands behind them becomes 0.
+/// Puts these bytes over those of the place, cut where the place ends; what stands behind them becomes 0.
 fn put_over(told: &[u8], place: Bytes) -> Bytes
     ensures { result ≡ take (length place) (told.now ++ replicate (length place) 0) }
 {

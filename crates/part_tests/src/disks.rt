@@ -1,3 +1,5 @@
+//! Tests of disks.
+
 ghost use Rattle.std.specs.Prelude.{◌≡◌, ◌*◌, ◌<◌, ◌^◌, length, OnOk};
 ghost use Rattle.disk.specs.Medium.{IsWithin, IsReserved};
 

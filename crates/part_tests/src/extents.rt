@@ -1,3 +1,5 @@
+//! Tests of extents.
+
 ghost use Rattle.std.specs.Prelude.{◌≡◌};
 
 use crate::expect::{same, same_at};

@@ -1,3 +1,5 @@
+//! Tests of the gate.
+
 ghost use Rattle.std.specs.Prelude.{◌≡◌, IfOk};
 ghost use Rattle.remove_lock.specs.Gate.{fresh, standing};
 

@@ -1,3 +1,5 @@
+//! Tests of histories.
+
 ghost use Rattle.std.specs.Prelude.{◌≡◌, ◌∷◌, [], IfOk, Some, slice_get};
 ghost use Rattle.chronicle.specs.Claims.{AllStand};
 

@@ -1,3 +1,5 @@
+//! Tests of the queue with links.
+
 use linked::{Linked, Numbered};
 use std::alloc::{AllocError, Global};
 

@@ -1,3 +1,5 @@
+//! Tests of marks.
+
 ghost use Rattle.std.specs.Prelude.{◌≡◌, IfOk};
 ghost use Rattle.cancel_marks.specs.Marks.{fresh, standing, starting};
 

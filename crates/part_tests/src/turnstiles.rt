@@ -1,3 +1,5 @@
+//! Tests of lanes.
+
 ghost use Rattle.std.specs.Prelude.{◌≡◌, ◌+◌, ◌<◌, ◌≤◌, IfOk};
 ghost use Rattle.lanes.specs.Queue.{IsLane, fresh_lane, fresh_worker, standing};
 

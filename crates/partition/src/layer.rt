@@ -1,4 +1,5 @@
-// The partition driver as a layer of the stack.
+//! The partition driver as a layer of the stack.
+
 ghost use Rattle.std.specs.Prelude.{◌≡◌, ◌<◌, ◌≤◌, ◌+◌, ◌-◌, ◌^◌, ℕ, Some, min, MatchBool};
 ghost use Rattle.std.proofs.Common.{ap};
 ghost use Rattle.arrayvec.specs.ArrayVec.{array_vec_len};
@@ -43,7 +44,7 @@ impl<D: Shown> Shown for Partitions<D> {
 
     ghost takes_srb = { D.takes_srb };
 
-    // One more; a packet has four locations at most.
+    // One location more than the disk's; a packet has four at most.
     ghost stack_size = { min (D.stack_size + 1) (2 ^ 64 - 1) };
 }
 

@@ -1,5 +1,6 @@
-// The stack locations of a packet: the partition driver's own, where it notes what it was asked for, and the next
-// driver's.
+//! The stack locations of a packet: the partition driver's own, where it notes what it was asked for, and the next
+//! driver's.
+
 ghost use Rattle.std.specs.Prelude.{◌≡◌, ◌<◌, ◌+◌, false, List, [], ◌∷◌, ◌++◌};
 ghost use Rattle.arrayvec.specs.ArrayVec.{array_vec_len};
 ghost use Rattle.irp.specs.declared.StackLocation.{StackLocation};

@@ -1,4 +1,5 @@
-// What the spots are reserved for.
+//! What the spots are reserved for.
+
 ghost use Rattle.std.specs.Prelude.{◌≡◌, ◌<◌, ℕ, OnOk, OnErr, length};
 ghost use Rattle.partition.specs.inside.Rooms.{Notes, wanted_at};
 

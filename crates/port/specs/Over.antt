@@ -27,7 +27,7 @@ pub record CancelsWaiting (old : PortView) (spot number : ℕ) (new : PortView) 
 abbrev pub IsElsewhere : ℕ → ℕ → Packet → Type 0
 IsElsewhere spot number packet = packet.spot ≡ spot → packet.number ≢ number
 
--- none of this number waits there, and nothing changes but visits
+-- no packet of this number waits there, and nothing changes but visits
 pub record CancelsNoneWaiting (old : PortView) (spot number : ℕ) (new : PortView) : Type 0 where
   pub none : All (IsElsewhere spot number) old.waiting
   pub same : new ≡ record old { visits = new.visits }

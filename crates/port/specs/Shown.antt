@@ -145,7 +145,7 @@ piece_on rules started use' = out_piece rules (entry_on started use'.tag) use'
 abbrev pub of_waiting : {Y : Type 0} → (PacketEntry → Y) → PortPacket → Y
 of_waiting f held = f (entry_of held)
 
--- the same of the packet of a tag in use
+-- a fact of the packet of a tag in use
 abbrev pub of_tag : {Y : Type 0} → (PacketEntry → Y) → List (Option PortPacket) → TagInUse → Y
 of_tag f started use' = f (entry_on started use'.tag)
 

@@ -1,4 +1,5 @@
-// The port as a layer of the stack.
+//! The port as a layer of the stack.
+
 ghost use Rattle.std.specs.Prelude.{refl, ◌≡◌, ◌≢◌, ◌<◌, ◌≤◌, ◌*◌, ◌+◌, ◌^◌, ℕ, Bool, true, List, [], ◌∷◌, length};
 ghost use Rattle.std.specs.Prelude.{OnOk, OnErr, MatchBool};
 ghost use Rattle.adapter.specs.View.{IsInOrder, IsReserved, ReservesMore, ReservesNear};

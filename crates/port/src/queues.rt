@@ -1,4 +1,5 @@
-// The port's packets, by where they are: those that wait, those at the adapter by tags, and those that ended.
+//! The port's packets, by where they are: those that wait, those at the adapter by tags, and those that ended.
+
 ghost use Rattle.std.specs.Prelude.{◌≤◌};
 ghost use Rattle.std.specs.VecDeque.{deque_capacity};
 ghost use Rattle.slab.specs.Slab.{slab_len};

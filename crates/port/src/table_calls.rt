@@ -1,4 +1,5 @@
-// What the queues do.
+//! What the queues do.
+
 ghost use Rattle.std.specs.Prelude.{◌≡◌, ◌==◌, ◌&&◌, not, ◌<◌, ◌≤◌, ◌+◌, ◌^◌, ◌-◌, ℕ, [], All, Option, Some, None};
 ghost use Rattle.std.specs.Prelude.{IfOk, IsSome, OnOk, OnErr, IsTrue, MatchBool, MatchOption, length, position};
 ghost use Rattle.std.specs.Prelude.{slice_index_or};

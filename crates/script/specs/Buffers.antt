@@ -11,7 +11,7 @@ use Rattle.script.specs.declared.buffers.Spare.{Spare}
 abbrev pub IsAll : ℕ → List ℕ → Type 0
 IsAll byte bytes = bytes ≡ replicate (length bytes) byte
 
--- so are those of a buffer that is full of a byte
+-- all bytes of a full buffer are its byte
 abbrev pub IsFull : Full → Type 0
 IsFull full = IsAll full.byte full.bytes.items
 

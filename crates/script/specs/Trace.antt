@@ -80,7 +80,7 @@ pub record IsTraceTo (stack : ManagerView) (lines : List Line) (text : List ℕ)
   pub no_request : given.requests.items ≡ []
   pub played : IsPlayed (record { stack = stack; given = given }) lines text end
 
--- the same, with the stack that is left
+-- the text of a run, with the stack that is left
 abbrev pub IsTrace : ManagerView → List Line → List ℕ → ManagerView → Type 0
 IsTrace stack lines text last = (end : Between) × IsTraceTo stack lines text end × (last ≡ end.stack)
 

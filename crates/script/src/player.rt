@@ -208,11 +208,11 @@ pub fn event(alloc: Global, order: Order, given: &Given) -> Result<Event, Reply>
     event_from(alloc, order, given, &mut Spare::new(alloc))
 }
 
-/// The event that an order asks for, as [`event`], with the bytes that were spared.
+/// The event that an order asks for, as [`event`] says, in the buffers that were spared.
 ///
 /// # Errors
 ///
-/// As that.
+/// Those of [`event`].
 fn event_from(alloc: Global, order: Order, given: &Given, spare: &mut Spare) -> Result<Event, Reply>
     requires named { AreNamed given.now }
     requires filled { AreFilled spare.old }

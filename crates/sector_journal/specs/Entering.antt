@@ -35,7 +35,7 @@ named (ReadCapacity16 allocation) = None
 abbrev pub Names : List ℕ → Kind × Extent → Type 0
 Names block what = (command : Cdb) × Means block command × (named command ≡ Some what)
 
--- the same in the words of the adapter in memory
+-- what came of a piece, in the words of the adapter in memory
 abbrev pub outcome_of : Srb → Result (List ℕ) Completion → Outcome
 outcome_of srb (Ok bytes) = Moved (with_data bytes srb)
 outcome_of srb (Err completion) = Failed srb completion

@@ -1,3 +1,5 @@
+//! The name of a journal.
+
 ghost use Rattle.std.specs.Prelude.{ℕ, List, []};
 ghost use Rattle.atomic_table.specs.Seated.{TableId};
 ghost use Rattle.chronicle.specs.History.{no_table};

@@ -1,3 +1,5 @@
+//! A command block.
+
 ghost use Rattle.std.specs.Prelude.{◌≡◌, ◌≤◌, List, ℕ, length};
 
 use arrayvec::ArrayVec;

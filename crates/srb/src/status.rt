@@ -1,3 +1,5 @@
+//! SRB and SCSI statuses.
+
 ghost use Rattle.std.specs.Prelude.{◌≡◌};
 ghost use Rattle.ntstatus.specs.Table.{status_of};
 ghost use Rattle.srb.specs.Fate.{class_of};

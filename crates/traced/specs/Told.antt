@@ -24,7 +24,7 @@ pub record AreTold (entries : List TraceEntry) (owners : List ℕ) (s : State) :
   pub called : All (WasCalled owners) (awaited s)
   pub balanced : (c : ℕ) → count_of (is_answer_of c) entries + awaited_of owners c (awaited s) ≡ count_of (is_call_of c) entries
 
--- none of these labels is a call
+-- no label of these is a call
 abbrev pub AreNoCalls : List Label → Type 0
 AreNoCalls [] = Unit {0}
 AreNoCalls (Call number q ∷ labels) = ⊥

@@ -81,7 +81,7 @@ pub record IsLooked (slot : ℕ) (old new : TracedView) : Type 0 where
   pub looks : LooksAt (open_at old.stack slot) slot old.marks seen looked
   pub carries : CarriesSeen seen (record old { marks = looked }) new
 
--- so for each slot below, in order
+-- each slot below is looked at, in order
 abbrev pub AreLooked : ℕ → TracedView → TracedView → Type 0
 AreLooked zero old new = new ≡ old
 AreLooked (suc slot) old new = (mid : TracedView) × AreLooked slot old mid × IsLooked slot mid new

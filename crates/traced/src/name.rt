@@ -1,3 +1,5 @@
+//! The name of a book.
+
 ghost use Rattle.std.specs.Prelude.{ℕ, List, Option, []};
 ghost use Rattle.io_manager.specs.declared.OpenHandle.{OpenHandle};
 ghost use Rattle.atomic_table.specs.Seated.{TableId};

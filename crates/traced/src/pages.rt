@@ -1,3 +1,5 @@
+//! The trace, and the rows of all clients.
+
 ghost use Rattle.std.specs.Prelude.{◌≡◌, ◌<◌, ◌≤◌, ◌+◌, ◌-◌, ◌∷◌, [], ℕ, Some, None, true, false, All, MatchBool, MatchOption, IfOk, IfSome, OnOk, length, slice_get, vec_len, vec_capacity};
 ghost use Rattle.chronicle.specs.Claims.{AllStand};
 ghost use Rattle.traced.specs.declared.TraceEntry.{TraceEntry};

@@ -1,3 +1,5 @@
+//! The row of a client.
+
 ghost use Rattle.std.specs.Prelude.{◌≡◌, ◌<◌, ◌≤◌, ◌+◌, OnOk, OnErr, IfOk, replicate};
 ghost use Rattle.traced.specs.Rows.{blank};
 ghost use Rattle.traced.specs.inside.Rows.{called, answered};

@@ -1,3 +1,5 @@
+//! The share of a client.
+
 ghost use Rattle.std.specs.Prelude.{◌≡◌, ◌<◌, ◌+◌, None, length};
 
 use crate::name::Naming;

@@ -1,3 +1,5 @@
+//! The sizes of a stack.
+
 ghost use Rattle.std.specs.Prelude.{◌≡◌, ◌<◌, ◌^◌};
 ghost use Rattle.traced.specs.Sizes.{AreSizes};
 ghost use Rattle.traced.specs.inside.Sizes.{brought_by, labels_of_call, labels_of_transfer};

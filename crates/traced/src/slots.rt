@@ -1,3 +1,5 @@
+//! The slots of open requests.
+
 ghost use Rattle.std.specs.Prelude.{◌≡◌, ◌<◌, ◌≤◌, ◌^◌, ℕ, Some, IfOk, length, replicate, None, max, slice_set, ◌==◌, if◌then◌else◌};
 ghost use Rattle.cancel_marks.specs.Marks.{arming, slot_at, starting, standing};
 ghost use Rattle.traced.specs.Slots.{LooksAt, LooksNowhere};

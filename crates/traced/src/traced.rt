@@ -1,3 +1,5 @@
+//! A stack with its trace.
+
 ghost use Rattle.std.specs.Prelude.{◌≡◌, ◌<◌, ◌≤◌, ◌+◌, ◌∷◌, ℕ, List, [], max, slice_get, All, Contains, IfOk, IfSome, MatchOption, OnOk, Some, None, false, true, length, replicate, IsFalse};
 ghost use Rattle.cancel_marks.specs.Marks.{standing, starting};
 ghost use Rattle.chronicle.specs.Claims.{AllStand};

@@ -151,7 +151,7 @@ behind held = record (idle zeros 3 2) {
 abbrev pub two_reads : List Label
 two_reads = Call 1 (read 0 2) ∷ Device (Start 1 0 (read_block 2 1)) ∷ Call 2 (read 2 2) ∷ []
 
--- the same with the first answered
+-- that state with the first request answered
 abbrev pub alone : Bool → State
 alone held = record (idle zeros 3 2) { requests = record (opened 2 (read 2 2) (Untouched ∷ [])) { late = held } ∷ []; paused = held }
 

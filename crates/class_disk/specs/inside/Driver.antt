@@ -238,7 +238,7 @@ pub record IsHeld (rules : Rules) (owners : List PartId) (held : ClosedSlot) : T
   pub owned : AreOwnedFrom owners held.slot 0 held.parts
   pub ready : held.whole ≡ true → All IsReadyPart held.parts
 
--- so has an open request, and each of its parts was sent
+-- an open request is cut by the rules too, and each of its parts was sent
 pub record IsOpen (rules : Rules) (owners : List PartId) (e : ℕ × Opened) : Type 0 where
   pub cut : IsOpenCut rules e.1
   pub carries : Carries false rules e.1.request e.1.irp.payload

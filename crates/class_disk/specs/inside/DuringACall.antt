@@ -83,7 +83,7 @@ pub record TakesOne (Is : OpenRequest → Type 0) (v : DeviceView) (b : TableVie
   pub stays : (first : State) (labels : List DeviceLabel) → IsMidway Is first labels v b
       → IsMidway Is first (labels ++ starts) v' b'
 
--- none has ended, and nothing changes
+-- no request has ended, and nothing changes
 pub record FindsNone (v : DeviceView) (b : TableView) (v' : DeviceView) (b' : TableView) : Type 0 where
   pub none : HandsUpNone v v'
   pub same : b' ≡ b
@@ -111,7 +111,7 @@ pub record WithdrawsOne (v : DeviceView) (b : TableView) (v' : DeviceView) (b' :
   pub stays : (first : State) (labels : List DeviceLabel) → IsMidway NeverSent first labels v b
       → IsMidway NeverSent first labels v' b'
 
--- so are all, and none is left
+-- all requests are withdrawn, and none is left
 pub record WithdrawsAll (v : DeviceView) (b : TableView) (v' : DeviceView) (b' : TableView) : Type 0 where
   pub same_rules : v'.rules ≡ v.rules
   pub same_most : v'.most ≡ v.most

@@ -23,7 +23,7 @@ place_at owners spot = (owner_at owners spot).part
 abbrev pub IsOwner : List PartId → ℕ → (slot k : ℕ) → Type 0
 IsOwner owners spot slot k = (slot_at owners spot ≡ slot) × (place_at owners spot ≡ k) × (spot < length owners)
 
--- so for a part that is not sent yet, or below
+-- a part that is not sent yet, or is below, owns its spot
 abbrev pub IsOwnedBy : List PartId → (slot k : ℕ) → Progress → Type 0
 IsOwnedBy owners slot k (Ready place) = IsOwner owners place.packet.room.spot slot k
 IsOwnedBy owners slot k (Below number spot) = IsOwner owners spot slot k

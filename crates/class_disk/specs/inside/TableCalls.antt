@@ -190,7 +190,7 @@ pub record AddsSlot (old : TableView) (held : ClosedSlot) (new : TableView) : Ty
   pub room : SetsRoom old.rooms held.slot None (Some (reserved_for held)) new.rooms
   pub after : new ≡ record old { held = new.held; rooms = new.rooms }
 
--- none is made; the list of the ended may have more room
+-- no slot is added; the list of the ended may have more room
 pub record AddsNoSlot (old new : TableView) : Type 0 where
   pub places : old.ended_places ≤ new.ended_places
   pub after : new ≡ record old { ended_places = new.ended_places }
@@ -265,7 +265,7 @@ CannotCancel number e = IsFalse (is_cancellable number e)
 abbrev pub cancelled_one : Opened → Opened
 cancelled_one o = record o { irp = record o.irp { cancelled = true } }
 
--- the same of what stands in a slot
+-- whether what stands in a slot can be cancelled by this number
 abbrev pub can_cancel : ℕ → Slot → Bool
 can_cancel number (Reserved places) = false
 can_cancel number (Open t) = (t.irp.value.number == number) && not t.irp.value.cancelled
@@ -300,7 +300,7 @@ pub record TakesEnded (old : TableView) (slot : ℕ) (o : Opened) (new : TableVi
   pub opens : IsPermutation old.opens ((slot, o) ∷ new.opens)
   pub after : new ≡ record old { opens = new.opens; ended = new.ended }
 
--- none has ended, and nothing changes
+-- no request has ended, and nothing changes
 pub record TakesNone (old new : TableView) : Type 0 where
   pub none : old.ended ≡ []
   pub same : new ≡ old

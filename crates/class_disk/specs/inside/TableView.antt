@@ -51,7 +51,7 @@ pub record TableView : Type 0 where
   -- the slots that the list has room for
   pub ended_places : ℕ
   pub last_request : ℕ
-  -- one more than the packets sent so far
+  -- the number of the next packet: one more than were sent so far
   pub next_packet : ℕ
   pub submitted : ℕ
   pub removing : Bool
@@ -181,7 +181,7 @@ abbrev pub open_at : ℕ → List (ℕ × Opened) → Option Opened
 open_at slot [] = None
 open_at slot (e ∷ rest) = if e.0 == slot then Some e.1 else open_at slot rest
 
--- another one in its place
+-- a slot's open request replaced by another
 abbrev pub put_at : ℕ → Opened → List (ℕ × Opened) → List (ℕ × Opened)
 put_at slot o [] = []
 put_at slot o (e ∷ rest) = if e.0 == slot then (slot, o) ∷ rest else e ∷ put_at slot o rest

@@ -75,7 +75,7 @@ pub record CanGo (stack_size : ℕ) (rules : Rules) (held : Held) : Type 0 where
   pub carries : Carries false rules (request_in held.irp.value) held.irp.value.payload
   pub not_cancelled : IsFalse held.irp.value.cancelled
 
--- so has that of an entry of the queue
+-- the packet of an entry of the queue can go
 abbrev pub EntryCanGo : ℕ → Rules → ℕ × Held → Type 0
 EntryCanGo stack_size rules e = CanGo stack_size rules e.1
 

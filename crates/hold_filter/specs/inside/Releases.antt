@@ -40,8 +40,8 @@ LetsOneGo old new = length new.held < length old.held
 abbrev pub NoneMayGo : DeviceView → TableView → Type 0
 NoneMayGo v b = IsFalse b.paused → IsFalse b.removing → (b.held ≡ []) ⊎ (b.window ≤ length v.state.requests)
 
--- what it leaves as it is: all that is open below and all that was cancelled while it was held, and everything where
--- none may go
+-- what is open below stays open, and what was cancelled while it was held stays so; where no packet may go, nothing
+-- changes
 pub record Spares (v : DeviceView) (b : TableView) (v' : DeviceView) (b' : TableView) : Type 0 where
   pub below : All (StaysOpen v'.state) v.state.requests
   pub rules : v'.rules ≡ v.rules

@@ -49,7 +49,7 @@ empty window = record {
   removing = false;
 }
 
--- one more was submitted
+-- a packet of this number was submitted
 abbrev pub counted : ℕ → TableView → TableView
 counted number b = record b { last_number = number; submitted = b.submitted + 1 }
 
@@ -64,7 +64,7 @@ pub record LetsGo (old : TableView) (held : Held) (new : TableView) : Type 0 whe
   pub is_front : old.held ≡ (spot, held) ∷ rest
   pub after : new ≡ record old { held = rest }
 
--- none is held, and nothing changes
+-- no packet is held, and nothing changes
 pub record LetsNoneGo (old new : TableView) : Type 0 where
   pub none_held : old.held ≡ []
   pub same : new ≡ old
@@ -95,7 +95,7 @@ pub record HandsCancelled (old : TableView) (held : Held) (status : NtStatus) (n
   pub is_status : status ≡ Cancelled
   pub after : new ≡ record old { ended = rest }
 
--- none was; the device is removed, and the packet that was held longest leaves
+-- no held packet was cancelled; the device is removed, and the packet that was held longest leaves
 pub record HandsRemoved (old : TableView) (held : Held) (status : NtStatus) (new : TableView) : Type 0 where
   pub spot : ℕ
   pub rest : List (ℕ × Held)
@@ -109,7 +109,7 @@ pub record HandsRemoved (old : TableView) (held : Held) (status : NtStatus) (new
 abbrev pub Hands : TableView → Held → NtStatus → TableView → Type 0
 Hands old held status new = HandsCancelled old held status new ⊎ HandsRemoved old held status new
 
--- none ended here, and nothing changes
+-- no packet ended here, and nothing changes
 pub record HandsNone (old new : TableView) : Type 0 where
   pub none_ended : old.ended ≡ []
   pub none_held : IsTrue old.removing → old.held ≡ []

@@ -80,7 +80,7 @@ abbrev pub IsFilled : OpenRequest → Done → Type 0
 IsFilled request done = request.kind ≡ Read → done.status ≡ Success
     → length (payload_bytes done.payload) ≤ request.label_bytes
 
--- so for the request that was finished
+-- the slot of the request that was finished is filled
 abbrev pub AreFilled : Slab OpenRequest → Done → Type 0
 AreFilled requests done = (slot : ℕ) (request : OpenRequest) → get requests slot ≡ Some request
     → request.number ≡ done.number → IsFilled request done

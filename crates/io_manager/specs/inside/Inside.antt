@@ -14,6 +14,6 @@ abbrev pub WritesInside : List Extent → TagInUse → Type 0
 WritesInside partitions use' =
     (lba count : ℕ) (fua : Bool) → AsksToWrite use'.srb.block lba count fua → Any (LieIn lba count) partitions
 
--- so for all pieces at the adapter
+-- all pieces at the adapter write inside the partitions
 abbrev pub AllWriteInside : List Extent → AdapterView → Type 0
 AllWriteInside partitions adapter = All (WritesInside partitions) adapter.tags

@@ -22,7 +22,7 @@ abbrev pub told : List (Option OnTag) → Recorded → DeviceLabel
 told slots (Told label) = label
 told slots (Acted piece tag room) = Act piece (data_of (piece_at slots tag))
 
--- the same, kept with its bytes
+-- a label, kept with its bytes
 abbrev pub told_of : List (Option OnTag) → Recorded → Recorded
 told_of slots label = Told (told slots label)
 
