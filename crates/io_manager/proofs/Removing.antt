@@ -1,7 +1,7 @@
 -- Plug and play calls as steps of the manager.
 use Rattle.pnp.specs.declared.InvalidDeviceRequest.{InvalidDeviceRequest as InvalidDeviceRequestFault}
 use Rattle.std.specs.Result.{result_ok}
-use Rattle.std.proofs.Common.{◌≡◌, ◌⊎◌, ◌≤◌, Result, Ok, Err, inl, inr, ℕ, Bool, true, false, List, [], ◌∷◌, ◌++◌, Option, Some, None, refl, sym, ◌∙◌, ap, subst, map}
+use Rattle.std.proofs.Common.{◌≡◌, ◌≤◌, Result, Ok, Err, inl, inr, ℕ, Bool, true, false, List, [], ◌∷◌, ◌++◌, Option, Some, None, refl, sym, ◌∙◌, ap, subst, map}
 use Rattle.std.specs.Prelude.{IsPermutation, IsTrue, IsFalse, All, if◌then◌else◌}
 use Rattle.std.proofs.lemmas.List.Sorted.{IsPermutation-sym, IsPermutation-refl, IsPermutation-map, All-permutation}
 use Rattle.std.proofs.lemmas.List.Elements.{All-head, All-append}
@@ -19,19 +19,21 @@ use Rattle.machine.specs.Holding.{beyond, held_back, as_timely}
 use Rattle.machine.specs.Step.{FreeStep, Run, as_label}
 use Rattle.machine.proofs.Same.{IsSame-refl}
 use Rattle.device.specs.View.{DeviceView, IsTopmost}
-use Rattle.device.specs.Served.{IsBeside, PausesAll, ResumesAll, DrainsAll}
+use Rattle.device.specs.Served.{SameRooms, IsBeside, PausesAll, ResumesAll, DrainsAll}
 use Rattle.pnp.specs.declared.State.{State as PnpState}
 use Rattle.pnp.specs.declared.State.TheVariants.{Started, RemovePending, Removing, Removed}
-use Rattle.pnp.specs.Table.{Event, QueryRemove, CancelRemove, Remove as RemoveDevice, SurpriseRemove, next}
+use Rattle.pnp.specs.declared.Request.{Request}
+use Rattle.pnp.specs.declared.Request.TheVariants.{QueryRemove as QueryRequest, CancelRemove as CancelRequest, Remove as RemoveRequest, SurpriseRemove as SurpriseRequest}
+use Rattle.pnp.specs.Table.{Event, QueryRemove, Remove as RemoveDevice, SurpriseRemove, event_of, next}
 use Rattle.io_manager.specs.declared.OpenHandle.{OpenHandle}
 use Rattle.io_manager.specs.declared.Limits.{Limits}
 use Rattle.io_manager.specs.declared.Refusal.TheVariants.{InvalidDeviceRequest}
-use Rattle.io_manager.specs.declared.Reply.{Reply}
 use Rattle.io_manager.specs.declared.Reply.TheVariants.{Ok as OkReply, Refused}
 use Rattle.io_manager.specs.declared.tables.Tables.{Tables}
 use Rattle.io_manager.specs.Shown.{ManagerView}
 use Rattle.io_manager.specs.Right.{Told, SameHandles, tells_nothing, TellsOne, pnp_state, IsInvalid, IsRecalled, PnpReplies, RecallReplies, IsRight}
 use Rattle.io_manager.specs.inside.Queue.{SameQueue}
+use Rattle.io_manager.specs.inside.Removal.{RequestReplies, label_of, MayDo, Does}
 use Rattle.io_manager.specs.inside.Sound.{shown_state, is_gone, view_of, IsSpotted, IsInState, IsSound, HasNoneToStart, Collects, ManagerKept}
 use Rattle.io_manager.specs.Opening.{rules_of}
 use Rattle.io_manager.proofs.AdapterJoins.{labels_moved}
@@ -51,6 +53,66 @@ state_is Started s h = rw (h.0, h.1) refl
 state_is RemovePending s h = rw (h.0, h.1) refl
 state_is Removing s h = rw (h.0, h.1) refl
 state_is Removed s h = rw (h.0, h.1) refl
+
+-- THE TABLE'S ROWS
+
+pub valid_of : (r : Result PnpState InvalidDeviceRequestFault) (x : Option PnpState) (p : PnpState) → result_ok r ≡ x → r ≡ Ok p → x ≡ Some p
+valid_of r x p e is = sym e ∙ ap result_ok is
+
+pub invalid_of : (r : Result PnpState InvalidDeviceRequestFault) (x : Option PnpState) (fault : InvalidDeviceRequestFault) → result_ok r ≡ x → r ≡ Err fault → x ≡ None
+invalid_of r x fault e is = sym e ∙ ap result_ok is
+
+-- where a request leads from, where to, and its label
+abbrev IsRow : Request → PnpState → PnpState → Label → Type 0
+IsRow QueryRequest p q label = (p ≡ Started) × (q ≡ RemovePending) × (label ≡ Pause)
+IsRow CancelRequest p q label = (p ≡ RemovePending) × (q ≡ Started) × (label ≡ Resume)
+IsRow RemoveRequest p q label = (p ≡ RemovePending) × (q ≡ Removing) × (label ≡ Remove)
+IsRow SurpriseRequest p q label = (is_gone p ≡ false) × (q ≡ Removing) × (label ≡ Surprise)
+
+row_of : (request : Request) (p q : PnpState) (label : Label) → next (event_of request) p ≡ Some q → label_of request p ≡ Some label → IsRow request p q label
+row_of QueryRequest Started q label h k = (refl, cc (h), cc (k))
+row_of QueryRequest RemovePending q label h k = cc (h)
+row_of QueryRequest Removing q label h k = cc (h)
+row_of QueryRequest Removed q label h k = cc (h)
+row_of CancelRequest Started q label h k = cc (k)
+row_of CancelRequest RemovePending q label h k = (refl, cc (h), cc (k))
+row_of CancelRequest Removing q label h k = cc (h)
+row_of CancelRequest Removed q label h k = cc (h)
+row_of RemoveRequest Started q label h k = cc (h)
+row_of RemoveRequest RemovePending q label h k = (refl, cc (h), cc (k))
+row_of RemoveRequest Removing q label h k = cc (h)
+row_of RemoveRequest Removed q label h k = cc (h)
+row_of SurpriseRequest Started q label h k = (refl, cc (h), cc (k))
+row_of SurpriseRequest RemovePending q label h k = (refl, cc (h), cc (k))
+row_of SurpriseRequest Removing q label h k = cc (h)
+row_of SurpriseRequest Removed q label h k = cc (h)
+
+-- none is told of a query that is taken back and not pending, and of nothing else
+unasked : (p : PnpState) → label_of CancelRequest p ≡ None → p ≡ Started
+unasked Started none = refl
+unasked RemovePending none = cc (none)
+unasked Removing none = cc (none)
+unasked Removed none = cc (none)
+
+not_removing_of : (p : PnpState) (s : State) → next SurpriseRemove p ≡ Some Removing → IsInState p s → IsFalse s.removing
+not_removing_of Started s h k = k.1
+not_removing_of RemovePending s h k = k.1
+not_removing_of Removing s h k = cc (h)
+not_removing_of Removed s h k = cc (h)
+
+-- what is refused has the row of a refusal
+invalid_row : (request : Request) (old new : ManagerView) (told : Told) → IsInvalid old (event_of request) InvalidDeviceRequest [] new told → RequestReplies request old (Refused InvalidDeviceRequest []) new told
+invalid_row QueryRequest old new told h = h
+invalid_row CancelRequest old new told h = h
+invalid_row RemoveRequest old new told h = h
+invalid_row SurpriseRequest old new told h = h
+
+-- a request leaves the spots below as they are
+pub does_rooms : (request : Request) (old new : DeviceView) → Does request old new → SameRooms old.rooms new.rooms
+does_rooms QueryRequest old new h = h.beside.same_rooms
+does_rooms CancelRequest old new h = h.moves.same_rooms
+does_rooms RemoveRequest old new h = h.beside.same_rooms
+does_rooms SurpriseRequest old new h = h.beside.same_rooms
 
 -- WHAT IS ASKED STAYS, WHATEVER IS LATE
 
@@ -97,6 +159,9 @@ pub record MovedTo (old : Tables) (p : PnpState) (label : Label) (new : Tables) 
   pub label_places : SameQueue old.labels new.labels
   pub after : new ≡ record old { state = p; labels = new.labels }
 
+moved_as : (old : Tables) (q p : PnpState) (label label' : Label) (new : Tables) → q ≡ p → label ≡ label' → MovedTo old q label new → MovedTo old p label' new
+moved_as old q p label label' new same same_label moved = subst (λ x. MovedTo old p x new) same_label (subst (λ x. MovedTo old x label new) same moved)
+
 beside_sound : (limits : Limits) (below below' : DeviceView) (tables tables1 : Tables) (p : PnpState) (label : Label) → IsSound limits below tables → IsBeside below below' → AsksSame below.state below'.state → IsInState p below'.state
     → MovedTo tables p label tables1 → IsSound limits below' tables1
 beside_sound limits below below' tables tables1 p label h beside asks in_state moved =
@@ -142,15 +207,13 @@ module _ (limits : Limits) (below : DeviceView) (tables : Tables) (old : Manager
   abbrev seen : State → State
   seen s = shown_state tables.next_request false s
 
-  -- a call in a wrong state changes nothing
-  pub invalid_right : (event : Event) → next event tables.state ≡ None → (Row : Reply → ManagerView → ManagerView → Told → Type 0)
-      → ((new : ManagerView) (told : Told) → IsInvalid (view_of limits below tables) event InvalidDeviceRequest [] new told → Row (Refused InvalidDeviceRequest []) (view_of limits below tables) new told)
-      → IsRight (Row (Refused InvalidDeviceRequest []) old old) old old
-  invalid_right event none Row row =
-      subst (λ v. IsRight (Row (Refused InvalidDeviceRequest []) v v) v v) shown (record {
+  -- a request in a wrong state changes nothing
+  pub invalid_right : (request : Request) → next (event_of request) tables.state ≡ None → IsRight (RequestReplies request old (Refused InvalidDeviceRequest []) old) old old
+  invalid_right request none =
+      subst (λ v. IsRight (RequestReplies request v (Refused InvalidDeviceRequest []) v) v v) shown (record {
         told = tells_nothing (view_of limits below tables);
-        replies = row (view_of limits below tables) (tells_nothing (view_of limits below tables)) (record {
-          invalid = ap (next event) (state_is tables.state below.state kept.sound.in_state) ∙ none;
+        replies = invalid_row request (view_of limits below tables) (view_of limits below tables) (tells_nothing (view_of limits below tables)) (record {
+          invalid = ap (next (event_of request)) (state_is tables.state below.state kept.sound.in_state) ∙ none;
           refuses = record {
             is_reason = refl;
             no_bytes = refl;
@@ -169,7 +232,7 @@ module _ (limits : Limits) (below : DeviceView) (tables : Tables) (old : Manager
     }
 
     -- the label leads the manager's machine to where the device below changed its flags
-    pub served : (opened : State) (labels : List DeviceLabel) (below1 : DeviceView) → FreeStep over (seen below.state) label (seen opened) → AsksSame below.state opened → below1.rules ≡ below.rules
+    served : (opened : State) (labels : List DeviceLabel) (below1 : DeviceView) → FreeStep over (seen below.state) label (seen opened) → AsksSame below.state opened → below1.rules ≡ below.rules
         → Run below.rules opened (map as_label labels) below1.state → below1.adapter.labels ≡ labels → IsServed limits below tables (label ∷ []) labels below1 tables1
     served opened labels below1 step asks same_rules device recorded = record {
       opened = opened;
@@ -188,11 +251,11 @@ module _ (limits : Limits) (below : DeviceView) (tables : Tables) (old : Manager
       same_untaken = ap (λ (t : Tables). t.untaken.items) moved.after;
     }
 
-    pub still : (below1 : DeviceView) → IsBeside below below1 → MovesByAll below.adapter [] below1.adapter
+    still : (below1 : DeviceView) → IsBeside below below1 → MovesByAll below.adapter [] below1.adapter
     still below1 beside = subst (MovesByAll below.adapter []) (sym beside.same_adapter) (reserves_none below.adapter)
 
     -- the device's labels come only where something has ended or may start
-    pub valid_kept : (event : Event) (below1 : DeviceView) (limits' : Limits) (below2 : DeviceView) (tables2 : Tables) → next event tables.state ≡ Some p → IsBeside below below1
+    valid_kept : (event : Event) (below1 : DeviceView) (limits' : Limits) (below2 : DeviceView) (tables2 : Tables) → next event tables.state ≡ Some p → IsBeside below below1
         → FreeStep over (seen below.state) label (seen below1.state) → AsksSame below.state below1.state → limits' ≡ limits → IsSound limits' below2 tables2 → (c : Collects below1 tables1 below2 tables2) → c.starts ≡ []
         → IsRight (PnpReplies old event p label OkReply (view_of limits' below2 tables2)) old (view_of limits' below2 tables2) × ManagerKept limits' below2 tables2
     valid_kept event below1 limits' below2 tables2 valid beside step asks same sound c none =
@@ -211,13 +274,13 @@ module _ (limits : Limits) (below : DeviceView) (tables : Tables) (old : Manager
     paused_asks : AsksSame below.state below1.state
     paused_asks = asks_as below.state below1.state (held_back below.rules.window below.state.requests) pauses.pauses.after.requests (held_back_asked below.rules.window below.state.requests) pauses.pauses.after.next_request
 
-    pub query_sound : IsSound limits below1 tables1
+    query_sound : IsSound limits below1 tables1
     query_sound = beside_sound limits below below1 tables tables1 RemovePending Pause kept.sound pauses.beside paused_asks (pauses.pauses.after.paused, subst IsFalse (sym pauses.pauses.after.removing) pauses.pauses.not_removing) moved
 
     none_to_start : HasNoneToStart below1.rules below1.state
     none_to_start = subst (λ r. HasNoneToStart r below1.state) (sym pauses.beside.same_rules) (paused_none below.rules below.state below1.state pauses.pauses kept.settled)
 
-    pub query_kept : (limits' : Limits) (below2 : DeviceView) (tables2 : Tables) → limits' ≡ limits → IsSound limits' below2 tables2 → Collects below1 tables1 below2 tables2
+    query_kept : (limits' : Limits) (below2 : DeviceView) (tables2 : Tables) → limits' ≡ limits → IsSound limits' below2 tables2 → Collects below1 tables1 below2 tables2
         → IsRight (PnpReplies old QueryRemove RemovePending Pause OkReply (view_of limits' below2 tables2)) old (view_of limits' below2 tables2) × ManagerKept limits' below2 tables2
     query_kept limits' below2 tables2 same sound c =
         valid_kept RemovePending Pause tables1 moved (ap is_gone was) refl QueryRemove below1 limits' below2 tables2 (ap (next QueryRemove) was) pauses.beside
@@ -230,7 +293,7 @@ module _ (limits : Limits) (below : DeviceView) (tables : Tables) (old : Manager
     drained_asks : AsksSame below.state below1.state
     drained_asks = asks_as below.state below1.state _ drains.drains.requests (drained_asked below.state.paused below.rules.window below.state.requests) drains.drains.next_request
 
-    pub drained_sound : (label : Label) → MovedTo tables Removing label tables1 → IsSound limits below1 tables1
+    drained_sound : (label : Label) → MovedTo tables Removing label tables1 → IsSound limits below1 tables1
     drained_sound label moved = beside_sound limits below below1 tables tables1 Removing label kept.sound drains.beside drained_asks (drains.drains.paused, drains.drains.removing) moved
 
     removed_kept : (event : Event) (label : Label) → MovedTo tables Removing label tables1 → is_gone tables.state ≡ false → next event tables.state ≡ Some Removing → FreeStep over (seen below.state) label (seen below1.state)
@@ -240,7 +303,7 @@ module _ (limits : Limits) (below : DeviceView) (tables : Tables) (old : Manager
         valid_kept Removing label tables1 moved not_gone refl event below1 limits' below2 tables2 valid drains.beside step drained_asks same sound c
         (no_starts below1.rules c.starts _ below1.state below2.state drains.drains.removing c.only_starts c.run)
 
-    pub remove_kept : tables.state ≡ RemovePending → MovedTo tables Removing Remove tables1
+    remove_kept : tables.state ≡ RemovePending → MovedTo tables Removing Remove tables1
         → (limits' : Limits) (below2 : DeviceView) (tables2 : Tables) → limits' ≡ limits → IsSound limits' below2 tables2 → Collects below1 tables1 below2 tables2
         → IsRight (PnpReplies old RemoveDevice Removing Remove OkReply (view_of limits' below2 tables2)) old (view_of limits' below2 tables2) × ManagerKept limits' below2 tables2
     remove_kept was moved limits' below2 tables2 same sound c =
@@ -253,7 +316,7 @@ module _ (limits : Limits) (below : DeviceView) (tables : Tables) (old : Manager
         after : IsSame below1.state (record below.state { paused = false; removing = true })
         after = subst (λ b. IsSame below1.state (record below.state { paused = false; removing = true; requests = if b then below.state.requests else held_back below.rules.window below.state.requests })) paused drains.drains
 
-    pub surprise_kept : IsFalse below.state.removing → is_gone tables.state ≡ false → next SurpriseRemove tables.state ≡ Some Removing → MovedTo tables Removing Surprise tables1
+    surprise_kept : IsFalse below.state.removing → is_gone tables.state ≡ false → next SurpriseRemove tables.state ≡ Some Removing → MovedTo tables Removing Surprise tables1
         → (limits' : Limits) (below2 : DeviceView) (tables2 : Tables) → limits' ≡ limits → IsSound limits' below2 tables2 → Collects below1 tables1 below2 tables2
         → IsRight (PnpReplies old SurpriseRemove Removing Surprise OkReply (view_of limits' below2 tables2)) old (view_of limits' below2 tables2) × ManagerKept limits' below2 tables2
     surprise_kept not_removing not_gone valid moved limits' below2 tables2 same sound c =
@@ -268,7 +331,7 @@ module _ (limits : Limits) (below : DeviceView) (tables : Tables) (old : Manager
     recalled : (new : ManagerView) (told : Told) → TellsOne (view_of limits below tables) Resume told → All IsStart told.device → IsRecalled (pnp_state (view_of limits below tables).state) (view_of limits below tables) new told
     recalled new told one only = subst (λ p. IsRecalled p (view_of limits below tables) new told) (sym (state_is tables.state below.state kept.sound.in_state ∙ was)) (one, only)
 
-    pub resume_sound : IsSound limits below1 tables1
+    resume_sound : IsSound limits below1 tables1
     resume_sound =
         IsSound-moves limits (record below { state = resumes.resumed }) tables1 resumes.starts below1
         (beside_sound limits below (record below { state = resumes.resumed }) tables tables1 Started Resume kept.sound
@@ -276,7 +339,7 @@ module _ (limits : Limits) (below : DeviceView) (tables : Tables) (old : Manager
         resumed_asks (resumes.resumes.after.paused, subst IsFalse (sym resumes.resumes.after.removing) (subst (λ p. IsInState p below.state) was kept.sound.in_state).1) moved)
         resumes.moves
 
-    pub resume_kept : (limits' : Limits) (below2 : DeviceView) (tables2 : Tables) → limits' ≡ limits → IsSound limits' below2 tables2 → Collects below1 tables1 below2 tables2
+    resume_kept : (limits' : Limits) (below2 : DeviceView) (tables2 : Tables) → limits' ≡ limits → IsSound limits' below2 tables2 → Collects below1 tables1 below2 tables2
         → IsRight (RecallReplies old OkReply (view_of limits' below2 tables2)) old (view_of limits' below2 tables2) × ManagerKept limits' below2 tables2
     resume_kept limits' below2 tables2 same sound c =
         step_kept limits below tables old kept shown (λ v new told. RecallReplies v OkReply new told) (Resume ∷ []) resumes.starts below1 tables1
@@ -289,7 +352,7 @@ module _ (limits : Limits) (below : DeviceView) (tables : Tables) (old : Manager
         )
 
   -- with no query pending nothing happens
-  pub recall_unmoved : tables.state ≡ Started → IsRight (RecallReplies old OkReply old) old old
+  recall_unmoved : tables.state ≡ Started → IsRight (RecallReplies old OkReply old) old old
   recall_unmoved was =
       subst (λ v. IsRight (RecallReplies v OkReply v) v v) shown (record {
         told = tells_nothing (view_of limits below tables);
@@ -301,45 +364,52 @@ module _ (limits : Limits) (below : DeviceView) (tables : Tables) (old : Manager
         by = IsRightBy-unmoved (view_of limits below tables) none_told kept.none_recorded;
       })
 
--- THE TABLE'S ROWS
+  -- ANY REQUEST
 
-pub valid_of : (r : Result PnpState InvalidDeviceRequestFault) (x : Option PnpState) (p : PnpState) → result_ok r ≡ x → r ≡ Ok p → x ≡ Some p
-valid_of r x p e is = sym e ∙ ap result_ok is
+  -- the device below may do its part
+  pub may_do : (request : Request) (q : PnpState) (label : Label) → next (event_of request) tables.state ≡ Some q → label_of request tables.state ≡ Some label → MayDo request below.state
+  may_do QueryRequest q label valid told = subst (λ p. IsInState p below.state) (row_of QueryRequest tables.state q label valid told).0 kept.sound.in_state
+  may_do CancelRequest q label valid told = ((subst (λ p. IsInState p below.state) (row_of CancelRequest tables.state q label valid told).0 kept.sound.in_state).0, kept.settled.cancelled)
+  may_do RemoveRequest q label valid told = tt
+  may_do SurpriseRequest q label valid told = tt
 
-pub invalid_of : (r : Result PnpState InvalidDeviceRequestFault) (x : Option PnpState) (fault : InvalidDeviceRequestFault) → result_ok r ≡ x → r ≡ Err fault → x ≡ None
-invalid_of r x fault e is = sym e ∙ ap result_ok is
+  -- where no label is told nothing happens
+  pub unmoved_right : (request : Request) → label_of request tables.state ≡ None → IsRight (RequestReplies request old OkReply old) old old
+  unmoved_right QueryRequest none = cc (none)
+  unmoved_right CancelRequest none = recall_unmoved (unasked tables.state none)
+  unmoved_right RemoveRequest none = cc (none)
+  unmoved_right SurpriseRequest none = cc (none)
 
-pub query_is : (p q : PnpState) → next QueryRemove p ≡ Some q → (p ≡ Started) × (q ≡ RemovePending)
-query_is Started q h = (refl, cc (h))
-query_is RemovePending q h = cc (h)
-query_is Removing q h = cc (h)
-query_is Removed q h = cc (h)
+  pub moved_sound : (request : Request) (q : PnpState) (label : Label) (below1 : DeviceView) (tables1 : Tables) → next (event_of request) tables.state ≡ Some q → label_of request tables.state ≡ Some label
+      → Does request below below1 → MovedTo tables q label tables1 → IsSound limits below1 tables1
+  moved_sound QueryRequest q label below1 tables1 valid told does moved =
+      let row : IsRow QueryRequest tables.state q label = row_of QueryRequest tables.state q label valid told in
+      query_sound below1 tables1 does row.0 (moved_as tables q RemovePending label Pause tables1 row.1 row.2 moved)
+  moved_sound CancelRequest q label below1 tables1 valid told does moved =
+      let row : IsRow CancelRequest tables.state q label = row_of CancelRequest tables.state q label valid told in
+      resume_sound below1 tables1 does row.0 (moved_as tables q Started label Resume tables1 row.1 row.2 moved)
+  moved_sound RemoveRequest q label below1 tables1 valid told does moved =
+      let row : IsRow RemoveRequest tables.state q label = row_of RemoveRequest tables.state q label valid told in
+      drained_sound below1 tables1 does label (moved_as tables q Removing label label tables1 row.1 refl moved)
+  moved_sound SurpriseRequest q label below1 tables1 valid told does moved =
+      let row : IsRow SurpriseRequest tables.state q label = row_of SurpriseRequest tables.state q label valid told in
+      drained_sound below1 tables1 does label (moved_as tables q Removing label label tables1 row.1 refl moved)
 
-pub recall_is : (p q : PnpState) → next CancelRemove p ≡ Some q → (q ≡ Started) × ((p ≡ Started) ⊎ (p ≡ RemovePending))
-recall_is Started q h = (cc (h), inl refl)
-recall_is RemovePending q h = (cc (h), inr refl)
-recall_is Removing q h = cc (h)
-recall_is Removed q h = cc (h)
-
-pub pending_of : (p q : PnpState) → next CancelRemove p ≡ Some q → (p ≡ Started → ⊥) → p ≡ RemovePending
-pending_of p q h other = elim (recall_is p q h).1 [ inl started ↦ absurd (other started) | inr pending ↦ pending ]
-
-pub remove_is : (p q : PnpState) → next RemoveDevice p ≡ Some q → (p ≡ RemovePending) × (q ≡ Removing)
-remove_is Started q h = cc (h)
-remove_is RemovePending q h = (refl, cc (h))
-remove_is Removing q h = cc (h)
-remove_is Removed q h = cc (h)
-
-pub surprise_is : (p q : PnpState) (s : State) → next SurpriseRemove p ≡ Some q → IsInState p s → (q ≡ Removing) × (is_gone p ≡ false) × IsFalse s.removing
-surprise_is Started q s h k = (cc (h), refl, k.1)
-surprise_is RemovePending q s h k = (cc (h), refl, k.1)
-surprise_is Removing q s h k = cc (h)
-surprise_is Removed q s h k = cc (h)
-
-pub moved_to : (old : Tables) (q p : PnpState) (label : Label) (new : Tables) → q ≡ p → new.labels.items ≡ old.labels.items ++ label ∷ [] → SameQueue old.labels new.labels
-    → new ≡ record old { state = q; labels = new.labels } → MovedTo old p label new
-moved_to old q p label new same tells places after = record {
-  tells = tells;
-  label_places = places;
-  after = after ∙ ap (λ x. record old { state = x; labels = new.labels }) same;
-}
+  pub moved_kept : (request : Request) (q : PnpState) (label : Label) (below1 : DeviceView) (tables1 : Tables) → next (event_of request) tables.state ≡ Some q → label_of request tables.state ≡ Some label
+      → Does request below below1 → MovedTo tables q label tables1
+      → (limits' : Limits) (below2 : DeviceView) (tables2 : Tables) → limits' ≡ limits → IsSound limits' below2 tables2 → Collects below1 tables1 below2 tables2
+      → IsRight (RequestReplies request old OkReply (view_of limits' below2 tables2)) old (view_of limits' below2 tables2) × ManagerKept limits' below2 tables2
+  moved_kept QueryRequest q label below1 tables1 valid told does moved limits' below2 tables2 same sound c =
+      let row : IsRow QueryRequest tables.state q label = row_of QueryRequest tables.state q label valid told in
+      query_kept below1 tables1 does row.0 (moved_as tables q RemovePending label Pause tables1 row.1 row.2 moved) limits' below2 tables2 same sound c
+  moved_kept CancelRequest q label below1 tables1 valid told does moved limits' below2 tables2 same sound c =
+      let row : IsRow CancelRequest tables.state q label = row_of CancelRequest tables.state q label valid told in
+      resume_kept below1 tables1 does row.0 (moved_as tables q Started label Resume tables1 row.1 row.2 moved) limits' below2 tables2 same sound c
+  moved_kept RemoveRequest q label below1 tables1 valid told does moved limits' below2 tables2 same sound c =
+      let row : IsRow RemoveRequest tables.state q label = row_of RemoveRequest tables.state q label valid told in
+      remove_kept below1 tables1 does row.0 (moved_as tables q Removing label Remove tables1 row.1 row.2 moved) limits' below2 tables2 same sound c
+  moved_kept SurpriseRequest q label below1 tables1 valid told does moved limits' below2 tables2 same sound c =
+      let row : IsRow SurpriseRequest tables.state q label = row_of SurpriseRequest tables.state q label valid told in
+      let surprises : next SurpriseRemove tables.state ≡ Some Removing = valid ∙ ap Some row.1 in
+      surprise_kept below1 tables1 does (not_removing_of tables.state below.state surprises kept.sound.in_state) row.0 surprises (moved_as tables q Removing label Surprise tables1 row.1 row.2 moved)
+      limits' below2 tables2 same sound c

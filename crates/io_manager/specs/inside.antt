@@ -7,4 +7,5 @@ pub mod Handover
 pub mod Inside
 pub mod Ordering
 pub mod Queue
+pub mod Removal
 pub mod Sound

@@ -2,6 +2,9 @@
 use Rattle.std.specs.Prelude.{Option, Some, None}
 use Rattle.pnp.specs.declared.State.{State}
 use Rattle.pnp.specs.declared.State.TheVariants.{Started, RemovePending, Removing, Removed}
+use Rattle.pnp.specs.declared.Request.{Request}
+use Rattle.pnp.specs.declared.Request.TheVariants.{QueryRemove as QueryRequest, CancelRemove as CancelRequest}
+use Rattle.pnp.specs.declared.Request.TheVariants.{Remove as RemoveRequest, SurpriseRemove as SurpriseRequest}
 
 -- what moves it: four requests of the PnP manager (WDK: minor functions of IRP_MJ_PNP), and the end of its last open
 -- request
@@ -11,6 +14,13 @@ pub data Event : Type 0 where
   Remove : Event
   SurpriseRemove : Event
   Drained : Event
+
+-- as such a request moves it
+abbrev pub event_of : Request → Event
+event_of QueryRequest = QueryRemove
+event_of CancelRequest = CancelRemove
+event_of RemoveRequest = Remove
+event_of SurpriseRequest = SurpriseRemove
 
 -- the state after it, or none where it is invalid (WDK: State Transitions for PnP Devices)
 abbrev pub next : Event → State → Option State

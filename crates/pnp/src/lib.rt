@@ -10,7 +10,7 @@
 ghost use Rattle.std.specs.Prelude.{◌≡◌};
 ghost use Rattle.std.specs.Result.{result_ok};
 ghost use Rattle.pnp.specs.Laws.{RemovalIsForGood, RemovedIsLast, RemovesOnceQueried};
-ghost use Rattle.pnp.specs.Table.{QueryRemove, CancelRemove, Remove, SurpriseRemove, Drained, next};
+ghost use Rattle.pnp.specs.Table.{QueryRemove, CancelRemove, Remove, SurpriseRemove, Drained, event_of, next};
 
 use ntstatus::NtStatus;
 use thiserror::Error;
@@ -28,12 +28,37 @@ pub enum State {
     Removed,
 }
 
+/// A request of the PnP manager that moves a device object (WDK: minor functions of IRP_MJ_PNP).
+#[derive(Debug, Clone, Copy, PartialEq, Eq)]
+pub enum Request {
+    /// IRP_MN_QUERY_REMOVE_DEVICE, as [`State::query_remove`].
+    QueryRemove,
+    /// IRP_MN_CANCEL_REMOVE_DEVICE, as [`State::cancel_remove`].
+    CancelRemove,
+    /// IRP_MN_REMOVE_DEVICE, as [`State::remove`].
+    Remove,
+    /// IRP_MN_SURPRISE_REMOVAL, as [`State::surprise_remove`].
+    SurpriseRemove,
+}
+
 /// The request is invalid in this state: a driver fails the packet with STATUS_INVALID_DEVICE_REQUEST.
 #[derive(Debug, Clone, Copy, PartialEq, Eq, Drop, Error)]
 #[error("invalid in this PnP state")]
 pub struct InvalidDeviceRequest;
 
 impl State {
+    /// The state after a request, which is refused where the call of its own is.
+    pub fn next(self, request: Request) -> Result<State, InvalidDeviceRequest>
+        ensures { result_ok result ≡ next (event_of request) self }
+    {
+        match request {
+            Request::QueryRemove => self.query_remove(),
+            Request::CancelRemove => self.cancel_remove(),
+            Request::Remove => self.remove(),
+            Request::SurpriseRemove => self.surprise_remove(),
+        }
+    }
+
     /// Asks whether the device may go (WDK: IRP_MN_QUERY_REMOVE_DEVICE). Refused but where it is started.
     pub fn query_remove(self) -> Result<State, InvalidDeviceRequest>
         ensures { result_ok result ≡ next QueryRemove self }
