@@ -17,7 +17,7 @@ use split::plan;
 use srb::{CommandBlock, Srb, SrbFlags, SrbFunction};
 
 /// Returns how many parts a request has: a flush has one, of no sector.
-pub fn part_count(sizes: &Sizes, request: &Request) -> u64
+pub(crate) fn part_count(sizes: &Sizes, request: &Request) -> u64
     requires { IsCuttable sizes.now.max_transfer request.now }
     ensures { result ≡ part_count_of sizes.now.max_transfer request.now }
 {
@@ -28,7 +28,7 @@ pub fn part_count(sizes: &Sizes, request: &Request) -> u64
 }
 
 /// Returns what part k of a request asks the layer below for.
-pub fn part_request(sizes: &Sizes, request: &Request, k: u64) -> Request
+pub(crate) fn part_request(sizes: &Sizes, request: &Request, k: u64) -> Request
     requires cuttable { IsCuttable sizes.now.max_transfer request.now }
     requires part { k < part_count_of sizes.now.max_transfer request.now }
     ensures { result ≡ part_request_of sizes.now.max_transfer request.now k }
@@ -43,7 +43,7 @@ pub fn part_request(sizes: &Sizes, request: &Request, k: u64) -> Request
 }
 
 /// The bytes of a request's data.
-pub fn byte_count(sizes: &Sizes, request: &Request) -> usize
+pub(crate) fn byte_count(sizes: &Sizes, request: &Request) -> usize
     requires { request.now.extent.count * sizes.now.sector_size < 2 ^ 64 }
     ensures { result ≡ data_length sizes.now.sector_size request.now }
 {
@@ -136,7 +136,12 @@ fn direction(kind: Kind) -> SrbFlags
 }
 
 /// The SRB of a request of a disk of this many sectors, with its data, and room for as many bytes in a label.
-pub fn srb_for(disk_sectors: u64, request: &Request, data: Bytes, for_label: LabelRoom) -> Srb
+pub(crate) fn srb_for(
+    disk_sectors: u64,
+    request: &Request,
+    data: Bytes,
+    for_label: LabelRoom,
+) -> Srb
     requires fits { FitsBlock request.now }
     requires volume { request.now.volume ≡ 0 }
     ensures data { result.data ≡ «data» }
@@ -177,7 +182,7 @@ fn location_of(request: &Request) -> StackLocation
 
 /// A packet of the class driver's own goes down for a request, with the port's location alone, whatever it was before
 /// (WDK: IoReuseIrp, IoGetNextIrpStackLocation).
-pub fn ready_packet(irp: &mut Irp, number: u128, request: &Request, payload: Payload)
+pub(crate) fn ready_packet(irp: &mut Irp, number: u128, request: &Request, payload: Payload)
     ensures own { IsOwnPacket number request.now payload irp.new }
     ensures asks { AsksInLocation true request.now irp.new }
 {

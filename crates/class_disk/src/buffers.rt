@@ -15,7 +15,7 @@ use std::alloc::{AllocError, Global};
 use std::mem;
 
 /// The bytes of a part's own buffer: none where it is the only one, and takes its request's.
-pub fn own_bytes(is_only: bool, length: usize) -> usize
+pub(crate) fn own_bytes(is_only: bool, length: usize) -> usize
     ensures { result ≡ (if is_only then 0 else length) }
 {
     if is_only { 0 } else { length }
@@ -34,7 +34,7 @@ fn zeros(alloc: Global, length: usize) -> Result<Vec<u8>, AllocError>
 }
 
 /// A buffer for the data of a part: a write's is filled when the part is sent.
-pub fn data_buffer(alloc: Global, kind: Kind, length: usize) -> Result<Vec<u8>, AllocError>
+pub(crate) fn data_buffer(alloc: Global, kind: Kind, length: usize) -> Result<Vec<u8>, AllocError>
     ensures { IfOk result (λ buffer. IsBufferOf kind buffer.items (vec_capacity buffer) length) }
 {
     match kind {
@@ -45,7 +45,7 @@ pub fn data_buffer(alloc: Global, kind: Kind, length: usize) -> Result<Vec<u8>, 
 }
 
 /// The data of a part that is sent: those of a write, copied from its request's.
-pub fn data_of(mut data: Vec<u8>, bytes: &[u8], at: usize, length: usize) -> Bytes
+pub(crate) fn data_of(mut data: Vec<u8>, bytes: &[u8], at: usize, length: usize) -> Bytes
     requires empty { «data».items ≡ [] }
     requires room { length ≤ vec_capacity «data» }
     requires inside { at + length ≤ list_length bytes.now }
@@ -56,7 +56,7 @@ pub fn data_of(mut data: Vec<u8>, bytes: &[u8], at: usize, length: usize) -> Byt
 }
 
 /// The buffer of a request goes below with its only part.
-pub fn lent(payload: &mut Payload) -> Bytes
+pub(crate) fn lent(payload: &mut Payload) -> Bytes
     requires { (bytes : List ℕ) × (payload.old ≡ Buffer bytes) }
     ensures { payload.old ≡ Buffer result }
 {
@@ -92,7 +92,7 @@ fn own_up(payload: Payload, joins: bool, parts: &[Part]) -> Payload
 }
 
 /// Returns what a packet carries up: the buffer that was lent to its only part, or its own.
-pub fn carried_up(payload: Payload, lent: bool, joins: bool, parts: &mut [Part]) -> Payload
+pub(crate) fn carried_up(payload: Payload, lent: bool, joins: bool, parts: &mut [Part]) -> Payload
     requires some { lent ≡ true → 0 < list_length parts.old }
     requires room { (bytes : List ℕ) → lent ≡ false → joins ≡ true → payload ≡ Buffer bytes
         → list_length (joined_of parts.old) ≤ list_length bytes }

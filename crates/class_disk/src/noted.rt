@@ -7,7 +7,7 @@ use std::marker::{Model, PhantomData};
 
 /// The bytes of a buffer as they were when it went below. No memory holds them.
 #[derive(Drop)]
-pub struct Noted {
+pub(crate) struct Noted {
     marker: PhantomData<u8>,
     pub ghost bytes: { List ℕ },
 }

@@ -16,7 +16,7 @@ use std::mem;
 
 /// How a part ended.
 #[derive(Debug, Clone, Copy, PartialEq, Eq)]
-pub enum Outcome {
+pub(crate) enum Outcome {
     /// Its piece came back good.
     Good,
     /// Its piece came back bad.
@@ -29,7 +29,7 @@ pub enum Outcome {
 
 /// A part of a request: the slot of the request, and the place of the part among its parts.
 #[derive(Debug, Clone, Copy, PartialEq, Eq)]
-pub struct PartId {
+pub(crate) struct PartId {
     pub slot: usize,
     pub part: usize,
 }
@@ -37,14 +37,14 @@ pub struct PartId {
 /// What goes below for a part, and comes back (classpnp: TRANSFER_PACKET): a packet of the class driver's own, which
 /// holds the SRB, and its room there.
 #[derive(Drop)]
-pub struct TransferPacket {
+pub(crate) struct TransferPacket {
     pub irp: Box<Irp>,
     pub room: Room,
 }
 
 /// What one part needs to be sent: its packet, and the two buffers of its SRB.
 #[derive(Drop)]
-pub struct Place {
+pub(crate) struct Place {
     pub packet: TransferPacket,
     /// For a read as long as its data; for a write empty, with room for them; for the only part of a request neither.
     pub data: Vec<u8>,
@@ -54,14 +54,14 @@ pub struct Place {
 
 /// A part that ended, with the packet that came back.
 #[derive(Drop)]
-pub struct Ended {
+pub(crate) struct Ended {
     pub packet: TransferPacket,
     pub outcome: Outcome,
 }
 
 /// Where a part is.
 #[derive(Drop)]
-pub enum Progress {
+pub(crate) enum Progress {
     /// Not sent yet.
     Ready(Place),
     /// In the layer below, in the packet of this number, at the spot of its room.
@@ -71,7 +71,7 @@ pub enum Progress {
 
 /// One part of a request.
 #[derive(Drop)]
-pub struct Part {
+pub(crate) struct Part {
     /// What it asks the layer below for.
     pub request: Request,
     /// Its packets that came back busy and were sent again.

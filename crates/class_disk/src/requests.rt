@@ -30,14 +30,14 @@ const RESTARTS: u8 = 16;
 
 /// The parts of a request that has no packet here.
 #[derive(Drop)]
-pub struct Places {
+pub(crate) struct Places {
     pub request: Request,
     pub parts: Vec<Part>,
 }
 
 /// A request that is open, with its parts in the order of their places.
 #[derive(Drop)]
-pub struct Transfer {
+pub(crate) struct Transfer {
     pub irp: Box<Irp>,
     pub request: Request,
     pub parts: Vec<Part>,
@@ -52,7 +52,7 @@ pub struct Transfer {
 
 /// What a slot has.
 #[derive(Drop)]
-pub enum Slot {
+pub(crate) enum Slot {
     /// A room: each part can be sent.
     Reserved(Places),
     /// A packet.

@@ -22,7 +22,7 @@ use std::collections::VecDeque;
 
 /// The requests that are reserved or open, and their slots. Only `make_slot` makes slots.
 #[derive(Drop)]
-pub struct Table {
+pub(crate) struct Table {
     pub sizes: Sizes,
     /// By the class driver's own spots.
     pub slots: Slab<Slot>,

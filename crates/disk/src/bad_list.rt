@@ -9,7 +9,7 @@ use sector::Extent;
 
 /// Numbers of sectors, each once and in rising order, and how many calls failed at one of them.
 #[derive(Debug, Drop)]
-pub struct BadList {
+pub(crate) struct BadList {
     pub sectors: Vec<u64>,
     pub failures: u128,
     ghost rising: { IsStrictlyIncreasing sectors.items },

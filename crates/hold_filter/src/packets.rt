@@ -12,7 +12,7 @@ use irp::{CancelRoutine, Driver, Irp};
 use ntstatus::NtStatus;
 
 /// Installs the filter's cancel routine and returns the one it replaces (WDK: IoSetCancelRoutine).
-pub fn take_over(irp: &mut Irp) -> Option<CancelRoutine>
+pub(crate) fn take_over(irp: &mut Irp) -> Option<CancelRoutine>
     ensures routine { result ≡ cancel_routine_of irp.old }
     ensures packet { irp.new ≡ with_cancel_routine (Some own_routine) irp.old }
 {
@@ -24,7 +24,7 @@ pub fn take_over(irp: &mut Irp) -> Option<CancelRoutine>
 }
 
 /// Restores the cancel routine that the packet came with.
-pub fn give_back(irp: &mut Irp, routine: Option<CancelRoutine>)
+pub(crate) fn give_back(irp: &mut Irp, routine: Option<CancelRoutine>)
     ensures { irp.new ≡ with_cancel_routine routine irp.old }
 {
     let _own = irp.take_cancel_routine();
@@ -34,7 +34,7 @@ pub fn give_back(irp: &mut Irp, routine: Option<CancelRoutine>)
 }
 
 /// The packet goes to the class driver with a copy of the filter's own location; the filter has no completion routine.
-pub fn pass_down(irp: &mut Irp)
+pub(crate) fn pass_down(irp: &mut Irp)
     requires own { 0 < array_vec_len irp.old.locations }
     requires place { array_vec_len irp.old.locations < 4 }
     ensures { PassesDown irp.old irp.new }
@@ -44,7 +44,7 @@ pub fn pass_down(irp: &mut Irp)
 }
 
 /// A packet that ended in the filter completes (WDK: IoCompleteRequest); nothing of it was moved.
-pub fn hand_up(held: Held, status: NtStatus) -> (Climb, Room)
+pub(crate) fn hand_up(held: Held, status: NtStatus) -> (Climb, Room)
     ensures { HandsOver held status result.0 result.1 }
 {
     let Held {

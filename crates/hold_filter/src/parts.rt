@@ -13,7 +13,7 @@ use device::{Device, Room, Shown};
 use irp::Irp;
 
 /// The device below, and the packets of the filter.
-pub struct Parts<D: Shown> {
+pub(crate) struct Parts<D: Shown> {
     pub device: D,
     pub table: Table,
 }

@@ -6,7 +6,7 @@ use linked::{Linked, Numbered};
 
 /// A packet that the filter holds, with its room below.
 #[derive(Drop)]
-pub struct Held {
+pub(crate) struct Held {
     pub irp: Box<Irp>,
     /// The cancel routine that the packet came with, if any.
     pub routine: Option<CancelRoutine>,
@@ -23,7 +23,7 @@ impl Numbered for Held {
 
 /// The packets by the spots of their rooms below, and what was counted.
 #[derive(Drop)]
-pub struct Table {
+pub(crate) struct Table {
     /// Requests below at most.
     pub window: usize,
     /// Those that are held, first in, first out.

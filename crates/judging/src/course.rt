@@ -18,7 +18,7 @@ use std::io::Write;
 
 /// What the lines of a trace are, as far as it was read.
 #[derive(Debug, Drop)]
-pub enum Course {
+pub(crate) enum Course {
     /// Their labels are a run.
     Legal(Trial),
     /// No step of the machine allows one of their labels.
@@ -32,7 +32,7 @@ pub enum Course {
 
 /// Labels that are a run.
 #[derive(Debug, Drop)]
-pub struct Trial {
+pub(crate) struct Trial {
     /// What has taken them.
     pub judge: Judge,
     /// How many they are.
@@ -41,7 +41,7 @@ pub struct Trial {
 
 /// The first label that no step of the machine allows.
 #[derive(Debug, Drop)]
-pub struct Stop {
+pub(crate) struct Stop {
     /// The number of its line, from 1.
     pub line: u64,
     /// A rule that it breaks.
@@ -52,7 +52,7 @@ pub struct Stop {
 
 /// How many labels there are, and how many of them are calls and starts of pieces.
 #[derive(Debug, Clone, Copy)]
-pub struct Tally {
+pub(crate) struct Tally {
     pub labels: u64,
     pub calls: u64,
     pub starts: u64,

@@ -26,7 +26,7 @@ pub struct Standard {
 }
 
 /// The rules of the stack that the settings start, but for how it cuts requests.
-pub fn rules_of(alloc: Global, standard: &Standard) -> Result<MachineRules, AllocError>
+pub(crate) fn rules_of(alloc: Global, standard: &Standard) -> Result<MachineRules, AllocError>
     ensures { IfOk result (λ rules. rules_of rules ≡ rules_by standard.now) }
 {
     let config = &standard.config;
@@ -69,7 +69,7 @@ fn extent_of(partition: &Partition) -> Extent
 }
 
 /// The sectors of all partitions before the first label: zeros.
-pub fn arrays_of(alloc: Global, config: &Config) -> Result<Vec<Sectors>, AllocError>
+pub(crate) fn arrays_of(alloc: Global, config: &Config) -> Result<Vec<Sectors>, AllocError>
     ensures { IfOk result (λ arrays. arrays.items ≡ arrays_of config.now) }
 {
     arrays(alloc, config, config.partitions.as_slice())

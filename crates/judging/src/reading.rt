@@ -11,7 +11,7 @@ use startup::fault_of;
 use std::io::BufRead;
 
 /// Reads the next line, with its end, in place of another; no byte where the input is at its end.
-pub fn next_line<B: BufRead>(input: &mut B, line: &mut Vec<u8>) -> Result<(), Error>
+pub(crate) fn next_line<B: BufRead>(input: &mut B, line: &mut Vec<u8>) -> Result<(), Error>
     ensures read { OnOk result (Consumes (B.remaining input.old) (B.remaining input.new) line.new.items) }
     ensures stops { OnOk result (StopsAt line.new.items 10) }
     ensures last { OnOk result (¬ (IsEnded line.new.items) → IfSome (B.remaining input.old) (λ _. IsAtEnd (B.remaining input.new))) }
@@ -25,7 +25,7 @@ pub fn next_line<B: BufRead>(input: &mut B, line: &mut Vec<u8>) -> Result<(), Er
 }
 
 /// Whether a line has a line feed at its end.
-pub fn is_ended(line: &[u8]) -> bool
+pub(crate) fn is_ended(line: &[u8]) -> bool
     ensures { MatchBool result (IsEnded line.now) (¬ (IsEnded line.now)) }
 {
     match line.split_last() {
@@ -35,7 +35,7 @@ pub fn is_ended(line: &[u8]) -> bool
 }
 
 /// A line without its end: a line feed, or a carriage return and a line feed.
-pub fn without_end(line: &[u8]) -> &[u8]
+pub(crate) fn without_end(line: &[u8]) -> &[u8]
     ensures ended { (front : List ℕ) → line.now ≡ front ++ 10 ∷ [] → result.now ≡ strip_carriage_return front }
     ensures last { ¬ (IsEnded line.now) → result.now ≡ line.now }
 {

@@ -23,7 +23,7 @@ use std::io::Write;
 /// # Errors
 ///
 /// [`Error::NoMemory`], or [`Error::OutputFailed`]; the lines before may have been carried out.
-pub fn record_lines<A: Adapter, W: Write>(
+pub(crate) fn record_lines<A: Adapter, W: Write>(
     alloc: Global,
     stack: &mut Stack<A>,
     lines: &[Line<'_>],

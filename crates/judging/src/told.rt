@@ -11,7 +11,7 @@ use std::alloc::Global;
 
 /// What a line tells.
 #[derive(Debug, Drop)]
-pub enum Told {
+pub(crate) enum Told {
     /// A label.
     Label(Label),
     /// Nothing: it is empty, or begins with #.
@@ -27,7 +27,7 @@ pub enum Told {
 /// # Errors
 ///
 /// [`Error::NoMemory`].
-pub fn told_by(alloc: Global, line: &[u8]) -> Result<Told, Error>
+pub(crate) fn told_by(alloc: Global, line: &[u8]) -> Result<Told, Error>
     ensures told { IfOk result (Tells line.now) }
     ensures fault { IfErr result (λ fault. fault ≡ NoMemory) }
 {

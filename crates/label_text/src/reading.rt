@@ -20,7 +20,7 @@ use std::alloc::{AllocError, Global};
 
 /// A request without its bytes.
 #[derive(Debug, Clone, Copy)]
-pub struct Head {
+pub(crate) struct Head {
     pub partition: Option<u8>,
     pub kind: Kind,
     pub offset: u64,

@@ -15,7 +15,7 @@ use std::io::Write;
 
 /// Equal bytes in a row.
 #[derive(Debug, Clone, Copy)]
-pub struct Run {
+pub(crate) struct Run {
     pub byte: u8,
     pub count: u64,
 }
@@ -25,7 +25,7 @@ pub struct Run {
 /// # Errors
 ///
 /// [`AllocError`] where memory was refused.
-pub fn expanded(alloc: Global, word: &str) -> Result<Option<Vec<u8>>, AllocError>
+pub(crate) fn expanded(alloc: Global, word: &str) -> Result<Option<Vec<u8>>, AllocError>
     ensures { IfOk result (λ found. option_map (λ v. v.items) found ≡ runs_in word.now) }
 {
     let mut bytes = Vec::new(alloc);
@@ -81,7 +81,7 @@ fn equal_bytes(bytes: &[u8], byte: u8) -> usize
 }
 
 /// Writes bytes as their longest runs, joined by commas.
-pub fn write_runs<W: Write>(out: &mut W, bytes: &[u8]) -> io::Result<()>
+pub(crate) fn write_runs<W: Write>(out: &mut W, bytes: &[u8]) -> io::Result<()>
     ensures { OnOk result (Appends (W.contents out.old) (W.contents out.new) (runs_text (runs_of bytes.now))) }
 {
     let mut rest = bytes;

@@ -9,7 +9,7 @@ use std::marker::Model;
 
 /// What is left of a text. Contracts see the parts in it.
 #[derive(Drop)]
-pub struct Words<'a> {
+pub(crate) struct Words<'a> {
     separator: u8,
     /// None behind the last part.
     rest: Option<&'a str>,
@@ -161,7 +161,7 @@ fn piece(word: &str) -> Option<u128>
 }
 
 /// A number below 2^8 in decimal digits, as it is written.
-pub fn small(word: &str) -> Option<u8>
+pub(crate) fn small(word: &str) -> Option<u8>
     ensures { result ≡ number_in 8 word.now }
 {
     match word.parse::<u8>() {
@@ -178,7 +178,7 @@ fn is_written<N: Integer>(word: &str, number: N) -> bool
 }
 
 /// A byte of two hexadecimal digits.
-pub fn byte(word: &str) -> Option<u8>
+pub(crate) fn byte(word: &str) -> Option<u8>
     ensures { result ≡ byte_in word.now }
 {
     match word.as_bytes() {
@@ -188,7 +188,7 @@ pub fn byte(word: &str) -> Option<u8>
 }
 
 /// The byte of two hexadecimal digits.
-pub fn byte_of(high: u8, low: u8) -> Option<u8>
+pub(crate) fn byte_of(high: u8, low: u8) -> Option<u8>
     ensures { result ≡ byte_of high low }
 {
     let high = digit(high)?;

@@ -54,14 +54,14 @@ fn write_words<W: Write>(out: &mut W, label: &Label) -> io::Result<()>
 }
 
 /// Writes a number in decimal digits.
-pub fn write_number<W: Write, N: Integer>(out: &mut W, number: N) -> io::Result<()>
+pub(crate) fn write_number<W: Write, N: Integer>(out: &mut W, number: N) -> io::Result<()>
     ensures { OnOk result (Appends (W.contents out.old) (W.contents out.new) (N.text number)) }
 {
     out.write_all(Buffer::new().format(number).as_bytes())
 }
 
 /// Writes a byte as two hexadecimal digits.
-pub fn write_byte<W: Write>(out: &mut W, byte: u8) -> io::Result<()>
+pub(crate) fn write_byte<W: Write>(out: &mut W, byte: u8) -> io::Result<()>
     ensures { OnOk result (Appends (W.contents out.old) (W.contents out.new) (hex_of byte)) }
 {
     out.write_all(&[digit_of(byte / 16), digit_of(byte % 16)])

@@ -10,7 +10,7 @@ use std::marker::Model;
 
 /// An item, linked to the one before and the one behind it.
 #[derive(Drop)]
-pub struct Node<T> {
+pub(crate) struct Node<T> {
     pub item: T,
     pub before: Option<usize>,
     pub after: Option<usize>,
@@ -18,7 +18,7 @@ pub struct Node<T> {
 
 /// An entry or none at each spot. Contracts see it as a slab whose capacity is how many spots there are.
 #[derive(Drop)]
-pub struct Spots<T> {
+pub(crate) struct Spots<T> {
     slots: Vec<Option<Node<T>>>,
     count: usize,
 }

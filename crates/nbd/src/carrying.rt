@@ -24,7 +24,7 @@ const PIECE: u32 = 1_048_576;
 /// # Errors
 ///
 /// [`End::Input`] where the bytes behind it don't come. The array is then as it was.
-pub fn serve_request<R: Read, A: Array>(
+pub(crate) fn serve_request<R: Read, A: Array>(
     alloc: Global,
     array: &mut A,
     input: &mut R,

@@ -24,7 +24,7 @@ use std::io::{Read, Write};
 /// # Errors
 ///
 /// [`End::Malformed`] where there is a flag that isn't known, [`End::Input`], [`End::Output`].
-pub fn greet<R: Read, W: Write>(input: &mut R, out: &mut W) -> Result<bool, End>
+pub(crate) fn greet<R: Read, W: Write>(input: &mut R, out: &mut W) -> Result<bool, End>
     ensures greeted { IfOk result (Greets (R.remaining input.old) (W.contents out.old) (R.remaining input.new) (W.contents out.new)) }
     ensures ended { IfErr result (λ end. EndsGreeting (R.remaining input.old) (W.contents out.old) end (W.contents out.new)) }
 {
@@ -63,7 +63,7 @@ fn greeting_bytes() -> [u8; 18]
 /// # Errors
 ///
 /// How the session ends.
-pub fn answer_options<R: Read, W: Write>(
+pub(crate) fn answer_options<R: Read, W: Write>(
     input: &mut R,
     out: &mut W,
     sizes: Sizes,

@@ -138,7 +138,7 @@ fn parse_info(wish: Wish, bytes: &[u8]) -> Wish
 /// # Errors
 ///
 /// [`End::Malformed`] where none begins, and [`End::Input`].
-pub fn next_option<R: Read>(input: &mut R, buffer: &mut [u8]) -> Result<(u32, Wish), End>
+pub(crate) fn next_option<R: Read>(input: &mut R, buffer: &mut [u8]) -> Result<(u32, Wish), End>
     requires { length buffer.old ≡ LONGEST_OPTION }
     ensures taken { IfOk result (λ found. TakesOption (R.remaining input.old) (R.remaining input.new) found.0 found.1) }
     ensures ended { IfErr result (TakesLastOption (R.remaining input.old)) }

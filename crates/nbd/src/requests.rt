@@ -154,7 +154,7 @@ pub fn command_of(request: Request, sizes: Sizes) -> Result<Command, ReplyError>
 }
 
 /// The bytes that come behind a request.
-pub fn payload_count(request: Request) -> u32
+pub(crate) fn payload_count(request: Request) -> u32
     ensures { result ≡ payload_count request }
 {
     if request.kind == NBD_CMD_WRITE {

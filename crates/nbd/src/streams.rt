@@ -17,7 +17,7 @@ const SKIPPED: u32 = 512;
 /// # Errors
 ///
 /// [`End::Input`].
-pub fn take<R: Read>(input: &mut R, buffer: &mut [u8]) -> Result<(), End>
+pub(crate) fn take<R: Read>(input: &mut R, buffer: &mut [u8]) -> Result<(), End>
     ensures taken { OnOk result (Consumes (R.remaining input.old) (R.remaining input.new) buffer.new) }
     ensures ended { IfErr result (λ end. end ≡ End.Input) }
 {
@@ -32,7 +32,7 @@ pub fn take<R: Read>(input: &mut R, buffer: &mut [u8]) -> Result<(), End>
 /// # Errors
 ///
 /// [`End::Input`].
-pub fn skip<R: Read>(input: &mut R, count: u32) -> Result<(), End>
+pub(crate) fn skip<R: Read>(input: &mut R, count: u32) -> Result<(), End>
     ensures taken { OnOk result (Skips count (R.remaining input.old) (R.remaining input.new)) }
     ensures ended { IfErr result (λ end. end ≡ End.Input) }
 {
@@ -58,7 +58,7 @@ fn skip_piece<R: Read>(input: &mut R, count: u32) -> Result<(), End>
 }
 
 /// Returns this many zeros, or nothing where memory was refused.
-pub fn zeros(alloc: Global, count: u32) -> Option<Vec<u8>>
+pub(crate) fn zeros(alloc: Global, count: u32) -> Option<Vec<u8>>
     requires { count ≤ LONGEST }
     ensures { IfSome result (λ bytes. bytes.items ≡ replicate count 0) }
 {
@@ -70,7 +70,11 @@ pub fn zeros(alloc: Global, count: u32) -> Option<Vec<u8>>
 /// # Errors
 ///
 /// [`End::Input`].
-pub fn take_all<R: Read>(alloc: Global, input: &mut R, count: u32) -> Result<Option<Vec<u8>>, End>
+pub(crate) fn take_all<R: Read>(
+    alloc: Global,
+    input: &mut R,
+    count: u32,
+) -> Result<Option<Vec<u8>>, End>
     requires { count ≤ LONGEST }
     ensures taken { IfOk result (λ found. MatchOption found (Skips count (R.remaining input.old) (R.remaining input.new)) (λ bytes. Takes count (R.remaining input.old) (R.remaining input.new) bytes.items)) }
     ensures ended { IfErr result (λ end. end ≡ End.Input) }
@@ -99,7 +103,7 @@ fn sized(kept: Vec<u8>, count: u32) -> Option<Vec<u8>>
 /// # Errors
 ///
 /// [`End::Input`].
-pub fn take_all_in<R: Read>(
+pub(crate) fn take_all_in<R: Read>(
     kept: Vec<u8>,
     input: &mut R,
     count: u32,

@@ -23,7 +23,7 @@ fn lengthen(wanted: &mut Vec<Option<Request>>, spot: usize) -> Result<(), AllocE
 /// # Errors
 ///
 /// [`AllocError`] where the spot has no place yet and memory was refused; each spot is then noted as it was.
-pub fn note(
+pub(crate) fn note(
     wanted: &mut Vec<Option<Request>>,
     spot: usize,
     request: Request,

@@ -40,7 +40,7 @@ pub enum Outcome {
 
 /// A packet that waits, with what it asks for.
 #[derive(Debug, Drop)]
-pub struct Waiting {
+pub(crate) struct Waiting {
     pub irp: Box<Irp>,
     pub request: Request,
 }
@@ -72,7 +72,7 @@ pub struct Ended {
 
 /// The packets, each in one queue, and the places for them. Only `add_place` makes places.
 #[derive(Drop)]
-pub struct Queues {
+pub(crate) struct Queues {
     pub sizes: Sizes,
     /// First in, first out.
     pub waiting: Linked<Waiting>,

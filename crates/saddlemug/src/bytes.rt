@@ -10,7 +10,7 @@ use std::alloc::{AllocError, Global};
 /// # Errors
 ///
 /// Where memory was refused.
-pub fn copied(alloc: Global, bytes: &[u8]) -> Result<Bytes, AllocError>
+pub(crate) fn copied(alloc: Global, bytes: &[u8]) -> Result<Bytes, AllocError>
     ensures { IfOk result (λ copy. copy ≡ bytes.now) }
 {
     let mut copy = Vec::with_capacity(alloc, bytes.len())?;
@@ -23,7 +23,7 @@ pub fn copied(alloc: Global, bytes: &[u8]) -> Result<Bytes, AllocError>
 /// # Errors
 ///
 /// Where memory was refused.
-pub fn zeros(alloc: Global, count: u64) -> Result<Bytes, AllocError>
+pub(crate) fn zeros(alloc: Global, count: u64) -> Result<Bytes, AllocError>
     ensures { IfOk result (λ zeros. zeros ≡ replicate count 0) }
 {
     let mut zeros = Vec::new(alloc);
@@ -32,7 +32,7 @@ pub fn zeros(alloc: Global, count: u64) -> Result<Bytes, AllocError>
 }
 
 /// Puts bytes into a buffer, as many as it has room for, and gives their whole number.
-pub fn put(buffer: &mut [u8], bytes: &[u8]) -> u64
+pub(crate) fn put(buffer: &mut [u8], bytes: &[u8]) -> u64
     ensures count { result ≡ length bytes.now }
     ensures put { take (min (length bytes.now) (length buffer.old)) buffer.new ≡ take (min (length bytes.now) (length buffer.old)) bytes.now }
 {

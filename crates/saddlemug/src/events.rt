@@ -21,7 +21,7 @@ pub struct StackId {
 
 /// Which event. C tells it by its number here, from 0.
 #[derive(Debug, Clone, Copy, PartialEq, Eq)]
-pub enum EventKind {
+pub(crate) enum EventKind {
     Open,
     Close,
     Read,
@@ -104,7 +104,7 @@ pub struct StackReply {
 ///
 /// [`NtStatus::InvalidParameter`] where there is no such kind; [`NtStatus::InsufficientResources`] where memory was
 /// refused.
-pub fn event_of(alloc: Global, event: &StackEvent, bytes: &[u8]) -> Result<Event, NtStatus>
+pub(crate) fn event_of(alloc: Global, event: &StackEvent, bytes: &[u8]) -> Result<Event, NtStatus>
     ensures event { IfOk result (λ e. asked_event event.now bytes.now ≡ Some e) }
     ensures fault { IfErr result (λ status. status ≢ Success) }
     ensures why { IfErr result (IsStepStatus event.now bytes.now) }
@@ -176,7 +176,7 @@ fn id_of(id: StackId) -> Id
 }
 
 /// A reply as C is told it. The bytes of a refused write are let go: C has its own.
-pub fn told_reply(reply: Reply) -> StackReply
+pub(crate) fn told_reply(reply: Reply) -> StackReply
     ensures { result ≡ shown_reply reply }
 {
     match reply {

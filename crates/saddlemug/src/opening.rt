@@ -23,7 +23,7 @@ use volume::{OpenFault, Volume};
 /// # Errors
 ///
 /// As [`config_of`], [`start_status`] and [`Volume::open`] say.
-pub fn new_volume(
+pub(crate) fn new_volume(
     alloc: Global,
     text: &[u8],
     partition: u8,
@@ -41,7 +41,10 @@ pub fn new_volume(
 /// # Errors
 ///
 /// As [`config_of`] and [`start_status`] say.
-pub fn new_stack(alloc: Global, text: &[u8]) -> Result<Stack<MemAdapter<SparseDisk>>, NtStatus>
+pub(crate) fn new_stack(
+    alloc: Global,
+    text: &[u8],
+) -> Result<Stack<MemAdapter<SparseDisk>>, NtStatus>
     ensures stack { IfOk result (IsNewStack text.now) }
     ensures fault { IfErr result (λ status. status ≢ Success) }
     ensures why { IfErr result (IsStackStatus text.now) }

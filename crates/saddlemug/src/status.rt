@@ -9,7 +9,7 @@ use ntstatus::NtStatus;
 use volume::Error;
 
 /// The status of a request that did not succeed.
-pub fn fault_status(fault: Error) -> NtStatus
+pub(crate) fn fault_status(fault: Error) -> NtStatus
     ensures { result ≡ fault_status fault }
 {
     match fault {
@@ -19,7 +19,7 @@ pub fn fault_status(fault: Error) -> NtStatus
 }
 
 /// The status of a refusal, which has its name.
-pub fn refusal_status(refusal: Refusal) -> NtStatus
+pub(crate) fn refusal_status(refusal: Refusal) -> NtStatus
     ensures { result ≡ refusal_status refusal }
 {
     match refusal {
@@ -34,7 +34,7 @@ pub fn refusal_status(refusal: Refusal) -> NtStatus
 }
 
 /// The number of a request's status.
-pub fn number_of(outcome: Result<(), Error>) -> u32
+pub(crate) fn number_of(outcome: Result<(), Error>) -> u32
     ensures { MatchResult outcome (λ _. result ≡ 0) (λ fault. result ≡ value_of (fault_status fault)) }
 {
     match outcome {
@@ -45,7 +45,7 @@ pub fn number_of(outcome: Result<(), Error>) -> u32
 
 /// The status of a start that failed: that of the command that the device failed; [`NtStatus::InsufficientResources`];
 /// or [`NtStatus::InvalidParameter`], where the settings have partitions that a disk can't have.
-pub fn start_status(fault: StartFault) -> NtStatus
+pub(crate) fn start_status(fault: StartFault) -> NtStatus
     ensures { result ≡ start_status fault }
 {
     match fault {

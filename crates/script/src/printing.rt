@@ -35,7 +35,7 @@ pub fn write_reply(text: &mut Vec<u8>, reply: &Reply) -> Result<(), AllocError>
 }
 
 /// Writes a number in decimal digits.
-pub fn write_number<N: Integer>(text: &mut Vec<u8>, number: N) -> Result<(), AllocError>
+pub(crate) fn write_number<N: Integer>(text: &mut Vec<u8>, number: N) -> Result<(), AllocError>
     ensures { OnOk result (text.new.items ≡ text.old.items ++ N.text number) }
 {
     text.extend_from_slice(Buffer::new().format(number).as_bytes())
@@ -180,7 +180,7 @@ fn write_hex(text: &mut Vec<u8>, block: &CommandBlock) -> Result<(), AllocError>
 }
 
 /// Writes a byte as two hexadecimal digits.
-pub fn write_byte(text: &mut Vec<u8>, byte: u8) -> Result<(), AllocError>
+pub(crate) fn write_byte(text: &mut Vec<u8>, byte: u8) -> Result<(), AllocError>
     ensures { OnOk result (text.new.items ≡ text.old.items ++ hex_of byte) }
 {
     text.extend_from_slice(&[DIGITS[byte as usize / 16], DIGITS[byte as usize % 16]])

@@ -66,7 +66,7 @@ fn are_all(bytes: &[u8], byte: u8) -> bool
 }
 
 /// Writes bytes as runs, each found in one pass.
-pub fn write_runs(text: &mut Vec<u8>, bytes: &[u8]) -> Result<(), AllocError>
+pub(crate) fn write_runs(text: &mut Vec<u8>, bytes: &[u8]) -> Result<(), AllocError>
     ensures { OnOk result (text.new.items ≡ text.old.items ++ runs_text (runs_of bytes.now)) }
 {
     let mut rest = bytes;

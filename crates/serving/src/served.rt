@@ -14,7 +14,7 @@ use volume::{Error, Volume};
 
 /// A volume, served.
 #[derive(Drop)]
-pub struct Served<A: Adapter> {
+pub(crate) struct Served<A: Adapter> {
     volume: Volume<A>,
 }
 

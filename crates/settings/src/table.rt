@@ -50,14 +50,14 @@ fn items_at<'a>(table: &'a Table, key: &str) -> &'a [Value]
 }
 
 /// Whether all keys, at the top and in partitions, are those of the settings.
-pub fn has_known_keys(table: &Table) -> bool
+pub(crate) fn has_known_keys(table: &Table) -> bool
     ensures { result ≡ has_known_keys (table_view table.now) }
 {
     has_setting_keys(table) && have_partition_keys(items_at(table, "partition"))
 }
 
 /// Whether there are at most four partitions, for which a partition table has room.
-pub fn has_few_partitions(table: &Table) -> bool
+pub(crate) fn has_few_partitions(table: &Table) -> bool
     ensures { result ≡ nat_le (length (values_of (get_member (codes "partition") (table_view table.now)))) 4 }
 {
     items_at(table, "partition").len() <= 4
@@ -132,7 +132,7 @@ fn in_range(value: &Value, least: u64, most: u64) -> Result<u64, ConfigFault>
 }
 
 /// The whole number at a key that has to be there.
-pub fn number(table: &Table, key: &str, least: u64, most: u64) -> Result<u64, ConfigFault>
+pub(crate) fn number(table: &Table, key: &str, least: u64, most: u64) -> Result<u64, ConfigFault>
     ensures value { IfOk result (IsNumber (get_member key.now (table_view table.now))) }
     ensures range { IfOk result (IsFrom least most) }
     ensures fault { result_err result ≡ needed_fault (is_number (is_from least most)) (get_member key.now (table_view table.now)) }
@@ -144,7 +144,7 @@ pub fn number(table: &Table, key: &str, least: u64, most: u64) -> Result<u64, Co
 }
 
 /// The whole number at a key, or a default, which has to be in the range too.
-pub fn number_or(
+pub(crate) fn number_or(
     table: &Table,
     key: &str,
     least: u64,
@@ -162,7 +162,7 @@ pub fn number_or(
     }
 }
 
-pub fn sector_size(table: &Table) -> Result<u32, ConfigFault>
+pub(crate) fn sector_size(table: &Table) -> Result<u32, ConfigFault>
     ensures value { IfOk result (IsNumber (get_member (codes "sector_size") (table_view table.now))) }
     ensures sizes { IfOk result (λ size. (size ≡ 512) ⊎ (size ≡ 4096)) }
     ensures fault { result_err result ≡ needed_fault (is_number is_sector_size) (get_member (codes "sector_size") (table_view table.now)) }
@@ -173,7 +173,7 @@ pub fn sector_size(table: &Table) -> Result<u32, ConfigFault>
     }
 }
 
-pub fn write_protected(table: &Table) -> Result<bool, ConfigFault>
+pub(crate) fn write_protected(table: &Table) -> Result<bool, ConfigFault>
     ensures value { IfOk result (IsTruthOrFalse (get_member (codes "write_protected") (table_view table.now))) }
     ensures fault { result_err result ≡ optional_fault (boolean false) is_truth (get_member (codes "write_protected") (table_view table.now)) }
 {
@@ -185,7 +185,11 @@ pub fn write_protected(table: &Table) -> Result<bool, ConfigFault>
 }
 
 /// The sectors at `bad_sectors`, each below `sectors`.
-pub fn bad_sectors(alloc: Global, table: &Table, sectors: u64) -> Result<Vec<u64>, ConfigFault>
+pub(crate) fn bad_sectors(
+    alloc: Global,
+    table: &Table,
+    sectors: u64,
+) -> Result<Vec<u64>, ConfigFault>
     requires { 0 < sectors }
     ensures value { IfOk result (λ bad. AreNumbers (get_member (codes "bad_sectors") (table_view table.now)) bad.items) }
     ensures range { IfOk result (λ bad. All (λ sector. sector < sectors) bad.items) }
@@ -213,7 +217,7 @@ fn sectors_of(alloc: Global, items: &[Value], sectors: u64) -> Result<Vec<u64>, 
 }
 
 /// The partitions, in the order of the document.
-pub fn partitions(alloc: Global, table: &Table) -> Result<Vec<Partition>, ConfigFault>
+pub(crate) fn partitions(alloc: Global, table: &Table) -> Result<Vec<Partition>, ConfigFault>
     ensures value { IfOk result (λ found. ArePartitions (get_member (codes "partition") (table_view table.now)) found.items) }
     ensures fault { IsRefusedFor (first_some (partition_faults (get_member (codes "partition") (table_view table.now)))) result }
 {

@@ -12,7 +12,7 @@ use std::io::Write;
 static STEPS: [u64; 13] = [1, 2, 5, 10, 20, 50, 100, 200, 500, 1000, 2000, 5000, 10000];
 
 /// Writes the bands of pauses and removals.
-pub fn write_bands<W: Write>(out: &mut W, scene: Scene<'_>) -> io::Result<()> {
+pub(crate) fn write_bands<W: Write>(out: &mut W, scene: Scene<'_>) -> io::Result<()> {
     for band in scene.facts.bands.iter() {
         let layout = scene.layout;
         let height = layout.bottom.saturating_sub(layout.top);
@@ -33,7 +33,7 @@ fn behind_word(phase: Phase) -> &'static str {
 }
 
 /// Writes the lines of time with the numbers of their labels.
-pub fn write_times<W: Write>(out: &mut W, scene: Scene<'_>) -> io::Result<()> {
+pub(crate) fn write_times<W: Write>(out: &mut W, scene: Scene<'_>) -> io::Result<()> {
     let layout = scene.layout;
     let step = step_of(scene.facts.labels, layout.column);
     for count in 1..=scene.facts.labels.checked_div(step).unwrap_or(0) {
@@ -81,7 +81,7 @@ fn bar_of(band: &Band, scene: Scene<'_>, y: u64) -> Bar {
 }
 
 /// Writes the row of the device.
-pub fn write_device<W: Write>(out: &mut W, scene: Scene<'_>) -> io::Result<()> {
+pub(crate) fn write_device<W: Write>(out: &mut W, scene: Scene<'_>) -> io::Result<()> {
     let Some(y) = scene.layout.device else {
         return Ok(());
     };

@@ -42,7 +42,7 @@ struct Span {
 }
 
 /// Writes all events, one a line.
-pub fn write_events<W: Write>(out: &mut W, scene: Scene<'_>) -> io::Result<()> {
+pub(crate) fn write_events<W: Write>(out: &mut W, scene: Scene<'_>) -> io::Result<()> {
     let alloc = scene.facts.alloc;
     out.write_all(b"{\"displayTimeUnit\":\"ns\",\"traceEvents\":[\n")?;
     let first =

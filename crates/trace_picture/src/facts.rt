@@ -9,7 +9,7 @@ use std::collections::BTreeMap;
 
 /// How a request ended.
 #[derive(Clone, Copy)]
-pub struct Answer {
+pub(crate) struct Answer {
     pub label: u64,
     pub status: NtStatus,
     /// Bytes that were moved.
@@ -18,7 +18,7 @@ pub struct Answer {
 
 /// A request, from its call on. Labels are numbered from 1.
 #[derive(Clone, Copy)]
-pub struct Request {
+pub(crate) struct Request {
     pub number: u64,
     pub partition: Option<u8>,
     pub kind: Kind,
@@ -46,7 +46,7 @@ impl Request {
 
 /// A piece, from its start on.
 #[derive(Clone, Copy)]
-pub struct Piece {
+pub(crate) struct Piece {
     pub number: u128,
     pub tag: u8,
     /// None where the block is no command.
@@ -72,7 +72,7 @@ impl Piece {
 
 /// What the device was in for a while.
 #[derive(Clone, Copy)]
-pub enum Phase {
+pub(crate) enum Phase {
     Paused,
     Removing,
     /// Since a surprise removal.
@@ -82,7 +82,7 @@ pub enum Phase {
 
 /// A while that the device was in some phase; to the end of the trace where it has no end.
 #[derive(Clone, Copy)]
-pub struct Band {
+pub(crate) struct Band {
     pub phase: Phase,
     pub start: u64,
     pub end: Option<u64>,
@@ -90,7 +90,7 @@ pub struct Band {
 
 /// What a label says of a request or a piece that isn't there.
 #[derive(Clone, Copy)]
-pub enum Word {
+pub(crate) enum Word {
     Act,
     Fault,
     Return,
@@ -101,7 +101,7 @@ pub enum Word {
 
 /// A label that fits no request, no piece and no pause that came before it.
 #[derive(Clone, Copy)]
-pub struct Stray {
+pub(crate) struct Stray {
     pub label: u64,
     pub word: Word,
     /// The number of the request or the piece, if the label names one.
@@ -110,7 +110,7 @@ pub struct Stray {
 
 /// All that a picture shows.
 #[derive(Drop)]
-pub struct Facts {
+pub(crate) struct Facts {
     pub alloc: Global,
     pub labels: u64,
     /// The line of each label, first to last.

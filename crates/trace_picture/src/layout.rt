@@ -27,15 +27,15 @@ const CAPTION_LETTERS: u64 = 12;
 /// Room for the mark of a call or an answer beside its text.
 const MARK: u64 = 20;
 /// Height of the row of the device, of a tag and of the labels that fit nothing.
-pub const ROW: u64 = 26;
+pub(crate) const ROW: u64 = 26;
 /// Height of the bar in it.
-pub const BAR: u64 = 20;
+pub(crate) const BAR: u64 = 20;
 /// Height of the caption of a group of rows.
-pub const CAPTION: u64 = 22;
+pub(crate) const CAPTION: u64 = 22;
 
 /// A row for requests.
 #[derive(Clone, Copy)]
-pub struct Row {
+pub(crate) struct Row {
     pub y: u64,
     /// The pieces that stand one below the other.
     pub lanes: u64,
@@ -59,11 +59,11 @@ impl Row {
 }
 
 /// Height of a piece in the bar of its request, where there are several.
-pub const LANE: u64 = 13;
+pub(crate) const LANE: u64 = 13;
 
 /// Where a request stands.
 #[derive(Clone, Copy)]
-pub struct Place {
+pub(crate) struct Place {
     /// Its row among the rows.
     pub row: usize,
     /// Its pieces that stand one below the other.
@@ -71,7 +71,7 @@ pub struct Place {
 }
 
 #[derive(Drop)]
-pub struct Layout {
+pub(crate) struct Layout {
     /// Width of the column of one label.
     pub column: u64,
     /// Where the column of label 1 begins.
@@ -340,14 +340,14 @@ fn left_of(facts: &Facts, is_shared: bool) -> u64 {
 
 /// What is drawn, and where it stands.
 #[derive(Clone, Copy)]
-pub struct Scene<'a> {
+pub(crate) struct Scene<'a> {
     pub facts: &'a Facts,
     pub layout: &'a Layout,
 }
 
 /// A rectangle.
 #[derive(Clone, Copy)]
-pub struct Bar {
+pub(crate) struct Bar {
     pub x: u64,
     pub y: u64,
     pub width: u64,
@@ -355,7 +355,7 @@ pub struct Bar {
 }
 
 /// Writes a rectangle of this class, and ends the line.
-pub fn write_bar<W: Write>(out: &mut W, class: &str, bar: Bar) -> io::Result<()> {
+pub(crate) fn write_bar<W: Write>(out: &mut W, class: &str, bar: Bar) -> io::Result<()> {
     let Bar {
         x,
         y,

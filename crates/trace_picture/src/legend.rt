@@ -89,7 +89,7 @@ const MARKS: [(Mark, u64, u64, bool); 4] = [
 ];
 
 /// Writes the heading and the legend.
-pub fn write_legend<W: Write>(out: &mut W, facts: &Facts) -> io::Result<()> {
+pub(crate) fn write_legend<W: Write>(out: &mut W, facts: &Facts) -> io::Result<()> {
     write_heading(out, facts)?;
     write_patches(out)?;
     write_captions(out)?;

@@ -5,7 +5,7 @@ use std::io::Write;
 
 /// The middle of a mark, and whether it is a large one.
 #[derive(Clone, Copy)]
-pub struct Spot {
+pub(crate) struct Spot {
     pub x: u64,
     pub y: u64,
     pub is_large: bool,
@@ -13,7 +13,7 @@ pub struct Spot {
 
 /// A mark that is made of lines.
 #[derive(Clone, Copy)]
-pub enum Mark {
+pub(crate) enum Mark {
     /// A triangle that points into the bar of its request.
     Call,
     /// A square on its corner.
@@ -58,7 +58,7 @@ fn half_of(is_large: bool) -> u64 {
 }
 
 /// Writes a mark of lines.
-pub fn write_mark<W: Write>(out: &mut W, mark: Mark, spot: Spot) -> io::Result<()> {
+pub(crate) fn write_mark<W: Write>(out: &mut W, mark: Mark, spot: Spot) -> io::Result<()> {
     let (class, lines) = (mark.class(), mark.lines(spot.is_large));
     let half = half_of(spot.is_large);
     let x = spot.x.saturating_sub(half);
@@ -67,7 +67,7 @@ pub fn write_mark<W: Write>(out: &mut W, mark: Mark, spot: Spot) -> io::Result<(
 }
 
 /// Writes the disk of a success.
-pub fn write_success<W: Write>(out: &mut W, spot: Spot) -> io::Result<()> {
+pub(crate) fn write_success<W: Write>(out: &mut W, spot: Spot) -> io::Result<()> {
     let (x, y, half) = (spot.x, spot.y, half_of(spot.is_large));
     writeln!(
         out,
@@ -76,6 +76,6 @@ pub fn write_success<W: Write>(out: &mut W, spot: Spot) -> io::Result<()> {
 }
 
 /// Writes the dot of an act.
-pub fn write_dot<W: Write>(out: &mut W, x: u64, y: u64) -> io::Result<()> {
+pub(crate) fn write_dot<W: Write>(out: &mut W, x: u64, y: u64) -> io::Result<()> {
     writeln!(out, "<circle cx=\"{x}\" cy=\"{y}\" r=\"2\"/>")
 }

@@ -9,7 +9,7 @@ use std::fmt;
 
 /// The name of a request: its number, and what it asks for.
 #[derive(Clone, Copy)]
-pub struct Name<'a>(pub &'a Request);
+pub(crate) struct Name<'a>(pub &'a Request);
 
 impl fmt::Display for Name<'_> {
     fn fmt<W: fmt::Write>(&self, f: &mut fmt::Formatter<W>) -> fmt::Result {
@@ -25,7 +25,7 @@ impl fmt::Display for Name<'_> {
 }
 
 /// The width of a name.
-pub fn name_width(request: &Request) -> u64 {
+pub(crate) fn name_width(request: &Request) -> u64 {
     let words = digits(request.number).saturating_add(kind_word(request.kind).len() as u64);
     let place = match request.kind {
         Kind::Flush => 0,
@@ -42,7 +42,7 @@ pub fn name_width(request: &Request) -> u64 {
 
 /// What a command asks for.
 #[derive(Clone, Copy)]
-pub struct Command(pub Option<Cdb>);
+pub(crate) struct Command(pub Option<Cdb>);
 
 impl fmt::Display for Command {
     fn fmt<W: fmt::Write>(&self, f: &mut fmt::Formatter<W>) -> fmt::Result {
@@ -81,7 +81,7 @@ fn told_of(command: Option<Cdb>) -> (&'static str, Option<(u64, u64, bool)>) {
     }
 }
 
-pub fn kind_word(kind: Kind) -> &'static str {
+pub(crate) fn kind_word(kind: Kind) -> &'static str {
     match kind {
         Kind::Read => "read",
         Kind::Write => "write",
@@ -90,7 +90,7 @@ pub fn kind_word(kind: Kind) -> &'static str {
 }
 
 /// Returns how a piece came back, if it did.
-pub fn class_word(back: Option<(u64, Class)>) -> &'static str {
+pub(crate) fn class_word(back: Option<(u64, Class)>) -> &'static str {
     match back {
         Some((_, Class::Good)) => "good",
         Some((_, Class::Busy)) => "busy",
@@ -99,7 +99,7 @@ pub fn class_word(back: Option<(u64, Class)>) -> &'static str {
     }
 }
 
-pub fn phase_word(phase: Phase) -> &'static str {
+pub(crate) fn phase_word(phase: Phase) -> &'static str {
     match phase {
         Phase::Paused => "paused",
         Phase::Removing => "removing",
@@ -110,7 +110,7 @@ pub fn phase_word(phase: Phase) -> &'static str {
 
 /// A label that fits nothing: its word, and the number that it names.
 #[derive(Clone, Copy)]
-pub struct Misfit<'a>(pub &'a Stray);
+pub(crate) struct Misfit<'a>(pub &'a Stray);
 
 impl fmt::Display for Misfit<'_> {
     fn fmt<W: fmt::Write>(&self, f: &mut fmt::Formatter<W>) -> fmt::Result {
@@ -124,7 +124,7 @@ impl fmt::Display for Misfit<'_> {
 
 /// The number of a piece, and its word.
 #[derive(Clone, Copy)]
-pub struct NumberAndWord<'a>(pub u128, pub &'a str);
+pub(crate) struct NumberAndWord<'a>(pub u128, pub &'a str);
 
 impl fmt::Display for NumberAndWord<'_> {
     fn fmt<W: fmt::Write>(&self, f: &mut fmt::Formatter<W>) -> fmt::Result {
@@ -145,12 +145,12 @@ fn label_word(word: Word) -> &'static str {
 }
 
 /// Returns how many digits a number has.
-pub fn digits(number: u64) -> u64 {
+pub(crate) fn digits(number: u64) -> u64 {
     Buffer::new().format(number).len() as u64
 }
 
 /// Returns how many digits the number of a piece has.
-pub fn piece_digits(number: u128) -> u64 {
+pub(crate) fn piece_digits(number: u128) -> u64 {
     match u64::try_from(number) {
         Ok(short) => digits(short),
         Err(_) => 39,
@@ -158,11 +158,11 @@ pub fn piece_digits(number: u128) -> u64 {
 }
 
 /// The width of this many letters of the larger size.
-pub fn text_width(letters: u64) -> u64 {
+pub(crate) fn text_width(letters: u64) -> u64 {
     letters.saturating_mul(7).saturating_add(12)
 }
 
 /// The width of this many letters in a bar.
-pub fn bar_text_width(letters: u64) -> u64 {
+pub(crate) fn bar_text_width(letters: u64) -> u64 {
     letters.saturating_mul(6).saturating_add(6)
 }

@@ -55,7 +55,7 @@ struct Search {
 }
 
 /// Finds the owner of each piece.
-pub fn find_owners(facts: &mut Facts) -> Result<(), AllocError> {
+pub(crate) fn find_owners(facts: &mut Facts) -> Result<(), AllocError> {
     let mut search = Search::new(facts.alloc, facts.sector_size.unwrap_or(SECTOR));
     for request in facts.requests.iter_mut() {
         request.sent = 0;

@@ -13,7 +13,7 @@ use std::io;
 use std::io::Write;
 
 /// Writes the rows of the tags, with their pieces.
-pub fn write_tags<W: Write>(out: &mut W, scene: Scene<'_>) -> io::Result<()> {
+pub(crate) fn write_tags<W: Write>(out: &mut W, scene: Scene<'_>) -> io::Result<()> {
     write_caption(out, scene.layout.tags_caption, 16, "tags")?;
     write_tag_rows(out, scene)?;
     for piece in scene.facts.pieces.iter() {
@@ -101,7 +101,7 @@ fn write_number<W: Write>(out: &mut W, piece: &Piece, bar: Bar) -> io::Result<()
 }
 
 /// Writes the rows of the requests.
-pub fn write_requests<W: Write>(out: &mut W, scene: Scene<'_>) -> io::Result<()> {
+pub(crate) fn write_requests<W: Write>(out: &mut W, scene: Scene<'_>) -> io::Result<()> {
     write_caption(out, scene.layout.requests_caption, 16, "requests")?;
     write_lines(out, scene)?;
     write_bars(out, scene)?;
@@ -273,7 +273,7 @@ fn write_answer_title<W: Write>(out: &mut W, scene: Scene<'_>, answer: Answer) -
 }
 
 /// Writes the row of the labels that fit nothing.
-pub fn write_strays<W: Write>(out: &mut W, scene: Scene<'_>) -> io::Result<()> {
+pub(crate) fn write_strays<W: Write>(out: &mut W, scene: Scene<'_>) -> io::Result<()> {
     let Some(y) = scene.layout.strays else {
         return Ok(());
     };

@@ -53,7 +53,7 @@ const PATTERNS: &str = "<defs>\
 ";
 
 /// Writes the picture.
-pub fn write_svg<W: Write>(out: &mut W, scene: Scene<'_>) -> io::Result<()> {
+pub(crate) fn write_svg<W: Write>(out: &mut W, scene: Scene<'_>) -> io::Result<()> {
     write_sheet(out, scene.layout)?;
     write_legend(out, scene.facts)?;
     write_bands(out, scene)?;

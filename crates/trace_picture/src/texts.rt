@@ -6,26 +6,26 @@ use std::io::Write;
 
 /// Where a text begins; where its middle or its end is, as its style says.
 #[derive(Clone, Copy)]
-pub struct Point {
+pub(crate) struct Point {
     pub x: u64,
     pub y: u64,
 }
 
 /// Styles: what stands behind the name of a text's element.
-pub const PLAIN: &str = "";
+pub(crate) const PLAIN: &str = "";
 
-pub const CAPTION: &str = " class=\"c\"";
+pub(crate) const CAPTION: &str = " class=\"c\"";
 
-pub const IN_BAR: &str = " class=\"b\"";
+pub(crate) const IN_BAR: &str = " class=\"b\"";
 
-pub const BEFORE: &str = " class=\"e\"";
+pub(crate) const BEFORE: &str = " class=\"e\"";
 
-pub const DIM_BEFORE: &str = " class=\"e dim\"";
+pub(crate) const DIM_BEFORE: &str = " class=\"e dim\"";
 
-pub const MIDDLE: &str = " class=\"m\"";
+pub(crate) const MIDDLE: &str = " class=\"m\"";
 
 /// Writes a text, and ends the line.
-pub fn write_text<W: Write, T: Display>(
+pub(crate) fn write_text<W: Write, T: Display>(
     out: &mut W,
     style: &str,
     at: Point,

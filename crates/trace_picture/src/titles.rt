@@ -9,7 +9,7 @@ use std::{fmt, io};
 
 /// A label, with its line where that has another number.
 #[derive(Clone, Copy)]
-pub struct At<'a> {
+pub(crate) struct At<'a> {
     pub facts: &'a Facts,
     pub label: u64,
 }
@@ -26,7 +26,7 @@ impl fmt::Display for At<'_> {
 }
 
 /// Writes the title of a request.
-pub fn write_request_title<W: Write>(
+pub(crate) fn write_request_title<W: Write>(
     out: &mut W,
     facts: &Facts,
     request: &Request,
@@ -73,7 +73,11 @@ fn write_answer<W: Write>(out: &mut W, facts: &Facts, answer: Option<Answer>) ->
 }
 
 /// Writes the title of a piece.
-pub fn write_piece_title<W: Write>(out: &mut W, facts: &Facts, piece: &Piece) -> io::Result<()> {
+pub(crate) fn write_piece_title<W: Write>(
+    out: &mut W,
+    facts: &Facts,
+    piece: &Piece,
+) -> io::Result<()> {
     write!(out, "<title>piece {} on tag {}", piece.number, piece.tag)?;
     write_owner(out, facts.owner_of(piece))?;
     write!(out, "\n{}", Command(piece.command))?;

@@ -15,7 +15,7 @@ const MOST_DIGITS: usize = 20;
 
 /// What is left of a line. Contracts see the words in it.
 #[derive(Drop)]
-pub struct Words<'a> {
+pub(crate) struct Words<'a> {
     rest: &'a str,
 }
 
