@@ -19,7 +19,7 @@ use Rattle.adapter.specs.View.{TagInUse, AdapterView, IsOn}
 
 -- THE PIECE THAT MAY ACT
 
--- the fresh piece of a tag, with its SRB
+-- the tag's piece is this one, with this SRB, and has done nothing yet
 pub record IsArmed (view : AdapterView) (tag piece : ℕ) (srb : Srb) : Type 0 where
   pub use' : TagInUse
   pub others : List TagInUse
@@ -63,12 +63,12 @@ pub record IsOfSrb (size sectors : ℕ) (srb : Srb) (entry : Entry) : Type 0 whe
   pub means : Means srb.block command
   pub may : MayBeOf size sectors srb.data entry command
 
--- an entry of an act that the SRB asks for, or a completion that is neither good nor busy
+-- what is booked suits the SRB: an entry of an act that it asks for, or a completion that is neither good nor busy
 abbrev pub Suits : ℕ → ℕ → Srb → Result Entry Completion → Type 0
 Suits size sectors srb (Ok entry) = IsOfSrb size sectors srb entry
 Suits size sectors srb (Err completion) = class_of completion ≡ Bad completion
 
--- the tag's fresh piece is this one, which isn't piece 0, what is to be booked suits it, and the sectors stand elsewhere
+-- the sectors stand elsewhere; the tag's fresh piece is this one, and not piece 0; what is to be booked suits it
 pub record IsBookable (view : AdapterView) (tag piece : ℕ) (what : Result Entry Completion) : Type 0 where
   pub use' : TagInUse
   pub others : List TagInUse
@@ -102,7 +102,7 @@ entry_sent tag piece srb = record {
   bytes = srb.data;
 }
 
--- these bytes are all sectors of a write, which lie in the disk, or the none of a flush
+-- these bytes are all that the command sends: the sectors of a write, which lie in the disk, or none for a flush
 abbrev pub SendsFor : ℕ → ℕ → List ℕ → Cdb → Type 0
 SendsFor size sectors bytes (Read10 lba count fua) = ⊥
 SendsFor size sectors bytes (Write10 lba count fua) = (lba + count ≤ sectors) × (length bytes ≡ count * size)
@@ -135,12 +135,12 @@ abbrev pub srb_on : ℕ → List TagInUse → Option Srb
 srb_on tag [] = None
 srb_on tag (use' ∷ others) = if use'.tag == tag then Some use'.srb else srb_on tag others
 
--- of a free tag nothing is sent: a completion that may not be booked stands for it
+-- the entry of what the SRB on a tag sends; for a free tag a completion stands that may not be booked
 abbrev pub sent_of : ℕ → ℕ → Option Srb → Result Entry Completion
 sent_of tag piece (Some srb) = Ok (entry_sent tag piece srb)
 sent_of tag piece None = Err (record { srb_status = 1; scsi_status = 0; sense = None })
 
--- what a call hands over, where what is sent is that of the SRB on the tag
+-- what a call hands over; what is sent is taken from the SRB on the tag
 abbrev pub handed : AdapterView → ℕ → ℕ → Booked → Result Entry Completion
 handed view tag piece (Copied entry) = Ok entry.now
 handed view tag piece (Taken entry) = Ok entry.now
@@ -149,7 +149,7 @@ handed view tag piece (Failed completion) = Err completion
 
 -- BOOKING
 
--- the bytes stand in the SRB's data, where those of a write stand already; of a failure nothing is shown
+-- the bytes come into the SRB's data, where those of a write stand already; a failure that is booked isn't shown
 abbrev pub with_booked : Result Entry Completion → TagInUse → TagInUse
 with_booked (Ok entry) use' = record use' { booked = true; srb = record use'.srb { «data» = entry.bytes } }
 with_booked (Err completion) use' = record use' { booked = false }
@@ -160,7 +160,7 @@ booked_on tag what use' = if use'.tag == tag then with_booked what use' else use
 abbrev pub with_booking : ℕ → Result Entry Completion → AdapterView → AdapterView
 with_booking tag what view = record view { tags = map (booked_on tag what) view.tags }
 
--- it is booked exactly where it may be, and nothing else changes
+-- what is given is booked exactly where it may be, and nothing else changes
 pub record Books (old : AdapterView) (tag piece : ℕ) (what : Result Entry Completion) (new : AdapterView) : Type 0 where
   pub booked : Bool
   pub decides : Decides booked (IsBookable old tag piece what)

@@ -22,11 +22,11 @@ pub record ActsOrFaults (old : AdapterView) (tag : ℕ) (new : AdapterView) : Ty
   pub piece : ℕ
   pub one_of : ((bytes : List ℕ) × ActsOn old tag piece bytes new) ⊎ (FaultsOn old tag piece new × ¬ IsBooked old tag)
 
--- no piece on the tag that can act
+-- the tag has no piece that can act
 abbrev pub HasNoneFresh : AdapterView → ℕ → Type 0
 HasNoneFresh view tag = (use' : TagInUse) (others : List TagInUse) → IsOn view tag use' others → use'.fate ≢ Fresh
 
--- nothing changes
+-- the tag has no piece that can act, and nothing changes
 pub record ActsNot (old : AdapterView) (tag : ℕ) (new : AdapterView) : Type 0 where
   pub none_fresh : HasNoneFresh old tag
   pub same : new ≡ old
@@ -48,13 +48,13 @@ fate_after_reset Fresh = Faulted
 fate_after_reset (Acted moved) = Acted moved
 fate_after_reset Faulted = Faulted
 
--- and its SRB is left so; that of any other stays
+-- the SRB of such a piece is left as this one; that of any other piece stays
 abbrev pub srb_after_reset : Fate → Srb → Srb → Srb
 srb_after_reset Fresh left srb = left
 srb_after_reset (Acted moved) left srb = srb
 srb_after_reset Faulted left srb = srb
 
--- by the SRBs that are left
+-- a tag in use after a reset, by the SRBs that are left
 abbrev pub after_reset : (TagInUse → Srb) → TagInUse → TagInUse
 after_reset left use' = record use' {
   fate = fate_after_reset use'.fate;
@@ -97,7 +97,7 @@ pub record LeavesFirst (old : AdapterView) (label : DeviceLabel) (new : AdapterV
   pub first : old.labels ≡ label ∷ rest
   pub after : new ≡ record old { labels = rest }
 
--- there is none
+-- there is no label, and nothing changes
 pub record HasNoLabel (old new : AdapterView) : Type 0 where
   pub no_label : old.labels ≡ []
   pub same : new ≡ old

@@ -7,11 +7,13 @@ use Rattle.sector.specs.Splice.{splice}
 use Rattle.cdb.specs.declared.Cdb.{Cdb}
 use Rattle.cdb.specs.declared.Cdb.TheVariants.{Read10, Write10, Sync10, ReadCapacity10, Read16, Write16, Sync16, ReadCapacity16}
 
--- what READ CAPACITY(10) tells: the number of the last sector, FFFFFFFFh where it is that or more, then the bytes of a sector
+-- the data of READ CAPACITY(10): the address of the last block, FFFFFFFFh where it is that or more, then the block
+-- length
 abbrev pub capacity_data : ℕ → List (List ℕ) → List ℕ
 capacity_data size sectors = big_bytes 4 (min (length sectors - 1) (2 ^ 32 - 1)) ++ big_bytes 4 size
 
--- what READ CAPACITY(16) tells: the number of the last sector in eight bytes, the bytes of a sector, then zeros, cut at the allocation length
+-- the data of READ CAPACITY(16): the address of the last block in eight bytes, the block length, then zeros, cut at the
+-- allocation length
 abbrev pub long_capacity_data : ℕ → ℕ → List (List ℕ) → List ℕ
 long_capacity_data allocation size sectors = take allocation (big_bytes 8 (length sectors - 1) ++ big_bytes 4 size ++ replicate allocation 0)
 
@@ -29,7 +31,7 @@ Replaces size sectors bytes lba count moved after =
     (lba + count ≤ length sectors) × (concat moved ≡ bytes) × (length moved ≡ count) × All (IsSector size) moved
     × (after ≡ splice sectors lba moved)
 
--- a command on a disk of these sectors, sent with these bytes: the sectors that it reads or writes, and all sectors after it
+-- a command with these bytes, on a disk of these sectors: which sectors it reads or writes, and all sectors after it
 abbrev pub Performs : ℕ → List (List ℕ) → List ℕ → Cdb → List (List ℕ) → List (List ℕ) → Type 0
 Performs size sectors bytes (Read10 lba count fua) moved after = HandsOver sectors lba count moved after
 Performs size sectors bytes (Write10 lba count fua) moved after = Replaces size sectors bytes lba count moved after
@@ -40,13 +42,13 @@ Performs size sectors bytes (Write16 lba count fua) moved after = Replaces size 
 Performs size sectors bytes (Sync16 lba blocks) moved after = (moved ≡ [] ∷ []) × (after ≡ sectors)
 Performs size sectors bytes (ReadCapacity16 allocation) moved after = (moved ≡ long_capacity_data allocation size sectors ∷ []) × (after ≡ sectors)
 
--- this many whole sectors, which lie in the disk; the teller of its sectors hands them over
+-- a read moves this many whole sectors, which lie in the disk; where it is told of these sectors, it hands them over
 abbrev pub HandsOverIfTold : Bool → ℕ → List (List ℕ) → ℕ → ℕ → List (List ℕ) → Type 0
 HandsOverIfTold told size sectors lba count moved =
     (lba + count ≤ length sectors) × (length moved ≡ count) × All (IsSector size) moved × (IsTrue told → moved ≡ slice_range sectors lba (lba + count))
 
--- the same where the sectors stand elsewhere: as many whole sectors are moved as the command asks for, and a write's bytes are those
--- sent; a read that is told of these sectors hands them over
+-- a command where the sectors stand elsewhere: it moves as many whole sectors as it asks for, and a write those that
+-- were sent; a read that is told of these sectors hands them over
 abbrev pub Tells : Bool → ℕ → List (List ℕ) → List ℕ → Cdb → List (List ℕ) → Type 0
 Tells told size sectors bytes (Read10 lba count fua) moved = HandsOverIfTold told size sectors lba count moved
 Tells told size sectors bytes (Write10 lba count fua) moved = IsCut size sectors bytes lba count moved
@@ -57,7 +59,7 @@ Tells told size sectors bytes (Write16 lba count fua) moved = IsCut size sectors
 Tells told size sectors bytes (Sync16 lba blocks) moved = moved ≡ [] ∷ []
 Tells told size sectors bytes (ReadCapacity16 allocation) moved = moved ≡ long_capacity_data allocation size sectors ∷ []
 
--- a command carried out on these sectors by an adapter that is faithful to them; by one that isn't, told of and with no change of them
+-- a faithful adapter carries the command out on these sectors; another tells of it, and leaves them as they are
 abbrev pub CarriesOut : Bool → Bool → ℕ → List (List ℕ) → List ℕ → Cdb → List (List ℕ) → List (List ℕ) → Type 0
 CarriesOut true told size sectors bytes command moved after = Performs size sectors bytes command moved after
 CarriesOut false told size sectors bytes command moved after = Tells told size sectors bytes command moved × (after ≡ sectors)

@@ -18,14 +18,14 @@ use Rattle.adapter.specs.Performing.{CarriesOut}
 pub record TagInUse : Type 0 where
   pub tag : ℕ
   pub piece : ℕ
-  -- as it would come back now, but for its sense
+  -- the SRB as it would come back now, but for its sense data
   pub srb : Srb
   pub fate : Fate
   -- the failures counted when the piece was accepted
   pub failures_before : ℕ
-  -- met by a reset
+  -- whether it has met a reset
   pub was_reset : Bool
-  -- the bytes of its act were booked: they stand in the data of its SRB
+  -- whether its act was booked: the act's bytes then stand in the data of its SRB
   pub booked : Bool
 
 -- what an adapter shows
@@ -33,21 +33,21 @@ pub record AdapterView : Type 0 where
   -- bytes of a sector
   pub sector_size : ℕ
   pub sectors : List (List ℕ)
-  -- its acts move these sectors; else they stand elsewhere, and these never change
+  -- whether its acts move these sectors; if not, its sectors stand elsewhere, and these never change
   pub faithful : Bool
   -- sectors of the longest transfer
   pub max_transfer : ℕ
   pub depth : ℕ
-  -- in any order
+  -- the tags in use, in any order
   pub tags : List TagInUse
   -- the pieces ever accepted
   pub accepted : ℕ
   pub failures : ℕ
-  -- the extents whose writing was reserved
+  -- the extents that were reserved for writes
   pub reserved : List Extent
   -- sectors are reserved in runs of this many, counted from sector 0
   pub run : ℕ
-  -- recorded and not yet taken, the earliest first
+  -- the labels that were recorded and not taken yet, the earliest first
   pub labels : List DeviceLabel
 
 -- WHAT HOLDS AT EVERY MOMENT
@@ -91,17 +91,18 @@ pub record IsOn (view : AdapterView) (tag : ℕ) (use' : TagInUse) (others : Lis
   pub in_use : IsPermutation view.tags (use' ∷ others)
   pub has_tag : use'.tag ≡ tag
 
--- an SRB after its command failed: its data may be other bytes, as many, but for a write's, and its room for the label may be less
+-- an SRB after its command failed: unless it is a write, its data may be other bytes, just as many; its room for the
+-- label may be less
 pub record IsSpoiled (before after : Srb) : Type 0 where
   pub same : after ≡ record before { «data» = after.data; for_label = after.for_label }
   pub as_many : length after.data ≡ length before.data
   pub of_write : (lba count : ℕ) (fua : Bool) → AsksToWrite before.block lba count fua → after.data ≡ before.data
 
--- its piece never acts, and this SRB is left to it
+-- the tag's piece never acts, and this SRB is left to it
 abbrev pub faulted : Srb → TagInUse → TagInUse
 faulted srb use' = record use' { fate = Faulted; srb = srb }
 
--- its piece acted: the SRB's data are what it moved; of the room for the label, in which they go out, this is left
+-- the tag's piece acted: its SRB's data are what it moved; this is left of the room for the label, in which they go out
 abbrev pub acted : List (List ℕ) → ℕ → TagInUse → TagInUse
 acted moved left use' = record use' {
   fate = Acted moved;
@@ -114,7 +115,7 @@ acted moved left use' = record use' {
 abbrev pub IsReserved : AdapterView → Extent → Type 0
 IsReserved view extent = IsCovered view.reserved extent
 
--- what is reserved now was before, or is in a run with a sector of the extent
+-- each sector that is reserved now was reserved before, or is in a run with a sector of the extent
 abbrev pub ReservesNear : AdapterView → Extent → AdapterView → Type 0
 ReservesNear old extent new = CoversMoreNear old.run extent old.reserved new.reserved
 
@@ -156,12 +157,12 @@ pub record StartsOn (old : AdapterView) (tag piece : ℕ) (block : List ℕ) (ne
   pub has_block : srb.block ≡ block
   pub accepts : Accepts old tag piece srb new
 
--- where the sectors stand elsewhere, the bytes were booked; not for piece 0
+-- where the sectors stand elsewhere, the bytes of each piece but piece 0 were booked
 abbrev pub IsAsBooked : Bool → ℕ → TagInUse → List ℕ → Type 0
 IsAsBooked faithful piece use' bytes = IsFalse faithful → piece ≢ 0 → IsTrue use'.booked × (bytes ≡ use'.srb.data)
 
--- the tag's piece, which had done nothing yet, is carried out in one step; piece 0, by which a disk is looked at before its first
--- request, reads what every adapter shows
+-- the tag's piece, which had done nothing yet, is carried out in one step; piece 0, by which the disk is probed before
+-- its first request, reads what every adapter shows
 pub record ActsOn (old : AdapterView) (tag piece : ℕ) (bytes : List ℕ) (new : AdapterView) : Type 0 where
   pub use' : TagInUse
   pub others : List TagInUse
@@ -180,7 +181,7 @@ pub record ActsOn (old : AdapterView) (tag piece : ℕ) (bytes : List ℕ) (new 
   pub in_use : IsPermutation tags (acted moved left use' ∷ others)
   pub after : new ≡ record old { sectors = sectors; tags = tags; labels = old.labels ++ Act piece bytes ∷ [] }
 
--- the tag's piece, which had done nothing yet, never will; a failure at least is counted
+-- the tag's piece, which had done nothing yet, never will; at least one failure is counted
 pub record FaultsOn (old : AdapterView) (tag piece : ℕ) (new : AdapterView) : Type 0 where
   pub use' : TagInUse
   pub others : List TagInUse
@@ -199,8 +200,8 @@ pub record FaultsOn (old : AdapterView) (tag piece : ℕ) (new : AdapterView) : 
 abbrev pub IsBusReset : Completion → Type 0
 IsBusReset completion = bit_and completion.srb_status 63 ≡ 14
 
--- how a piece may come back with this many failures counted: good where it acted and met no reset, busy where it did nothing, bad
--- where failures were counted since it was accepted; after a reset as BUS_RESET
+-- how a piece may come back with this many failures counted: as good where it acted and met no reset, as busy where it
+-- did nothing, as bad where failures were counted since it was accepted, and after a reset as BUS_RESET
 abbrev pub MayReturn : ℕ → TagInUse → Class → Type 0
 MayReturn failures use' Good = ((moved : List (List ℕ)) × (use'.fate ≡ Acted moved)) × IsFalse use'.was_reset
 MayReturn failures use' Busy = (use'.fate ≡ Fresh) × IsFalse use'.was_reset
@@ -234,11 +235,11 @@ MovesBy old label new = (tag : ℕ) × MovesOn old tag label new
 
 -- MANY LABELS
 
--- its piece will come back as BUS_RESET
+-- the tag's piece will come back as BUS_RESET
 abbrev pub met_by_reset : TagInUse → TagInUse
 met_by_reset use' = record use' { was_reset = true }
 
--- only what is reserved may differ, and what was reserved still is
+-- only the reserved extents may differ, and what was reserved still is
 pub record ReservesMore (old new : AdapterView) : Type 0 where
   pub reserved : List Extent
   pub after : new ≡ record old { reserved = reserved }

@@ -36,7 +36,7 @@ pub trait Adapter: Drop {
         ensures exact { result ≡ (view self.now).depth }
         ensures order { IsInOrder (view self.now) };
 
-    /// Whether its acts read and write its sectors; else these stand elsewhere.
+    /// Whether its acts read and write its sectors. If not, these stand elsewhere.
     fn is_faithful(&self) -> bool
         ensures { result ≡ (view self.now).faithful };
 
@@ -45,13 +45,13 @@ pub trait Adapter: Drop {
         ensures exact { result ≡ (view self.now).failures }
         ensures order { IsInOrder (view self.now) };
 
-    /// Makes room for writes of an extent of the disk, for good: for the runs of sectors that the extent has a part in, and
-    /// no others. An adapter that needs no room has all of its disk reserved from the start.
+    /// Makes room for writes of an extent of the disk, for good: for the runs of sectors that the extent has a part in,
+    /// and no others. An adapter that needs no room has all of its disk reserved from the start.
     ///
     /// # Errors
     ///
-    /// [`AllocError`] where memory was refused; room may then have been made for a part. Never where the extent was reserved
-    /// before.
+    /// [`AllocError`] where memory was refused; room may then have been made for a part. Never where the extent was
+    /// reserved before.
     fn reserve(&mut self, extent: Extent) -> Result<(), AllocError>
         requires { extent.first + extent.count ≤ length (view self.old).sectors }
         ensures reserved { OnOk result (IsReserved (view self.new) extent) }
@@ -76,7 +76,7 @@ pub trait Adapter: Drop {
         ensures accepts { Accepts (view self.old) tag piece srb (view self.new) }
         ensures order { IsInOrder (view self.new) };
 
-    /// Carries the command of the tag's piece out, or fails it. False where no piece is on the tag, or one that acted or
+    /// Carries out the command of the tag's piece, or fails it. False where the tag has no piece, or its piece acted or
     /// failed before.
     fn act(&mut self, tag: u8) -> bool
         requires { length (view self.old).labels < 64 }
@@ -88,9 +88,10 @@ pub trait Adapter: Drop {
         ensures exact { MatchOption result (HasNoneFresh (view self.now) tag) (λ found. IsArmed (view self.now) tag found.0 found.1.now) }
         ensures order { IsInOrder (view self.now) };
 
-    /// Books what the act of the tag's piece did, or how it failed, where the sectors stand elsewhere; its next act is that.
-    /// Nothing changes where the tag has no such piece that has neither acted nor failed, or what is to be booked isn't its.
-    /// No memory is taken: the bytes of a read come into the place of the SRB's data, those of a write stand there.
+    /// Books what the act of the tag's piece did, or how it failed, where the sectors stand elsewhere; its next act is
+    /// that. Nothing changes where this piece isn't on the tag, has acted or failed, or didn't ask for what is to be
+    /// booked. No memory is taken: the bytes of a read replace those of the SRB's data, and the bytes of a write stand
+    /// there.
     fn book(&mut self, tag: u8, piece: u128, what: Booked<'_>)
         ensures books { Books (view self.old) tag piece (handed (view self.old) tag piece what.entry) (view self.new) }
         ensures order { IsInOrder (view self.new) };

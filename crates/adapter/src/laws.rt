@@ -2,7 +2,7 @@
 
 ghost use Rattle.adapter.specs.Booking.{SentSuits};
 
-/// What an SRB sends may be booked of it exactly where it asks for a write of all that, or for a flush.
+/// What an SRB sends may be booked of it exactly where it asks to write all of that, or to flush.
 #[tactic(auto, using(crate::proofs::Handed::sent_suits))]
 pub fn sent_suits()
     ensures { SentSuits }

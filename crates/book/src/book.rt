@@ -163,8 +163,8 @@ impl<N: Naming> Book<N> {
         self.traced.take_answer(number)
     }
 
-    /// Whenever a book is at rest, its trace is a run from the state that it was opened with to the state that the stack
-    /// shows, each label in its row. It does nothing; its contract is for callers.
+    /// Whenever a book is at rest, its trace is a run from the state that it was opened with to the state that the
+    /// stack shows, each label in its row. It does nothing; its contract is for callers.
     pub fn shows_whole(&self)
         ensures { IsTraced N.rules N.start N.partitions N.handles self.now.traced }
     {
@@ -214,7 +214,8 @@ impl<N: Naming> Book<N> {
         self.seen = self.traced.len();
     }
 
-    // How the piece of a tag fails if no entry of it is booked: as it failed in the journal, where it acts now unless it did.
+    // How the piece of a tag fails if no entry of it is booked: as it failed in the journal, where it acts now unless
+    // it did.
     fn failure_of<M: Medium>(
         &mut self,
         journal: &mut Journal<M, N>,
@@ -468,11 +469,11 @@ impl<N: Naming> Book<N> {
         self.serve_in(alloc, history, marks, &mut journal, words, event)
     }
 
-    /// Carries an event out, any but an open and a close. First it looks, once at each slot that has an open request, and
-    /// carries out each mark that it sees there. Where the event may start or end a piece it takes the journal's lock then,
-    /// and books all entries that are there, in the order of their numbers: an act of a tag that is armed has its piece act
-    /// in the journal before. A read, a write or a flush comes with the share of its handle's client, any other event with
-    /// none.
+    /// Carries an event out, any but an open and a close. First it looks, once at each slot that has an open request,
+    /// and carries out each mark that it sees there. Where the event may start or end a piece it takes the journal's
+    /// lock then, and books all entries that are there, in the order of their numbers: an act of a tag that is armed
+    /// has its piece act in the journal before. A read, a write or a flush comes with the share of its handle's client,
+    /// any other event with none.
     ///
     /// Reads, writes, flushes and query-remove are refused as `InsufficientResources`, before any step of theirs, where
     /// memory for the labels that they may bring, or in the journal for their acts, is refused.

@@ -26,7 +26,7 @@ blocks_of (Write16 lba count fua) = count
 blocks_of (Sync16 lba blocks) = blocks
 blocks_of (ReadCapacity16 allocation) = 0
 
--- to the host, to the disk, or neither
+-- which way a command's data go: to the host, to the disk, or neither
 abbrev pub direction_of : Cdb → Direction
 direction_of (Read10 lba count fua) = DataIn
 direction_of (Write10 lba count fua) = DataOut
@@ -42,7 +42,7 @@ is_out DataIn = false
 is_out DataOut = true
 is_out NoData = false
 
--- how many bytes go with a command, on a disk whose blocks have so many bytes
+-- how many bytes of data a command moves, on a disk whose blocks have this many bytes
 abbrev pub bytes_of : ℕ → Cdb → ℕ
 bytes_of size (Read10 lba count fua) = count * size
 bytes_of size (Write10 lba count fua) = count * size

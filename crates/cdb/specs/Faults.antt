@@ -24,19 +24,20 @@ IsLongCode code = IsLongTransferCode code ⊎ ((code ≡ 0x91) ⊎ (code ≡ 0x9
 abbrev pub IsKnownCode : ℕ → Type 0
 IsKnownCode code = IsShortCode code ⊎ IsLongCode code
 
--- fewer bytes than the operation code asks for
+-- the block has fewer bytes than its operation code asks for
 abbrev pub IsCut : List ℕ → Type 0
 IsCut block = (IsShortCode (slice_index block 0) × (length block < 10)) ⊎ (IsLongCode (slice_index block 0) × (length block < 16))
 
--- a transfer with all its bytes
+-- the block is a READ or a WRITE with all its bytes
 abbrev pub IsTransfer : List ℕ → Type 0
 IsTransfer block = (IsTransferCode (slice_index block 0) × (10 ≤ length block)) ⊎ (IsLongTransferCode (slice_index block 0) × (16 ≤ length block))
 
--- SERVICE ACTION IN(16) with all its bytes, and another service action than READ CAPACITY(16)
+-- the block is SERVICE ACTION IN(16) with all its bytes, and its service action isn't that of READ CAPACITY(16)
 abbrev pub IsOtherService : List ℕ → Type 0
 IsOtherService block = (slice_index block 0 ≡ 0x9E) × (16 ≤ length block) × (service_action block ≢ 0x10)
 
--- the block has this fault: the first in the order no bytes, an unknown code, too few bytes, protection or another service asked for
+-- the block has this fault, the first of these: no bytes, an unknown operation code, too few bytes, a field that isn't
+-- supported
 abbrev pub HasFault : List ℕ → CdbFault → Type 0
 HasFault block ShortCdb = (length block ≡ 0) ⊎ IsCut block
 HasFault block UnknownOpcode = (0 < length block) × (¬ IsKnownCode (slice_index block 0))

@@ -12,7 +12,7 @@ pub fn one_meaning()
     ensures { (block : List ℕ) (c d : Cdb) → Means block c → Means block d → c ≡ d }
 {}
 
-/// No block has two faults, and none that asks for a command has one.
+/// No block has two faults, and a block that asks for a command has none.
 #[tactic(auto, using(crate::proofs::Once::fault_once, crate::proofs::Once::never_both))]
 pub fn one_fault()
     ensures one { (block : List ℕ) (f g : CdbFault) → HasFault block f → HasFault block g → f ≡ g }

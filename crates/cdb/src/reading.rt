@@ -12,8 +12,8 @@ use crate::{Cdb, CdbFault, FUA, READ_CAPACITY};
 use byteorder::{BigEndian, ByteOrder};
 
 /// The command that a block asks for, or the first fault of the block: no bytes, an unknown
-/// operation code, too few bytes, a field that isn't supported. Bytes after the tenth are ignored,
-/// of a command of sixteen bytes those after the sixteenth.
+/// operation code, too few bytes, a field that isn't supported. Bytes behind the ten or sixteen of
+/// the command are ignored.
 #[tactic(auto, using(crate::proofs::Once::ok_exactly, crate::proofs::Once::fault_exactly))]
 pub fn decode(block: &[u8]) -> Result<Cdb, CdbFault>
     ensures ok { (c : Cdb) → (result ≡ Ok c) ↔ Means block.now c }
@@ -73,8 +73,8 @@ fn long_count(block: &[u8]) -> u32
     BigEndian::read_u32(&block[10..])
 }
 
-/// The bit for forced access of a transfer, which must ask for no protection information: bits 7 to
-/// 5 of byte 1 (RDPROTECT, WRPROTECT) are 0.
+/// The bit for forced unit access of a transfer (SBC: FUA). The transfer must ask for no protection information: bits 7
+/// to 5 of byte 1 (RDPROTECT, WRPROTECT) are 0.
 fn fua(block: &[u8]) -> Result<bool, CdbFault>
     requires { 10 ≤ length block.now }
     ensures { MatchResult result (HasAccess block.now) (λ f. (f ≡ InvalidField) × (0 < protect block.now)) }
@@ -85,7 +85,7 @@ fn fua(block: &[u8]) -> Result<bool, CdbFault>
     Ok(block[1] & FUA != 0)
 }
 
-/// The allocation length of READ CAPACITY(16), which is one service action of its code: that in bits 4 to 0 of byte 1.
+/// The allocation length of READ CAPACITY(16). Bits 4 to 0 of byte 1 must hold its service action.
 fn allocation(block: &[u8]) -> Result<u32, CdbFault>
     requires { 16 ≤ length block.now }
     ensures { MatchResult result (HasAllocation block.now) (λ f. (f ≡ InvalidField) × (service_action block.now ≢ 0x10)) }

@@ -21,8 +21,8 @@ pub fn encode_sense(sense: &Sense) -> [u8; 18]
     bytes
 }
 
-/// The sense that these bytes hold, or `None` where they end before its qualifier or have another
-/// response code than 70h.
+/// The sense that these bytes hold. `None` where they end before its qualifier, or their response
+/// code isn't 70h.
 pub fn decode_sense(bytes: &[u8]) -> Option<Sense>
     ensures some { (s : Sense) → (result ≡ Some s) ↔ Tells bytes.now s }
     ensures none { IsNone result ↔ (¬ TellsOfError bytes.now) }

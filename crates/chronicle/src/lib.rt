@@ -8,11 +8,12 @@
 //! What is promised to the crate above, of any type of entry:
 //! - only `Whole::add` changes the list, and it adds just its entry, at the end (`add`); there is one `Whole` of a
 //!   history (`one_whole`);
-//! - a claim is given on an entry that stands at its place (`claim`), and claims come from claims alone (`join`, `again`);
+//! - a claim is given on an entry that stands at its place (`claim`), and claims come from claims alone (`join`,
+//!   `again`);
 //! - whatever was claimed stands in the list whenever one looks (`check`, `claims_stand`).
 //!
-//! No call waits for another thread, and none but `Opened::new` takes memory. What is not promised: that anything is ever
-//! added. Where the [`Whole`] is dropped nothing more can be, and no claim can be checked.
+//! No call waits for another thread, and none but `Opened::new` takes memory. What is not promised: that anything is
+//! ever added. Where the [`Whole`] is dropped nothing more can be, and no claim can be checked.
 #![tactic(auto)]
 
 ghost use Rattle.std.specs.Prelude.{◌≡◌, ◌∷◌, ◌++◌, [], ◌<◌, Some, slice_get};

@@ -2,6 +2,6 @@
 use Rattle.std.specs.Prelude.{true}
 use Rattle.machine.specs.Rules.{Rules}
 
--- one piece a request, ended by one busy return
+-- each request goes as one piece, and its first busy return ends it
 abbrev pub below_rules : Rules → Rules
 below_rules rules = record rules { longest = rules.max_transfer; one_piece = true; busy_limit = 1 }

@@ -6,7 +6,7 @@ use Rattle.machine.specs.State.{OpenRequest, Piece, State}
 use Rattle.class_disk.specs.inside.Joint.{Note, Sent, Kept, Part, Below, Here, Known, Divided, Joint, above}
 use Rattle.class_disk.specs.PortRules.{below_rules}
 
--- stands for a packet below that there isn't, and is never shown
+-- what stands for a packet below that isn't there; it is never shown
 abbrev pub nobody : OpenRequest
 nobody = record {
   number = 0;
@@ -39,7 +39,7 @@ divided_of s t = record {
   parts = map (part_of s) t.parts;
 }
 
--- both machines, where the one below is this
+-- both machines, of which this is the one below
 abbrev pub joint_of : State → ℕ → List Known → Joint
 joint_of s next transfers = record {
   arrays = s.arrays;
@@ -56,12 +56,12 @@ shown_state s next transfers = above (joint_of s next transfers)
 
 -- RULES
 
--- those of the class driver over a layer with these: requests of up to 65,536 sectors go in parts, and each busy return
--- but the seventeenth sends a part again
+-- the rules of the class driver, over a layer with these: requests of up to 65,536 sectors go in parts, and each busy
+-- return but the seventeenth sends a part again
 abbrev pub class_rules : Rules → Rules
 class_rules rules = record rules { longest = 65536; one_piece = false; busy_limit = 17 }
 
--- a layer below that takes each request as one piece, of a sector or more, and answers its first busy return
+-- the layer below takes each request as one piece, of a sector or more, and answers at its first busy return
 pub record IsPort (rules : Rules) : Type 0 where
   pub below : rules ≡ below_rules (class_rules rules)
   pub one_disk : rules.partitions ≡ record { first = 0; count = rules.disk_sectors } ∷ []

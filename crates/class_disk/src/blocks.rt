@@ -42,7 +42,7 @@ pub(crate) fn part_request(sizes: &Sizes, request: &Request, k: u64) -> Request
     }
 }
 
-/// The bytes of a request's data.
+/// Returns how many bytes of data a request has.
 pub(crate) fn byte_count(sizes: &Sizes, request: &Request) -> usize
     requires { request.now.extent.count * sizes.now.sector_size < 2 ^ 64 }
     ensures { result ≡ data_length sizes.now.sector_size request.now }
@@ -180,8 +180,8 @@ fn location_of(request: &Request) -> StackLocation
     }
 }
 
-/// A packet of the class driver's own goes down for a request, with the port's location alone, whatever it was before
-/// (WDK: IoReuseIrp, IoGetNextIrpStackLocation).
+/// Makes a packet of the class driver's own ready to go down for a request, with the port's location alone, whatever it
+/// was before (WDK: IoReuseIrp, IoGetNextIrpStackLocation).
 pub(crate) fn ready_packet(irp: &mut Irp, number: u128, request: &Request, payload: Payload)
     ensures own { IsOwnPacket number request.now payload irp.new }
     ensures asks { AsksInLocation true request.now irp.new }

@@ -14,7 +14,7 @@ use sector::Bytes;
 use std::alloc::{AllocError, Global};
 use std::mem;
 
-/// The bytes of a part's own buffer: none where it is the only one, and takes its request's.
+/// The length of a part's own buffer: 0 where it is the only part, which takes its request's buffer.
 pub(crate) fn own_bytes(is_only: bool, length: usize) -> usize
     ensures { result ≡ (if is_only then 0 else length) }
 {
@@ -55,7 +55,7 @@ pub(crate) fn data_of(mut data: Vec<u8>, bytes: &[u8], at: usize, length: usize)
     Bytes::new(data)
 }
 
-/// The buffer of a request goes below with its only part.
+/// Takes the buffer of a request, which goes below with its only part.
 pub(crate) fn lent(payload: &mut Payload) -> Bytes
     requires { (bytes : List ℕ) × (payload.old ≡ Buffer bytes) }
     ensures { payload.old ≡ Buffer result }

@@ -6,10 +6,10 @@
 //! request is cancelled or the device removed. A failure stops no other part. Once all have ended, the packet is
 //! completed: with success where all parts succeeded, else with the status of the lowest one that did not; the bytes
 //! of a read are those of its parts in order. The only part of a request takes the packet's own buffer along, and
-//! brings it back; of several each has a buffer of its own. No call but `reserve` takes memory: it makes the packets
-//! and the buffers of all parts too.
+//! brings it back; each of several parts has a buffer of its own. No call but `reserve` takes memory: it makes the
+//! packets and the buffers of all parts too.
 //!
-//! Doesn't promise that a part ever comes back, nor that requests end in the order in which they came.
+//! It doesn't promise that a part ever comes back, nor that requests end in the order in which they came.
 #![tactic(auto)]
 
 mod blocks;

@@ -16,7 +16,7 @@ impl Model for Noted {
     ghost also_owns = { λ _. ftrue };
 }
 
-// It owns nothing.
+// The type owns nothing, so it may go to another thread.
 unsafe impl Send for Noted {}
 
 impl Noted {

@@ -14,7 +14,7 @@ use ntstatus::NtStatus;
 use sector::LabelRoom;
 use std::mem;
 
-/// How a part ended.
+/// How a part of a request ended.
 #[derive(Debug, Clone, Copy, PartialEq, Eq)]
 pub(crate) enum Outcome {
     /// Its piece came back good.
@@ -23,7 +23,7 @@ pub(crate) enum Outcome {
     Failed(NtStatus),
     /// Its piece came back busy, and it was not sent again.
     Busy(NtStatus),
-    /// It waited below when its request was cancelled or the device removed, and was not sent any more.
+    /// It waited below when its request was cancelled or the device was removed, and was not sent any more.
     Withdrawn(NtStatus),
 }
 
@@ -46,7 +46,8 @@ pub(crate) struct TransferPacket {
 #[derive(Drop)]
 pub(crate) struct Place {
     pub packet: TransferPacket,
-    /// For a read as long as its data; for a write empty, with room for them; for the only part of a request neither.
+    /// A read's is as long as its data. A write's is empty, with room for its data. The only part of a request has
+    /// none.
     pub data: Vec<u8>,
     /// Room for as many bytes as its data.
     pub for_label: LabelRoom,
@@ -74,7 +75,7 @@ pub(crate) enum Progress {
 pub(crate) struct Part {
     /// What it asks the layer below for.
     pub request: Request,
-    /// Its packets that came back busy and were sent again.
+    /// How many of its packets came back busy and were sent again.
     pub restarts: u8,
     pub progress: Progress,
 }
@@ -149,7 +150,7 @@ impl Part {
         }
     }
 
-    /// The part goes below in a packet of this number, for the first time.
+    /// Notes that the part goes below in a packet of this number, for the first time.
     pub fn send(&mut self, number: u128) -> Place
         requires { (place : Place) × (self.old.progress ≡ Ready place) }
         ensures was { self.old.progress ≡ Ready result }
@@ -165,7 +166,7 @@ impl Part {
         }
     }
 
-    /// The part goes below again in a packet of this number, at its spot there.
+    /// Notes that the part goes below again in a packet of this number, at its spot there.
     pub fn send_again(&mut self, number: u128, spot: usize)
         requires { self.old.restarts < 255 }
         ensures { self.new ≡ record self.old { restarts = self.old.restarts + 1; progress = SentBelow number spot } }
@@ -174,7 +175,7 @@ impl Part {
         self.progress = Progress::Below { number, spot };
     }
 
-    /// The part has ended.
+    /// Notes that the part has ended.
     pub fn end(&mut self, ended: Ended)
         ensures { self.new ≡ record self.old { progress = HasEnded ended } }
     {

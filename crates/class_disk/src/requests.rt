@@ -25,7 +25,7 @@ use ntstatus::NtStatus;
 use sector::Bytes;
 use std::mem;
 
-/// Restarts allowed to one request.
+/// How many restarts one request is allowed.
 const RESTARTS: u8 = 16;
 
 /// The parts of a request that has no packet here.
@@ -43,7 +43,7 @@ pub(crate) struct Transfer {
     pub parts: Vec<Part>,
     /// How often a part was sent again.
     pub restarts: u8,
-    /// Parts that have not ended.
+    /// How many parts have not ended.
     pub unfinished: usize,
     /// Whether the packet's buffer went below with the only part, and the bytes that it had then.
     pub lent: bool,
@@ -62,7 +62,7 @@ pub(crate) enum Slot {
 }
 
 impl Transfer {
-    /// A packet that came with its room, of which no part is sent yet.
+    /// The transfer of a packet that came with its room, of which no part is sent yet.
     pub fn new(irp: Box<Irp>, places: Places) -> Transfer
         ensures { opened_of result ≡ new_opened irp.value places.request places.parts.items }
     {
@@ -112,7 +112,7 @@ impl Transfer {
         self.own_data(sizes, request, data)
     }
 
-    /// The packet's buffer goes below.
+    /// Takes the packet's buffer, to go below.
     fn lend(&mut self) -> Bytes
         requires buffer { (bytes : List ℕ) × (self.old.irp.value.payload ≡ Buffer bytes) }
         requires here { self.old.lent ≡ false }
@@ -163,7 +163,7 @@ impl Transfer {
         packet
     }
 
-    /// Part k has ended; whether it was the last.
+    /// Notes that part k has ended. Returns whether it was the last.
     pub fn end(&mut self, k: usize, ended: Ended) -> bool
         requires part { k < list_length self.old.parts.items }
         requires unfinished { 0 < self.old.unfinished }
@@ -176,7 +176,7 @@ impl Transfer {
         self.unfinished == 0
     }
 
-    /// Returns how a part ends that came back busy; None where it is sent again.
+    /// Returns how a part that came back busy ends; `None` where it is sent again.
     fn busy_outcome(&self, removing: bool) -> Option<Outcome>
         ensures again { IfNone result (GoesAgain self.now.irp.value.cancelled removing self.now.restarts DeviceBusy) }
         ensures ends { IfSome result (λ outcome. EndsBack DeviceBusy outcome
@@ -193,7 +193,7 @@ impl Transfer {
         }
     }
 
-    /// Returns how a part ends that came back with this status; None where it is sent again.
+    /// Returns how a part that came back with this status ends; `None` where it is sent again.
     pub fn outcome(&self, removing: bool, status: NtStatus) -> Option<Outcome>
         ensures again { IfNone result (GoesAgain self.now.irp.value.cancelled removing self.now.restarts status) }
         ensures ends { IfSome result (λ outcome. EndsBack status outcome
@@ -220,7 +220,8 @@ impl Transfer {
         NtStatus::Success
     }
 
-    /// The packet of a request all of whose parts have ended goes up, and leaves them behind.
+    /// Completes the packet of a request, all of whose parts have ended (WDK: IoCompleteRequest). The parts are left
+    /// behind.
     pub fn complete(self, sizes: &Sizes) -> (Climb, Places)
         requires small { self.request.extent.count * sizes.now.sector_size < 2 ^ 64 }
         requires some { self.lent ≡ true → 0 < list_length self.parts.items }

@@ -24,7 +24,7 @@ use std::collections::VecDeque;
 #[derive(Drop)]
 pub(crate) struct Table {
     pub sizes: Sizes,
-    /// By the class driver's own spots.
+    /// The slots, by the class driver's own spots.
     pub slots: Slab<Slot>,
     /// By the spots below: the part that the room there is for.
     pub owners: Vec<PartId>,
@@ -39,7 +39,7 @@ pub(crate) struct Table {
 }
 
 impl Table {
-    /// Nothing is reserved, and there are no slots. Packets below are counted from 1.
+    /// A table with nothing reserved and no slots. Packets below are counted from 1.
     pub fn new(alloc: Global, sizes: Sizes) -> Table
         ensures { books_of result ≡ empty_books sizes (books_of result).ended_places }
     {
@@ -75,7 +75,7 @@ impl Table {
         Ok(self.slots.vacant_key())
     }
 
-    /// The slot that was made is reserved, with its parts.
+    /// Reserves the slot that was made, with its parts.
     pub fn fill(&mut self, slot: usize, places: Places)
         requires vacant { IsVacantFor self.old slot }
         requires place { HasPlaceForMore self.old }
@@ -84,7 +84,7 @@ impl Table {
         let _slot = self.slots.insert_reserved(Slot::Reserved(places));
     }
 
-    /// A packet that went leaves its parts behind in its slot.
+    /// Leaves the parts of a packet that went behind in its slot.
     pub fn leave(&mut self, slot: usize, places: Places)
         requires { IsVacantFor self.old slot }
         ensures { AddsSlot (books_of self.old) (left_as slot places) (books_of self.new) }
@@ -92,7 +92,7 @@ impl Table {
         let _slot = self.slots.insert_reserved(Slot::Left(places));
     }
 
-    /// Gives a slot up that has no packet.
+    /// Gives up a slot that has no packet.
     pub fn give_up(&mut self, slot: usize) -> Places
         requires { IsReserved (books_of self.old).rooms slot }
         ensures { RemovesSlot (books_of self.old) slot result (books_of self.new) }
@@ -105,7 +105,7 @@ impl Table {
         }
     }
 
-    /// A packet comes to a slot that is reserved.
+    /// Takes in a packet at a slot that is reserved.
     pub fn open(&mut self, slot: usize, irp: Box<Irp>)
         requires ready { IsReady (books_of self.old).rooms slot }
         requires few { (books_of self.old).submitted < 2 ^ 127 }
@@ -133,7 +133,7 @@ impl Table {
         transfer
     }
 
-    /// Puts it back.
+    /// Puts an open request back into its slot.
     pub fn put_open(&mut self, slot: usize, transfer: Transfer)
         requires { IsVacantFor self.old slot }
         ensures { PutsBack self.old slot transfer self.new }
@@ -141,7 +141,7 @@ impl Table {
         let _slot = self.slots.insert_reserved(Slot::Open(transfer));
     }
 
-    /// The request that ended first of those that were not taken, out of its slot.
+    /// Takes the request that ended first out of its slot.
     pub fn take_ended(&mut self) -> Option<(usize, Transfer)>
         requires { (slot : ℕ) → Contains (books_of self.old).ended slot → IsSome (open_at slot
             (books_of self.old).opens) }
@@ -170,7 +170,7 @@ impl Table {
     ///
     /// # Errors
     ///
-    /// [`AllocError`] where memory was refused; each spot has the owner that it had then.
+    /// [`AllocError`] where memory was refused; each spot then keeps its owner.
     pub fn own(&mut self, spot: usize, id: PartId) -> Result<(), AllocError>
         ensures owns { OnOk result (OwnsSpot self.old.owners.items spot id self.new.owners.items) }
         ensures keeps { OnErr result (KeepsOwners self.old.owners.items self.new.owners.items) }
@@ -181,7 +181,7 @@ impl Table {
         Ok(())
     }
 
-    /// Returns whose part the room at a spot below is.
+    /// Returns the part that the room at a spot below is for.
     pub fn owner(&self, spot: usize) -> PartId
         requires { spot < length self.now.owners.items }
         ensures { result ≡ owner_at self.now.owners.items spot }

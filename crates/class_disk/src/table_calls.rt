@@ -1,4 +1,4 @@
-//! What becomes of the parts of an open request.
+//! The calls of the table for the parts of an open request.
 
 ghost use Rattle.std.specs.Prelude.{◌≡◌, ◌<◌, ◌+◌, ℕ, Some, All, IfNone, IfSome, IsTrue, MatchBool, length, slice_get};
 ghost use Rattle.class_disk.specs.declared.parts.Part.{Part};
@@ -46,7 +46,7 @@ impl Table {
         self.at(slot).parts.len()
     }
 
-    /// The number of the next packet below.
+    /// Takes the number of the next packet below.
     fn take_number(&mut self) -> u128
         requires { CanNumber (books_of self.old) }
         ensures number { result ≡ self.old.next_packet }
@@ -57,7 +57,7 @@ impl Table {
         number
     }
 
-    /// A part goes below for the first time.
+    /// Notes that a part goes below for the first time, and returns what goes.
     pub fn send(&mut self, id: PartId) -> TransferPacket
         requires number { CanNumber (books_of self.old) }
         requires ready { (o : Opened) × ((open_at id.slot (books_of self.old).opens ≡ Some o)
@@ -73,7 +73,7 @@ impl Table {
         packet
     }
 
-    /// A part goes below again, with the packet and the SRB that came back busy.
+    /// Notes that a part goes below again, with the packet and the SRB that came back busy.
     pub fn send_again(&mut self, id: PartId, packet: TransferPacket) -> TransferPacket
         requires number { CanNumber (books_of self.old) }
         requires part { (o : Opened) × (part : Part) × (open_at id.slot (books_of self.old).opens ≡ Some o)
@@ -89,7 +89,8 @@ impl Table {
         packet
     }
 
-    /// Returns how a part of the request in a slot ends that came back with this status; None where it is sent again.
+    /// Returns how a part of the request in a slot ends, where it came back with this status; `None` where it is sent
+    /// again.
     pub fn outcome(&self, slot: usize, status: NtStatus) -> Option<Outcome>
         requires { (o : Opened) × (open_at slot (books_of self.now).opens ≡ Some o) }
         ensures again { (o : Opened) → open_at slot (books_of self.now).opens ≡ Some o
@@ -101,7 +102,7 @@ impl Table {
         self.at(slot).outcome(self.removing, status)
     }
 
-    /// A part has ended; with its last one its request has.
+    /// Notes that a part has ended. The request ends with its last part.
     pub fn end(&mut self, id: PartId, ended: Ended)
         requires part { (o : Opened) × (part : Part) × (open_at id.slot (books_of self.old).opens ≡ Some o)
             × (slice_get o.parts id.part ≡ Some part) × (0 < o.unfinished) }

@@ -38,7 +38,7 @@ use irp::{Irp, Payload};
 use sector::LabelRoom;
 use std::alloc::AllocError;
 
-/// A packet of the class driver's own has no routine above: it is finished.
+/// The packet that is finished: one of the class driver's own has no completion routine above.
 fn finished(climb: Climb) -> Box<Irp>
     requires { (irp : Box Irp) × (climb ≡ Finished irp) }
     ensures { climb ≡ Finished result }
@@ -234,7 +234,7 @@ impl<D: Device> Extension<D> {
         }
     }
 
-    /// Asks the layer below, which has nothing to give: then it is settled.
+    /// Asks the layer below for an ended packet. It has none, so it is settled.
     pub fn settle(&mut self)
         requires { (first : State) × (labels : List DeviceLabel)
             × IsMidway IsNothing first labels (D.view self.old.device) (books_of self.old.table) }

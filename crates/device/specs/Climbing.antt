@@ -10,7 +10,7 @@ use Rattle.irp.specs.Packet.{cancel_routine_of}
 use Rattle.device.specs.declared.climbing.Climb.{Climb}
 use Rattle.device.specs.declared.climbing.Climb.TheVariants.{Routine, Finished}
 
--- none of the locations above asks, and the packet is finished as it was completed
+-- no location above asks, and the packet is finished as it was completed
 pub record FinishesPacket (above : List StackLocation) (number : ℕ) (cancelled : Bool) (status : NtStatus)
     (information : ℕ) (payload : Payload) (irp : Irp) : Type 0 where
   pub passed_over : All (AsksNot (succeeds status) cancelled) above
@@ -21,7 +21,7 @@ pub record FinishesPacket (above : List StackLocation) (number : ℕ) (cancelled
   pub information_is : irp.io_status.information ≡ information
   pub payload_is : irp.payload ≡ payload
 
--- where a packet goes that is completed below these locations
+-- where a packet that is completed below these locations goes
 abbrev pub Climbs : (above : List StackLocation) (number : ℕ) (cancelled : Bool) (status : NtStatus)
     (information : ℕ) (payload : Payload) (climb : Climb) → Type 0
 Climbs above number cancelled status information payload (Routine driver irp) =

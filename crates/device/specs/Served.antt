@@ -57,7 +57,7 @@ pub record IsBeside (old new : DeviceView) : Type 0 where
   pub same_most : new.most ≡ old.most
   pub same_adapter : new.adapter ≡ old.adapter
 
--- places are made, and no more
+-- spots may change, and the adapter may have reserved more; nothing else changes
 pub record Reserves (old new : DeviceView) : Type 0 where
   pub same : new ≡ record old { rooms = new.rooms; adapter = record old.adapter { reserved = new.adapter.reserved } }
   pub adapter : ReservesMore old.adapter new.adapter
@@ -72,7 +72,7 @@ pub record ReservesNone (old new : DeviceView) : Type 0 where
   pub reserves : Reserves old new
   pub room : SameRooms old.rooms new.rooms
 
--- what the adapter reserves now it did before, or it is in a run with a sector that the request asks for
+-- what the adapter has reserved now was reserved before, or is in a run with a sector that the request asks for
 abbrev pub ReservesNear : DeviceView → Request → DeviceView → Type 0
 ReservesNear old request new = AdapterReservesNear old.adapter (sectors_asked old.rules request) new.adapter
 
@@ -141,7 +141,7 @@ pub record ActsNot (old : DeviceView) (tag : ℕ) (new : DeviceView) : Type 0 wh
   pub none : (piece : Piece) → IsFreshOn old.state tag piece → ⊥
   pub same : new ≡ old
 
--- what is booked of a piece is the adapter's alone
+-- only the adapter changes by what is booked of a piece
 pub record BooksPiece (old : DeviceView) (tag piece : ℕ) (what : Result Entry Completion)
     (new : DeviceView) : Type 0 where
   pub adapter : Books old.adapter tag piece what new.adapter
@@ -207,7 +207,7 @@ pub record CancelsAt (old : DeviceView) (spot number : ℕ) (new : DeviceView) :
   -- with a spot of another packet it is cancelled or nothing changes
   pub either : (Cancels old.state number new.state × IsBeside old new) ⊎ (new ≡ old)
 
--- the layer's removal, and no label is recorded
+-- the layer is removed, and no label is recorded
 pub record DrainsAll (old new : DeviceView) : Type 0 where
   pub drains : Drains old.rules old.state new.state
   pub beside : IsBeside old new
@@ -217,7 +217,7 @@ pub record PausesAll (old new : DeviceView) : Type 0 where
   pub pauses : Pauses old.rules old.state new.state
   pub beside : IsBeside old new
 
--- the layer holds no longer, and then pieces are started
+-- the layer's pause ends, and then pieces are started
 pub record ResumesAll (old new : DeviceView) : Type 0 where
   pub resumed : State
   pub starts : List DeviceLabel
@@ -229,12 +229,12 @@ pub record ResumesAll (old new : DeviceView) : Type 0 where
 abbrev pub IsBack : Mark → Type 0
 IsBack mark = mark ≡ Back
 
--- a number of parts of one length
+-- the bytes cut into a number of parts of one length
 abbrev pub cut : ℕ → ℕ → List ℕ → List (List ℕ)
 cut zero size bytes = []
 cut (suc count) size bytes = take size bytes ∷ cut count size (drop size bytes)
 
--- the sectors that the bytes of a request's packet are
+-- the bytes of a request's packet as sectors
 abbrev pub sectors_moved : Rules → Request → Payload → List (List ℕ)
 sectors_moved rules r payload = cut (place_count rules (as_client rules r [])) rules.sector_size (payload_bytes payload)
 
@@ -244,7 +244,7 @@ pub record HandsUp (takes_srb : Bool) (old : DeviceView) (climb : Climb) (spot :
   pub request : Request
   pub packet : Packet
   pub is_spot : packet.spot ≡ spot
-  -- whether the spot has all that its request needs; it has where packets bring their SRBs along
+  -- whether the spot has all that its request needs; it does where packets bring their SRBs along
   pub whole : Bool
   pub is_whole : IsTrue takes_srb → IsTrue whole
   pub room : SetsRoom old.rooms spot None (Some (record { request = request; whole = whole })) new.rooms
@@ -259,12 +259,12 @@ pub record HandsUp (takes_srb : Bool) (old : DeviceView) (climb : Climb) (spot :
   pub is_request : answers.request.request ≡ as_client old.rules request (sent_bytes request.kind payload)
   -- a read or a write that succeeded moved the sectors that its packet's bytes are
   pub moved : status ≡ Success → answers.request.marks ≡ map Done (sectors_moved old.rules request payload)
-  -- one that went as a whole and came back busy is answered as busy
+  -- a request that went as a whole and came back busy is answered as busy
   pub busy : IsTrue old.rules.one_piece → All IsBack answers.request.marks → status ≡ DeviceBusy
   -- a packet that came back busy can be sent again as it is, and a read that succeeded holds its bytes
   pub carries : status ≡ DeviceBusy → Carries takes_srb old.rules request payload
   pub brings : request.kind ≡ Read → status ≡ Success → payload_bytes payload ≡ bytes
-  -- as many as it asked for
+  -- a read that succeeded brings as many bytes as it asked for
   pub filled : request.kind ≡ Read → status ≡ Success → length bytes ≡ request.extent.count * old.rules.sector_size
   -- a flush brings none
   pub empty : request.kind ≡ Flush → payload_bytes payload ≡ []
@@ -273,12 +273,12 @@ pub record HandsUp (takes_srb : Bool) (old : DeviceView) (climb : Climb) (spot :
   pub brings_routine : BringsRoutine packet.cancel_routine climb
   pub only_starts : All IsStart starts
   pub moves : Moves (record old { state = answered; packets = others; rooms = new.rooms }) starts new
-  -- what was started stays as it is
+  -- requests that were started stay as they are
   pub started_stay : All (StaysIfStarted new.state) answered.requests
-  -- where nothing is held back by a window none is started, and the adapter stays as it was
+  -- where no window holds requests back, no piece is started, and the adapter stays as it was
   pub still : old.rules.window ≡ None → (starts ≡ []) × (new.adapter ≡ old.adapter)
 
--- a place of it came back busy and waits for the restart that it was granted, whatever came back busy since then
+-- a place of the request came back busy and waits for the restart that it was granted, whatever came back busy since
 pub record AwaitsRestart (rules : Rules) (s : State) (o : OpenRequest) : Type 0 where
   pub in_pieces : IsFalse rules.one_piece
   pub not_cancelled : IsFalse o.cancelled

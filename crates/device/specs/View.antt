@@ -56,7 +56,7 @@ abbrev pub IsTopmost : Packet → Type 0
 IsTopmost packet = packet.above ≡ []
 
 -- what is reserved at a spot: the request that it is for, and whether all that the request needs is there; a packet
--- that went may have left its spot without what went out with its labels
+-- that has ended may leave its spot without what went out with its labels
 pub record Reserved : Type 0 where
   pub request : Request
   pub whole : Bool
@@ -65,9 +65,9 @@ pub record Reserved : Type 0 where
 pub record DeviceView : Type 0 where
   pub rules : Rules
   pub state : State
-  -- submitted and not yet taken, in any order
+  -- the packets that were submitted and not taken yet, in any order
   pub packets : List Packet
-  -- by spots, what is reserved; the spot of a packet is not reserved
+  -- what is reserved, by spots; the spot of a packet is not reserved
   pub rooms : List (Option Reserved)
   -- the requests submitted so far, and the most that may be
   pub submitted : ℕ
@@ -79,7 +79,7 @@ pub record DeviceView : Type 0 where
 abbrev pub room_at : List (Option Reserved) → ℕ → Option Reserved
 room_at rooms spot = slice_index_or rooms spot None
 
--- stands for the request of a spot that is not reserved, which nobody asks for
+-- what stands for the request of a spot that is not reserved; nobody asks for it
 abbrev pub no_request : Request
 no_request = record { volume = 0; kind = Flush; extent = record { first = 0; count = 0 }; through = false }
 
@@ -119,7 +119,7 @@ KeepsOutside partitions old new =
 
 -- A REQUEST AND ITS PACKET
 
--- bytes of the data of a request
+-- how many bytes of data a request has
 abbrev pub transfer_length : Rules → Request → ℕ
 transfer_length rules r = if is_transfer r.kind then r.extent.count * rules.sector_size else 0
 
@@ -137,7 +137,8 @@ direction Read = 0x40
 direction Write = 0x80
 direction Flush = 0
 
--- an SRB that asks for all of a request, in the one block that is spelled so, with data of its length, room for a label and no sense
+-- an SRB asks for all of a request: its block is the one that does, its data have the request's length, it has room for
+-- a label, and no sense data
 pub record AsksFor (rules : Rules) (r : Request) (srb : Srb) : Type 0 where
   pub function : srb.function ≡ ExecuteScsi
   pub flags : srb.flags.0 ≡ direction r.kind
@@ -205,11 +206,11 @@ pub record OnTag : Type 0 where
 abbrev pub piece_on_tag : Piece → OnTag
 piece_on_tag piece = record { number = piece.number; tag = piece.tag; fate = piece.fate }
 
--- what it knows of the piece on a tag of its own
+-- what the adapter knows of the piece on one of its tags
 abbrev pub use_on_tag : TagInUse → OnTag
 use_on_tag in_use = record { number = in_use.piece; tag = in_use.tag; fate = in_use.fate }
 
--- the arrays are the adapter's sectors by the partitions, and the pieces out are those of its tags
+-- the arrays are the adapter's sectors in the partitions, and the pieces out are those on its tags
 pub record IsRead (rules : Rules) (s : State) (adapter : AdapterView) : Type 0 where
   pub same_size : rules.sector_size ≡ adapter.sector_size
   pub same_sectors : rules.disk_sectors ≡ length adapter.sectors
@@ -222,14 +223,14 @@ abbrev pub WaitsForTag : Rules → State → OpenRequest → Type 0
 WaitsForTag rules s o =
     IsFalse o.cancelled → IsFalse (is_started o) → IsTrue o.late ⊎ IsFull rules.window (count_by (is_lower o.number) s.requests)
 
--- the settled facts that a layer owes after each call, whoever takes what has ended: with a tag free nothing waits that
--- may go; all others hold once nothing that has ended waits to be taken
+-- what is settled of a layer after each call, whether or not its ended packets were taken: with a tag free, nothing
+-- that may go waits; the other settled facts hold once no ended packet is left to be taken
 pub record IsSending (rules : Rules) (s : State) : Type 0 where
   pub sent : length s.pieces < rules.depth → IsFalse s.removing → All (IsAllSent rules) s.requests
   pub released : length s.pieces < rules.depth → IsFalse s.removing → All (WaitsForTag rules s) s.requests
   pub within_window : IsWithin rules.window (started_count s)
 
--- places for labels that the adapter may need at once: those recorded, and one for each free tag
+-- the places for labels that are spoken for: those of recorded labels, and one for each free tag
 abbrev pub label_places : DeviceView → ℕ
 label_places v = length v.adapter.labels + (v.rules.depth - length v.state.pieces)
 

@@ -27,8 +27,8 @@ pub struct Room {
     pub spot: usize,
 }
 
-/// What contracts see of a layer. A layer over another is a struct with this bound alone, whose `Model` cites the view
-/// below; the bound of the calls stands at its impls.
+/// What contracts see of a layer. A layer over another is a struct with this bound alone, since its `Model` cites the
+/// view below. Only the impls of its calls have the bound `Device`.
 pub trait Shown: Drop {
     ghost view: { Self → DeviceView };
 
@@ -49,7 +49,7 @@ pub trait Shown: Drop {
 /// memory.
 ///
 /// The adapter's record has 64 places for labels. `label_places` counts those that hold a label which nobody took, and
-/// one for each free tag; a caller of `act`, `finish` or `reset` sees that enough are left, and `take_label` frees one.
+/// one for each free tag. A caller of `act`, `finish` or `reset` sees that enough are left; `take_label` frees one.
 pub trait Device: Shown {
     /// Whether packets come with an SRB that asks for their request, and not with a buffer.
     const TAKES_SRB: bool;
@@ -125,18 +125,18 @@ pub trait Device: Shown {
         ensures acts { MatchBool result (ActsOrFaults (Self.view self.old) tag (Self.view self.new))
             (ActsNot (Self.view self.old) tag (Self.view self.new)) };
 
-    /// The piece of a tag that has neither acted nor failed, with its SRB. None where there is none.
+    /// The piece of a tag, with its SRB, where it has neither acted nor failed; else `None`.
     fn armed(&self, tag: u8) -> Option<(u128, &Srb)>
         ensures { MatchOption result (HasNoneFresh (Self.view self.now).adapter tag)
             (λ found. IsArmed (Self.view self.now).adapter tag found.0 found.1.now) };
 
     /// Books what the act of a tag's piece did, or how it failed, with an adapter whose sectors stand elsewhere; its
-    /// next act is that. Nothing changes where the tag has no such piece that has neither acted nor failed, or what
-    /// is to be booked isn't its.
+    /// next act is that. Nothing changes where this piece isn't on the tag, has acted or failed, or didn't ask for
+    /// what is to be booked.
     fn book(&mut self, tag: u8, piece: u128, what: Booked<'_>)
         ensures books { BooksPiece (Self.view self.old) tag piece (handed (Self.view self.old).adapter tag piece what.entry) (Self.view self.new) };
 
-    /// Takes the piece of a tag back; true where the tag was in use. Else nothing changes.
+    /// Takes the piece of a tag back. False where the tag is free; nothing changes then.
     fn finish(&mut self, tag: u8) -> bool
         requires label_place { label_places (Self.view self.old) + 2 ≤ 64 }
         ensures finishes { MatchBool result (Finishes (Self.view self.old) tag (Self.view self.new))
@@ -152,8 +152,8 @@ pub trait Device: Shown {
     fn cancel(&mut self, number: u128)
         ensures cancels { CancelsIfOpen (Self.view self.old) number (Self.view self.new) };
 
-    /// Cancels the packet of a number by the spot of its room, as `cancel` does; where the packet is gone, also if a
-    /// later one has its spot, nothing changes.
+    /// Cancels the packet of a number by the spot of its room, as `cancel` does. Where the packet is gone, nothing
+    /// changes, even if a later packet has its spot.
     fn cancel_at(&mut self, spot: usize, number: u128)
         ensures cancels { CancelsAt (Self.view self.old) spot number (Self.view self.new) };
 
@@ -162,8 +162,8 @@ pub trait Device: Shown {
     fn drain(&mut self)
         ensures drains { DrainsAll (Self.view self.old) (Self.view self.new) };
 
-    /// Takes a packet that has ended, on its way up, with the room that it came with. None where none has; the layer is
-    /// then settled.
+    /// Takes a packet that has ended, on its way up, with the room that it came with. `None` where no packet has ended;
+    /// the layer is then settled.
     fn take_done(&mut self) -> Option<(Climb, Room)>
         ensures hands_up { MatchOption result (HandsUpNone (Self.view self.old) (Self.view self.new))
             (λ done. HandsUp Self.takes_srb (Self.view self.old) done.0 done.1.spot (Self.view self.new)) };
@@ -176,7 +176,7 @@ pub trait Device: Shown {
     fn forget_labels(&mut self)
         ensures forgets { ForgetsLabels (Self.view self.old) (Self.view self.new) };
 
-    /// The constants are what is shown of them.
+    /// The constants are what the ghost members show.
     ghost srb_is: { TAKES_SRB ≡ Self.takes_srb };
 
     ghost size_is: { STACK_SIZE ≡ Self.stack_size };

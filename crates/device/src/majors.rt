@@ -22,7 +22,7 @@ pub fn major_for(takes_srb: bool, kind: Kind) -> MajorFunction
     }
 }
 
-/// The bytes that a request has moved: all where it succeeds (WDK: IO_STATUS_BLOCK, Information).
+/// How many bytes a request has moved: all where it succeeds, else none (WDK: IO_STATUS_BLOCK, Information).
 pub fn information(sector_size: u32, request: &Request, status: NtStatus) -> u64
     requires { request.now.extent.count * sector_size < 2 ^ 64 }
     ensures { (rules : Rules) → rules.sector_size ≡ sector_size

@@ -4,7 +4,7 @@ use Rattle.machine.specs.State.{opening}
 use Rattle.machine.specs.Frame.{with_window}
 use Rattle.device.specs.View.{DeviceView, room_at}
 
--- a device of which nothing was asked yet, with no spot reserved and no window of its own
+-- nothing was asked of the device yet: it has no spot reserved, and no window of its own
 pub record IsFreshBelow (v : DeviceView) : Type 0 where
   pub rooms : (spot : ℕ) → room_at v.rooms spot ≡ None
   pub no_window : v.rules.window ≡ None
@@ -12,6 +12,6 @@ pub record IsFreshBelow (v : DeviceView) : Type 0 where
   pub packets : v.packets ≡ []
   pub submitted : v.submitted ≡ 0
 
--- what the filter shows over it: the same machine, with the window
+-- what the filter shows over the device: the same machine, with the window
 abbrev pub opening_over : ℕ → DeviceView → DeviceView
 opening_over window v = record v { rules = with_window (Some window) v.rules }

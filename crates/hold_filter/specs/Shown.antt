@@ -1,4 +1,4 @@
--- What a filter shows beside its device view, and how a packet is cancelled that it holds.
+-- What a filter shows beside its device view, and how a packet that it holds is cancelled.
 use Rattle.std.specs.Prelude.{◌≡◌, ℕ, List, ◌∷◌, ◌++◌, length, Contains, if◌then◌else◌}
 use Rattle.machine.specs.Holding.{Cancels}
 use Rattle.device.specs.View.{DeviceView}
@@ -13,11 +13,11 @@ pub record FilterView : Type 0 where
   pub shown : DeviceView
   -- the packets that are held, the one that was held longest first; once the device is removed they have ended
   pub queue : List Queued
-  -- how often an entry of the queue was visited, and one of those that were cancelled while they were held
+  -- how often an entry of the queue was visited, and how often one of those that were cancelled while they were held
   pub queue_visits : ℕ
   pub ended_visits : ℕ
 
--- the number of held packets: at a removal all that were have ended
+-- the number of held packets: once the device is removed, all have ended
 abbrev pub held_count : FilterView → ℕ
 held_count f = if f.shown.state.removing then 0 else length f.queue
 
@@ -30,7 +30,7 @@ pub record CancelsHeld (old : FilterView) (spot number : ℕ) (new : FilterView)
   pub cancels : Cancels old.shown.state number new.shown.state
   pub beside : IsBeside old.shown new.shown
 
--- no packet is held that has both, and nothing changes
+-- no held packet has this spot and this number, and nothing changes
 pub record CancelsNone (old : FilterView) (spot number : ℕ) (new : FilterView) : Type 0 where
   pub none : Contains old.queue (record { spot = spot; number = number }) → ⊥
   pub same_queue : new.queue ≡ old.queue

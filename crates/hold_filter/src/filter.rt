@@ -1,4 +1,4 @@
-//! The filter as its owner has it.
+//! The filter, and what its owner calls.
 
 ghost use Rattle.std.specs.Prelude.{◌≡◌, ◌<◌, ◌^◌, [], IsFalse, MatchBool};
 ghost use Rattle.linked.specs.Queue.{VisitsAtMost};
@@ -36,7 +36,7 @@ impl<D: Shown> Model for Filter<D> {
     ghost invariant = { λ s. IsFilter D.takes_srb D.stack_size (D.view s.parts.device) (books_of s.parts.table) };
 }
 
-/// The requests that a device takes in all fit a number.
+/// Shows the caller that a device takes fewer requests in all than a number can count.
 fn most_fits<D: Device>(device: &D)
     ensures fits { (D.view device.now).most < 2 ^ 128 }
 {
@@ -61,8 +61,8 @@ impl<D: Device> Filter<D> {
         Filter { parts }
     }
 
-    /// Cancels the packet of this number that is held and has this spot; false where none does. At most three entries
-    /// of the queue are visited, and two of those that were cancelled.
+    /// Cancels the packet that is held at this spot, where it has this number; false where no packet has both. At most
+    /// three entries of the queue are visited, and two of those that were cancelled.
     pub fn cancel_held(&mut self, spot: usize, number: u128) -> bool
         ensures cancels { MatchBool result (CancelsHeld self.old spot number self.new)
             (CancelsNone self.old spot number self.new) }
@@ -74,7 +74,7 @@ impl<D: Device> Filter<D> {
 }
 
 impl<D: Shown> Filter<D> {
-    /// Requests that the filter holds: none once the device is removed, since those that it held have ended.
+    /// How many requests the filter holds: none once the device is removed, since those that it held have ended.
     pub fn held(&self) -> usize
         ensures { result ≡ held_count self.now }
     {

@@ -33,7 +33,8 @@ pub(crate) fn give_back(irp: &mut Irp, routine: Option<CancelRoutine>)
     }
 }
 
-/// The packet goes to the class driver with a copy of the filter's own location; the filter has no completion routine.
+/// Passes the packet to the class driver, with a copy of the filter's own location (WDK:
+/// IoCopyCurrentIrpStackLocationToNext). The filter sets no completion routine.
 pub(crate) fn pass_down(irp: &mut Irp)
     requires own { 0 < array_vec_len irp.old.locations }
     requires place { array_vec_len irp.old.locations < 4 }
@@ -43,7 +44,7 @@ pub(crate) fn pass_down(irp: &mut Irp)
     irp.copy_to_next(Driver::Class);
 }
 
-/// A packet that ended in the filter completes (WDK: IoCompleteRequest); nothing of it was moved.
+/// Completes a packet that ended in the filter (WDK: IoCompleteRequest), with no bytes moved.
 pub(crate) fn hand_up(held: Held, status: NtStatus) -> (Climb, Room)
     ensures { HandsOver held status result.0 result.1 }
 {

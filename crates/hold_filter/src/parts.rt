@@ -1,4 +1,4 @@
-//! The filter midway: the device below and the table, and what moves packets from the one to the other.
+//! The filter within a call: the device below and the table, and what moves packets from the one to the other.
 
 ghost use Rattle.std.specs.Prelude.{◌≡◌, ◌<◌, ◌+◌, IsFalse, MatchBool};
 ghost use Rattle.device.specs.View.{IsOrderly};
@@ -28,7 +28,7 @@ impl<D: Shown> Drop for Parts<D> {
 }
 
 impl<D: Device> Parts<D> {
-    /// Sends a packet below.
+    /// Sends a packet to the device below.
     pub fn send(&mut self, irp: Box<Irp>, room: Room)
         requires buffers { IsFalse D.takes_srb }
         requires may_send { MaySend D.stack_size (D.view self.old.device) irp.value room.spot }
@@ -46,7 +46,7 @@ impl<D: Device> Parts<D> {
         self.table.note_sent();
     }
 
-    /// Sends the packet that was held longest below, where it may go.
+    /// Sends the packet that was held longest to the device below, where it may go.
     pub fn release_one(&mut self) -> bool
         requires buffers { IsFalse D.takes_srb }
         requires kept { FilterKept D.stack_size (D.view self.old.device) (books_of self.old.table) }
@@ -76,7 +76,7 @@ impl<D: Device> Parts<D> {
         true
     }
 
-    /// Sends packets that are held below, first in, first out, as long as one may go.
+    /// Sends held packets to the device below, first in, first out, as long as one may go.
     pub fn release(&mut self)
         requires buffers { IsFalse D.takes_srb }
         requires kept { FilterKept D.stack_size (D.view self.old.device) (books_of self.old.table) }

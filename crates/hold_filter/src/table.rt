@@ -1,4 +1,5 @@
-//! The packets of the filter: those that it holds, those that were cancelled while it held them, and how many are below.
+//! The packets of the filter: those that it holds, those that were cancelled while it held them, and how many are
+//! below.
 
 use device::Room;
 use irp::{CancelRoutine, Irp};
@@ -24,13 +25,13 @@ impl Numbered for Held {
 /// The packets by the spots of their rooms below, and what was counted.
 #[derive(Drop)]
 pub(crate) struct Table {
-    /// Requests below at most.
+    /// How many requests may be below.
     pub window: usize,
-    /// Those that are held, first in, first out.
+    /// The packets that are held, first in, first out.
     pub held: Linked<Held>,
-    /// Those that were cancelled while they were held, until they are handed up.
+    /// The packets that were cancelled while they were held, until they are handed up.
     pub ended: Linked<Held>,
-    /// Packets below.
+    /// How many packets are below.
     pub below: usize,
     /// The last number submitted; 0 before the first.
     pub last_number: u128,

@@ -1,4 +1,4 @@
-//! What is done to the table.
+//! The calls of the table.
 
 ghost use Rattle.std.specs.Prelude.{◌≡◌, ◌<◌, ◌+◌, ◌^◌, ◌-◌, ◌&&◌, not, nat_lt, true, false};
 ghost use Rattle.std.specs.Prelude.{IsOk, OnOk, MatchBool, MatchOption, All};
@@ -69,7 +69,7 @@ impl Table {
         self.held.push_back_at(spot, Held { irp, routine, room });
     }
 
-    /// The packet that was held longest, to go below.
+    /// Takes the packet that was held longest, to go below.
     pub fn let_go(&mut self) -> Option<Held>
         ensures { MatchOption result (LetsNoneGo (books_of self.old) (books_of self.new))
             (λ held. LetsGo (books_of self.old) held (books_of self.new)) }
@@ -78,7 +78,7 @@ impl Table {
         Some(held)
     }
 
-    /// A packet went below.
+    /// Counts a packet that went below.
     pub fn note_sent(&mut self)
         requires { (books_of self.old).below < (books_of self.old).window }
         ensures { books_of self.new ≡ record (books_of self.old) { below = (books_of self.old).below + 1 } }
@@ -86,7 +86,7 @@ impl Table {
         self.below += 1;
     }
 
-    /// A packet came back from below.
+    /// Counts a packet that came back from below.
     pub fn note_returned(&mut self)
         requires { 0 < (books_of self.old).below }
         ensures { books_of self.new ≡ record (books_of self.old) { below = (books_of self.old).below - 1 } }
@@ -94,8 +94,8 @@ impl Table {
         self.below -= 1;
     }
 
-    /// The packet of this spot that is held is cancelled, where it has this number. At most three entries of the queue
-    /// are visited, and two of those that have ended.
+    /// Cancels the packet that is held at this spot, where it has this number. At most three entries of the queue are
+    /// visited, and two of those that have ended.
     pub fn withdraw(&mut self, spot: usize, number: u128) -> bool
         requires may_end { All (MayEnd (books_of self.old)) (books_of self.old).held }
         ensures withdraws { MatchBool result (Withdraws (books_of self.old) spot number (books_of self.new))
@@ -111,8 +111,8 @@ impl Table {
         true
     }
 
-    /// A packet that ended here, and how: one that was cancelled while it was held or, once the device is removed, the
-    /// one that was held longest.
+    /// Takes a packet that ended here, with its status: one that was cancelled while it was held or, once the device is
+    /// removed, the one that was held longest.
     pub fn take_ended(&mut self) -> Option<(Held, NtStatus)>
         ensures { MatchOption result (HandsNone (books_of self.old) (books_of self.new))
             (λ done. Hands (books_of self.old) done.0 done.1 (books_of self.new)) }
@@ -127,7 +127,7 @@ impl Table {
         Some((held, NtStatus::DeletePending))
     }
 
-    /// Returns where the packet of this number stands that is held.
+    /// Returns the spot of the held packet of this number.
     pub fn find_held(&mut self, number: u128) -> Option<usize>
         ensures found { MatchOption result (LacksNumber number (books_of self.old).held)
             (λ at. HoldsAt number at (books_of self.old).held) }
@@ -136,7 +136,7 @@ impl Table {
         self.held.find(number)
     }
 
-    /// The window has room for one packet more below.
+    /// Whether the window has room for one packet more below.
     pub fn has_room(&self) -> bool
         ensures { result ≡ (not (books_of self.now).paused && not (books_of self.now).removing
             && nat_lt (books_of self.now).below (books_of self.now).window) }

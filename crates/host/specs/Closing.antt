@@ -43,8 +43,8 @@ abbrev pub call_places : ℕ → ℕ → List TraceEntry → List ℕ
 call_places c from [] = []
 call_places c from (e ∷ es) = if is_call_of c e then from ∷ call_places c (suc from) es else call_places c (suc from) es
 
--- The trace and the rows of a closed host, with what its clients have receipts of: the trace is a run of the machine from the opening state, and each
--- call is in the row of the one client that made it, and an answer in its call's
+-- The trace and the rows of a closed host, with what its clients have receipts of: the trace is a run of the machine
+-- from the opening state, and each call is in the row of the one client that made it, and an answer in its call's
 pub record IsClosed (rules : Rules) (opening : State) (clients : List ClientView) (trace : List TraceEntry) (rows : List RowView) : Type 0 where
   pub last : State
   pub run : Run rules opening (labels_of trace) last

@@ -1,5 +1,5 @@
-//! Who is woken by a step. Each lane, each client, the worker and the keeper sleep on a condition of their own, which is rung
-//! where a label concerns them and at no other time.
+//! Who is woken by a step. Each lane, each client, the worker and the keeper sleep on a condition of their own, which
+//! is rung where a label concerns them and at no other time.
 
 use crate::name::Naming;
 use book::Book;
@@ -18,8 +18,8 @@ fn bit(number: usize) -> u64 {
     if number < 64 { 1 << number } else { 0 }
 }
 
-/// Whom the labels of a step concern: the lanes of tags on which a piece was started, the clients that were answered, and
-/// everybody once the removal has ended.
+/// Whom the labels of a step concern: the lanes of tags on which a piece was started, the clients that were answered,
+/// and everybody once the removal has ended.
 #[derive(Debug, Clone, Copy)]
 pub(crate) struct Concerned {
     lanes: u64,

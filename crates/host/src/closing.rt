@@ -21,8 +21,8 @@ use sector_journal::{Entered, OfEntries};
 use std::sync::ledger::Share as Part;
 use traced::{Row, TraceEntry};
 
-/// What is left of a host: the trace, for each client the places of its calls and of their answers, what acts did to the
-/// sectors, in their order, and the receipts of the entries of the trace's acts, numbered from 0.
+/// What is left of a host: the trace, for each client the places of its calls and of their answers, what acts did to
+/// the sectors, in their order, and the receipts of the entries of the trace's acts, numbered from 0.
 #[derive(Drop)]
 pub struct Closed<N: Naming> {
     pub trace: Vec<TraceEntry>,
@@ -81,13 +81,13 @@ fn laws_of_removals()
 }
 
 impl<M: Medium, N: Naming> Host<M, N> {
-    /// The trace, which is a run from the state that the host was opened with, and the rows, in which all receipts of the
-    /// clients stand; the calls of each row are just its client's. From the end of a removal on, of which the keeper may have
-    /// a receipt, nothing is open or out. It asks for all clients, in their order.
+    /// The trace, which is a run from the state that the host was opened with, and the rows, in which all receipts of
+    /// the clients stand; the calls of each row are just its client's. From the end of a removal on, of which the
+    /// keeper may have a receipt, nothing is open or out. It asks for all clients, in their order.
     ///
-    /// Beside them what acts did: the acts of the trace, in order, are the first entries, and all entries, replayed from the
-    /// sectors that the journal was opened with, give the sectors of the medium. So the trace is a run whose acts read and
-    /// write these sectors.
+    /// Beside them what acts did: the acts of the trace, in order, are the first entries, and all entries, replayed
+    /// from the sectors that the journal was opened with, give the sectors of the medium. So the trace is a run whose
+    /// acts read and write these sectors.
     pub fn close(self, keeper: Keeper<N>, clients: Vec<Client<N>>) -> (Closed<N>, M)
         requires parts { N.parts ≡ length N.partitions + 1 }
         requires all { AreNumbered (length N.partitions) clients.items }

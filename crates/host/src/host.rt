@@ -50,8 +50,8 @@ where
     pub(crate) alloc: Global,
 }
 
-/// The right to remove the device and to close the host: the part of the ledger that no client has, and a pass of the gate.
-/// Contracts see it as what it knows of the gate, and its receipts.
+/// The right to remove the device and to close the host: the part of the ledger that no client has, and a pass of the
+/// gate. Contracts see it as what it knows of the gate, and its receipts.
 #[derive(Drop)]
 pub struct Keeper<N: Naming> {
     pub(crate) part: Part<N>,

@@ -48,8 +48,8 @@ impl From<AllocError> for HostFault {
     }
 }
 
-/// A stack with a handle open for each client, and all that its threads will share, which has no name yet. Contracts see it
-/// as the names that a host of it has.
+/// A stack with a handle open for each client, and all that its threads will share, which has no name yet. Contracts
+/// see it as the names that a host of it has.
 pub struct Opened {
     pub(crate) stack: Stack<BookedAdapter>,
     pub(crate) handles: Vec<Handle>,
@@ -170,13 +170,13 @@ fn make_gear(
 }
 
 impl Opened {
-    /// Opens handle c + 1 on `partitions[c]` for client c, on a stack as it was started over an adapter without sectors, of
-    /// these sizes and so many slots for open requests; and makes what the threads of a host will share.
+    /// Opens handle c + 1 on `partitions[c]` for client c, on a stack as it was started over an adapter without
+    /// sectors, of these sizes and so many slots for open requests; and makes what the threads of a host will share.
     ///
     /// # Errors
     ///
-    /// [`HostFault::TooManyClients`] for more than 64 partitions; [`HostFault::NoPartition`] where the stack doesn't have
-    /// one of them; [`HostFault::NoMemory`].
+    /// [`HostFault::TooManyClients`] for more than 64 partitions; [`HostFault::NoPartition`] where the stack doesn't
+    /// have one of them; [`HostFault::NoMemory`].
     pub fn new(
         alloc: Global,
         stack: Stack<BookedAdapter>,

@@ -196,8 +196,8 @@ impl<M: Medium, N: Naming> Host<M, N> {
         self.step(rt, Event::CancelRemove)
     }
 
-    /// Removes the device after a query (WDK: IRP_MN_REMOVE_DEVICE). Where it is accepted the gate is closed, and the call
-    /// returns once every ticket was waited for and the removal has ended, of which the keeper has a receipt then.
+    /// Removes the device after a query (WDK: IRP_MN_REMOVE_DEVICE). Where it is accepted the gate is closed, and the
+    /// call returns once every ticket was waited for and the removal has ended, of which the keeper has a receipt then.
     pub fn remove<R: Wait>(&self, rt: &R, keeper: &mut Keeper<N>) -> Reply
         ensures reply { IsReplyTo Remove result }
         ensures drained { result ≡ OkReply → keeper.new.pass.saw_drained ≡ true }

@@ -33,7 +33,7 @@ above irp = take (length irp.locations.items - 1) irp.locations.items
 
 -- the nearest of the locations above that asks has its routine called, with the packet as it was completed
 pub record CallsRoutine (above : List StackLocation) (number : ℕ) (cancelled : Bool) (status : NtStatus) (information : ℕ) (payload : Payload) (driver : Driver) (irp : Irp) : Type 0 where
-  -- those higher than it, itself, and those nearer, which are passed over
+  -- the locations higher than it, its own, and those nearer, which are passed over
   pub higher : List StackLocation
   pub own : StackLocation
   pub nearer : List StackLocation
@@ -48,7 +48,7 @@ pub record CallsRoutine (above : List StackLocation) (number : ℕ) (cancelled :
   pub information_is : irp.io_status.information ≡ information
   pub payload_is : irp.payload ≡ payload
 
--- none of the locations above asks, and the packet is finished as it was completed
+-- no location above asks, and the packet is finished as it was completed
 pub record Finishes (above : List StackLocation) (number : ℕ) (cancelled : Bool) (status : NtStatus) (information : ℕ) (payload : Payload) (done : Done) : Type 0 where
   pub passed_over : All (AsksNot (succeeds status) cancelled) above
   pub number_is : done.number ≡ number
@@ -56,7 +56,7 @@ pub record Finishes (above : List StackLocation) (number : ℕ) (cancelled : Boo
   pub information_is : done.information ≡ information
   pub payload_is : done.payload ≡ payload
 
--- where a packet goes that is completed below these locations
+-- where a packet that is completed below these locations goes
 abbrev pub Climbs : (above : List StackLocation) (number : ℕ) (cancelled : Bool) (status : NtStatus) (information : ℕ) (payload : Payload) (climb : Climb) → Type 0
 Climbs above number cancelled status information payload (Routine driver irp) = CallsRoutine above number cancelled status information payload driver irp
 Climbs above number cancelled status information payload (Finished done) = Finishes above number cancelled status information payload done

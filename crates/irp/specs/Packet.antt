@@ -5,7 +5,7 @@ use Rattle.irp.specs.declared.Driver.{Driver}
 use Rattle.irp.specs.declared.Irp.{Irp}
 use Rattle.irp.specs.declared.StackLocation.{StackLocation}
 
--- the last location is the current driver's own, and these are those above it
+-- the last location is the current driver's own, and the others are above it
 abbrev pub HasOwn : Irp → List StackLocation → StackLocation → Type 0
 HasOwn irp higher own = irp.locations.items ≡ higher ++ own ∷ []
 

@@ -11,8 +11,8 @@ use ntstatus::NtStatus;
 /// climbs to the nearest location above that asks, or is finished where none does. `information` is in bytes.
 ///
 /// A completion routine that keeps its packet (WDK: STATUS_MORE_PROCESSING_REQUIRED) stores the `irp` of
-/// `Climb::Routine`, whose last location is that driver's own. Later the driver either calls `complete` with a status of
-/// its own choice, or `resume`, and the packet climbs on with the status that it has.
+/// `Climb::Routine`, whose last location is that driver's own. Later the driver either calls `complete` with a status
+/// of its own choice, or `resume`, and the packet climbs on with the status that it has.
 pub fn complete(mut irp: Irp, status: NtStatus, information: u64) -> Climb
     ensures climbs { Climbs (above irp) irp.number irp.cancelled status information irp.payload result }
     ensures cancel_routine { BringsRoutine (cancel_routine_of irp) result }
@@ -24,8 +24,8 @@ pub fn complete(mut irp: Irp, status: NtStatus, information: u64) -> Climb
     resume(irp)
 }
 
-/// The packet climbs on from the driver whose location is its last, with the status that it has. One with no location is
-/// finished.
+/// The packet climbs on from the driver whose location is its last, with the status that it has. One with no location
+/// is finished.
 pub fn resume(mut irp: Irp) -> Climb
     ensures climbs { Climbs (above irp) irp.number irp.cancelled irp.io_status.status irp.io_status.information irp.payload result }
     ensures cancel_routine { BringsRoutine (cancel_routine_of irp) result }

@@ -86,9 +86,9 @@ pub struct StackLocation {
     pub minor: Option<MinorFunction>,
     pub control: Control,
     pub flags: LocationFlags,
-    /// The volume of that driver which is meant, from 0.
+    /// The number of the driver's volume that the request is for, from 0.
     pub volume: u8,
-    /// The sectors that are meant, counted in that volume.
+    /// The sectors that the request is for, counted in that volume.
     pub extent: Extent,
 }
 
@@ -102,7 +102,7 @@ pub struct CancelRoutine {
 /// layer that holds it.
 #[derive(Debug, Drop)]
 pub struct Irp {
-    /// Given by whoever made the packet; a layer that takes it wants one above all that it was given before.
+    /// The maker of the packet gives it. A layer takes packets under rising numbers.
     pub number: u128,
     pub payload: Payload,
     /// Whether the packet is marked as cancelled.
@@ -114,7 +114,7 @@ pub struct Irp {
     cancel_routine: Option<CancelRoutine>,
 }
 
-/// What is left of a packet that no routine asks for any more.
+/// What is left of a packet that is finished: no routine asks for it any more.
 #[derive(Debug, Drop)]
 pub struct Done {
     pub number: u128,

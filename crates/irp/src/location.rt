@@ -52,7 +52,7 @@ impl StackLocation {
     }
 }
 
-/// What stands in the places of a packet that no driver has taken yet; nobody reads it.
+/// What stands in a location that no driver has taken yet; nobody reads it.
 impl Default for StackLocation {
     fn default() -> StackLocation {
         StackLocation {

@@ -11,8 +11,8 @@ use arrayvec::ArrayVec;
 use ntstatus::NtStatus;
 
 impl Irp {
-    /// A packet that no driver has a location of, not cancelled, with no cancel routine. Until it is completed its
-    /// status is PENDING and its information 0.
+    /// A packet with no stack location yet, not cancelled, with no cancel routine. Until it is completed its status is
+    /// PENDING and its information 0.
     pub fn new(number: u128, payload: Payload) -> Irp
         ensures number { result.number ≡ number }
         ensures payload { result.payload ≡ payload }
@@ -96,8 +96,8 @@ impl Irp {
         self.cancel_routine = Some(routine);
     }
 
-    /// Takes the cancel routine out. Whoever gets one goes on with the packet: of a canceller and a driver that releases
-    /// the packet only the first does.
+    /// Takes the cancel routine out (WDK: IoSetCancelRoutine with NULL). Whoever gets it goes on with the packet: of a
+    /// canceller and a driver that releases the packet, only the first does.
     pub fn take_cancel_routine(&mut self) -> Option<CancelRoutine>
         ensures value { result ≡ cancel_routine_of self.old }
         ensures once { cancel_routine_of self.new ≡ None }

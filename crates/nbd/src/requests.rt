@@ -60,8 +60,8 @@ pub enum ReplyError {
     Eio,
     /// Memory was refused.
     Enomem,
-    /// The request is none that is served: unknown, with unknown flags, without bytes, too long, not in whole blocks, or
-    /// a read past the end.
+    /// The request is none that is served: unknown, with unknown flags, without bytes, too long, not in whole blocks,
+    /// or a read past the end.
     Einval,
     /// It writes past the end.
     Enospc,

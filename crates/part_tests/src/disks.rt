@@ -241,8 +241,8 @@ fn spreads<M: Medium>(
     Ok(())
 }
 
-// Sectors of a disk, and an extent of it: the first and last sectors of the largest, the last of 2^32 - 1, parts of two,
-// three and four chunks, and chunks that are short.
+// Sectors of a disk, and an extent of it: the first and last sectors of the largest, the last of 2^32 - 1, parts of
+// two, three and four chunks, and chunks that are short.
 static SPREADS: [(u64, u64, u64); 10] = [
     (1 << 40, 0, 1),
     (1 << 40, (1 << 40) - 1, 1),

@@ -59,8 +59,8 @@ impl<N: Naming> Desk<N> {
     }
 }
 
-// Two threads store an entry each under the lock, and claim its place. The claims are joined, and the desk bears them out:
-// each entry is stored at the place that its thread was told.
+// Two threads store an entry each under the lock, and claim its place. The claims are joined, and the desk bears them
+// out: each entry is stored at the place that its thread was told.
 fn noted_by_two<N: Naming + Send + Sync, R: Threads + Wait + Sync>(
     rt: &R,
     alloc: Global,
@@ -112,8 +112,8 @@ struct Written {
     bytes: Vec<u8>,
 }
 
-// Every call in one thread. It is passed no handle and no allocator: no call waits or takes memory. What comes back claims
-// the second entry, the first, and the second again.
+// Every call in one thread. It is passed no handle and no allocator: no call waits or takes memory. What comes back
+// claims the second entry, the first, and the second again.
 fn in_turn<N: Naming>(
     history: &History<Written, N>,
     whole: &mut Whole<Written, N>,

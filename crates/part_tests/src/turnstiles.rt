@@ -299,8 +299,8 @@ fn four_lanes_finish_each_piece_once(rt: HostRuntime) -> Result<(), Fail> {
     Ok(())
 }
 
-// The worker is held with its first item until a piece was finished. The queue has room for one item, so that the others are
-// handed back to their lanes, which finish their pieces themselves.
+// The worker is held with its first item until a piece was finished. The queue has room for one item, so that the
+// others are handed back to their lanes, which finish their pieces themselves.
 #[test]
 fn full_queue_hands_back(rt: HostRuntime) -> Result<(), Fail> {
     let table = Table::new([1, 1, 1, 1]);

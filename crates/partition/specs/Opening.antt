@@ -8,7 +8,7 @@ use Rattle.sector.specs.Extents.{sectors_in}
 use Rattle.device.specs.View.{DeviceView}
 use Rattle.partition.specs.OnDisk.{rules_over}
 
--- one volume, which is the whole disk
+-- the device has one volume, which is the whole disk
 abbrev pub IsWholeDisk : Rules → Type 0
 IsWholeDisk rules = rules.partitions ≡ record { first = 0; count = rules.disk_sectors } ∷ []
 
@@ -20,7 +20,7 @@ pub record IsFreshDisk (table : List Extent) (v : DeviceView) : Type 0 where
   pub packets : v.packets ≡ []
   pub rooms : v.rooms ≡ []
 
--- what is shown over it: the machine's opening, with the partitions' sectors of the adapter
+-- what the partition driver shows over it: the machine's opening, with the sectors of the partitions
 abbrev pub opening_view : List Extent → DeviceView → DeviceView
 opening_view table v = record v {
   rules = rules_over table v.rules;

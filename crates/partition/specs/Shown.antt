@@ -12,7 +12,7 @@ use Rattle.partition.specs.inside.Noted.{asked}
 use Rattle.partition.specs.OnDisk.{rules_over}
 use Rattle.partition.specs.inside.Rooms.{with_rooms}
 
--- a request of the disk as its partition's client called it: on the partition and from the sector that its packet notes
+-- a request of the disk as the partition's client called it: its packet notes the partition, and the sector there
 abbrev pub called : Rules → Request → ClientRequest → ClientRequest
 called rules noted q = record q { partition = Some noted.volume; offset = noted.extent.first * rules.sector_size }
 

@@ -6,9 +6,9 @@
 //! `first + i` (`on_disk`); requests keep their numbers and their spots. No act changes a sector of another partition
 //! (`acts`) or one of none (`outside`). Each call passes on to the layer below with no search. What a spot is reserved
 //! for stands in an array by spots, which `reserve` lengthens; no other call takes memory. Over a layer that holds
-//! requests it is one too ([`device::Hold`]).
+//! requests the partition driver holds them too ([`device::Hold`]).
 //!
-//! Doesn't promise more than the layer below: that a packet comes back, and in which order.
+//! It promises no more than the layer below: not that a packet comes back, nor in which order.
 #![tactic(auto)]
 
 ghost use Rattle.std.specs.Prelude.{◌≡◌, ◌<◌};
@@ -28,9 +28,9 @@ use std::marker::Model;
 #[derive(Drop)]
 struct Parts<D: Shown> {
     device: D,
-    /// In table order.
+    /// The partitions, in table order.
     table: ArrayVec<Extent, 4>,
-    /// By spots, the request that the spot was last reserved for.
+    /// By spots: the request that the spot was last reserved for.
     wanted: Vec<Option<Request>>,
 }
 

@@ -24,8 +24,8 @@ fn own_location(irp: &Irp) -> StackLocation
 }
 
 /// Passes a packet on to the next driver, for this extent of the disk. The partition driver notes the kind of the
-/// request in its own location, since a packet with an SRB comes with a function that doesn't tell it, and has its
-/// routine called whatever the outcome (WDK: IoSetCompletionRoutine).
+/// request in its own location, since the major function of a packet with an SRB doesn't tell it. Its completion
+/// routine is called at any outcome (WDK: IoSetCompletionRoutine).
 pub(crate) fn pass_on(irp: &mut Irp, kind: Kind, extent: Extent)
     requires own { 0 < array_vec_len irp.old.locations }
     requires place { array_vec_len irp.old.locations < 4 }

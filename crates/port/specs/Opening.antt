@@ -8,7 +8,7 @@ use Rattle.device.specs.View.{DeviceView}
 use Rattle.port.specs.declared.queues.Sizes.{Sizes}
 use Rattle.port.specs.Shown.{rules_of, most}
 
--- an adapter with no piece on a tag and no label, which accepted three pieces at most
+-- the adapter has no piece on a tag and no label, and has accepted three pieces at most
 pub record IsFresh (v : AdapterView) : Type 0 where
   pub tags : v.tags ≡ []
   pub labels : v.labels ≡ []
@@ -22,7 +22,7 @@ sizes_of v = record { sector_size = v.sector_size; sectors = length v.sectors; m
 abbrev pub rules_over : AdapterView → Rules
 rules_over v = rules_of (sizes_of v)
 
--- what it shows: the machine's opening, with all sectors of the adapter
+-- what the port shows: the machine's opening, with all sectors of the adapter
 abbrev pub opening_view : AdapterView → DeviceView
 opening_view v = record {
   rules = rules_over v;

@@ -6,7 +6,7 @@ use Rattle.device.specs.Served.{IsAt, CancelsIfOpen}
 use Rattle.port.specs.inside.TableView.{TableView}
 use Rattle.port.specs.Shown.{packet, of_waiting, view_of}
 
--- the layer that it is
+-- what it shows as a layer
 pub record PortView : Type 0 where
   pub shown : DeviceView
   -- the packets that wait, the one that waited longest first

@@ -25,7 +25,7 @@ use Rattle.port.specs.declared.queues.Outcome.TheVariants.{Returned, Withdrawn, 
 use Rattle.port.specs.inside.TableView.{PacketEntry, TableView, entry_of, ended_entry}
 use Rattle.port.specs.inside.TableCalls.{held_on}
 
--- one volume, the whole disk; each request goes as one piece, once, and its first busy return ends it
+-- the disk is one volume; each request goes as one piece, once, and its first busy return ends it
 abbrev pub rules_of : Sizes → Rules
 rules_of sizes = record {
   sector_size = sizes.sector_size;
@@ -95,7 +95,7 @@ waiting_open rules held = open_as rules (entry_of held) held.irp.value.payload 0
 abbrev pub done_open : Rules → Ended → OpenRequest
 done_open rules d = open_as rules (ended_entry d) d.irp.value.payload (busy_left d.outcome) (marks_left rules d.request d.irp.value.payload d.outcome)
 
--- stands for the packet of a tag that has none, which is never shown
+-- what stands for the packet of a tag that has none; it is never shown
 abbrev pub nobody : PacketEntry
 nobody = record {
   number = 0;
@@ -115,11 +115,11 @@ entry_or_nobody (Some held) = entry_of held
 abbrev pub entry_on : List (Option PortPacket) → ℕ → PacketEntry
 entry_on started tag = entry_or_nobody (held_on started tag)
 
--- what a packet at the adapter is, beside what the adapter shows of it
+-- the open request of a packet at the adapter, by what the adapter shows of it
 abbrev pub out_open : Rules → PacketEntry → TagInUse → OpenRequest
 out_open rules e use' = open_as rules e (Packed use'.srb) 0 (all_places rules e.request Out)
 
--- its one piece, which is all of its places
+-- the one piece of a packet at the adapter, which has all of its places
 abbrev pub out_piece : Rules → PacketEntry → TagInUse → Piece
 out_piece rules e use' = record {
   number = use'.piece;
@@ -141,7 +141,7 @@ open_on rules started use' = out_open rules (entry_on started use'.tag) use'
 abbrev pub piece_on : Rules → List (Option PortPacket) → TagInUse → Piece
 piece_on rules started use' = out_piece rules (entry_on started use'.tag) use'
 
--- something of a packet that waits
+-- a fact of a packet that waits
 abbrev pub of_waiting : {Y : Type 0} → (PacketEntry → Y) → PortPacket → Y
 of_waiting f held = f (entry_of held)
 
@@ -149,7 +149,7 @@ of_waiting f held = f (entry_of held)
 abbrev pub of_tag : {Y : Type 0} → (PacketEntry → Y) → List (Option PortPacket) → TagInUse → Y
 of_tag f started use' = f (entry_on started use'.tag)
 
--- and of a packet that ended
+-- a fact of a packet that ended
 abbrev pub of_done : {Y : Type 0} → (PacketEntry → Y) → Ended → Y
 of_done f d = f (ended_entry d)
 
@@ -168,13 +168,13 @@ reserved_of (None ∷ slots) = reserved_of slots
 reserved_of (Some None ∷ slots) = reserved_of slots
 reserved_of (Some (Some request) ∷ slots) = request ∷ reserved_of slots
 
--- the open requests: of packets that wait, at the adapter and that ended
+-- the open requests: those of packets that wait, of packets at the adapter, and of packets that ended
 abbrev pub requests_of : TableView → AdapterView → List OpenRequest
 requests_of b v =
     map (waiting_open (rules_of b.sizes)) b.waiting
     ++ (map (open_on (rules_of b.sizes) b.started) v.tags ++ map (done_open (rules_of b.sizes)) b.done)
 
--- something of each packet
+-- a fact of each packet
 abbrev pub of_packets : {Y : Type 0} → (PacketEntry → Y) → TableView → AdapterView → List Y
 of_packets {Y} f b v = map (of_waiting f) b.waiting ++ (map (of_tag f b.started) v.tags ++ map (of_done f) b.done)
 

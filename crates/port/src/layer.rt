@@ -43,7 +43,7 @@ impl<A: Adapter> Parts<A> {
         }
     }
 
-    /// Starts what waits as long as a tag is free, on the lowest free tag each.
+    /// Starts packets that wait as long as a tag is free, each on the lowest free tag.
     fn start_waiting(&mut self)
         requires { (rooms : List Request) × PortKept (books_of self.old.queues) (A.view self.old.adapter) rooms }
         ensures rooms { (rooms : List Request) → PortKept (books_of self.old.queues) (A.view self.old.adapter) rooms

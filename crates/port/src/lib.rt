@@ -3,11 +3,12 @@
 //! Promises to the layer above, by the contract of [`Device`]: one volume, which is the whole disk; a packet's SRB is
 //! the one command of its one piece. Packets wait first in, first out, and none waits while a tag is free
 //! (`IsSending`); the front one starts on the lowest free tag. A busy return ends its packet as DEVICE_BUSY, a packet
-//! that is cancelled while it waits ends as REQUEST_FLUSHED, and one that waits at a removal as NO_DEVICE. Each goes
-//! up with the cancel routine that it came with (`brings_routine`). By its spot a packet that waits is found in a few
+//! that is cancelled while it waits ends as REQUEST_FLUSHED, and one that waits at a removal as NO_DEVICE. Each goes up
+//! with the cancel routine that it came with (`brings_routine`). By its spot a packet that waits is found in a few
 //! steps ([`Port::cancel_queued`]). No call but `reserve` takes memory.
 //!
-//! Doesn't promise that a packet at the adapter ever comes back, nor that packets end in the order in which they came.
+//! It doesn't promise that a packet at the adapter ever comes back, nor that packets end in the order in which they
+//! came.
 #![tactic(auto)]
 
 ghost use Rattle.std.specs.Prelude.{[], ◌≡◌, IfOk, MatchBool};
@@ -79,8 +80,8 @@ impl<A: Adapter> Port<A> {
         Ok(Port { parts })
     }
 
-    /// Cancels the packet that waits at this spot, where it has this number, as `cancel` does. False where none does;
-    /// nothing changes then but visits. At most three entries of the queue are visited.
+    /// Cancels the packet that waits at this spot, where it has this number, as `cancel` does. False where no packet
+    /// waits there under this number; nothing changes then but visits. At most three entries of the queue are visited.
     pub fn cancel_queued(&mut self, spot: usize, number: u128) -> bool
         ensures cancels { MatchBool result (CancelsWaiting self.old spot number self.new)
             (CancelsNoneWaiting self.old spot number self.new) }

@@ -21,7 +21,7 @@ pub struct Sizes {
     pub sectors: u64,
     /// Sectors of the longest transfer.
     pub max_transfer: u32,
-    /// Tags.
+    /// The number of tags.
     pub depth: u8,
     /// Whether acts read and write the adapter's sectors.
     pub faithful: bool,
@@ -74,7 +74,7 @@ pub struct Ended {
 #[derive(Drop)]
 pub(crate) struct Queues {
     pub sizes: Sizes,
-    /// First in, first out.
+    /// The packets that wait, first in, first out.
     pub waiting: Linked<Waiting>,
     pub started: Vec<Option<PortPacket>>,
     pub done: VecDeque<Ended>,
@@ -83,7 +83,7 @@ pub(crate) struct Queues {
     pub next_piece: u128,
     pub submitted: u128,
     pub removing: bool,
-    /// By spots: the request that a spot is reserved for, or None where a packet has the spot.
+    /// By spots: the request that a spot is reserved for, or `None` where a packet has the spot.
     pub rooms: Slab<Option<Request>>,
     ghost covered: { AreCovered rooms waiting.places },
     ghost done_places: { slab_len rooms ≤ deque_capacity done },

@@ -1,4 +1,4 @@
-//! What the queues do.
+//! The calls of the queues.
 
 ghost use Rattle.std.specs.Prelude.{◌≡◌, ◌==◌, ◌&&◌, not, ◌<◌, ◌≤◌, ◌+◌, ◌^◌, ◌-◌, ℕ, [], All, Option, Some, None};
 ghost use Rattle.std.specs.Prelude.{IfOk, IsSome, OnOk, OnErr, IsTrue, MatchBool, MatchOption, length, position};
@@ -43,7 +43,7 @@ impl Outcome {
     }
 }
 
-/// Takes the SRB out of a packet that carries one; all else of the packet stays, its cancel routine too.
+/// Takes the SRB out of a packet that carries one. All else of the packet stays, also its cancel routine.
 fn take_srb(held: &mut PortPacket) -> Srb
     requires { IsPacked held.old }
     ensures srb { held.old.irp.value.payload ≡ Packed result }
@@ -55,7 +55,7 @@ fn take_srb(held: &mut PortPacket) -> Srb
     }
 }
 
-/// The SRB of a piece that came back busy can be sent again: it is as it was, with no sense.
+/// Makes the SRB of a piece that came back busy as it was, with no sense data, so that it can be sent again.
 fn forget_sense(srb: &mut Srb, class: Class)
     ensures { srb.new ≡ as_returned class srb.old }
 {
@@ -64,7 +64,7 @@ fn forget_sense(srb: &mut Srb, class: Class)
     }
 }
 
-/// Cancels the packet, whatever becomes of it; its cancel routine stays, and nobody is told.
+/// Marks the packet as cancelled. Its cancel routine stays, and isn't called.
 fn mark_cancelled(irp: &mut Box<Irp>)
     ensures entry { (request : Request) (spot : ℕ)
         → entry irp.new.value request spot ≡ cancelled (entry irp.old.value request spot) }
@@ -94,7 +94,7 @@ fn cancel_in(place: &mut Option<PortPacket>, number: u128) -> bool
     true
 }
 
-/// The spots in use when one more is, where there is room for it.
+/// How many spots are in use once one more is, where there is room for it.
 fn count_with_one_more(rooms: &Slab<Option<Request>>) -> usize
     requires { HasRoomFor rooms.now 1 }
     ensures { result ≡ slab_len rooms.now + 1 }
@@ -170,7 +170,7 @@ impl Queues {
         Ok(self.rooms.insert_reserved(Some(request)))
     }
 
-    /// Gives a spot up that is reserved.
+    /// Gives up a spot that is reserved.
     pub fn remove_place(&mut self, spot: usize)
         requires { (request : Request)
             × (slice_index_or (books_of self.old).rooms spot None ≡ Some (Some request)) }
@@ -194,7 +194,7 @@ impl Queues {
         self.waiting.push_back_at(spot, Waiting { irp, request });
     }
 
-    /// The packet that waited longest goes to this tag; its piece's number, and its SRB for the adapter.
+    /// Puts the packet that waited longest on this tag. Returns the number of its piece, and its SRB for the adapter.
     pub fn start(&mut self, tag: u8) -> Option<(u128, Srb)>
         requires packed { All IsPacked (books_of self.old).waiting }
         requires tag { tag < length (books_of self.old).started }
@@ -238,7 +238,7 @@ impl Queues {
         });
     }
 
-    /// The packet that ended first of those that were not taken; its spot is reserved again.
+    /// Takes the packet that ended first; its spot is reserved again.
     pub fn take_done(&mut self) -> Option<Ended>
         requires { All (IsEndedTaken (books_of self.old).rooms) (books_of self.old).done }
         ensures { MatchOption result (TakesNone (books_of self.old) (books_of self.new))
@@ -249,7 +249,7 @@ impl Queues {
         Some(ended)
     }
 
-    /// Removal: what waits is gone.
+    /// Removal: what waits ends.
     pub fn drain(&mut self)
         requires { length (books_of self.old).waiting + length (books_of self.old).done ≤ (books_of self.old).places }
         ensures { books_of self.new ≡ drained (books_of self.old) }
@@ -267,7 +267,7 @@ impl Queues {
         self.removing = true;
     }
 
-    /// Returns where the packet of this number stands that has ended and is not cancelled yet.
+    /// Returns the place of the ended packet of this number, where it is not cancelled yet.
     fn find_done(&self, number: u128) -> Option<usize>
         ensures { result ≡ position (can_cancel_ended number) self.now.done.items }
     {

@@ -12,8 +12,8 @@ use srb::{Class, DeviceLabel};
 #[repr(C)]
 #[derive(Debug, Clone, Copy, Default)]
 pub struct StackLabel {
-    /// Which: 0 to 11 for a call, a start, an act, a fault, a return, an answer, a cancel, a pause, a resume, a remove, a
-    /// surprise, and the end of a removal.
+    /// Which: 0 to 11 for a call, a start, an act, a fault, a return, an answer, a cancel, a pause, a resume, a remove,
+    /// a surprise, and the end of a removal.
     pub kind: u32,
     /// Of an answer.
     pub status: u32,

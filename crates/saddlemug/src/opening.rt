@@ -57,7 +57,8 @@ pub(crate) fn new_stack(
 ///
 /// # Errors
 ///
-/// [`NtStatus::InvalidParameter`] where the text gives none; [`NtStatus::InsufficientResources`] where memory was refused.
+/// [`NtStatus::InvalidParameter`] where the text gives none; [`NtStatus::InsufficientResources`] where memory was
+/// refused.
 fn config_of(alloc: Global, text: &[u8]) -> Result<Config, NtStatus>
     ensures settings { IfOk result (AreSettingsOf text.now) }
     ensures in_range { IfOk result AreInRange }

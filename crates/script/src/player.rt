@@ -32,8 +32,8 @@ const LONGEST: usize = 65_536 * 9;
 /// in blocks. What is left of the text is written behind the last line, also where a line ends in want of memory, and
 /// then the writer is flushed.
 ///
-/// All labels and answers of the stack have to be taken. It knows the handles and the requests that these lines open, and
-/// no others.
+/// All labels and answers of the stack have to be taken. It knows the handles and the requests that these lines open,
+/// and no others.
 ///
 /// # Errors
 ///
@@ -158,8 +158,8 @@ fn carry_out<A: Adapter>(
     }
 }
 
-/// Writes all labels that a stack has not given yet behind a text, and takes the answers that go with them, whose buffers
-/// are kept.
+/// Writes all labels that a stack has not given yet behind a text, and takes the answers that go with them, whose
+/// buffers are kept.
 ///
 /// # Errors
 ///

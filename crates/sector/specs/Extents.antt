@@ -18,7 +18,7 @@ IsCovered extents extent = (sector : ℕ) → IsIn sector extent → IsInSome ex
 abbrev pub IsNear : ℕ → Extent → ℕ → Type 0
 IsNear run extent sector = (other : ℕ) × IsIn other extent × (other / run ≡ sector / run)
 
--- what is covered now was before, or is near the extent
+-- each sector that is covered now was covered before, or is near the extent
 abbrev pub CoversMoreNear : ℕ → Extent → List Extent → List Extent → Type 0
 CoversMoreNear run extent old new = (sector : ℕ) → IsInSome new sector → IsInSome old sector ⊎ IsNear run extent sector
 
@@ -30,7 +30,7 @@ IsSector size bytes = length bytes ≡ size
 abbrev pub sectors_in : List (List ℕ) → Extent → List (List ℕ)
 sectors_in sectors extent = slice_range sectors extent.first (extent.first + extent.count)
 
--- these bytes begin at a sector, are whole sectors, and lie in a disk of this many
+-- these bytes begin at a sector, are whole sectors, and lie in a disk of this many sectors
 pub record AreWholeSectors (offset length sector_size sectors : ℕ) : Type 0 where
   pub begins : offset % sector_size ≡ 0
   pub ends : length % sector_size ≡ 0

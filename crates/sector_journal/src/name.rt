@@ -6,9 +6,9 @@ ghost use Rattle.chronicle.specs.History.{no_table};
 
 use std::marker::{Brand, PhantomData};
 
-/// Names one journal, for contracts alone: its two histories, and the sectors that it was opened with. Each call of a program
-/// picks it: a function that is generic in it takes an [`Opened`](crate::Opened) and requires that this is the one named, and
-/// its caller passes `Brand`.
+/// Names one journal, for contracts alone: its two histories, and the sectors that it was opened with. Each call of a
+/// program picks it: a function that is generic in it takes an [`Opened`](crate::Opened) and requires that this is the
+/// one named, and its caller passes `Brand`.
 pub trait Naming {
     /// What was armed.
     ghost armings: { TableId };

@@ -15,7 +15,7 @@ ReplaysKind size disk extent bytes Write after =
     (moved : List (List ℕ)) × (concat moved ≡ bytes) × (length moved ≡ extent.count) × All (IsSector size) moved × (after ≡ splice disk extent.first moved)
 ReplaysKind size disk extent bytes Flush after = after ≡ disk
 
--- the sectors after all of them
+-- the sectors after all entries
 abbrev pub Replays : ℕ → List (List ℕ) → List Entry → List (List ℕ) → Type 0
 Replays size disk [] after = after ≡ disk
 Replays size disk (entry ∷ entries) after =

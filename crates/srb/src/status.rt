@@ -8,7 +8,7 @@ ghost use Rattle.srb.specs.Status.{code_of, scsi_code_of};
 use crate::{Class, Completion};
 use ntstatus::NtStatus;
 
-/// Joined to an SRB status where sense data are there.
+/// The flag joined to an SRB status where there are sense data (WDK: SRB_STATUS_AUTOSENSE_VALID).
 pub const AUTOSENSE_VALID: u8 = 128;
 
 /// The status of an SRB, as the low six bits of its byte have it (WDK: SRB_STATUS).
@@ -77,8 +77,8 @@ impl Completion {
         }
     }
 
-    /// The status that the packet completes with: the first row of the status table that fits, as `NtStatus::from_device`
-    /// has it.
+    /// The status that the packet completes with: the first row of the status table that fits, as
+    /// `NtStatus::from_device` has it.
     pub fn status(&self) -> NtStatus
         ensures { result ≡ status_of self.now.srb_status self.now.scsi_status self.now.sense }
     {

@@ -17,7 +17,8 @@ one_of owners c number = if is_row c (owner_of owners number) then 1 else 0
 abbrev pub awaited_of : List ℕ → ℕ → List ℕ → ℕ
 awaited_of owners c numbers = sum_by (one_of owners c) numbers
 
--- the calls so far have the numbers from 1 on, an owner each, what waits for its answer was called, and each call of a row is answered or waits for its answer
+-- the calls so far have the numbers from 1 on, an owner each, what waits for its answer was called, and each call of a
+-- row is answered or waits for its answer
 pub record AreTold (entries : List TraceEntry) (owners : List ℕ) (s : State) : Type 0 where
   pub next : s.next_request ≡ length owners + 1
   pub counted : calls entries ≡ length owners

@@ -26,7 +26,8 @@ use Rattle.traced.specs.Shares.{ShareView}
 use Rattle.traced.specs.Slots.{IsArmedAs, LooksNowhere, LooksAt}
 use Rattle.traced.specs.Told.{AreTold}
 
--- its stack between two steps, the entries of the trace, the clients of all requests by number, and what the owner of the marks knows
+-- its stack between two steps, the entries of the trace, the clients of all requests by number, and what the owner of
+-- the marks knows
 pub record TracedView : Type 0 where
   pub stack : ManagerView
   pub entries : List TraceEntry
@@ -39,8 +40,8 @@ pub record TracedView : Type 0 where
 abbrev pub AreMarked : ManagerView → View → Type 0
 AreMarked stack marks = (k : ℕ) → IsArmedAs (slot_at marks k) (open_at stack k)
 
--- the trace is a run from the opening state to the one that the stack shows, which is settled; each label stands in its row, and the calls have the
--- numbers from 1 on
+-- the trace is a run from the opening state to the one that the stack shows, which is settled; each label stands in its
+-- row, and the calls have the numbers from 1 on
 pub record IsTraced (rules : Rules) (opening : State) (partitions : List ℕ) (handles : List (Option OpenHandle)) (v : TracedView) : Type 0 where
   pub same_rules : v.stack.rules ≡ rules
   pub run : Run rules opening (labels_of v.entries) v.stack.state

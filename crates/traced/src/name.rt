@@ -11,8 +11,8 @@ ghost use Rattle.traced.specs.inside.Naming.{no_rules};
 use std::marker::Brand;
 use std::sync::ledger::Ledger;
 
-/// Names one book, for contracts alone: its history, the ledger of its calls, the rules of its stack, the state that it was
-/// opened with, the number of its clients, and its table of marks. Each call of a program picks it.
+/// Names one book, for contracts alone: its history, the ledger of its calls, the rules of its stack, the state that it
+/// was opened with, the number of its clients, and its table of marks. Each call of a program picks it.
 pub trait Naming: chronicle::Naming + Ledger {
     ghost rules: { Rules };
 

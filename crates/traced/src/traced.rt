@@ -535,8 +535,8 @@ impl<A: Adapter, N: Naming> Traced<A, N> {
         reply
     }
 
-    /// Carries out any event but a call, an open and a close. A query-remove is refused as `InsufficientResources`, before
-    /// any step, where memory for its labels is refused.
+    /// Carries out any event but a call, an open and a close. A query-remove is refused as `InsufficientResources`,
+    /// before any step, where memory for its labels is refused.
     pub fn serve(
         &mut self,
         alloc: Global,
@@ -575,9 +575,9 @@ impl<A: Adapter, N: Naming> Traced<A, N> {
         self.stack.take_answer_of(number)
     }
 
-    /// Whenever a book is at rest, its trace is a run from the state that it was opened with to the state that the stack
-    /// shows, each label in its row; the handles are those that it was opened with; and a slot is armed exactly with the
-    /// open request there. It is available to the caller.
+    /// Whenever a book is at rest, its trace is a run from the state that it was opened with to the state that the
+    /// stack shows, each label in its row; the handles are those that it was opened with; and a slot is armed exactly
+    /// with the open request there. It is available to the caller.
     pub fn shows_whole(&self)
         ensures { IsTraced N.rules N.start N.partitions N.handles self.now }
     {

@@ -29,7 +29,7 @@ part_request_of limit r k = if is_transfer r.kind then record r { extent = piece
 abbrev pub requests_for : ℕ → Request → List Request
 requests_for limit r = map (part_request_of limit r) (range_with_len 0 (part_count_of limit r))
 
--- the request has one part alone, which is all of it
+-- the request has only one part, which is all of it
 abbrev pub goes_whole : ℕ → Request → Bool
 goes_whole limit r = part_count_of limit r == 1
 
@@ -42,7 +42,7 @@ pub record IsCuttable (limit : ℕ) (r : Request) : Type 0 where
 abbrev pub data_length : ℕ → Request → ℕ
 data_length sector_size r = if is_transfer r.kind then r.extent.count * sector_size else 0
 
--- a request of the whole disk that a command block can ask for
+-- a command block can ask for this request, which is one of the whole disk
 pub record FitsBlock (r : Request) : Type 0 where
   pub first : r.extent.first < 2 ^ 64
   pub count : r.extent.count < 2 ^ 32
@@ -65,7 +65,8 @@ pub record AreSizes (sizes : Sizes) (rules : Rules) : Type 0 where
   pub max_transfer : sizes.max_transfer ≡ rules.max_transfer
   pub whole : IsWholeDisk sizes.disk_sectors rules
 
--- the port's location of a request: a SCSI request of its extent, with SL_WRITE_THROUGH or no flags, and no routine
+-- the port's location of a request: a SCSI request of its extent, with SL_WRITE_THROUGH or no flags, and no completion
+-- routine
 abbrev pub port_location : Request → StackLocation
 port_location r = record {
   driver = Port;

@@ -33,19 +33,19 @@ use Rattle.class_disk.specs.Shown.{class_rules, IsPort, shown_state}
 
 -- WHAT THE CLASS DRIVER KNOWS OF A REQUEST
 
--- what the last packet of a part adds to its busy returns
+-- how many busy returns the last packet of a part adds
 abbrev pub busy_left : Outcome → ℕ
 busy_left Good = 0
 busy_left (IsBad status) = 0
 busy_left (Busy status) = 1
 busy_left (Withdrawn status) = 0
 
--- a request below under this number asks for just this
+-- the request below of this number asks for just this
 abbrev pub AsksUnder : Rules → Request → ℕ → OpenRequest → Type 0
 AsksUnder rules r number o = o.number ≡ number → record o.request { bytes = [] } ≡ as_client rules r []
 
--- why a part ended with no success: its piece failed, or its request is cancelled or the device removed, or it came
--- back busy too often
+-- why a part ended with no success: its piece failed, its request is cancelled, the device is removed, or it came back
+-- busy too often
 abbrev pub IsCause : (cancelled removing : Bool) (busy : ℕ) → Outcome → Type 0
 IsCause cancelled removing busy Good = ⊤
 IsCause cancelled removing busy (IsBad status) = status ≢ Success
@@ -113,7 +113,7 @@ abbrev pub tickets_held : List ClosedSlot → List Ticket
 tickets_held [] = []
 tickets_held (held ∷ rest) = tickets_of held.parts ++ tickets_held rest
 
--- and those of the open requests
+-- the spots of the open requests
 abbrev pub tickets_open : List Opened → List Ticket
 tickets_open [] = []
 tickets_open (o ∷ os) = tickets_of o.parts ++ tickets_open os
@@ -180,16 +180,16 @@ WentAs number (Ready place) = ⊥
 WentAs number (Below own spot) = own ≡ number
 WentAs number (HasEnded ended) = ⊥
 
--- these parts went below one after the other, by rising places: the first as this packet of all, each in the packet of
--- its turn
+-- these parts went below one after the other, by rising places: the first as the packet of this number, each later one
+-- in its turn
 abbrev pub WentInTurn : ℕ → List Part → Type 0
 WentInTurn count [] = ⊤
 WentInTurn count (part ∷ parts) = WentAs count part.progress × WentInTurn (count + 1) parts
 
 -- BUFFERS
 
--- the buffers of a part before it is sent; once it has ended, what a read brought, that a flush brought nothing, and
--- that one that came back busy has its buffer
+-- a part has its buffers before it is sent; once it has ended, a read has what it brought, a flush has brought nothing,
+-- and a part that came back busy has its buffer
 abbrev pub IsBufferedBy : Rules → (only : Bool) → Request → Progress → Type 0
 IsBufferedBy rules only r (Ready place) = HasBuffers only rules.sector_size r place
 IsBufferedBy rules only r (Below number spot) = ⊤
@@ -210,7 +210,7 @@ IsWrittenBy rules r bytes part (HasEnded ended) = part.kind ≡ Write
     (bytes_from rules.sector_size r part + transfer_length rules part))
     × (length (payload_bytes (payload_in ended.packet)) ≡ transfer_length rules part)
 
--- what a part of a write took along are its own bytes of the request's, and they came back with it
+-- a part of a write took along its own bytes of the request's, and they came back with it
 abbrev pub IsWritten : Rules → Opened → Part → Type 0
 IsWritten rules o part = IsWrittenBy rules o.request (payload_bytes o.irp.payload) part.request part.progress
 
@@ -261,10 +261,10 @@ pub record AreKept (rules : Rules) (b : TableView) : Type 0 where
   pub ended : IsPermutation b.ended (ended_in b.opens)
   pub places : length b.held + length b.opens ≤ b.ended_places
   pub causes : All (HaveCauses rules b.removing) b.opens
-  -- packets sent below, and those that may still be sent again
+  -- how many packets were sent below, and may still be sent again
   pub budget : b.next_packet + restarts_left b.opens + b.submitted ≤ b.submitted * 2 ^ 17 + 1
 
--- what it keeps between its parts and their packets below
+-- what the class driver keeps between its parts and their packets below
 pub record AreBelow (v : DeviceView) (b : TableView) : Type 0 where
   pub removing : b.removing ≡ v.state.removing
   pub next_number : v.state.next_request ≤ b.next_packet
@@ -286,21 +286,21 @@ pub record IsCoupled (v : DeviceView) (b : TableView) : Type 0 where
   pub next_above : j.next_above ≡ b.last_request + 1
   pub keeps : Keeps (class_rules v.rules) j
 
--- between calls; the rooms below that are in the class driver's hands are out there
+-- what holds between calls; the rooms below that are in the class driver's hands are out there
 pub record IsInHand (v : DeviceView) (b : TableView) : Type 0 where
   pub port : IsPort v.rules
   pub sound : IsSound v.state
   pub counted : AreCounted v.rules v.state
   pub coupled : IsCoupled v b
   pub rooms_out : AllOut v (tickets b)
-  -- nothing that has ended waits below
+  -- no packet that has ended waits below
   pub unfinished : All (IsUnfinished v.rules v.state) v.state.requests
   pub settled : Settled v.rules v.state
   pub kept : AreKept (class_rules v.rules) b
   pub below : AreBelow v b
   pub orderly : IsOrderly (view_of v b)
 
--- between calls, over a layer of which the class driver knows what it takes
+-- what holds between calls, over a layer of which the class driver knows what it takes
 pub record IsDriver (takes_srb : Bool) (stack_size : ℕ) (v : DeviceView) (b : TableView) : Type 0 where
   pub takes : TakesParts takes_srb stack_size
   pub in_hand : IsInHand v b

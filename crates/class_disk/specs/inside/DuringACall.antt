@@ -36,7 +36,7 @@ use Rattle.class_disk.specs.inside.Driver.{AreAsked, AreSpotted, AreKept, AreBel
 use Rattle.class_disk.specs.Opening.{most_over}
 use Rattle.class_disk.specs.inside.Owners.{owner_at, IsOwner, AreOwnedFrom}
 
--- from the first state above on, by these labels: both machines now, and what the class driver knows
+-- both machines, and what the class driver knows, once these labels have come since the first state above
 pub record IsTaking (rules : Rules) (first : State) (labels : List DeviceLabel)
     (s : State) (ks : List Known) : Type 0 where
   pub j : Joint
@@ -50,7 +50,7 @@ pub record IsTaking (rules : Rules) (first : State) (labels : List DeviceLabel)
 
 -- WHAT WAITS TO BE TAKEN
 
--- starts behind the first labels, and what of the class driver stays as it was
+-- some starts came behind the first labels, and the rest of the class driver stayed as it was
 pub record GoesOn (v : DeviceView) (b : TableView) (starts : List DeviceLabel) (v' : DeviceView) (b' : TableView) : Type 0 where
   pub only_starts : All IsStart starts
   pub adapter : MovesByAll v.adapter starts v'.adapter
@@ -61,8 +61,8 @@ pub record GoesOn (v : DeviceView) (b : TableView) (starts : List DeviceLabel) (
   pub same_packets : map packet_above b'.opens ≡ map packet_above b.opens
   pub same_rooms : b'.rooms ≡ b.rooms
 
--- packets that ended are taken one by one: each part is noted, or goes down again. What has ended below and is not
--- taken yet is all like this: sent, behind a return; never sent, behind a cancellation or a removal; nothing, behind a
+-- packets that ended are taken one by one, and each part is noted, or goes down again. All that have ended below and
+-- are not taken yet are like this: sent, after a return; never sent, after a cancellation or a removal; none, after a
 -- submission
 pub record IsMidway (Is : OpenRequest → Type 0) (first : State) (labels : List DeviceLabel)
     (v : DeviceView) (b : TableView) : Type 0 where
@@ -73,12 +73,12 @@ pub record IsMidway (Is : OpenRequest → Type 0) (first : State) (labels : List
   pub below : AreBelow v b
   pub ended : EndedAre Is v.rules v.state
 
--- one packet is taken: wherever the class driver was midway before, it is so after some starts more
+-- one packet is taken: if the class driver was midway before, it still is after some more starts
 pub record TakesOne (Is : OpenRequest → Type 0) (v : DeviceView) (b : TableView)
     (v' : DeviceView) (b' : TableView) : Type 0 where
   pub starts : List DeviceLabel
   pub goes_on : GoesOn v b starts v' b'
-  -- each packet taken is one fewer below, or uses up a restart
+  -- each packet that is taken is one fewer below, or uses up a restart
   pub fewer : length v'.packets + restarts_left b'.opens < length v.packets + restarts_left b.opens
   pub stays : (first : State) (labels : List DeviceLabel) → IsMidway Is first labels v b
       → IsMidway Is first (labels ++ starts) v' b'
@@ -88,7 +88,7 @@ pub record FindsNone (v : DeviceView) (b : TableView) (v' : DeviceView) (b' : Ta
   pub none : HandsUpNone v v'
   pub same : b' ≡ b
 
--- all are taken, and none is left
+-- all packets that ended are taken, and none is left
 pub record TakesAll (Is : OpenRequest → Type 0) (v : DeviceView) (b : TableView)
     (v' : DeviceView) (b' : TableView) : Type 0 where
   pub starts : List DeviceLabel
@@ -97,8 +97,8 @@ pub record TakesAll (Is : OpenRequest → Type 0) (v : DeviceView) (b : TableVie
       → IsMidway Is first (labels ++ starts) v' b'
   pub none : HandsUpNone v' v'
 
--- one packet that ended unsent is taken: nothing starts, the adapter stays as it was, and wherever the class driver was
--- midway before, it is so still
+-- one packet that ended unsent is taken: nothing starts, the adapter stays as it was, and if the class driver was
+-- midway before, it still is
 pub record WithdrawsOne (v : DeviceView) (b : TableView) (v' : DeviceView) (b' : TableView) : Type 0 where
   pub same_rules : v'.rules ≡ v.rules
   pub same_most : v'.most ≡ v.most
@@ -144,7 +144,7 @@ pub record SendsDownAgain (v : DeviceView) (b : TableView) (slot k : ℕ) (packe
 
 -- PARTS ARE MADE
 
--- a request that can be cut, and each part of it asked of the layer below
+-- a request can be cut, and each part of it can be asked of the layer below
 pub record CanCut (sizes : Sizes) (rules : Rules) (r : Request) : Type 0 where
   pub sizes_are : AreSizes sizes rules
   pub cuttable : IsCuttable sizes.max_transfer r
@@ -176,7 +176,7 @@ ChangesRooms old new = new ≡ record old { rooms = new.rooms }
 abbrev pub StaysOwned : (old new : List PartId) → ℕ → Type 0
 StaysOwned old new spot = spot < length old → owner_at new spot ≡ owner_at old spot
 
--- what making rooms below leaves: whose parts all rooms in hand and the packets below are
+-- rooms were made below: all rooms in hand and all packets below are still the same parts'
 pub record StaysTaken (v : DeviceView) (owners : List PartId) (v' : DeviceView) (owners' : List PartId) : Type 0 where
   pub reserves : Reserves v v'
   pub longer : length owners ≤ length owners'
@@ -197,8 +197,7 @@ pub record MakesRoom
       → AllOut v' (record { spot = spot; reserved = whole_for request } ∷ others)
   pub owned : IsOwner owners' spot id.slot id.part
 
--- parts are made for a request in a slot, of which the first is at this place: their rooms are out below, beside the
--- others
+-- parts are made for a request in a slot, the first of them at this place; their rooms are out below, beside the others
 pub record MakesParts (v : DeviceView) (owners : List PartId) (slot k : ℕ) (parts : List Part)
     (v' : DeviceView) (owners' : List PartId) : Type 0 where
   pub stays : StaysTaken v owners v' owners'
@@ -255,7 +254,7 @@ packet_of_part part = below_by part.progress
 abbrev pub AreReady : List Part → Type 0
 AreReady parts = All IsReadyPart parts
 
--- the machine above has run so far from the first state, and the new request is open in it, all of its parts here
+-- the machine above has run from the first state, and the new request is open in it, with no part below yet
 pub record OpeningSoFar (v : DeviceView) (b : TableView) (first : State) (labels : List DeviceLabel) : Type 0 where
   pub taking : IsTaking (class_rules v.rules) first labels v.state (knowns (class_rules v.rules) b)
 
@@ -271,7 +270,7 @@ pub record IsOpening (v : DeviceView) (b : TableView) (slot k : ℕ) : Type 0 wh
   pub rooms_out : AllOut v (tickets b)
   pub ready_from : AreReady (drop k o.parts)
   pub sent : All IsDown (take k o.parts)
-  -- what is kept but that all parts of this request were sent
+  -- all that is kept between calls, except that all parts of this request were sent
   pub sizes : AreSizes b.sizes (class_rules v.rules)
   pub in_hand : All (IsHeld (class_rules v.rules) b.owners) b.held
   pub opens : All (IsOpen (class_rules v.rules) b.owners) others
@@ -301,8 +300,8 @@ pub record IsOpening (v : DeviceView) (b : TableView) (slot k : ℕ) : Type 0 wh
   -- nothing that has ended waits below
   pub none_ended : EndedAre IsNothing v.rules v.state
 
--- all parts of the open request in a slot are sent, by rising places: wherever the class driver was, it is midway after
--- some starts more, nothing that has ended waits below, and each other request is as it was, there and in the table
+-- all parts of the open request in a slot are sent, by rising places: the class driver is midway after some more
+-- starts, no packet that has ended waits below, and each other request is as it was, there and in the table
 pub record SendsAll (first : State) (labels : List DeviceLabel)
     (v : DeviceView) (b : TableView) (slot : ℕ) (v' : DeviceView) (b' : TableView) : Type 0 where
   pub starts : List DeviceLabel

@@ -24,7 +24,7 @@ pub record IsSound (s : State) : Type 0 where
 abbrev pub IsOwnedBy : ℕ → Piece → Type 0
 IsOwnedBy number piece = piece.owner ≡ number
 
--- what is below of a request, from this place on, is part of it, and the pieces of a part are its own
+-- these parts of a request, from this place on, make up the rest of it, and the pieces of a part are its own
 abbrev pub AreParts : Rules → ClientRequest → ℕ → List Part → Type 0
 AreParts rules q first [] = first ≡ place_count rules q
 AreParts rules q first (Below o again pieces ∷ parts) =
@@ -49,7 +49,7 @@ pub record HasPartBefore (number : ℕ) (x : Divided) : Type 0 where
   pub timely : IsFalse part.cancelled
   pub before : part.number < number
 
--- a request of a lower number, not cancelled, is started, or has a part below that went down before this one
+-- a request of a lower number that is not cancelled is started, or has a part below that went down before this one
 abbrev pub IsAhead : Bool → ℕ → ℕ → Divided → Type 0
 IsAhead removing number part_number x =
     IsFalse removing → x.number < number → IsFalse x.cancelled → IsTrue (is_started (shown x))
@@ -78,11 +78,11 @@ abbrev pub one_if_back : Mark → ℕ
 one_if_back Back = 1
 one_if_back _ = 0
 
--- and for places of which the first did
+-- 1 for places of which the first came back busy
 abbrev pub begins_back : List Mark → ℕ
 begins_back marks = one_if_back (get_or marks 0 Untouched)
 
--- the parts that came back busy and were not sent again since
+-- how many parts came back busy and were not sent again since
 abbrev pub parts_back : List Part → ℕ
 parts_back [] = 0
 parts_back (Below o again pieces ∷ parts) = begins_back o.marks + parts_back parts
@@ -93,7 +93,7 @@ pub record IsInPieces (rules : Rules) (e : Divided) : Type 0 where
   pub cut : AreCut rules.max_transfer (map places_in e.parts)
   pub few : parts_busy e.parts ≤ parts_back e.parts + restarts rules
 
--- the coupling, at every moment but in the midst of a cancellation
+-- the coupling of both machines, which holds at every moment but in the midst of a cancellation
 pub record Keeps (rules : Rules) (j : Joint) : Type 0 where
   pub made_up : All (IsMadeUp rules) j.divided
   pub agree : All AgreesOnCancel j.divided
@@ -102,14 +102,14 @@ pub record Keeps (rules : Rules) (j : Joint) : Type 0 where
 
 -- WHAT HAS ENDED, BY WHAT THE CLASS DRIVER KNOWS
 
--- the busy returns that it counted
+-- how many busy returns the class driver counted
 abbrev pub noted_busy : List Note → ℕ
 noted_busy [] = 0
 noted_busy (Sent number again ∷ notes) = again + noted_busy notes
 noted_busy (Kept marks busy ∷ notes) = busy + noted_busy notes
 
--- a place that is here will not be sent any more: its request is cancelled or the device removed, or it came back too
--- often
+-- a place that is not below will not be sent any more: its request is cancelled, the device is removed, or it came back
+-- busy too often
 abbrev pub IsOverMark : (cancelled removing : Bool) (limit busy : ℕ) → Mark → Type 0
 IsOverMark cancelled removing limit busy Untouched = IsTrue cancelled ⊎ IsTrue removing
 IsOverMark cancelled removing limit busy Back = IsTrue cancelled ⊎ IsTrue removing ⊎ (limit ≤ busy)
@@ -125,24 +125,24 @@ IsOverNote cancelled removing limit busy (Kept marks kept) = All (IsOverMark can
 abbrev pub IsOver : ℕ → Bool → Known → Type 0
 IsOver limit removing k = All (IsOverNote k.cancelled removing limit (noted_busy k.parts)) k.parts
 
--- the request has a place at least
+-- the request has at least one place
 abbrev pub HasSome : Rules → Known → Type 0
 HasSome rules k = 0 < place_count rules k.request
 
 -- WHAT HAS ENDED BELOW, AND IS NOT TAKEN YET
 
--- a piece of it was sent
+-- a piece of the request was sent
 abbrev pub WasSent : OpenRequest → Type 0
 WasSent o = IsTrue (is_started o)
 
 abbrev pub IsUntouched : Mark → Type 0
 IsUntouched mark = mark ≡ Untouched
 
--- no piece of it was ever sent
+-- no piece of the request was ever sent
 abbrev pub NeverSent : OpenRequest → Type 0
 NeverSent o = All IsUntouched o.marks
 
--- no request is like this: so said of all that has ended, nothing has
+-- no request is like this; where all that have ended are like this, none has ended
 abbrev pub IsNothing : OpenRequest → Type 0
 IsNothing o = ⊥
 
@@ -150,11 +150,11 @@ IsNothing o = ⊥
 abbrev pub IsIfEnded : (OpenRequest → Type 0) → Rules → State → OpenRequest → Type 0
 IsIfEnded Is rules s o = All (HasEnded rules s o) o.marks → Is o
 
--- all that has ended is like this: sent, behind a return; never sent, behind a cancellation or a removal; nothing,
--- behind a submission
+-- all that have ended are like this: sent, after a return; never sent, after a cancellation or a removal; none, after a
+-- submission
 abbrev pub EndedAre : (OpenRequest → Type 0) → Rules → State → Type 0
 EndedAre Is rules s = All (IsIfEnded Is rules s) s.requests
 
--- whatever becomes of it but for its marks: if it ends, it was never sent
+-- whatever else becomes of the request: if it ends with these marks, it was never sent
 abbrev pub EndsUnsent : Rules → OpenRequest → Type 0
 EndsUnsent rules o = (t : State) (p : OpenRequest) → p.marks ≡ o.marks → IsIfEnded NeverSent rules t p

@@ -6,8 +6,8 @@ use Rattle.machine.specs.declared.ClientRequest.{ClientRequest}
 use Rattle.machine.specs.Rules.{Rules, first_sector}
 use Rattle.machine.specs.State.{Mark, Untouched, Out, Done, Failed, Back, OpenRequest, Piece, State}
 
--- a part of a request: below, with how often it came back busy under earlier numbers and its pieces out; or here,
--- before it is sent and once it has ended
+-- a part of a request is below, with how often it came back busy under earlier numbers and with its pieces out; or it
+-- is here, before it is sent and once it has ended
 pub data Part : Type 0 where
   Below : (o : OpenRequest) → (again : ℕ) → (pieces : List Piece) → Part
   Here : (marks : List Mark) → (busy : ℕ) → Part
@@ -28,7 +28,7 @@ pub record Joint : Type 0 where
   pub removing : Bool
   pub divided : List Divided
 
--- a part sent again waits there untouched, and here as one that came back
+-- a part that was sent again waits below untouched, and shows here as one that came back busy
 abbrev pub as_back : Mark → Mark
 as_back Untouched = Back
 as_back Out = Out
@@ -82,7 +82,7 @@ shown e = record {
   marks = parts_marks e.parts;
 }
 
--- something of each request, one after the other
+-- a list of facts of each request, one after the other
 abbrev pub gathered : {X : Type 0} → (Divided → List X) → List Divided → List X
 gathered of [] = []
 gathered of (e ∷ es) = of e ++ gathered of es
@@ -143,12 +143,13 @@ pub record IsPartOf (rules : Rules) (q : ClientRequest) (first : ℕ) (o : OpenR
   pub bytes : (at count : ℕ) → at + count ≤ length o.marks
       → slice_range o.request.bytes (at * rules.sector_size) ((at + count) * rules.sector_size)
       ≡ slice_range q.bytes ((first + at) * rules.sector_size) ((first + at + count) * rules.sector_size)
-  -- a write's bytes are those alone
+  -- a write's bytes are just the part's
   pub long : o.request.kind ≡ Write → length o.request.bytes ≡ length o.marks * rules.sector_size
 
 -- WHAT THE CLASS DRIVER KNOWS BY ITSELF
 
--- of a part: the number of its packet below and how often it came back busy before, or its marks and busy returns
+-- what is known of a part: the number of its packet below and how often it came back busy before, or its marks and busy
+-- returns
 pub data Note : Type 0 where
   Sent : (number again : ℕ) → Note
   Kept : (marks : List Mark) → (busy : ℕ) → Note

@@ -34,14 +34,14 @@ failure_of (Failed status) = Some status
 failure_of (Busy status) = Some status
 failure_of (Withdrawn status) = Some status
 
--- how a part ends that came back with this status, where it is not sent again; a busy one with any status of its own
+-- how a part that came back with this status ends, where it is not sent again; a busy one may end with another status
 abbrev pub EndsBack : NtStatus → Outcome → Type 0
 EndsBack status Good = status ≡ Success
 EndsBack status (Failed failure) = (failure ≡ status) × (status ≢ Success) × (status ≢ DeviceBusy)
 EndsBack status (Busy told) = status ≡ DeviceBusy
 EndsBack status (Withdrawn told) = ⊥
 
--- why a part that came back busy is not sent again, of a request with this many restarts, and its status
+-- why a part that came back busy is not sent again, where its request has this many restarts; and its status
 abbrev pub IsBusyFor : (cancelled removing : Bool) (restarts : ℕ) → NtStatus → Type 0
 IsBusyFor cancelled removing restarts told =
     (IsTrue cancelled × (told ≡ Cancelled)) ⊎ (IsFalse cancelled × IsTrue removing × (told ≡ NoSuchDevice))
@@ -53,19 +53,19 @@ HasReason cancelled removing restarts (Failed status) = ⊤
 HasReason cancelled removing restarts (Busy told) = IsBusyFor cancelled removing restarts told
 HasReason cancelled removing restarts (Withdrawn status) = ⊤
 
--- a part is sent again that came back busy, while restarts last
+-- a part that came back busy is sent again, as long as restarts last
 pub record GoesAgain (cancelled removing : Bool) (restarts : ℕ) (status : NtStatus) : Type 0 where
   pub busy : status ≡ DeviceBusy
   pub not_cancelled : IsFalse cancelled
   pub not_removing : IsFalse removing
   pub few : restarts < 16
 
--- a status that goes before the rest, where there is one
+-- this status where there is one, else the rest
 abbrev pub status_or : Option NtStatus → NtStatus → NtStatus
 status_or None rest = rest
 status_or (Some status) rest = status
 
--- a buffer for data of this length: a read's is as long, and a write's has room for them, neither for more; a flush's
+-- a buffer for data of this length: a read's is as long, a write's has room for them, and neither has more; a flush's
 -- takes no memory
 abbrev pub IsBufferOf : Kind → (items : List ℕ) (capacity long : ℕ) → Type 0
 IsBufferOf Read items capacity long = (length items ≡ long) × (capacity ≡ long)
@@ -110,7 +110,7 @@ given_by (Ready place) = AtAdapter
 given_by (Below number spot) = AtAdapter
 given_by (Ended ended) = given_of (payload_in ended.packet)
 
--- a part that ended has no buffer any more, and its packet and room still
+-- a part that ended has no buffer any more, and still has its packet and its room
 abbrev pub IsLeftBy : (was now : Progress) → Type 0
 IsLeftBy (Ready place) now = now ≡ Ready place
 IsLeftBy (Below number spot) now = now ≡ Below number spot
@@ -120,7 +120,7 @@ pub record IsLeft (was now : Part) : Type 0 where
   pub request : now.request ≡ was.request
   pub progress : IsLeftBy was.progress now.progress
 
--- the parts that are left, each for one that was there
+-- these parts are left of the others, one for each
 abbrev pub AreLeft : (was now : List Part) → Type 0
 AreLeft [] [] = ⊤
 AreLeft [] (part ∷ parts) = ⊥
@@ -137,7 +137,7 @@ packet_by (Ended ended) = Some ended.packet
 abbrev pub ticket_for : Request → TransferPacket → Ticket
 ticket_for r packet = record { spot = packet.room.spot; reserved = whole_for r }
 
--- the room below that a part keeps, where its packet is not there
+-- the room below that a part keeps while its packet is not there
 abbrev pub ticket_by : Request → Progress → List Ticket
 ticket_by r (Ready place) = ticket_for r place.packet ∷ []
 ticket_by r (Below number spot) = []
@@ -199,7 +199,7 @@ abbrev pub lowest_status : List Part → NtStatus
 lowest_status [] = Success
 lowest_status (part ∷ parts) = status_or (failure_by part.progress) (lowest_status parts)
 
--- the bytes of a part's own buffer: none where it is the only one, and takes its request's
+-- the length of a part's own buffer: 0 where it is the only part, which takes its request's buffer
 abbrev pub own_length : (only : Bool) (sector_size : ℕ) → Request → ℕ
 own_length only sector_size r = if only then 0 else data_length sector_size r
 

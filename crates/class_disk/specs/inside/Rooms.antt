@@ -4,7 +4,7 @@ use Rattle.std.specs.List.{IsDistinct}
 use Rattle.device.specs.View.{DeviceView, IsOrderly}
 use Rattle.device.specs.inside.Out.{Ticket, IsGood, ticket_spot, tickets_of}
 
--- the layer is in order, and these are just its rooms, no two of them one
+-- the layer is in order, and these are just its rooms, each once
 pub record AllOut (v : DeviceView) (tickets : List Ticket) : Type 0 where
   pub orderly : IsOrderly v
   pub good : All (IsGood v) tickets

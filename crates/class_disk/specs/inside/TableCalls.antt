@@ -1,4 +1,4 @@
--- What each turn of the table does to it.
+-- What each call does to the table.
 use Rattle.std.specs.Prelude.{◌≡◌, ◌<◌, ◌≤◌, ℕ, ◌+◌, ◌-◌, ◌*◌, ◌^◌, ◌==◌, ◌&&◌, not, Bool, true, false, List, [], ◌∷◌}
 use Rattle.std.specs.Prelude.{◌++◌, IsFalse, IsPermutation, Some, None, length, slice_get, slice_set}
 use Rattle.std.specs.Prelude.{slice_range, if◌then◌else◌}
@@ -100,14 +100,14 @@ pub record IsReadyAt (sizes : Sizes) (o : Opened) (k : ℕ) : Type 0 where
   pub carries : (bytes : List ℕ) × (o.irp.payload ≡ Buffer bytes)
   pub here : o.lent ≡ false
 
--- the data that a part takes along: as long as it asks for, and a write's are its own of the request's
+-- the data that a part takes along are as long as it asks for; a write's are its own bytes of the request's
 pub record IsDataOf (sector_size : ℕ) (whole : List ℕ) (r part : Request) (bytes : List ℕ) : Type 0 where
   pub long : length bytes ≡ data_length sector_size part
   pub brings : part.kind ≡ Write
       → bytes ≡ slice_range whole (bytes_from sector_size r part)
       (bytes_from sector_size r part + data_length sector_size part)
 
--- it goes below in a packet of this number
+-- part k goes below in a packet of this number
 pub record SendsAs (sizes : Sizes) (o : Opened) (k number : ℕ) (part : Part) (place : Place)
     (packet : TransferPacket) (o' : Opened) : Type 0 where
   pub payload : Payload
@@ -123,7 +123,7 @@ pub record SendsAs (sizes : Sizes) (o : Opened) (k number : ℕ) (part : Part) (
 abbrev pub again_part : ℕ → ℕ → Part → Part
 again_part number spot part = record part { restarts = part.restarts + 1; progress = Below number spot }
 
--- it goes below again
+-- part k goes below again
 pub record SendsAgain (o : Opened) (k number : ℕ)
     (packet : TransferPacket) (part : Part) (packet' : TransferPacket) (o' : Opened) : Type 0 where
   pub own : IsOwnPacket number part.request (payload_in packet) packet'.irp.value
@@ -131,7 +131,7 @@ pub record SendsAgain (o : Opened) (k number : ℕ)
   pub room : packet'.room ≡ packet.room
   pub after : o' ≡ record (with_part k (again_part number packet.room.spot part) o) { restarts = o.restarts + 1 }
 
--- it has ended
+-- the request, with part k ended
 abbrev pub ended_at : ℕ → Ended → Part → Opened → Opened
 ended_at k ended part o = record (with_part k (ended_part ended part) o) { unfinished = o.unfinished - 1 }
 
@@ -168,7 +168,7 @@ pub record Completes (sizes : Sizes) (o : Opened) (climb : Climb) (places : Plac
 
 -- THE TABLE
 
--- no request is open, and there are no slots; the list of the ended has so much room
+-- no request is open, and there are no slots; the list of the ended has room for this many
 abbrev pub empty_books : Sizes → ℕ → TableView
 empty_books sizes ended_places = record {
   sizes = sizes;
@@ -247,7 +247,7 @@ pub record SendsPartAgain (old : TableView) (slot k : ℕ) (packet : TransferPac
   pub sends : SendsAgain o k old.next_packet packet part packet' o'
   pub after : new ≡ record old { opens = put_at slot o' old.opens; next_packet = old.next_packet + 1 }
 
--- a part has ended; with its last one its request has
+-- the table once a part has ended; a request ends with its last part
 abbrev pub ended_books : ℕ → Opened → TableView → TableView
 ended_books slot o' old = record old {
   opens = put_at slot o' old.opens;
@@ -277,7 +277,7 @@ pub record CanCancelAt (b : TableView) (slot number : ℕ) : Type 0 where
   pub is_open : open_at slot b.opens ≡ Some o
   pub can : is_cancellable number (slot, o) ≡ true
 
--- it has none
+-- the slot has no such request
 abbrev pub CannotCancelAt : TableView → ℕ → ℕ → Type 0
 CannotCancelAt b slot number = (o : Opened) → open_at slot b.opens ≡ Some o → is_cancellable number (slot, o) ≡ false
 
@@ -288,7 +288,7 @@ pub record CancelsAtSlot (old : TableView) (slot number : ℕ) (new : TableView)
   pub can : is_cancellable number (slot, o) ≡ true
   pub after : new ≡ record old { opens = put_at slot (cancelled_one o) old.opens }
 
--- there is none of this number in the slot that is not cancelled, and nothing changes
+-- the slot has no request of this number that is not cancelled, and nothing changes
 pub record CancelsNoneAt (old : TableView) (slot number : ℕ) (new : TableView) : Type 0 where
   pub none : CannotCancelAt old slot number
   pub same : new ≡ old

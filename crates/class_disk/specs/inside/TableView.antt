@@ -48,7 +48,7 @@ pub record TableView : Type 0 where
   pub owners : List PartId
   -- the slots of the requests that have ended, the first to end in front
   pub ended : List ℕ
-  -- the slots that the list has room for
+  -- how many slots the list of the ended has room for
   pub ended_places : ℕ
   pub last_request : ℕ
   -- the number of the next packet: one more than were sent so far
@@ -56,7 +56,7 @@ pub record TableView : Type 0 where
   pub submitted : ℕ
   pub removing : Bool
 
--- what a packet came with, whether its buffer is here or lent
+-- what a packet came with, whether or not its buffer is lent
 abbrev pub payload_of : (lent : Bool) (noted : List ℕ) → Payload → Payload
 payload_of true noted payload = Buffer noted
 payload_of false noted payload = payload
@@ -105,7 +105,7 @@ room_of (Some (Reserved places)) = Some (record { request = places.request; whol
 room_of (Some (Open t)) = None
 room_of (Some (Left places)) = Some (record { request = places.request; whole = false })
 
--- in front of those behind; none where there are none
+-- what is reserved in a slot, in front of the slots behind; a last slot with nothing reserved is left out
 abbrev pub before : Option DeviceRoom → List (Option DeviceRoom) → List (Option DeviceRoom)
 before None [] = []
 before None (room ∷ rooms) = None ∷ room ∷ rooms
@@ -131,7 +131,7 @@ books_of table = record {
   removing = table.removing;
 }
 
--- one slot more needs no memory
+-- one more slot needs no memory
 pub record HasRoomForMore (table : Table) : Type 0 where
   pub slots : slab_len table.slots < table.slots.capacity
   pub ended : slab_len table.slots < deque_capacity table.ended
@@ -146,13 +146,13 @@ pub record IsVacantFor (table : Table) (slot : ℕ) : Type 0 where
   pub is_next : table.slots.vacant_key ≡ slot
   pub room : HasRoomFor table.slots 1
 
--- the open request of a slot is taken out of it; the next that is put there gets it
+-- the open request of a slot is taken out of it, for a while
 pub record TakesOut (old : Table) (slot : ℕ) (new : Table) : Type 0 where
   pub updates : Updates old.slots new.slots slot None
   pub vacant : IsVacantFor new slot
   pub after : new ≡ record old { slots = new.slots }
 
--- it is put back
+-- an open request is put back into its slot
 pub record PutsBack (old : Table) (slot : ℕ) (transfer : Transfer) (new : Table) : Type 0 where
   pub was_vacant : get old.slots slot ≡ None
   pub updates : Updates old.slots new.slots slot (Some (Open transfer))
@@ -166,12 +166,12 @@ opened e = e.1
 abbrev pub all_open : TableView → List Opened
 all_open b = map opened b.opens
 
--- the slots of those that have ended
+-- the slots of the requests that have ended
 abbrev pub ended_in : List (ℕ × Opened) → List ℕ
 ended_in [] = []
 ended_in (e ∷ rest) = if e.1.unfinished == 0 then e.0 ∷ ended_in rest else ended_in rest
 
--- how often parts of these may still be sent again
+-- how often parts of these requests may still be sent again
 abbrev pub restarts_left : List (ℕ × Opened) → ℕ
 restarts_left [] = 0
 restarts_left (e ∷ rest) = 16 - e.1.restarts + restarts_left rest

@@ -12,11 +12,11 @@ pub record Ticket : Type 0 where
 abbrev pub ticket_spot : Ticket → ℕ
 ticket_spot ticket = ticket.spot
 
--- what a ticket says is so
+-- what a ticket says is reserved is reserved
 abbrev pub IsGood : DeviceView → Ticket → Type 0
 IsGood v ticket = room_at v.rooms ticket.spot ≡ Some ticket.reserved
 
--- the layer is in order, and these are rooms of it, no two of them one
+-- the layer is in order, and these are rooms of it, each once
 pub record AreOut (v : DeviceView) (tickets : List Ticket) : Type 0 where
   pub orderly : IsOrderly v
   pub good : All (IsGood v) tickets

@@ -34,8 +34,8 @@ IsCancelled held = IsTrue held.irp.value.cancelled
 abbrev pub IsFrom : ℕ → ℕ × Held → Type 0
 IsFrom next e = next ≤ e.1.irp.value.number
 
--- stack locations from the filter on, where those below need this many: one more. A packet has four, so more than five
--- are not counted
+-- stack locations from the filter on: one more than the layers below need. A packet has four, so no more than five are
+-- counted
 abbrev pub stack_over : ℕ → ℕ
 stack_over below = if nat_lt below 5 then below + 1 else below
 
@@ -56,15 +56,15 @@ pub record IsAdmitted (rules : Rules) (q : ClientRequest) : Type 0 where
   pub some : IsTrue (is_transfer q.kind) → IsFalse (q.length == 0)
   pub places : 0 < place_count rules q
 
--- an open request of that kind
+-- the open request is one that a machine admits
 abbrev pub AsksAdmitted : Rules → OpenRequest → Type 0
 AsksAdmitted rules o = IsAdmitted rules o.request
 
--- a packet that asks for such a request
+-- the packet asks for a request that a machine admits
 abbrev pub IsAsked : Rules → Held → Type 0
 IsAsked rules held = IsAdmitted rules (as_client rules (request_in held.irp.value) [])
 
--- a packet is as it came
+-- the packet carries what its request asks for, as it came
 abbrev pub IsWhole : Rules → Held → Type 0
 IsWhole rules held = Carries false rules (request_in held.irp.value) held.irp.value.payload
 
@@ -81,7 +81,7 @@ EntryCanGo stack_size rules e = CanGo stack_size rules e.1
 
 -- SPOTS
 
--- the spot of a packet here
+-- the spot of a packet in the filter
 abbrev pub spot_in : Held → ℕ
 spot_in held = held.room.spot
 
@@ -89,16 +89,16 @@ spot_in held = held.room.spot
 abbrev pub IsAtOwn : ℕ × Held → Type 0
 IsAtOwn e = e.0 ≡ e.1.room.spot
 
--- below, all that the packet's request needs is reserved at its spot
+-- all that the packet's request needs is reserved at its spot below
 abbrev pub HasRoom : List (Option Reserved) → Held → Type 0
 HasRoom rooms held = room_at rooms held.room.spot ≡ Some (whole_for (request_in held.irp.value))
 
--- the queues have a place for the spot of this packet below
+-- both queues have a place for the spot of this packet, which is below
 abbrev pub HasPlace : Limits → Packet → Type 0
 HasPlace places packet = IsCovered places (packet_spot packet)
 
--- what is reserved below is admitted, and has its place here; so has each packet below; those here have rooms of their
--- own
+-- each room below is for a request that is admitted, and has a place in the queues; each packet below has a place too;
+-- the packets in the filter have rooms of their own
 pub record RoomsKept (rules : Rules) (rooms : List (Option Reserved)) (packets : List Packet)
     (held ended : List (ℕ × Held)) (places : Limits) : Type 0 where
   pub bounded : (spot : ℕ) (r : Reserved) → room_at rooms spot ≡ Some r
@@ -112,7 +112,7 @@ pub record RoomsKept (rules : Rules) (rooms : List (Option Reserved)) (packets :
 
 -- ALL
 
--- what holds at every moment, the moments between two packets that go below among them
+-- what holds at every moment, also between two packets that go below
 pub record FilterKept (stack_size : ℕ) (v : DeviceView) (b : TableView) : Type 0 where
   pub below : IsBelow stack_size v
   pub ordered : IsOrderly v
@@ -133,7 +133,7 @@ pub record FilterKept (stack_size : ℕ) (v : DeviceView) (b : TableView) : Type
   pub some_window : 0 < b.window
   pub removing : b.removing ≡ v.state.removing
   pub going : IsTrue b.removing → IsFalse b.paused
-  -- what was cancelled while it was held is above a full window, or was so during the pause
+  -- a packet that was cancelled while it was held is above a full window, or was cancelled during the pause
   pub full : IsFalse b.paused → IsFalse b.removing → (b.ended ≡ []) ⊎ (b.window ≤ length v.state.requests)
   pub submitted : v.submitted + length b.held ≤ b.submitted
   pub few : b.submitted ≤ v.most
@@ -144,7 +144,7 @@ pub record IsInHand (stack_size : ℕ) (v : DeviceView) (b : TableView) : Type 0
   pub released : NoneMayGo v b
   pub orderly : IsOrderly (view_of v b)
 
--- what holds of a filter: the device below takes packets without an SRB
+-- what holds of a filter, whose device below takes packets without an SRB
 pub record IsFilter (takes_srb : Bool) (stack_size : ℕ) (v : DeviceView) (b : TableView) : Type 0 where
   pub buffers : IsFalse takes_srb
   pub in_hand : IsInHand stack_size v b

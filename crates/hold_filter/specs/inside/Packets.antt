@@ -18,12 +18,12 @@ use Rattle.device.specs.Climbing.{Climbs, BringsRoutine}
 use Rattle.device.specs.View.{no_request}
 use Rattle.hold_filter.specs.declared.table.Held.{Held}
 
--- a location that asks for no routine
+-- a location that asks for no completion routine
 abbrev pub silent : StackLocation → StackLocation
 silent own = with_routine false false false own
 
--- the packet has one location more, of the class driver, which asks for what the one above it does; that one has no
--- routine
+-- the packet has one location more, the class driver's, which asks for what the filter's does; the filter's asks for no
+-- completion routine
 pub record PassesDown (old new : Irp) : Type 0 where
   pub locations : (higher : List StackLocation) (own : StackLocation) → HasOwn old higher own
       → HasOwn new (higher ++ silent own ∷ []) (handed_to Class (silent own))
@@ -59,8 +59,7 @@ last_asked request (own ∷ rest) = last_asked (asked_by own) rest
 abbrev pub request_in : Irp → Request
 request_in irp = last_asked no_request irp.locations.items
 
--- the packet climbs with this status and nothing moved, and brings the cancel routine that it came with; its room comes
--- back
+-- the packet climbs with this status, no bytes moved, and the cancel routine that it came with; its room comes back
 pub record HandsOver (held : Held) (status : NtStatus) (climb : Climb) (room : Room) : Type 0 where
   pub climbs : Climbs (locations_above held.irp.value) held.irp.value.number held.irp.value.cancelled status 0
       held.irp.value.payload climb

@@ -8,7 +8,7 @@ use Rattle.device.specs.Served.{Moves, StaysOpen, Submits}
 use Rattle.hold_filter.specs.inside.TableView.{TableView}
 use Rattle.hold_filter.specs.inside.Packets.{PassesDown}
 
--- what is asked of a packet that goes below
+-- what the device below requires of a packet
 pub record MaySend (stack_size : ℕ) (v : DeviceView) (irp : Irp) (spot : ℕ) : Type 0 where
   pub ready : IsReady v.rooms spot
   pub not_removing : IsFalse v.state.removing
@@ -36,7 +36,7 @@ pub record Releases (old new : DeviceView) : Type 0 where
 abbrev pub LetsOneGo : TableView → TableView → Type 0
 LetsOneGo old new = length new.held < length old.held
 
--- none may go: the filter is paused or removed, none is held, or the window is full
+-- no packet may go below: the filter is paused or removed, holds no packet, or has a full window
 abbrev pub NoneMayGo : DeviceView → TableView → Type 0
 NoneMayGo v b = IsFalse b.paused → IsFalse b.removing → (b.held ≡ []) ⊎ (b.window ≤ length v.state.requests)
 

@@ -1,4 +1,4 @@
--- What each turn of the table does to it.
+-- What each call does to the table.
 use Rattle.std.specs.Prelude.{◌≡◌, ◌≢◌, ◌<◌, ◌≤◌, ◌⊎◌, ℕ, ◌+◌, false, true, List, [], ◌∷◌, ◌++◌, IsTrue, All, Any}
 use Rattle.ntstatus.specs.declared.NtStatus.{NtStatus}
 use Rattle.ntstatus.specs.declared.NtStatus.TheVariants.{Cancelled, DeletePending}
@@ -31,11 +31,11 @@ pub record MayEnd (b : TableView) (e : ℕ × Held) : Type 0 where
 abbrev pub LacksNumber : ℕ → List (ℕ × Held) → Type 0
 LacksNumber number held = All (λ (e : ℕ × Held). e.1.irp.value.number ≢ number) held
 
--- one is, at this spot
+-- a packet of this number is held at this spot
 abbrev pub HoldsAt : ℕ → ℕ → List (ℕ × Held) → Type 0
 HoldsAt number spot held = Any (λ (e : ℕ × Held). (e.0 ≡ spot) × (e.1.irp.value.number ≡ number)) held
 
--- nothing is in, and nothing ever was
+-- the table has no packet, and never had one
 abbrev pub empty : ℕ → TableView
 empty window = record {
   window = window;
@@ -105,7 +105,7 @@ pub record HandsRemoved (old : TableView) (held : Held) (status : NtStatus) (new
   pub is_status : status ≡ DeletePending
   pub after : new ≡ record old { held = rest }
 
--- a packet leaves that ended here
+-- a packet that ended here leaves
 abbrev pub Hands : TableView → Held → NtStatus → TableView → Type 0
 Hands old held status new = HandsCancelled old held status new ⊎ HandsRemoved old held status new
 

@@ -9,7 +9,7 @@ use Rattle.device.specs.declared.Room.{Room}
 use Rattle.hold_filter.specs.declared.table.Held.{Held}
 use Rattle.hold_filter.specs.declared.table.Table.{Table}
 
--- both queues have places for the spots below these
+-- the limits of the queues: each has places for the spots below its limit
 pub record Limits : Type 0 where
   pub held : ℕ
   pub ended : ℕ
@@ -19,10 +19,10 @@ pub record TableView : Type 0 where
   pub window : ℕ
   -- the packets that are held, the one that was held longest first
   pub held : List (ℕ × Held)
-  -- those that were cancelled while they were held
+  -- the packets that were cancelled while they were held
   pub ended : List (ℕ × Held)
   pub places : Limits
-  -- the packets below
+  -- how many packets are below
   pub below : ℕ
   pub last_number : ℕ
   pub submitted : ℕ
@@ -33,7 +33,7 @@ pub record TableView : Type 0 where
 abbrev pub own_routine : CancelRoutine
 own_routine = record { driver = IsFilter }
 
--- the books that the table is
+-- what the table shows
 abbrev pub books_of : Table → TableView
 books_of t = record {
   window = t.window;
@@ -51,7 +51,7 @@ books_of t = record {
 abbrev pub packet_in : ℕ × Held → Held
 packet_in entry = entry.1
 
--- the packets here: those that are held, and those that were cancelled meanwhile
+-- the packets in the filter: those that are held, and those that were cancelled while they were held
 abbrev pub here : TableView → List Held
 here b = map packet_in b.held ++ map packet_in b.ended
 

@@ -36,7 +36,7 @@ packet_here held = record {
 abbrev pub packets_of : DeviceView → TableView → List Packet
 packets_of v b = map packet_below v.packets ++ map packet_here (here b)
 
--- what is reserved below, but for the rooms of these packets
+-- what is reserved below, without the rooms of these packets
 abbrev pub without : List (Option Reserved) → List Held → List (Option Reserved)
 without rooms [] = rooms
 without rooms (held ∷ rest) = slice_set (without rooms rest) held.room.spot None
@@ -55,11 +55,11 @@ open_here rules late held = record {
   marks = replicate (place_count rules (as_client rules (request_in held.irp.value) [])) Untouched;
 }
 
--- during a pause, and once the device is removed, all that are here are late
+-- during a pause, and once the device is removed, all requests in the filter are late
 abbrev pub are_late : TableView → Bool
 are_late b = b.paused || b.removing
 
--- the requests here
+-- the requests in the filter
 abbrev pub requests_here : Rules → TableView → List OpenRequest
 requests_here rules b = map (open_here rules (are_late b)) (here b)
 

@@ -52,7 +52,7 @@ module _ {T : Type 0} (number_of : T → ℕ) where
     pub none_before : Lacks number_of number before
     pub only_visits : OnlyVisits old new (length before + 1)
 
-  -- no entry has it
+  -- no entry has the number
   pub record MeetsNot (old : Links T) (number : ℕ) (new : Links T) : Type 0 where
     pub none : Lacks number_of number (queue_of old).entries
     pub only_visits : OnlyVisits old new (length (queue_of old).entries)

@@ -8,7 +8,7 @@ module _ {T : Type 0} where
   SetsAfter None after new = new ≡ None
   SetsAfter (Some e) after new = new ≡ Some (record e { after = after })
 
-  -- or back to the one before
+  -- the entry of a place, if there is one, is linked back to the one before
   abbrev pub SetsBefore : Option (Node T) → Option ℕ → Option (Node T) → Type 0
   SetsBefore None before new = new ≡ None
   SetsBefore (Some e) before new = new ≡ Some (record e { before = before })

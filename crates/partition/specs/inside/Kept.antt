@@ -15,7 +15,7 @@ use Rattle.partition.specs.inside.Rooms.{wanted_at}
 use Rattle.partition.specs.Shown.{shown_of}
 use Rattle.partition.specs.Opening.{IsWholeDisk}
 
--- the last location of a packet that is below is the partition driver's, and asks for its routine whatever the outcome
+-- the last location of a packet below is the partition driver's, and asks for its completion routine at any outcome
 pub record ComesBack (packet : Packet) : Type 0 where
   pub higher : List StackLocation
   pub own : StackLocation
@@ -37,7 +37,7 @@ pub record IsOnDisk (table : List Extent) (v : DeviceView) : Type 0 where
   -- each piece has places of an open request, so it moves sectors of its partition
   pub placed : ArePlaced v.state
 
--- a spot that is reserved below is wanted for a request of a partition, and reserved for that one of the disk
+-- a spot that is reserved below is wanted for a request of a partition, and reserved for that request on the disk
 pub record IsWantedFor (rules : Rules) (wanted : Option Request) (reserved : Reserved) : Type 0 where
   pub request : Request
   pub is_wanted : wanted ≡ Some request
@@ -52,7 +52,7 @@ IsNotedAt wanted packet = wanted_at wanted packet.spot ≡ Some (noted_last pack
 pub record IsKept (locations_below : ℕ) (table : List Extent) (wanted : List (Option Request))
     (v : DeviceView) : Type 0 where
   pub on_disk : IsOnDisk table v
-  -- a packet gets a location for the layer below
+  -- a packet gets a stack location for the layer below
   pub some_location : 0 < locations_below
   pub below : IsOrderly v
   pub rooms : (spot : ℕ) (reserved : Reserved) → room_at v.rooms spot ≡ Some reserved

@@ -11,15 +11,15 @@ use Rattle.srb.specs.declared.Kind.TheVariants.{Read, Write, Flush}
 use Rattle.machine.specs.declared.Request.{Request}
 use Rattle.device.specs.View.{Packet, major_of}
 
--- its own location as it leaves it: with the function of the request, and a routine for each outcome
+-- its own location as it leaves it: with the major function of the request, and a completion routine for each outcome
 abbrev pub noting : Kind → StackLocation → StackLocation
 noting kind own = with_routine true true false (record own { major = major_of false kind })
 
--- the location of the next driver: the same, for this extent of the whole disk
+-- the location of the next driver, for this extent of the whole disk
 abbrev pub passed_on : Extent → StackLocation → StackLocation
 passed_on extent own = record (handed_to Filter own) { volume = 0; extent = extent }
 
--- the kind of request that a function asks for
+-- the kind of request that a major function asks for
 abbrev pub kind_in : MajorFunction → Kind
 kind_in MajorRead = Read
 kind_in MajorWrite = Write
@@ -34,7 +34,7 @@ noted_in own = record {
   through = bit_and own.flags.0 0x04 == 0x04;
 }
 
--- stands for the request of a packet that isn't there, or has no location
+-- what stands for the request of a packet that isn't there, or has no location
 abbrev pub nothing : Request
 nothing = record { volume = 0; kind = Flush; extent = record { first = 0; count = 0 }; through = false }
 

@@ -31,7 +31,7 @@ pub record CancelsNotAt (old : TableView) (v : AdapterView) (tag number : ℕ) (
 abbrev pub CannotCancelUse : TableView → ℕ → TagInUse → Type 0
 CannotCancelUse b number use' = CannotCancelOn b.started number use'.tag
 
--- none of the packets at the adapter can be cancelled
+-- no packet at the adapter can be cancelled
 pub record CancelsNoStarted (old : TableView) (v : AdapterView) (number : ℕ) (new : TableView) : Type 0 where
   pub none : All (CannotCancelUse old number) v.tags
   pub same : new ≡ old

@@ -29,7 +29,7 @@ pub record AreSizes (sizes : Sizes) (v : AdapterView) : Type 0 where
   pub depth : sizes.depth ≡ v.depth
   pub faithful : sizes.faithful ≡ v.faithful
 
--- a request for which all places are made
+-- all places that the request needs are made
 pub record IsRoom (rules : Rules) (v : AdapterView) (r : Request) : Type 0 where
   pub bounded : IsBounded rules r
   pub reserved : r.kind ≡ Write → IsReserved v r.extent
@@ -44,7 +44,7 @@ pub record IsWaiting (rules : Rules) (v : AdapterView) (held : PortPacket) : Typ
 abbrev pub IsEmptyIfFlush : Request → List ℕ → Type 0
 IsEmptyIfFlush r bytes = r.kind ≡ Flush → bytes ≡ []
 
--- each was submitted before those behind it
+-- the packet was submitted before the other
 abbrev pub IsBefore : PortPacket → PortPacket → Type 0
 IsBefore held other = held.irp.value.number < other.irp.value.number
 
@@ -53,7 +53,7 @@ abbrev pub AreInTurn : List PortPacket → Type 0
 AreInTurn [] = Unit {0}
 AreInTurn (held ∷ rest) = All (IsBefore held) rest × AreInTurn rest
 
--- the SRB asks for the request as long as it did nothing; then its data are what it moved
+-- the SRB asks for the request until its piece acts; then its data are what the piece moved
 abbrev pub IsDoing : Rules → Request → Fate → Srb → Type 0
 IsDoing rules r Fresh srb = AsksFor rules r srb
 IsDoing rules r (Acted moved) srb =
@@ -92,7 +92,7 @@ asked e = e.request
 abbrev pub IsTaken : List (Option (Option Request)) → ℕ → Type 0
 IsTaken rooms spot = slice_index_or rooms spot None ≡ Some None
 
--- what holds at every moment, the moments between two starts among them
+-- what holds at every moment, also between two starts
 pub record PortKept (b : TableView) (v : AdapterView) (rooms : List Request) : Type 0 where
   pub adapter : IsInOrder v
   pub sizes : AreSizes b.sizes v
@@ -108,14 +108,14 @@ pub record PortKept (b : TableView) (v : AdapterView) (rooms : List Request) : T
   pub taken : All (IsTaken b.rooms) (of_packets spot_in b v)
   pub removing : IsTrue b.removing → b.waiting ≡ []
   pub distinct : AreDistinct (state_of b v)
-  -- each packet has a place, and each room that is out
+  -- each packet has a place in the queues, and so has each room that is out
   pub places : length rooms + (length b.waiting + (length v.tags + length b.done)) ≡ b.places
   pub submitted : b.submitted ≤ most
   pub accepted : v.accepted + length b.waiting ≤ b.submitted + 3
   pub numbered : b.next_piece + length b.waiting ≤ b.submitted + 1
   pub labels : length v.labels + (v.depth - length v.tags) ≤ 64
 
--- with a tag free nothing waits
+-- with a tag free no packet waits
 abbrev pub IsBusy : TableView → AdapterView → Type 0
 IsBusy b v = length v.tags < v.depth → b.waiting ≡ []
 

@@ -12,13 +12,13 @@ use Rattle.port.specs.Shown.{rules_of, done_open, open_on, view_of}
 abbrev pub begun_of : TableView → AdapterView → List OpenRequest
 begun_of b v = map (open_on (rules_of b.sizes) b.started) v.tags ++ map (done_open (rules_of b.sizes)) b.done
 
--- pieces of packets that wait are started, and nothing else happens
+-- pieces of packets that wait are started, and nothing else changes
 pub record Releases (b : TableView) (v : AdapterView) (b' : TableView) (v' : AdapterView) : Type 0 where
   pub starts : List DeviceLabel
   pub only_starts : All IsStart starts
   pub moves : Moves (view_of b v) starts (view_of b' v')
   pub stay : All (Contains (begun_of b' v')) (begun_of b v)
-  -- with no tag free none is
+  -- with no tag free no piece is started
   pub full : v.depth ≤ length v.tags → (b' ≡ b) × (v' ≡ v)
 
 -- each tag below this one is in use, or nothing waits

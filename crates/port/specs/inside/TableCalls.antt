@@ -1,4 +1,4 @@
--- What each turn of the queues does to them.
+-- What each call does to the queues.
 use Rattle.std.specs.Global.{Box}
 use Rattle.std.specs.Prelude.{◌≡◌, ◌≢◌, ℕ, ◌+◌, ◌-◌, ◌==◌, ◌&&◌, Bool, true, false, not, List, [], ◌∷◌, ◌++◌, map, Option, Some, None, IsTrue, IsFalse, All, length, slice_set, slice_index_or}
 use Rattle.ntstatus.specs.declared.Sense.{Sense}
@@ -16,7 +16,7 @@ use Rattle.port.specs.declared.queues.Outcome.{Outcome}
 use Rattle.port.specs.declared.queues.Outcome.TheVariants.{Returned, Withdrawn, Gone}
 use Rattle.port.specs.inside.TableView.{PacketEntry, TableView, held_with, entry_of, ended_entry}
 
--- nothing is in, and nothing ever was
+-- the queues have no packet, and never had one
 pub record IsEmpty (sizes : Sizes) (b : TableView) : Type 0 where
   pub sizes_are : b.sizes ≡ sizes
   pub waiting : b.waiting ≡ []
@@ -88,7 +88,7 @@ pub record StartsNot (old new : TableView) : Type 0 where
   pub none_waits : old.waiting ≡ []
   pub same : new ≡ old
 
--- a packet that ended as this one was, carrying that
+-- this packet has ended, carrying this payload, with this outcome
 pub record EndsAs (held : PortPacket) (payload : Payload) (outcome : Outcome) (ended : Ended) : Type 0 where
   pub same_entry : ended_entry ended ≡ entry_of held
   pub carries : ended.irp.value.payload ≡ payload
@@ -112,23 +112,23 @@ pub record Ends (old : TableView) (tag : ℕ) (srb : Srb) (class : Class) (new :
   pub ends_as : EndsAs held (Packed (as_returned class srb)) (Returned class) ended
   pub after : new ≡ record old { started = slice_set old.started tag None; done = old.done ++ ended ∷ [] }
 
--- the packet that ended first of those that stand there leaves
+-- the packet that ended first leaves
 pub record TakesDone (old : TableView) (ended : Ended) (new : TableView) : Type 0 where
   pub rest : List Ended
   pub is_front : old.done ≡ ended ∷ rest
   pub slot : SetsSlot old.rooms ended.spot (Some None) (Some (Some ended.request)) new.rooms
   pub after : new ≡ record old { done = rest; rooms = new.rooms }
 
--- nothing has ended, and nothing changes
+-- no packet has ended, and nothing changes
 pub record TakesNone (old new : TableView) : Type 0 where
   pub none_ended : old.done ≡ []
   pub same : new ≡ old
 
--- what waits is gone, and nothing will start
+-- a packet that waited when the device was removed
 abbrev pub gone : PortPacket → Ended
 gone held = record { irp = held.irp; request = held.request; spot = held.spot; outcome = Gone }
 
--- the books after a removal
+-- the queues after a removal: what waited has ended
 abbrev pub drained : TableView → TableView
 drained old = record old { waiting = []; done = old.done ++ map gone old.waiting; removing = true }
 
@@ -140,23 +140,23 @@ is_cancellable number e = (e.number == number) && not e.cancelled
 abbrev pub CannotCancel : ℕ → PacketEntry → Type 0
 CannotCancel number e = IsFalse (is_cancellable number e)
 
--- the packet is cancelled, and is else as it was
+-- the packet, cancelled
 abbrev pub cancelled : PacketEntry → PacketEntry
 cancelled e = record e { cancelled = true }
 
--- the same test of a packet that has not ended
+-- whether the number cancels this packet, which has not ended
 abbrev pub can_cancel_held : ℕ → PortPacket → Bool
 can_cancel_held number held = is_cancellable number (entry_of held)
 
--- and of one that has
+-- whether the number cancels this packet, which has ended
 abbrev pub can_cancel_ended : ℕ → Ended → Bool
 can_cancel_ended number ended = is_cancellable number (ended_entry ended)
 
--- a packet that has not ended, and that the number does not cancel
+-- the number does not cancel this packet, which has not ended
 abbrev pub CannotCancelHeld : ℕ → PortPacket → Type 0
 CannotCancelHeld number held = CannotCancel number (entry_of held)
 
--- one that has ended, and that the number does not cancel
+-- the number does not cancel this packet, which has ended
 abbrev pub CannotCancelEnded : ℕ → Ended → Type 0
 CannotCancelEnded number ended = CannotCancel number (ended_entry ended)
 
@@ -191,7 +191,7 @@ pub record CancelsIn (old : Option PortPacket) (number : ℕ) (new : Option Port
   pub same_entry : entry_of marked ≡ cancelled (entry_of held)
   pub after : new ≡ Some marked
 
--- there is none, or the number does not cancel it
+-- the place has no packet, or the number does not cancel its packet
 pub record CancelsNotIn (old : Option PortPacket) (number : ℕ) (new : Option PortPacket) : Type 0 where
   pub cannot : (held : PortPacket) → old ≡ Some held → CannotCancelHeld number held
   pub same : new ≡ old
@@ -223,7 +223,7 @@ pub record CancelsOn (old : TableView) (tag number : ℕ) (new : TableView) : Ty
 abbrev pub CannotCancelOn : List (Option PortPacket) → ℕ → ℕ → Type 0
 CannotCancelOn started number tag = (held : PortPacket) → held_on started tag ≡ Some held → CannotCancelHeld number held
 
--- so it is of this tag, and nothing changes
+-- the number does not cancel the packet on this tag, and nothing changes
 pub record CancelsNotOn (old : TableView) (tag number : ℕ) (new : TableView) : Type 0 where
   pub cannot : CannotCancelOn old.started number tag
   pub same : new ≡ old
@@ -241,7 +241,7 @@ pub record CancelsEnded (old : TableView) (number : ℕ) (new : TableView) : Typ
   pub ends : marked.outcome ≡ ended.outcome
   pub after : new ≡ record old { done = (before ++ behind) ++ marked ∷ [] }
 
--- the number cancels none of those that ended
+-- the number cancels no packet that has ended
 pub record CancelsNoEnded (old : TableView) (number : ℕ) (new : TableView) : Type 0 where
   pub none : All (CannotCancelEnded number) old.done
   pub same : new ≡ old

@@ -14,7 +14,7 @@ use Rattle.port.specs.declared.queues.PortPacket.{PortPacket}
 use Rattle.port.specs.declared.queues.Ended.{Ended}
 use Rattle.port.specs.declared.queues.Queues.{Queues}
 
--- a packet but for what it carries
+-- a packet without its payload
 pub record PacketEntry : Type 0 where
   pub number : ℕ
   pub above : List StackLocation
@@ -25,7 +25,7 @@ pub record PacketEntry : Type 0 where
   -- where it stood in the queue
   pub spot : ℕ
 
--- a packet with its request, as it stands in the books
+-- the entry of a packet, by its request and its spot
 abbrev pub entry : Irp → Request → ℕ → PacketEntry
 entry irp request spot = record {
   number = irp.number;
@@ -36,11 +36,11 @@ entry irp request spot = record {
   spot = spot;
 }
 
--- what the books say of a packet that waits, or that is at the adapter
+-- the entry of a packet that waits, or is at the adapter
 abbrev pub entry_of : PortPacket → PacketEntry
 entry_of held = entry held.irp.value held.request held.spot
 
--- what they say of one that ended
+-- the entry of a packet that ended
 abbrev pub ended_entry : Ended → PacketEntry
 ended_entry ended = entry ended.irp.value ended.request ended.spot
 
@@ -57,7 +57,7 @@ pub record TableView : Type 0 where
   pub sizes : Sizes
   -- the packets that wait, the one that waited longest first
   pub waiting : List PortPacket
-  -- by tags, the packets at the adapter; what stands at a free tag says nothing
+  -- by tags: the packets at the adapter; what stands at a free tag means nothing
   pub started : List (Option PortPacket)
   -- the packets that ended
   pub done : List Ended
@@ -65,12 +65,12 @@ pub record TableView : Type 0 where
   pub next_piece : ℕ
   pub submitted : ℕ
   pub removing : Bool
-  -- the packets that can be taken in, with those that are in and the rooms out
+  -- how many packets the queues have places for: those that are in, and those that rooms are out for
   pub places : ℕ
-  -- by spots: what is reserved, and Some None where a packet has the spot
+  -- by spots: the request that a spot is reserved for, and Some None where a packet has the spot
   pub rooms : List (Option (Option Request))
 
--- the books that the queues are
+-- what the queues show
 abbrev pub books_of : Queues → TableView
 books_of q = record {
   sizes = q.sizes;
