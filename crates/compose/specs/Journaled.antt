@@ -29,12 +29,12 @@ IsStarted trace piece tag block = Contains trace (Device (Start piece tag block)
 abbrev pub IsStartedUse : List Label → TagInUse → Type 0
 IsStartedUse trace use' = IsStarted trace use'.piece use'.tag use'.srb.block
 
--- act n of the trace is of entry n, and what is on a tag was started in the trace
+-- act n of the trace is that of entry n, and each piece on a tag was started in the trace
 pub record IsJournaled (trace : List Label) (entries : List Entry) (view : ManagerView) : Type 0 where
   pub of_acts : AreOfActs trace trace entries
   pub started : All (IsStartedUse trace) view.adapter.tags
 
--- where the sectors stand elsewhere, what suits the SRB of a piece that may act may be booked
+-- where the sectors stand elsewhere, whatever suits the SRB of a piece that may act may be booked
 abbrev pub ArmedMayBeBooked : Type 0
 ArmedMayBeBooked = (arrays : List (List (List ℕ))) (trace : List Label) (entries : List Entry) (view : ManagerView)
     (tag piece : ℕ) (srb : Srb) (what : Result Entry Completion)
@@ -62,26 +62,26 @@ IsNoAct (Act tag) = ⊥
 IsNoAct (Finish tag) = Unit {0}
 IsNoAct Reset = Unit {0}
 
--- it adds no entry
+-- the step of such an event adds no entry
 abbrev pub StepsKeepEntries : Type 0
 StepsKeepEntries = (trace : List Label) (entries : List Entry) (old : ManagerView) (event : Event) (reply : Reply)
     (new : ManagerView)
     → IsNoAct event → IsRight old event reply new → IsJournaled trace entries old
     → IsJournaled (trace ++ new.labels) entries new
 
--- nor does an act where nothing can act
+-- an act on a tag where nothing can act adds no entry
 abbrev pub IdleActsKeepEntries : Type 0
 IdleActsKeepEntries = (trace : List Label) (entries : List Entry) (old : ManagerView) (tag : ℕ) (reply : Reply)
     (new : ManagerView)
     → FitsTogether old → HasNoneFresh old.adapter tag → IsRight old (Act tag) reply new
     → IsJournaled trace entries old → IsJournaled (trace ++ new.labels) entries new
 
--- what was booked is of the tag's piece
+-- what was booked is of this piece, on this tag
 abbrev pub IsOfPiece : ℕ → ℕ → Result Entry Completion → Type 0
 IsOfPiece tag piece (Ok entry) = (entry.piece ≡ piece) × (entry.tag ≡ tag)
 IsOfPiece tag piece (Err completion) = Unit {0}
 
--- the entries, and the one that was booked, if it is one
+-- the entries, and behind them the one that was booked, if one was
 abbrev pub with_entry : List Entry → Result Entry Completion → List Entry
 with_entry entries (Ok entry) = entries ++ entry ∷ []
 with_entry entries (Err completion) = entries
@@ -95,7 +95,7 @@ BookedActsAddEntries = (trace : List Label) (entries : List Entry) (old booked n
     → IsRight booked (Act tag) reply new
     → IsJournaled trace entries old → IsJournaled (trace ++ new.labels) (with_entry entries what) new
 
--- and the sectors stand elsewhere for good
+-- where the sectors stand elsewhere, they do so after each step
 abbrev pub StepsStayApart : Type 0
 StepsStayApart = (old : ManagerView) (event : Event) (reply : Reply) (new : ManagerView)
     → IsRight old event reply new → IsFalse old.adapter.faithful → IsFalse new.adapter.faithful

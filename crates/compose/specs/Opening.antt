@@ -60,20 +60,20 @@ start_fault_of (DeviceProbed status) = DeviceFault status
 start_fault_of (TableProbed fault) = TableFault fault
 start_fault_of ProbedNoMemory = NoMemory
 
--- why a disk could not be read: memory was refused in the probe or after it, a command failed, or all were good and the
--- table is wrong
+-- why a disk could not be read: memory was refused in the probe or after it, a command failed, or all commands
+-- succeeded and the partition table is wrong
 abbrev pub IsDiskFault : AdapterView → StartFault → AdapterView → Type 0
 IsDiskFault disk NoMemory after = LacksMemory disk after ⊎ IsReadBy disk after
 IsDiskFault disk (DeviceFault status) after = FailsOne disk status after
 IsDiskFault disk (TableFault fault) after = IsReadBy disk after × (told_partitions disk ≡ Err fault)
 IsDiskFault disk SettingsFault after = ⊥
 
--- why a stack could not be started: a setting is out of range, and nothing was sent; or else the disk could not be read
+-- why a stack could not be started: a setting is out of range, and nothing was sent; or the disk could not be read
 abbrev pub IsStartFault : AdapterView → Settings → StartFault → AdapterView → Type 0
 IsStartFault disk settings SettingsFault after = (¬ (AreInRange settings)) × (after ≡ disk)
 IsStartFault disk settings fault after = AreInRange settings × IsDiskFault disk fault after
 
--- what was left of an adapter over which no stack could be started
+-- what is left of an adapter over which no stack could be started
 pub record IsSpent (disk : AdapterView) (settings : Settings) (fault : StartFault) (after : AdapterView) : Type 0 where
   pub same : IsSameDisk (asked_by_probe disk) disk after
   pub why : IsStartFault disk settings fault after

@@ -14,7 +14,7 @@ use Rattle.compose.specs.declared.Event.TheVariants.{Open, Close, Read as ReadEv
 use Rattle.compose.specs.declared.Event.TheVariants.{Flush as FlushEvent, CancelIoEx, Mark, QueryRemove}
 use Rattle.compose.specs.declared.Event.TheVariants.{CancelRemove, Remove, SurpriseRemove, Act, Finish, Reset}
 
--- a right call of the event's row; a reset is answered OK
+-- the step is a right call of the event's row; a reset is answered as OK
 abbrev pub IsRight : ManagerView → Event → Reply → ManagerView → Type 0
 IsRight old (Open partition) reply new = IsRightCall (OpenReplies old partition reply new) old new
 IsRight old (Close handle) reply new = IsRightCall (CloseReplies old handle reply new) old new
@@ -34,7 +34,7 @@ IsRight old (Act tag) reply new = IsRightCall (ActReplies old tag reply new) old
 IsRight old (Finish tag) reply new = IsRightCall (FinishReplies old tag reply new) old new
 IsRight old Reset reply new = (reply ≡ OkReply) × IsRightReset old new
 
--- a step whose labels are not kept, and then are forgotten
+-- a step whose labels are not kept, and are then forgotten
 pub record StepsUntraced (old : ManagerView) (event : Event) (reply : Reply) (new : ManagerView) : Type 0 where
   pub stepped : ManagerView
   pub right : IsRight (record old { keeps = false }) event reply stepped

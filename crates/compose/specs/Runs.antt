@@ -30,14 +30,14 @@ use Rattle.compose.specs.Right.{IsRight}
 
 -- EVENTS
 
--- a right step that leaves the stack settled and whole, and all its labels taken
+-- a right step leaves the stack settled and whole, and all its labels are taken
 pub record Carries (old : ManagerView) (event : Event) (shown : Shown) (new : ManagerView) : Type 0 where
   pub stepped : ManagerView
   pub right : IsRight old event shown.reply stepped
   pub settled : Settled stepped.rules stepped.state
   -- a removal with nothing open has ended
   pub finished : IsFinished stepped.state
-  -- read from the adapter
+  -- the arrays and the pieces out are read from the adapter
   pub whole : FitsTogether stepped
   pub labels : shown.labels.items ≡ stepped.labels
   pub taken : new ≡ record stepped { labels = [] }
@@ -50,7 +50,7 @@ CarriesAll old (event ∷ events) (shown ∷ more) new = (mid : ManagerView) × 
 CarriesAll old [] (shown ∷ more) new = ⊥
 CarriesAll old (event ∷ events) [] new = ⊥
 
--- the first of these events were carried out, and no more; one at least was not
+-- the first of these events were carried out, and no others; at least one was not
 pub record StopsAfter (old : ManagerView) (events : List Event) (stopped : RunStopped)
     (new : ManagerView) : Type 0 where
   pub within : stopped.done < length events
@@ -63,7 +63,7 @@ labels_shown (shown ∷ more) = shown.labels.items ++ labels_shown more
 
 -- THE LAWS OF A RUN'S LABELS
 
--- a request that a run calls and answers: called and not refused at one label, and answered at a later one
+-- a request that a run calls and answers: it is called and not refused at one label, and answered at a later one
 pub record IsOfRun (rules : Rules) (s : State) (labels : List Label) (s' : State) (number : ℕ) (q : ClientRequest)
     (status : NtStatus) (bytes : List ℕ) (before after : State) : Type 0 where
   pub first : List Label
@@ -93,7 +93,7 @@ pub record ObeysLaws (rules : Rules) (s : State) (labels : List Label) (s' : Sta
       (h : IsOfRun rules s labels s' number q Success bytes before after)
       → IsTrue rules.faithful → q.kind ≡ Read → IsSoloIn rules s labels s' number q Success bytes before after h
       → bytes ≡ concat (sectors_at rules before q (all_places rules q))
-  -- and a solo write that succeeds stands in the array at its answer
+  -- where acts read and write the arrays, a solo write that succeeds stands in the array at its answer
   pub solo_writes : (number : ℕ) (q : ClientRequest) (bytes : List ℕ) (before after : State)
       (h : IsOfRun rules s labels s' number q Success bytes before after)
       → IsTrue rules.faithful → q.kind ≡ Write → IsSoloIn rules s labels s' number q Success bytes before after h
@@ -117,13 +117,13 @@ pub record ObeysLaws (rules : Rules) (s : State) (labels : List Label) (s' : Sta
       (h : IsOfRun rules s labels s' number q status bytes before after)
       → (p i : ℕ) → Sometime (WritesSector rules number p i) rules after h.last s' h.goes → ⊥
 
--- once a removal has ended, before these labels or by one of them, no start, act, fault or return comes
+-- once a removal has ended, before these labels or at one of them, no start, act, fault or return comes
 pub record IsQuietOnceRemoved (s : State) (labels : List Label) : Type 0 where
   pub before : IsTrue s.removed → All IsNotOfDevice labels
   pub among : (first last : List Label) → labels ≡ first ++ Removed ∷ last → All IsNotOfDevice last
 
--- all that is shown is one run, which obeys the laws and leaves the device alone once it is removed; and the sectors of
--- no partition stay as they are
+-- all that is shown is one run, which obeys the laws and leaves the device alone once it is removed; sectors of no
+-- partition stay as they are
 pub record IsLawful (old : ManagerView) (shown : List Shown) (new : ManagerView) : Type 0 where
   pub same_rules : new.rules ≡ old.rules
   pub run : Run old.rules old.state (labels_shown shown) new.state
@@ -136,7 +136,7 @@ abbrev pub RunsObeyLaws : Type 0
 RunsObeyLaws = (rules : Rules) (s : State) (labels : List Label) (s' : State) → IsReached rules s
     → ObeysLaws rules s labels s'
 
--- and leaves the device alone once it is removed
+-- every run from a state that can be reached leaves the device alone once it is removed
 abbrev pub RunsAreQuietOnceRemoved : Type 0
 RunsAreQuietOnceRemoved = (rules : Rules) (s : State) (labels : List Label) (s' : State) → IsReached rules s
     → Run rules s labels s' → IsQuietOnceRemoved s labels

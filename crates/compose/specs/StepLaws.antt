@@ -37,14 +37,14 @@ abbrev pub StepsCallOnce : Type 0
 StepsCallOnce = (old : ManagerView) (event : Event) (reply : Reply) (new : ManagerView) → IsRight old event reply new
     → CallsFirst event new.labels
 
--- want of memory is a refusal of a read, a write or a flush alone
+-- only a read, a write or a flush is refused for want of memory
 abbrev pub StepsTakeNoMemory : Type 0
 StepsTakeNoMemory =
     (old : ManagerView) (event : Event) (bytes : List ℕ) (new : ManagerView)
     → IsRight old event (Refused InsufficientResources bytes) new
     → IsTransferEvent event
 
--- the call itself was answered under this number, or refused
+-- the reply answers the call under this number, or refuses it
 abbrev pub IsAnsweredBy : Reply → Type 0
 IsAnsweredBy (Answered answer) = Unit {0}
 IsAnsweredBy (Refused reason bytes) = Unit {0}
@@ -77,7 +77,7 @@ abbrev pub OpensNone : Reply → Type 0
 OpensNone (Requested id) = ⊥
 OpensNone _ = Unit {0}
 
--- a call opens what was told of it, unless memory is refused; where nothing is told, it opens nothing
+-- a call opens what was told beforehand, unless memory is refused; where nothing was told, it opens nothing
 abbrev pub StepsOpenAsTold : Type 0
 StepsOpenAsTold =
     (old : ManagerView) (event : Event) (reply : Reply) (new : ManagerView) → IsRight old event reply new

@@ -102,7 +102,7 @@ pub(crate) fn admits<D: Hold>(manager: &IoManager<D>, event: &Event) -> Option<(
 ///
 /// # Errors
 ///
-/// [`RunStopped`] where memory for the result was refused: just the first `done` events were carried out, and not all.
+/// [`RunStopped`] where memory for the result was refused. Just the first `done` events were carried out, and not all.
 pub(crate) fn run<D: Hold>(
     manager: &mut IoManager<D>,
     alloc: Global,
@@ -163,7 +163,7 @@ fn carry_all<D: Hold>(
     Ok(shown)
 }
 
-/// Carries one event out and takes its labels, for an empty queue with places for those of the next.
+/// Carries one event out and takes its labels, in exchange for an empty queue with places for those of the next.
 fn carry_out<D: Hold>(
     manager: &mut IoManager<D>,
     alloc: Global,

@@ -4,12 +4,12 @@ ghost use Rattle.compose.specs.Journaled.{ArmedMayBeBooked, BookedActsAddEntries
 ghost use Rattle.compose.specs.Journaled.{StepsKeepEntries, StepsStayApart};
 ghost use Rattle.compose.specs.StepLaws.{StepsCallOnce, StepsLeaveAnswers, StepsOpenAsTold, StepsTakeNoMemory};
 
-/// Among the labels of a step is one call at most. It comes first, and only a read, a write or a flush brings it.
+/// Among the labels of a step there is at most one call. It comes first, and only a read, a write or a flush brings it.
 pub fn steps_call_once()
     ensures { StepsCallOnce }
 {}
 
-/// Only a read, a write and a flush are refused for want of memory.
+/// Only a read, a write or a flush is refused for want of memory.
 pub fn steps_take_no_memory()
     ensures { StepsTakeNoMemory }
 {}
@@ -31,12 +31,12 @@ pub fn steps_keep_entries()
     ensures { StepsKeepEntries }
 {}
 
-/// An act on a tag where nothing can act adds no entry either.
+/// An act on a tag where nothing can act adds no entry.
 pub fn idle_acts_keep_entries()
     ensures { IdleActsKeepEntries }
 {}
 
-/// The act of a piece of which an entry was booked adds that entry; where a failure was booked, none.
+/// The act of a piece of which an entry was booked adds that entry. Where a failure was booked, it adds none.
 pub fn booked_acts_add_entries()
     ensures { BookedActsAddEntries }
 {}

@@ -31,9 +31,9 @@ use thiserror::Error;
 /// Limits that the user of a stack chooses.
 #[derive(Debug, Clone, Copy, PartialEq, Eq)]
 pub struct Settings {
-    /// Requests at work at once, 1 to 64; others are held.
+    /// How many requests are at work at once, 1 to 64; others are held.
     pub window: u32,
-    /// Requests open at once, 1 to 64.
+    /// How many requests may be open at once, 1 to 64.
     pub open_requests: u32,
 }
 
@@ -104,8 +104,8 @@ pub struct Shown {
     pub labels: Vec<Label>,
 }
 
-/// A run that stopped for want of memory for its own result, after just the first `done` events and before the last,
-/// with what each of these showed.
+/// A run that stopped because memory for its result was refused, after just the first `done` events and before the
+/// last, with what each of these showed.
 #[derive(Debug, Drop, Error)]
 #[error("no memory for the result after {done} events")]
 pub struct RunStopped {

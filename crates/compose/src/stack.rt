@@ -49,8 +49,8 @@ impl<A: Adapter> Model for Stack<A> {
 
 impl<A: Adapter> Stack<A> {
     /// A stack over an adapter that has accepted nothing, with the partitions of the table in sector 0. It sends READ
-    /// CAPACITY(10), where that can't tell the number of sectors READ CAPACITY(16) as well, and READ(10) of sector 0,
-    /// and takes their labels.
+    /// CAPACITY(10) and, where that can't tell the number of sectors, READ CAPACITY(16). Then it sends READ(10) of
+    /// sector 0. It takes the labels of all these.
     ///
     /// # Errors
     ///
@@ -134,16 +134,16 @@ impl<A: Adapter> Stack<A> {
     }
 
     /// Books what the act of a tag's piece did, or how it failed, with an adapter whose sectors stand elsewhere: the
-    /// next `Act` of the tag is that. It takes no memory, changes nothing of the machine, and does nothing where the
-    /// tag has no such piece that could act, or what is to be booked isn't its.
+    /// next `Act` of the tag is that. It takes no memory, and changes nothing of the machine. It does nothing where
+    /// this piece isn't on the tag, has acted or failed, or didn't ask for what is to be booked.
     pub fn book(&mut self, tag: u8, piece: u128, what: Booked<'_>)
         ensures { BooksPiece self.old tag piece (handed self.old.adapter tag piece what.entry) self.new }
     {
         self.manager.book(tag, piece, what);
     }
 
-    /// What is shown between two steps is settled and fits together, a removal with nothing open has ended, and a run
-    /// leads to it: available to the caller.
+    /// Shows the caller that what is shown between two steps is settled and fits together, that a removal with no
+    /// request open has ended, and that a run leads to it.
     pub fn shows_whole(&self)
         ensures settled { Settled self.now.rules self.now.state }
         ensures finished { IsFinished self.now.state }

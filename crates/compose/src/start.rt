@@ -45,7 +45,7 @@ impl From<ProbeFault> for StartFault {
 }
 
 impl Settings {
-    /// Whether a stack can be started with them.
+    /// Whether a stack can be started with these settings.
     pub fn are_in_range(&self) -> bool
         ensures { IsTrue result ↔ AreInRange self.now }
     {
@@ -53,11 +53,11 @@ impl Settings {
     }
 }
 
-/// Returns what an adapter tells that has accepted nothing.
+/// Returns what the probe of an adapter tells, which has accepted nothing so far.
 ///
 /// # Errors
 ///
-/// [`StartFault::Settings`] just where a setting is out of range, before anything is sent; else as [`probe`].
+/// [`StartFault::Settings`] just where a setting is out of range, before anything is sent; else those of [`probe`].
 fn prepare<A: Adapter>(
     alloc: Global,
     adapter: &mut A,

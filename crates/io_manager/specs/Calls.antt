@@ -35,7 +35,7 @@ are_used_up next = nat_le number_limit next
 abbrev pub handle_limit : ℕ
 handle_limit = 64
 
--- want of a number, or of memory
+-- a call is refused for want of a number, or of memory
 abbrev pub IsWant : Refusal → Type 0
 IsWant DeviceBusy = Unit {0}
 IsWant InsufficientResources = Unit {0}
@@ -66,7 +66,7 @@ bytes_called Write bytes = bytes
 bytes_called Read bytes = []
 bytes_called Flush bytes = []
 
--- a call on a handle for this many bytes, which are left out
+-- a call on a handle for this many bytes, without the bytes
 abbrev pub asked_on : ManagerView → Handle → Kind → ℕ → ℕ → Bool → ClientRequest
 asked_on v handle kind offset length' through = record {
   partition = partition_of v.handles handle;
@@ -77,7 +77,7 @@ asked_on v handle kind offset length' through = record {
   bytes = [];
 }
 
--- and with the caller's buffer; a flush is one of no bytes
+-- a call on a handle with the caller's buffer; a flush has no bytes
 abbrev pub call_on : ManagerView → Handle → Kind → ℕ → List ℕ → Bool → ClientRequest
 call_on v handle kind offset buffer through = record (asked_on v handle kind offset (length buffer) through)
     { bytes = bytes_called kind buffer }

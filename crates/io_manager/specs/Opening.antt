@@ -13,7 +13,7 @@ use Rattle.io_manager.specs.Shown.{ManagerView}
 use Rattle.io_manager.specs.Calls.{number_limit}
 use Rattle.io_manager.specs.inside.Chains.{AreEnds}
 
--- no spot of the layer is reserved: it has no room that nobody would give back
+-- no spot of the layer is reserved, so no room is out that nobody would give back
 abbrev pub HasNoRooms : DeviceView → Type 0
 HasNoRooms below = (spot : ℕ) → room_at below.rooms spot ≡ None
 
@@ -36,7 +36,7 @@ pub record IsUnasked (below : DeviceView) : Type 0 where
   pub many : number_limit ≤ below.most
   pub no_labels : below.adapter.labels ≡ []
 
--- limits of a manager over this device
+-- the limits are right for a manager over this device
 pub record AreFor (below : DeviceView) (limits : Limits) : Type 0 where
   pub sector_size : limits.sector_size ≡ below.rules.sector_size
   pub max_transfer : limits.max_transfer ≡ below.rules.max_transfer

@@ -47,7 +47,7 @@ use Rattle.io_manager.specs.Calls.{open_refusal}
 abbrev pub as_answer : Answer → Label
 as_answer answer = AnswerLabel answer.number answer.status answer.information answer.bytes
 
--- the number of the request that it answers
+-- the number of the request that an answer is for
 abbrev pub answer_number : Answer → ℕ
 answer_number answer = answer.number
 
@@ -106,7 +106,7 @@ pub record IsUnmoved (old new : ManagerView) (told : Told) : Type 0 where
   pub same_state : new.state ≡ old.state
   pub same_adapter : new.adapter ≡ old.adapter
 
--- refused for this reason, with no bytes to give back: nothing happened
+-- the call is refused for this reason, with no bytes to give back, and nothing happened
 pub record RefusesAlone (old : ManagerView) (reason why : Refusal) (bytes : List ℕ) (new : ManagerView)
     (told : Told) : Type 0 where
   pub is_reason : reason ≡ why
@@ -116,13 +116,13 @@ pub record RefusesAlone (old : ManagerView) (reason why : Refusal) (bytes : List
 
 -- READ, WRITE, FLUSH
 
--- nothing happened, but that more may be reserved for a write
+-- nothing happened, except that more may be reserved for a write
 pub record ReservesAlone (old : ManagerView) (kind : Kind) (new : ManagerView) (told : Told) : Type 0 where
   pub nothing : told ≡ tells_nothing old
   pub same_state : new.state ≡ old.state
   pub unless_write : kind ≢ Write → new.adapter ≡ old.adapter
 
--- a call that is refused, or one of no bytes: its two labels, and no more; nothing was reserved
+-- a call that is refused, or has no bytes, tells its two labels and no more; nothing was reserved
 pub record IsAnsweredAtOnce (old : ManagerView) (q : ClientRequest) (status : NtStatus) (new : ManagerView)
     (told : Told) : Type 0 where
   pub numbers_last : are_used_up old.state.next_request ≡ false
@@ -137,7 +137,7 @@ abbrev pub IsSlotOf : Option ℕ → ℕ → Type 0
 IsSlotOf None slot = ⊥
 IsSlotOf (Some most) slot = slot < most
 
--- a call that opens a request, under the next number and in a slot that was free
+-- the call opens a request, under the next number and in a slot that was free
 pub record IsAdmitted (old : ManagerView) (handle : Handle) (q : ClientRequest) (slot number : ℕ)
     (told : Told) : Type 0 where
   pub numbers_last : are_used_up old.state.next_request ≡ false
@@ -149,8 +149,8 @@ pub record IsAdmitted (old : ManagerView) (handle : Handle) (q : ClientRequest) 
   pub in_range : IsSlotOf old.rules.open_requests slot
   pub holds : Updates old.holders told.admitted slot (Some (record { number = number; handle = handle.number }))
 
--- a call for which there is no number left: nothing happens; or whose memory was refused: a part of a write may have
--- been reserved
+-- the call is turned away: nothing happens where no number is left for it; where memory was refused, a part of a write
+-- may have been reserved
 abbrev pub IsTurnedAway : ManagerView → ClientRequest → Refusal → ManagerView → Told → Type 0
 IsTurnedAway old q DeviceBusy new told = (are_used_up old.state.next_request ≡ true) × IsUnmoved old new told
 IsTurnedAway old q InsufficientResources new told =
@@ -158,7 +158,7 @@ IsTurnedAway old q InsufficientResources new told =
     × ReservesAlone old q.kind new told
 IsTurnedAway old q _ new told = ⊥
 
--- a read, a write or a flush with this buffer
+-- the reply to a read, a write or a flush with this buffer
 abbrev pub TransferReplies : ManagerView → Handle → ClientRequest → List ℕ → Reply → ManagerView → Told → Type 0
 TransferReplies old handle q buffer (Requested id) new told = IsAdmitted old handle q id.slot id.number told
 TransferReplies old handle q buffer (Answered answer) new told =
@@ -171,7 +171,7 @@ TransferReplies old handle q buffer (HandleReply given) new told = ⊥
 TransferReplies old handle q buffer OkReply new told = ⊥
 TransferReplies old handle q buffer Ignored new told = ⊥
 
--- its row
+-- the row of a read, a write or a flush
 pub record CallReplies (old : ManagerView) (handle : Handle) (q : ClientRequest) (buffer : List ℕ) (reply : Reply)
     (new : ManagerView) (told : Told) : Type 0 where
   pub replies : TransferReplies old handle q buffer reply new told
@@ -228,7 +228,7 @@ pub record CancelsAllOf (old : ManagerView) (handle : ℕ) (told : Told) : Type 
   pub no_device : told.device ≡ []
   pub holders : told.admitted ≡ old.holders
 
--- an open request becomes cancelled, if it is not yet, and no piece starts
+-- an open request becomes cancelled, if it was not, and no piece starts
 pub record CancelsOne (old : ManagerView) (number : ℕ) (told : Told) : Type 0 where
   pub request : OpenRequest
   pub is_open : Contains old.state.requests request
@@ -237,7 +237,7 @@ pub record CancelsOne (old : ManagerView) (number : ℕ) (told : Told) : Type 0 
   pub no_device : told.device ≡ []
   pub holders : told.admitted ≡ old.holders
 
--- an open handle is closed, and no other
+-- an open handle is closed, and no other handle changes
 pub record IsClosed (old : ManagerView) (handle : Handle) (new : ManagerView) : Type 0 where
   pub was_open : IsHandleOpen old handle
   pub closes : Updates old.handles new.handles handle.slot None
@@ -253,12 +253,12 @@ CloseReplies old handle (Requested id) new told = ⊥
 CloseReplies old handle (Answered answer) new told = ⊥
 CloseReplies old handle Ignored new told = ⊥
 
--- the handle has an open request; or it has this one
+-- the handle has an open request, or this one where one is given
 abbrev pub HasTarget : ManagerView → Handle → Option Id → Type 0
 HasTarget v handle None = (slot : ℕ) × (number : ℕ) × HoldsAt v slot number handle.number
 HasTarget v handle (Some id) = HoldsAt v id.slot id.number handle.number
 
--- all open requests of the handle are cancelled; or this one
+-- all open requests of the handle are cancelled, or this one where one is given
 abbrev pub CancelsTarget : ManagerView → Handle → Option Id → Told → Type 0
 CancelsTarget old handle None told = CancelsAllOf old handle.number told
 CancelsTarget old handle (Some id) told = CancelsOne old id.number told
@@ -302,12 +302,12 @@ pnp_state s =
     if s.removing then (if s.removed then Removed else Removing)
     else (if s.paused then RemovePending else Started)
 
--- one label of its own is told, and then what it lets the device do
+-- the call tells one label of its own, and then what it lets the device do
 pub record TellsOne (old : ManagerView) (label : Label) (told : Told) : Type 0 where
   pub own : told.own ≡ label ∷ []
   pub holders : told.admitted ≡ old.holders
 
--- the call is valid in this state, and none of the device's labels comes
+-- the call is valid in this state, and the device tells no label
 pub record IsValid (old : ManagerView) (event : Event) (after : PnpState) (label : Label) (new : ManagerView)
     (told : Told) : Type 0 where
   pub valid : next event (pnp_state old.state) ≡ Some after
@@ -321,7 +321,7 @@ pub record IsInvalid (old : ManagerView) (event : Event) (reason : Refusal) (byt
   pub invalid : next event (pnp_state old.state) ≡ None
   pub refuses : RefusesAlone old reason InvalidDeviceRequest bytes new told
 
--- a plug and play call with this label
+-- the reply to a plug and play call with this label
 abbrev pub PnpReplies : ManagerView → Event → PnpState → Label → Reply → ManagerView → Told → Type 0
 PnpReplies old event after label OkReply new told = IsValid old event after label new told
 PnpReplies old event after label (Refused reason bytes) new told = IsInvalid old event reason bytes new told
@@ -387,7 +387,7 @@ ActReplies old tag (Requested id) new told = ⊥
 ActReplies old tag (Answered answer) new told = ⊥
 ActReplies old tag (Refused reason bytes) new told = ⊥
 
--- what is booked of a piece is the adapter's alone
+-- only the adapter changes by what is booked of a piece
 pub record BooksPiece (old : ManagerView) (tag piece : ℕ) (what : Result Entry Completion)
     (new : ManagerView) : Type 0 where
   pub adapter : Books old.adapter tag piece what new.adapter
@@ -432,7 +432,7 @@ pub record TellsReset (old new : ManagerView) (told : Told) : Type 0 where
 abbrev pub is_answer_of : Holder → Answer → Bool
 is_answer_of holder answer = answer.number == holder.number
 
--- what a slot holds after these answers: its request, but for one that was answered
+-- what a slot holds after these answers: its request, unless that was answered
 abbrev pub unless_answered : List Answer → Option Holder → Option Holder
 unless_answered answers None = None
 unless_answered answers (Some holder) = if list_any (is_answer_of holder) answers then None else Some holder
@@ -443,7 +443,7 @@ MovesWith false old labels new = MovesByAll old labels new
 MovesWith true old labels new =
     (faulted noted : AdapterView) × MovesByAll old labels faulted × NotesReset faulted noted × ReservesMore noted new
 
--- and the labels are then taken from its record
+-- the adapter moves by these labels, which are then taken from its record
 pub record AdapterMoves (reset : Bool) (old : AdapterView) (labels : List DeviceLabel)
     (new : AdapterView) : Type 0 where
   pub moved : AdapterView
@@ -480,7 +480,7 @@ pub record IsRightReset (old new : ManagerView) : Type 0 where
 
 -- WHAT HOLDS BETWEEN STEPS
 
--- a slot of an open request, by its number
+-- an open request has a slot, found by its number
 abbrev pub HasSlot : List (Option Holder) → OpenRequest → Type 0
 HasSlot holders o = (slot : ℕ) × (holder : Holder) × (slice_index_or holders slot None ≡ Some holder)
     × (holder.number ≡ o.number)

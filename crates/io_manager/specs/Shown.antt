@@ -7,7 +7,7 @@ use Rattle.machine.specs.State.{State}
 use Rattle.io_manager.specs.declared.Answer.{Answer}
 use Rattle.io_manager.specs.declared.OpenHandle.{OpenHandle}
 
--- an open request, at its slot: its number, and that of the handle it was called on
+-- an open request at its slot: its number, and the number of the handle that it was called on
 pub record Holder : Type 0 where
   pub number : ℕ
   pub handle : ℕ
@@ -17,14 +17,14 @@ pub record ManagerView : Type 0 where
   pub rules : Rules
   pub state : State
   pub adapter : AdapterView
-  -- the open ones, by slot
+  -- the open handles, by slot
   pub handles : List (Option OpenHandle)
   pub next_handle : ℕ
   -- the open requests, by slot
   pub holders : List (Option Holder)
-  -- told and not yet taken, in order
+  -- the labels that were told and not taken yet, in order
   pub labels : List Label
-  -- the answers of requests that were open, not yet taken, by rising numbers
+  -- the answers that were not taken yet, of requests that were open, by rising numbers
   pub answers : List Answer
-  -- labels are kept until they are taken; else contracts alone read them
+  -- whether labels are kept until they are taken; if not, contracts alone read them
   pub keeps : Bool

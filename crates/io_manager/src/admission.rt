@@ -1,5 +1,4 @@
-//! What a call is answered at once, and what one that is admitted opens: its packet, its pieces, its extent on the
-//! disk.
+//! How a call is answered at once, and what an admitted call opens: its packet, its pieces, its extent on the disk.
 
 ghost use Rattle.std.specs.Prelude.{◌≡◌, ◌<◌, ◌≤◌, ℕ, Option, false, length, option_map, IfOk};
 ghost use Rattle.srb.specs.declared.Kind.TheVariants.{Read};
@@ -20,7 +19,7 @@ use ntstatus::NtStatus;
 use sector::{Bytes, Extent, LabelRoom};
 use std::alloc::{AllocError, Global};
 
-/// What a call asks of a partition, but for its bytes.
+/// What a call asks of a partition, without its bytes.
 #[derive(Debug, Clone, Copy, PartialEq, Eq)]
 pub(crate) struct Asked {
     pub(crate) kind: Kind,
@@ -34,15 +33,15 @@ pub(crate) struct Asked {
 /// What bounds a request.
 #[derive(Debug, Clone, Copy, PartialEq, Eq)]
 pub(crate) struct Bounds {
-    /// Bytes.
+    /// Bytes of a sector.
     pub(crate) sector_size: u64,
-    /// The sectors of its partition.
+    /// Sectors of the request's partition.
     pub(crate) sectors: u64,
     /// Sectors of the longest request.
     pub(crate) longest: u64,
-    /// Requests that may be open at once.
+    /// How many requests may be open at once.
     pub(crate) open_requests: u32,
-    /// Requests that are.
+    /// How many requests are open.
     pub(crate) open_count: usize,
     /// Whether the device is being removed, or is gone.
     pub(crate) removing: bool,
@@ -59,7 +58,7 @@ pub(crate) enum AtOnce {
 /// What is decided of a call before anything changes.
 #[derive(Debug, Clone, Copy, PartialEq, Eq)]
 pub(crate) enum Decision {
-    /// There is no number left for it.
+    /// No request number is left for it.
     UsedUp,
     /// It ends where it begins.
     Ends(AtOnce),
@@ -96,7 +95,7 @@ impl Refusal {
 }
 
 impl Asked {
-    /// The places of the request: one for each of its sectors; a flush has one, of no sector.
+    /// How many places the request has: one for each of its sectors. A flush has one, of no sector.
     pub(crate) fn place_count(self, sector_size: u64) -> u64
         requires { 0 < sector_size }
         ensures { (rules : Rules) (partition : Option ℕ) → rules.sector_size ≡ sector_size
@@ -151,7 +150,7 @@ fn moves_bytes(kind: Kind) -> bool
     }
 }
 
-/// Returns what a read, a write or a flush of a partition is answered at once, if anything.
+/// Returns how a read, a write or a flush of a partition is answered at once, if it is.
 pub(crate) fn refusal_of(bounds: &Bounds, partition: Option<u8>, asked: Asked) -> Option<AtOnce>
     requires some_bytes { 0 < bounds.now.sector_size }
     ensures exact { (rules : Rules) (s : State) → AreBoundsOf bounds.now partition rules s
@@ -285,7 +284,7 @@ pub(crate) struct LabelBytes {
     pub(crate) label_bytes: LabelRoom,
 }
 
-/// What a write's call is told with, and room for as many bytes as a read's buffer has.
+/// The bytes that a write's call is told with, and room for as many as a read's buffer has.
 ///
 /// # Errors
 ///
@@ -326,7 +325,7 @@ fn location_of(request: &Request) -> StackLocation
     }
 }
 
-/// A packet becomes that of a request, with its caller's buffer and the first location alone (WDK:
+/// Makes a packet that of a request, with its caller's buffer and the first stack location alone (WDK:
 /// IoGetNextIrpStackLocation).
 pub(crate) fn ready_packet(irp: &mut Irp, number: u64, request: &Request, buffer: Bytes)
     ensures top { IsOnTop number request.now irp.new }

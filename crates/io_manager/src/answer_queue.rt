@@ -11,8 +11,8 @@ use crate::label_queue::LabelQueue;
 use sector::LabelRoom;
 use std::collections::VecDeque;
 
-/// Returns how many of the answers, by rising numbers, have lower ones. It looks from the back, at those that don't
-/// alone.
+/// Returns how many of the answers, which stand by rising numbers, have lower numbers. It looks from the back, only at
+/// those that don't.
 fn place_of(answers: &VecDeque<Answer>, number: u64) -> usize
     requires { AreRising (map answer_number answers.now.items) }
     ensures { result ≡ lower_first number answers.now.items }
@@ -24,7 +24,7 @@ fn place_of(answers: &VecDeque<Answer>, number: u64) -> usize
     place
 }
 
-/// Puts an answer behind those with lower numbers, in a queue by rising numbers that has a place for it. Only those
+/// Puts an answer behind those with lower numbers, in a queue by rising numbers that has a place for it. Only answers
 /// with higher numbers are moved.
 pub(crate) fn insert_rising(answers: &mut VecDeque<Answer>, answer: Answer)
     requires place { deque_len answers.old < deque_capacity answers.old }
@@ -33,7 +33,7 @@ pub(crate) fn insert_rising(answers: &mut VecDeque<Answer>, answer: Answer)
     ensures len { deque_len answers.new ≡ deque_len answers.old + 1 }
     ensures capacity { deque_capacity answers.new ≡ deque_capacity answers.old }
 {
-    // `insert` may take memory. These never do, and they turn the queue by the shorter way.
+    // `insert` may take memory; these calls never do. Each rotation goes the shorter way.
     let place = place_of(answers, answer.number);
     answers.rotate_left(place);
     answers.push_front_reserved(answer);
@@ -52,7 +52,7 @@ fn keep_rising(answered: &mut LabelQueue<Answer>, answer: Answer)
     answered.told = answered.told.with(&answered.queue);
 }
 
-/// Defers the label of an answer. Where labels are kept its bytes are copied, into their room.
+/// Defers the label of an answer. Where labels are kept, its bytes are copied into the room for them.
 pub(crate) fn put_by(answered: &mut LabelQueue<Answer>, answer: &Answer, room: LabelRoom)
     requires room { length answer.now.bytes ≤ room }
     requires place { length answered.old.items < answered.old.places }

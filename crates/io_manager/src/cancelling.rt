@@ -1,4 +1,4 @@
-//! Open requests are cancelled, each by the spot of its packet below.
+//! Cancellation of open requests, each by the spot of its packet below.
 
 ghost use Rattle.std.specs.Prelude.{◌≡◌, ◌≤◌, ◌<◌, true, length, is_some, MatchBool, MatchOption};
 ghost use Rattle.io_manager.specs.Calls.{partition_of};
@@ -30,7 +30,7 @@ impl Tables {
         self.chains.first(handle.slot as usize)
     }
 
-    /// Whether the open request in a slot is cancelled; so is none.
+    /// Whether the open request in a slot is cancelled, or there is none.
     fn is_marked(&self, slot: usize) -> bool
         ensures { MatchBool result (IsMarkedOrNone self.now.requests slot) (IsToMark self.now.requests slot) }
     {
@@ -40,7 +40,7 @@ impl Tables {
         }
     }
 
-    /// Sets the cancel flag of an open request, and tells that.
+    /// Sets the cancel flag of an open request, and tells its label.
     fn mark_at(&mut self, slot: usize) -> PacketBelow
         requires chained { AreChained self.old.handles self.old.requests self.old.next_handle self.old.chains }
         requires there { IsToMark self.old.requests slot }

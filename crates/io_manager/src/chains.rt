@@ -3,17 +3,17 @@
 ghost use Rattle.std.specs.Prelude.{◌≡◌, ◌<◌, false, slice_index, MatchBool};
 ghost use Rattle.io_manager.specs.inside.Chains.{chain_end, LeadsTo, AreEnds, PutsLast, TakesOut, CanJoin, CanLeave};
 
-/// Slots of open requests.
+/// The number of slots for open requests.
 pub(crate) const REQUEST_LIMIT: usize = 64;
 
-/// Chains: one for each slot of a handle, or one for each remainder.
+/// The number of chains: one for each slot of a handle, or one for each remainder.
 pub(crate) const CHAIN_LIMIT: usize = 64;
 
-/// The joints of the chains: one for each slot of a request, and one behind them for each chain, its end.
+/// The number of joints: one for each slot of a request, and behind them one for the end of each chain.
 const JOINTS: usize = REQUEST_LIMIT + CHAIN_LIMIT;
 
-/// The chains, linked both ways: from an end through the requests and back. Links of a joint outside all chains are
-/// arbitrary.
+/// The chains. Each is linked both ways, from its end through its requests and back. The links of a joint outside all
+/// chains are arbitrary.
 #[derive(Drop)]
 pub(crate) struct Chains {
     after: [u8; JOINTS],
@@ -94,7 +94,7 @@ impl Chains {
         self.before[next as usize] = last;
     }
 
-    /// Takes the request in a slot out of its chain, unless it was cancelled, and so is in none.
+    /// Takes the request in a slot out of its chain, unless it was cancelled and so is in no chain.
     pub(crate) fn take_out_unless(&mut self, slot: usize, cancelled: bool)
         requires { cancelled ≡ false → CanLeave self.old slot }
         ensures { MatchBool cancelled (self.new ≡ self.old) (TakesOut self.old slot self.new) }

@@ -86,7 +86,7 @@ impl Tables {
         None
     }
 
-    /// Counts one request fewer on a handle, if it is still open.
+    /// Counts one request fewer on a handle, where the handle is still open.
     fn count_out(&mut self, handle: Handle)
         requires { is_some (partition_of self.old.handles.slots handle) ≡ true
             → (handle.slot < 64) × (0 < slice_index self.old.open_counts handle.slot) }
@@ -214,7 +214,7 @@ fn tell_labels<D: Device>(device: &mut D, labels: &mut LabelQueue<Label>)
 }
 
 impl Tables {
-    /// Ends a removal once nothing is open, and tells that.
+    /// Ends a removal once no request is open, and tells that.
     fn end_removal(&mut self)
         requires label_place { length self.old.labels.items < self.old.labels.places }
         ensures { EndsRemoval self.old self.new }

@@ -1,4 +1,4 @@
-//! All labels of a step are taken at once, and an answer by its number.
+//! How a caller takes all labels of a step at once, and an answer by its number.
 
 ghost use Rattle.std.specs.Prelude.{◌≡◌, ◌≤◌, ◌<◌, [], IfOk, IsTrue, All, MatchOption, length, slice_get, Some};
 ghost use Rattle.std.specs.VecDeque.{deque_capacity};

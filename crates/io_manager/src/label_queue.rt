@@ -1,4 +1,4 @@
-//! Queues of what a step tells. Memory keeps it until it is taken; or contracts alone read it.
+//! Queues of what a step tells. Memory keeps it until it is taken, or contracts alone read it.
 
 ghost use Rattle.std.specs.Prelude.{◌≡◌, ◌<◌, ◌+◌, ◌++◌, ◌∷◌, [], true, List, length, IfOk, IsTrue, IsFalse};
 ghost use Rattle.std.specs.VecDeque.{deque_capacity};
@@ -53,7 +53,7 @@ impl<T: Drop> LabelQueue<T> {
         self.keeps
     }
 
-    /// From here on memory keeps what is told, or contracts alone read it.
+    /// From now on memory keeps what is told, or contracts alone read it.
     pub(crate) fn keep(&mut self, keep: bool)
         requires empty { self.old.items ≡ [] }
         ensures { self.new ≡ record self.old { keeps = keep } }
@@ -75,8 +75,7 @@ impl<T: Drop> LabelQueue<T> {
         }
     }
 
-    /// What is told becomes these items, in a queue of which memory keeps none; whoever calls this reads them off what
-    /// it lends.
+    /// Makes what is told these items, in a queue of which memory keeps none. The caller reads them off what it lends.
     pub(crate) fn note<S>(&mut self, from: &S)
         ghost items: { List T }
         requires quiet { IsFalse self.old.keeps }
@@ -86,7 +85,7 @@ impl<T: Drop> LabelQueue<T> {
         self.told = self.told.with(from);
     }
 
-    /// Takes the earliest.
+    /// Takes the earliest item.
     pub(crate) fn take_first(&mut self) -> Option<T>
         requires kept { IsTrue self.old.keeps }
         ensures takes { TakesFirst self.old.items result self.new.items }
@@ -97,7 +96,7 @@ impl<T: Drop> LabelQueue<T> {
         first
     }
 
-    /// Takes all, for an empty queue.
+    /// Takes all items, and leaves this empty queue for the next.
     pub(crate) fn take_all(&mut self, spare: VecDeque<T>) -> Vec<T>
         requires kept { IsTrue self.old.keeps }
         requires empty { spare.items ≡ [] }
@@ -109,7 +108,7 @@ impl<T: Drop> LabelQueue<T> {
         all.into_vec()
     }
 
-    /// Forgets all.
+    /// Forgets all items.
     pub(crate) fn forget(&mut self)
         ensures { self.new ≡ record self.old { items = [] } }
     {

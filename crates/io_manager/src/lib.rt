@@ -30,16 +30,16 @@ pub use manager::IoManager;
 use ntstatus::NtStatus;
 use sector::Bytes;
 
-/// An open handle: its slot in the manager's table, and its number. Numbers rise from 1 to 2^62 - 1 and are never given
-/// twice; a slot is.
+/// An open handle: its slot in the manager's table, and its number. Numbers rise from 1 to 2^62 - 1. No number is given
+/// twice; a slot may be.
 #[derive(Debug, Clone, Copy, PartialEq, Eq)]
 pub struct Handle {
     pub slot: u32,
     pub number: u64,
 }
 
-/// An open request: its slot in the manager's table, and its number. Numbers rise from 1 to 2^62 - 1 and are never
-/// given twice; a slot is.
+/// An open request: its slot in the manager's table, and its number. Numbers rise from 1 to 2^62 - 1. No number is
+/// given twice; a slot may be.
 #[derive(Debug, Clone, Copy, PartialEq, Eq)]
 pub struct Id {
     pub slot: u32,
@@ -91,28 +91,28 @@ pub enum Refusal {
 /// How a request ended.
 #[derive(Debug, Drop)]
 pub struct Answer {
-    /// The request's.
+    /// The number of the request.
     pub number: u64,
     pub status: NtStatus,
     /// The number of bytes transferred (WDK: IO_STATUS_BLOCK): the length of a read or write that succeeded, else 0.
     pub information: u64,
-    /// The bytes of a read that succeeded; for any other request none.
+    /// The bytes of a read that succeeded; none for any other request.
     pub bytes: Bytes,
 }
 
-/// What a call is answered.
+/// The reply to a call.
 #[derive(Debug, Drop)]
 pub enum Reply {
     /// The handle that `open` gave.
     Handle(Handle),
-    /// It was done.
+    /// The call was carried out.
     Ok,
     /// The request is open; its answer comes later.
     Request(Id),
-    /// The answer to a request of no bytes, which is no open request and has no other answer.
+    /// The answer to a call of no bytes. It opens no request, and has no other answer.
     Answered(Answer),
-    /// With the caller's bytes, unchanged.
+    /// The call was refused. The caller's bytes come back unchanged.
     Refused { refusal: Refusal, bytes: Bytes },
-    /// There is nothing to act on, to hand back or to mark.
+    /// There is no piece to act on or to hand back, or no request to mark.
     Ignored,
 }

@@ -88,8 +88,9 @@ impl<D: Device> IoManager<D> {
     /// Reads as many bytes as the buffer has, from byte `offset` of the handle's partition on (WDK: IRP_MJ_READ).
     ///
     /// Refused, with a label for the call and one for its answer, by the first that fits: `InvalidHandle`,
-    /// `DeletePending`, `InvalidParameter`, `DeviceBusy`. A read of no bytes succeeds at once. With request numbers
-    /// used up `DeviceBusy`, and for want of memory `InsufficientResources`, with nothing changed and no label.
+    /// `DeletePending`, `InvalidParameter`, `DeviceBusy`. A read of no bytes succeeds at once. Refused with nothing
+    /// changed and no label, as `DeviceBusy` once request numbers are used up, and as `InsufficientResources` where
+    /// memory was refused.
     pub fn read(&mut self, alloc: Global, handle: Handle, offset: u64, buffer: Bytes) -> Reply
         requires taken { self.old.labels ≡ [] }
         ensures right { IsRight
@@ -106,8 +107,8 @@ impl<D: Device> IoManager<D> {
     }
 
     /// Writes these bytes from byte `offset` of the handle's partition on, past volatile caches if `through` (WDK:
-    /// IRP_MJ_WRITE, SL_WRITE_THROUGH). Refused as [`IoManager::read`]; for want of memory, a part of the write may be
-    /// reserved at the adapter.
+    /// IRP_MJ_WRITE, SL_WRITE_THROUGH). Refused as [`IoManager::read`]. Where memory was refused, a part of the write
+    /// may be reserved at the adapter.
     pub fn write(
         &mut self,
         alloc: Global,
@@ -148,9 +149,9 @@ impl<D: Device> IoManager<D> {
     }
 
     /// Returns what a read, a write or a flush of this many bytes, from byte `offset` of the handle's partition on,
-    /// would open if it were called now: the number of pieces that its request is cut into, and its sectors of the disk,
-    /// in order. A flush, of no bytes from the first on, has one piece, and an empty extent where the partition begins.
-    /// It takes no memory.
+    /// would open if it were called now: the number of pieces that its request is cut into, and its sectors of the
+    /// disk, in order. A flush, of no bytes from the first on, has one piece, and an empty extent where the partition
+    /// begins. It takes no memory.
     ///
     /// None where the call would be refused or is a read or a write of no bytes, and once request numbers are used up.
     pub fn admits(
@@ -198,8 +199,8 @@ impl<D: Device> IoManager<D> {
     }
 
     /// Cancels all requests that are open on a handle, by rising numbers, or the one that is given (CancelIoEx). It
-    /// takes no memory, and succeeds where there is one, also one that was cancelled before. Refused, with nothing
-    /// changed, as `InvalidHandle` and `NotFound`.
+    /// takes no memory, and succeeds where there is such a request, also one that was cancelled before. Refused, with
+    /// nothing changed, as `InvalidHandle` or `NotFound`.
     pub fn cancel_io_ex(&mut self, alloc: Global, handle: Handle, target: Option<Id>) -> Reply
         requires taken { self.old.labels ≡ [] }
         ensures right { IsRight (CancelReplies self.old handle target result self.new) self.old self.new }
@@ -226,7 +227,7 @@ impl<D: Device> IoManager<D> {
         Reply::Ok
     }
 
-    /// The adapter carries out the command on a tag, or fails it. Ignored where the tag has no piece that could act.
+    /// Has the adapter carry out the command on a tag, or fail it. Ignored where the tag has no piece that could act.
     pub fn act(&mut self, tag: u8) -> Reply
         requires taken { self.old.labels ≡ [] }
         ensures right { IsRight (ActReplies self.old tag result self.new) self.old self.new }
@@ -255,7 +256,7 @@ impl<D: Device> IoManager<D> {
         self.parts.device.book(tag, piece, what);
     }
 
-    /// The adapter hands the piece on a tag back. Ignored where the tag is free.
+    /// Has the adapter hand back the piece on a tag. Ignored where the tag is free.
     pub fn finish(&mut self, tag: u8) -> Reply
         requires taken { self.old.labels ≡ [] }
         ensures right { IsRight (FinishReplies self.old tag result self.new) self.old self.new }
@@ -278,8 +279,8 @@ impl<D: Device> IoManager<D> {
         self.parts.tell_device();
     }
 
-    /// From here on the labels of each step are kept until they are taken; or none is kept and none has its bytes made,
-    /// and contracts alone read them.
+    /// From now on the labels of each step are kept until they are taken. Or else none is kept and no bytes are made
+    /// for them, and contracts alone read them.
     pub fn keep_labels(&mut self, keep: bool)
         requires taken { self.old.labels ≡ [] }
         ensures keeps { self.new ≡ record self.old { keeps = keep } }
@@ -321,7 +322,7 @@ impl<D: Device> IoManager<D> {
         self.parts.device.shows_order();
     }
 
-    /// A read, a write or a flush with this buffer.
+    /// Carries out a read, a write or a flush with this buffer.
     fn call(&mut self, alloc: Global, handle: Handle, asked: Asked, buffer: Bytes) -> Reply
         requires taken { self.old.labels ≡ [] }
         requires plain { asked.kind ≡ Flush → (asked.offset ≡ 0) × (buffer ≡ []) }
@@ -393,7 +394,7 @@ impl<D: Device> IoManager<D> {
         (pieces, Extent { first, count })
     }
 
-    /// Opens a request and sends it down, or turns it away for want of memory.
+    /// Opens a request and sends it down, or turns it away where memory was refused.
     fn admit(
         &mut self,
         alloc: Global,

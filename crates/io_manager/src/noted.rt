@@ -16,7 +16,7 @@ impl<T> Model for Noted<T> {
     ghost also_owns = { λ _. ftrue };
 }
 
-// It owns nothing.
+// The type owns nothing, so it may go to another thread.
 unsafe impl<T> Send for Noted<T> {}
 
 impl<T> Noted<T> {
@@ -27,7 +27,7 @@ impl<T> Noted<T> {
         Noted { of: PhantomData }
     }
 
-    /// Any items, which whoever calls this reads off this list and off what it lends.
+    /// Any items. The caller reads them off this list and off what it lends.
     pub(crate) fn with<S>(&self, _from: &S) -> Noted<T>
         ghost items: { List T }
         ensures { result.items ≡ items }

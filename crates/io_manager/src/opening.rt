@@ -1,4 +1,4 @@
-//! A manager before its first call: its tables, empty, over a device of which nothing was asked yet.
+//! A manager before its first call: empty tables over a device of which nothing was asked yet.
 
 ghost use Rattle.std.specs.Prelude.{◌≡◌, ◌≤◌, [], IfOk, IsFalse};
 ghost use Rattle.io_manager.specs.inside.Sound.{HasPlaces};
@@ -16,7 +16,7 @@ use slab::Slab;
 use std::alloc::{AllocError, Global};
 use std::collections::VecDeque;
 
-/// Places for answers: as many as a step tells.
+/// The number of places for answers: as many as a step tells.
 const ANSWER_PLACES: usize = 64;
 
 /// A table of this many slots.

@@ -24,7 +24,7 @@ fn label_of(request: Request, was: State) -> Option<Label>
     }
 }
 
-/// The device below does its part of a request.
+/// Has the device below do its part of a request.
 fn pass_down<D: Hold>(device: &mut D, request: Request)
     requires { MayDo request (D.view device.old).state }
     ensures { Does request (D.view device.old) (D.view device.new) }
@@ -48,7 +48,8 @@ impl<D: Hold> IoManager<D> {
     }
 
     /// Takes a query back: requests that were held go on (WDK: IRP_MN_CANCEL_REMOVE_DEVICE). It takes no memory. With
-    /// no query pending nothing happens. Refused as `InvalidDeviceRequest` once the device goes, with nothing changed.
+    /// no query pending nothing happens. Refused as `InvalidDeviceRequest` once the device is being removed, with
+    /// nothing changed.
     pub fn cancel_remove(&mut self, alloc: Global) -> Reply
         requires taken { self.old.labels ≡ [] }
         ensures right { IsRight (RecallReplies self.old result self.new) self.old self.new }
@@ -56,9 +57,9 @@ impl<D: Hold> IoManager<D> {
         self.move_by(alloc, Request::CancelRemove)
     }
 
-    /// Removes the device: held requests and those that wait end, and the removal ends once nothing is open (WDK:
-    /// IRP_MN_REMOVE_DEVICE). It takes no memory. Refused as `InvalidDeviceRequest` but after a query, with nothing
-    /// changed.
+    /// Removes the device: held requests and those that wait end, and the removal ends once no request is open (WDK:
+    /// IRP_MN_REMOVE_DEVICE). It takes no memory. Refused as `InvalidDeviceRequest` unless a query is pending, with
+    /// nothing changed.
     pub fn remove(&mut self, alloc: Global) -> Reply
         requires taken { self.old.labels ≡ [] }
         ensures right { IsRight (RemoveReplies self.old result self.new) self.old self.new }
@@ -66,9 +67,9 @@ impl<D: Hold> IoManager<D> {
         self.move_by(alloc, Request::Remove)
     }
 
-    /// The device was pulled out: it goes as by [`IoManager::remove`], with a query pending or without (WDK:
-    /// IRP_MN_SURPRISE_REMOVAL). It takes no memory. Refused as `InvalidDeviceRequest` where it goes already, with
-    /// nothing changed.
+    /// Notes that the device was pulled out: it goes as by [`IoManager::remove`], with or without a query pending (WDK:
+    /// IRP_MN_SURPRISE_REMOVAL). It takes no memory. Refused as `InvalidDeviceRequest` where the device is already
+    /// being removed, with nothing changed.
     pub fn surprise_remove(&mut self, alloc: Global) -> Reply
         requires taken { self.old.labels ≡ [] }
         ensures right { IsRight (SurpriseReplies self.old result self.new) self.old self.new }

@@ -29,10 +29,10 @@ use std::collections::VecDeque;
 /// Numbers of requests and of handles are below this one.
 pub(crate) const NUMBER_LIMIT: u64 = 1 << 62;
 
-/// Handles open at once.
+/// How many handles may be open at once.
 pub(crate) const HANDLE_LIMIT: usize = CHAIN_LIMIT;
 
-/// Places for labels: more than a step tells.
+/// The number of places for labels: more than a step tells.
 pub(crate) const LABEL_PLACES: usize = 256;
 
 /// An open request, at its slot.
@@ -44,14 +44,14 @@ pub(crate) struct OpenRequest {
     /// The slot of its call's handle.
     pub(crate) handle_slot: u32,
     pub(crate) kind: Kind,
-    /// Where the device below has its packet.
+    /// The spot of its packet in the device below.
     pub(crate) spot: usize,
     pub(crate) cancelled: bool,
-    /// Room for a read's bytes in its answer's label; empty for other kinds.
+    /// Room for a read's bytes in the label of its answer; none for other kinds.
     pub(crate) label_bytes: LabelRoom,
 }
 
-/// All that the manager keeps itself. The places for what a step may add are there before it.
+/// All that the manager keeps itself. The places for what a step may add are made before the step.
 #[derive(Drop)]
 pub(crate) struct Tables {
     /// The number of the next request, from 1.
@@ -67,11 +67,11 @@ pub(crate) struct Tables {
     pub(crate) by_number: Chains,
     /// By slots: the requests that are open on the handle there.
     pub(crate) open_counts: [u8; HANDLE_LIMIT],
-    /// Not yet taken, in order.
+    /// The labels that were not taken yet, in order.
     pub(crate) labels: LabelQueue<Label>,
     /// The labels of the answers of this step, by rising numbers.
     pub(crate) answered: LabelQueue<Answer>,
-    /// Answers not yet taken, by rising numbers.
+    /// The answers that were not taken yet, by rising numbers.
     pub(crate) untaken: VecDeque<Answer>,
 }
 
@@ -139,7 +139,7 @@ impl Tables {
         }
     }
 
-    /// From here on memory keeps what is told, or contracts alone read it.
+    /// From now on memory keeps what is told, or contracts alone read it.
     pub(crate) fn keep_labels(&mut self, keep: bool)
         requires labels { self.old.labels.items ≡ [] }
         requires answered { self.old.answered.items ≡ [] }
@@ -232,7 +232,7 @@ impl Tables {
         }
     }
 
-    /// Tells a call that is refused or of no bytes, and its answer.
+    /// Tells a call that is refused or has no bytes, and its answer.
     pub(crate) fn answer_at_once(
         &mut self,
         alloc: Global,
@@ -270,7 +270,7 @@ impl Tables {
     ///
     /// # Errors
     ///
-    /// [`AllocError`] where a place lacks and memory for it was refused.
+    /// [`AllocError`] where a place is missing and memory for it was refused.
     pub(crate) fn cover_answers(&mut self) -> Result<(), AllocError>
         requires few { slab_len self.old.requests < 64 }
         ensures keeps { KeepsAnswers self.old self.new }
@@ -284,7 +284,7 @@ impl Tables {
         Ok(())
     }
 
-    /// Opens a request under the next number, whose packet is at this spot below, tells its call, and gives its slot.
+    /// Opens a request under the next number, with its packet at this spot below. Tells its call, and returns its slot.
     pub(crate) fn admit(
         &mut self,
         handle: Handle,

@@ -1,4 +1,4 @@
--- A call at the manager's door: what it is answered at once, and the request and the packet of one that is admitted.
+-- A call as it comes in: how it is answered at once, and the request and the packet of one that is admitted.
 use Rattle.std.specs.Prelude.{◌≡◌, ◌<◌, ◌≤◌, ℕ, true, false, Bool, ◌+◌, ◌/◌, max, nat_le, List, [], ◌∷◌, ◌++◌}
 use Rattle.std.specs.Prelude.{Option, Some, None, MatchOption, IsFalse, length, slice_index, slice_set, if◌then◌else◌}
 use Rattle.std.specs.VecDeque.{deque_len, deque_capacity}
@@ -95,7 +95,7 @@ request_of sector_size q = record {
 abbrev pub IsCopied : Bool → CallBytes → Type 0
 IsCopied keeps bytes = MatchOption bytes.copy (IsFalse keeps) (λ copy. copy ≡ bytes.told.items)
 
--- how many bytes the label of an answer has room for: as many as a read's buffer has, and none for another request
+-- how many bytes the label of an answer has room for: as many as a read's buffer has, and none for other kinds
 abbrev pub answer_room_of : Kind → ℕ → ℕ
 answer_room_of Read bytes = bytes
 answer_room_of Write bytes = 0
@@ -107,7 +107,8 @@ pub record HasLabelBytes (keeps : Bool) (kind : Kind) (buffer : List ℕ) (copie
   pub copied : IsCopied keeps copies.call_bytes
   pub label_bytes : copies.label_bytes ≡ answer_room_of kind (length buffer)
 
--- the first location of a request: of its kind and its extent, with SL_WRITE_THROUGH or no flags, and no routine
+-- the first location of a request: of its kind and its extent, with SL_WRITE_THROUGH or no flags, and no completion
+-- routine
 abbrev pub first_location : Request → StackLocation
 first_location r = record {
   driver = Partition;
@@ -205,7 +206,7 @@ OpensHandle old partition partitions (Requested id) new = ⊥
 OpensHandle old partition partitions (Answered answer) new = ⊥
 OpensHandle old partition partitions Ignored new = ⊥
 
--- places for more answers may be made, for 64 at most, and no more
+-- places for more answers may be made, 64 at most, and nothing else changes
 pub record KeepsAnswers (old new : Tables) : Type 0 where
   pub same_untaken : new.untaken.items ≡ old.untaken.items
   pub same_count : deque_len new.untaken ≡ deque_len old.untaken
@@ -230,16 +231,16 @@ pub record IsSent (below : DeviceView) (tables : Tables) (handle : Handle) (q : 
   pub admits : Admits tables handle q copies spot slot tables'
   pub sends : SendsDown below tables.next_request spot request buffer below'
 
--- where a call has a partition, it is one of this many
+-- where a call has a partition, its number is below this
 abbrev pub IsKnown : ℕ → Option ℕ → Type 0
 IsKnown partitions None = Unit {0}
 IsKnown partitions (Some partition) = partition < partitions
 
--- what a flush has: no bytes, from the first on
+-- a flush asks for no bytes, from byte 0 on
 abbrev pub IsPlain : ClientRequest → Type 0
 IsPlain q = q.kind ≡ Flush → (q.offset ≡ 0) × (q.length ≡ 0)
 
--- a call that nothing refuses, on a partition that is there, with a number and a free slot for it
+-- nothing refuses the call: its partition is there, and there is a number and a free slot for it
 pub record IsAdmissible (v : ManagerView) (q : ClientRequest) : Type 0 where
   pub plain : IsPlain q
   pub known : IsKnown (length v.rules.partitions) q.partition

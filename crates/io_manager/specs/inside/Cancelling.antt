@@ -31,7 +31,7 @@ pub record IsUsed (requests : Slab OpenRequest) (slot : ℕ) : Type 0 where
   pub request : OpenRequest
   pub there : get requests slot ≡ Some request
 
--- the slot has none but a cancelled one
+-- the slot has no open request, or one that is cancelled
 abbrev pub IsMarkedOrNone : Slab OpenRequest → ℕ → Type 0
 IsMarkedOrNone requests slot = (request : OpenRequest) → get requests slot ≡ Some request → request.cancelled ≡ true
 
@@ -42,7 +42,7 @@ pub record HasSome (requests : Slab OpenRequest) (handle : ℕ) : Type 0 where
   pub there : get requests slot ≡ Some request
   pub of_handle : request.handle ≡ handle
 
--- or has none
+-- a handle of this number has no open request
 abbrev pub HasNoneOf : Slab OpenRequest → ℕ → Type 0
 HasNoneOf requests handle = (slot : ℕ) (request : OpenRequest) → get requests slot ≡ Some request
     → request.handle ≢ handle
@@ -54,7 +54,7 @@ pub record IsOpenAt (requests : Slab OpenRequest) (id : Id) (handle : ℕ) : Typ
   pub is_number : request.number ≡ id.number
   pub of_handle : request.handle ≡ handle
 
--- or it is not
+-- this request is not open on a handle of that number
 abbrev pub IsNotOpenAt : Slab OpenRequest → Id → ℕ → Type 0
 IsNotOpenAt requests id handle = (request : OpenRequest) → get requests id.slot ≡ Some request
     → request.number ≡ id.number → request.handle ≢ handle
@@ -95,7 +95,7 @@ pub record MarksAt (old : Tables) (slot : ℕ) (place : PacketBelow) (new : Tabl
   pub chains : TakesOut old.chains slot new.chains
   pub after : new ≡ record old { requests = new.requests; chains = new.chains; labels = new.labels }
 
--- and its packet is cancelled below
+-- the open request in this slot is cancelled, and so is its packet below
 pub record CancelsSlot (below : DeviceView) (tables : Tables) (slot : ℕ) (below' : DeviceView)
     (tables' : Tables) : Type 0 where
   pub place : PacketBelow

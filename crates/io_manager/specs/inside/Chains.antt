@@ -6,7 +6,7 @@ use Rattle.io_manager.specs.declared.OpenHandle.{OpenHandle}
 use Rattle.io_manager.specs.declared.chains.Chains.{Chains}
 use Rattle.io_manager.specs.declared.tables.OpenRequest.{OpenRequest}
 
--- a joint of a chain: its end, from which all numbers count, or a member, from which those above its own do
+-- a joint of a chain: its end, before all numbers, or a member, before the numbers above its own
 abbrev pub IsJoint : (ℕ → ℕ → Type 0) → ℕ → ℕ → ℕ → Type 0
 IsJoint Member end joint low = ((joint ≡ end) × (low ≡ 0)) ⊎ ((number : ℕ) × Member joint number × (low ≡ number + 1))
 
@@ -57,7 +57,7 @@ pub record CanLeave (chains : Chains) (slot : ℕ) : Type 0 where
   pub after : slice_index chains.after slot < 128
   pub before : slice_index chains.before slot < 128
 
--- and the one before a chain's end
+-- the joint before a chain's end is there too
 pub record CanJoin (chains : Chains) (chain slot : ℕ) : Type 0 where
   pub chain_in_range : chain < 64
   pub in_range : slot < 64
@@ -70,7 +70,7 @@ pub record PutsLast (old : Chains) (chain slot : ℕ) (new : Chains) : Type 0 wh
   pub before : new.before ≡ slice_set (slice_set old.before slot (slice_index old.before (chain_end chain)))
       (chain_end chain) slot
 
--- those next to a request are linked to each other
+-- the joints next to a request are linked to each other
 pub record TakesOut (old : Chains) (slot : ℕ) (new : Chains) : Type 0 where
   pub after : new.after ≡ slice_set old.after (slice_index old.before slot) (slice_index old.after slot)
   pub before : new.before ≡ slice_set old.before (slice_index old.after slot) (slice_index old.before slot)
@@ -120,12 +120,12 @@ pub record IsNumbered (requests : Slab OpenRequest) (remainder slot number : ℕ
 abbrev pub AreNumbered : Slab OpenRequest → Chains → Type 0
 AreNumbered requests chains = AreLinked (IsNumbered requests) chains
 
--- one, where the slot has a request of the handle of this number
+-- 1 where the slot has a request of the handle of this number
 abbrev pub of_handle : Option OpenRequest → ℕ → ℕ
 of_handle None number = 0
 of_handle (Some request) number = if request.handle == number then 1 else 0
 
--- among the first slots, the number of those that have one
+-- how many of the first slots have a request of the handle of this number
 abbrev pub count_open : Slab OpenRequest → ℕ → ℕ → ℕ
 count_open requests number zero = 0
 count_open requests number (suc slot) = count_open requests number slot + of_handle (get requests slot) number

@@ -38,15 +38,15 @@ done_of irp = record {
   payload = irp.payload;
 }
 
--- a layer whose adapter's labels are all taken
+-- the layer, with all labels of its adapter taken
 abbrev pub unlabelled : DeviceView → DeviceView
 unlabelled below = record below { adapter = record below.adapter { labels = [] } }
 
--- what was told, and then what the device recorded
+-- the labels that were told, and then those that the device recorded
 abbrev pub and_recorded : List Label → DeviceView → List Label
 and_recorded told below = told ++ map as_label below.adapter.labels
 
--- what was told, and then these answers
+-- the labels that were told, and then those of these answers
 abbrev pub and_answers : List Label → List Answer → List Label
 and_answers told answers = told ++ map as_answer answers
 
@@ -80,7 +80,7 @@ abbrev pub IsFilled : OpenRequest → Done → Type 0
 IsFilled request done = request.kind ≡ Read → done.status ≡ Success
     → length (payload_bytes done.payload) ≤ request.label_bytes
 
--- the slot of the request that was finished is filled
+-- the bytes that a finished packet brings fit the room of its open request
 abbrev pub AreFilled : Slab OpenRequest → Done → Type 0
 AreFilled requests done = (slot : ℕ) (request : OpenRequest) → get requests slot ≡ Some request
     → request.number ≡ done.number → IsFilled request done
@@ -112,7 +112,7 @@ pub record Closes (old : Tables) (done : Done) (new : Tables) : Type 0 where
   pub same_state : new.state ≡ old.state
   pub places : SamePlaces old new
 
--- a removal with nothing open ends, and that is told; else nothing changes
+-- a removal ends once no request is open, and that is told; else nothing changes
 pub record EndsRemoval (old new : Tables) : Type 0 where
   pub ends : Bool
   pub ended : IsTrue ends → (old.state ≡ Removing) × (slab_len old.requests ≡ 0) × (new.state ≡ Removed)
@@ -137,7 +137,8 @@ pub record TakesEnded (below : DeviceView) (tables : Tables) (below' : DeviceVie
   pub fewer : length below'.packets < length below.packets
   pub quiet : HasNoneToStart below.rules below.state → (starts ≡ []) × HasNoneToStart below'.rules below'.state
 
--- some were taken and closed: first the machine starts all pieces that they made room for, then it gives their answers
+-- some ended requests were taken and closed: first the machine starts all pieces that they made room for, then it
+-- answers them
 pub record Gathers (below : DeviceView) (tables : Tables) (below' : DeviceView) (tables' : Tables) : Type 0 where
   pub starts : List DeviceLabel
   pub only_starts : All IsStart starts
@@ -155,5 +156,5 @@ pub record Gathers (below : DeviceView) (tables : Tables) (below' : DeviceView) 
   pub same_next_request : tables'.next_request ≡ tables.next_request
   pub same_state : tables'.state ≡ tables.state
   pub places : SamePlaces tables tables'
-  -- where none is left to start, none is started, and none is left after it
+  -- where no piece is left to start, none is started, and none is left afterwards
   pub quiet : HasNoneToStart below.rules below.state → (starts ≡ []) × HasNoneToStart below'.rules below'.state

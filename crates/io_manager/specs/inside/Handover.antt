@@ -2,7 +2,7 @@
 use Rattle.std.specs.Prelude.{◌≡◌, ◌<◌, ℕ, List, Some, length, slice_get}
 use Rattle.io_manager.specs.declared.Answer.{Answer}
 
--- at this place is the answer of the number
+-- the answer of this number stands at this place
 pub record IsAt (answers : List Answer) (number at : ℕ) : Type 0 where
   pub within : at < length answers
   pub answer : Answer

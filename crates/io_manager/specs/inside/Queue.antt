@@ -11,7 +11,7 @@ pub record QueueView (X : Type 0) : Type 0 where
 abbrev pub SameQueue : {X : Type 0} → QueueView X → QueueView X → Type 0
 SameQueue old new = (new.places ≡ old.places) × (new.keeps ≡ old.keeps)
 
--- the earliest leaves
+-- the earliest item leaves
 abbrev pub TakesFirst : {X : Type 0} → List X → Option X → List X → Type 0
 TakesFirst old None new = (old ≡ []) × (new ≡ old)
 TakesFirst old (Some item) new = old ≡ item ∷ new

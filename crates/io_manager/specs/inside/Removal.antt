@@ -14,14 +14,14 @@ use Rattle.io_manager.specs.declared.Reply.{Reply}
 use Rattle.io_manager.specs.Shown.{ManagerView}
 use Rattle.io_manager.specs.Right.{Told, QueryReplies, RecallReplies, RemoveReplies, SurpriseReplies}
 
--- its row
+-- the row of the request
 abbrev pub RequestReplies : Request → ManagerView → Reply → ManagerView → Told → Type 0
 RequestReplies QueryRemove old reply new told = QueryReplies old reply new told
 RequestReplies CancelRemove old reply new told = RecallReplies old reply new told
 RequestReplies RemoveDevice old reply new told = RemoveReplies old reply new told
 RequestReplies SurpriseRemove old reply new told = SurpriseReplies old reply new told
 
--- the label of one that is valid in this state: none where a query is taken back that is not pending
+-- the label of a request that is valid in this state; none where a query is taken back that is not pending
 abbrev pub label_of : Request → PnpState → Option Label
 label_of QueryRemove state = Some Pause
 label_of CancelRemove Started = None
@@ -36,7 +36,7 @@ MayDo CancelRemove s = IsTrue s.paused × All WaitsIfCancelled s.requests
 MayDo RemoveDevice s = Unit {0}
 MayDo SurpriseRemove s = Unit {0}
 
--- it did
+-- the device below has done its part
 abbrev pub Does : Request → DeviceView → DeviceView → Type 0
 Does QueryRemove old new = PausesAll old new
 Does CancelRemove old new = ResumesAll old new

@@ -47,7 +47,7 @@ is_gone Removed = true
 abbrev pub holder_of : OpenRequest → Holder
 holder_of request = record { number = request.number; handle = request.handle }
 
--- and of all, by slot
+-- what is shown of all open requests, by slot
 abbrev pub holders_of : Slab OpenRequest → List (Option Holder)
 holders_of requests = map (option_map holder_of) requests.slots
 
@@ -65,7 +65,7 @@ view_of limits below tables = record {
   keeps = tables.labels.keeps;
 }
 
--- it ends where no sum of sectors goes past a word
+-- the extent ends below 2^64, so that its sum fits a word
 abbrev pub EndsInRange : Extent → Type 0
 EndsInRange extent = extent.first + extent.count < 2 ^ 64
 
@@ -146,7 +146,7 @@ IsInState RemovePending s = IsTrue s.paused × IsFalse s.removing
 IsInState Removing s = IsFalse s.paused × IsTrue s.removing
 IsInState Removed s = IsFalse s.paused × IsTrue s.removing × (s.requests ≡ [])
 
--- what holds while the labels of these answers are deferred
+-- what holds within a step, while the labels of these answers are deferred
 pub record IsSoundWith (put_by : List Answer) (limits : Limits) (below : DeviceView) (tables : Tables) : Type 0 where
   pub fits : FitsBelow limits below
   pub numbers : HasNumbers below tables
@@ -193,12 +193,13 @@ pub record TakesLabels (below : DeviceView) (tables : Tables) (below' : DeviceVi
   pub label_places : SameQueue tables.labels tables'.labels
   pub after : tables' ≡ record tables { labels = tables'.labels }
 
--- neither started nor cancelled, it is held by the pause, or the window is full
+-- where the request is neither started nor cancelled, the pause holds it back, or the window is full
 abbrev pub IsKeptBack : Rules → State → OpenBelow → Type 0
 IsKeptBack rules s o = IsFalse o.cancelled → IsFalse (is_started o)
     → (IsTrue s.paused × IsTrue o.late) ⊎ IsFull rules.window (started_count s)
 
--- with a tag free, what is started has a place out, and all else is kept back: so the end of a request lets none start
+-- with a tag free, each started request has a place out, and all others are kept back: so the end of one lets none
+-- start
 pub record HasNoneToStart (rules : Rules) (s : State) : Type 0 where
   pub at_work : length s.pieces < rules.depth → All IsAtWork s.requests
   pub kept_back : length s.pieces < rules.depth → IsFalse s.removing → All (IsKeptBack rules s) s.requests
