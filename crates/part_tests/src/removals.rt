@@ -2,7 +2,7 @@
 
 use crate::expect::{same, same_at};
 use ntstatus::NtStatus;
-use pnp::{InvalidDeviceRequest, State};
+use pnp::{InvalidDeviceRequest, Request, State};
 use std::test::Fail;
 
 #[test]
@@ -36,6 +36,15 @@ fn answers_by_the_table(rt: HostRuntime) {
         same_at(&rt, &state.remove(), &removed, &state);
         same_at(&rt, &state.surprise_remove(), &surprised, &state);
         same_at(&rt, &state.drained(), &drained, &state);
+        same_at(&rt, &state.next(Request::QueryRemove), &queried, &state);
+        same_at(&rt, &state.next(Request::CancelRemove), &cancelled, &state);
+        same_at(&rt, &state.next(Request::Remove), &removed, &state);
+        same_at(
+            &rt,
+            &state.next(Request::SurpriseRemove),
+            &surprised,
+            &state,
+        );
     }
 }
 
