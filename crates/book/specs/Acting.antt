@@ -17,7 +17,7 @@ use Rattle.traced.specs.Traced.{TracedView, IsCarried}
 use Rattle.book.specs.Arming.{IsOfTag, claimed_at}
 use Rattle.book.specs.Staying.{Claimed}
 
--- the journal has as many sectors, as long
+-- the journal has as many sectors as the stack's disk, of the same size
 pub record IsAsLarge (rules : Rules) (journal : JournalView) : Type 0 where
   pub sector_size : journal.medium.sector_size ≡ rules.sector_size
   pub sectors : length journal.medium.sectors ≡ rules.disk_sectors
@@ -41,7 +41,7 @@ pub record ActsEntry (old : TracedView) (entry : Entry) (new : TracedView) : Typ
   pub carried : IsCarried 0 held (Act entry.tag) OkReply new
   pub tells : carried.stepped.labels ≡ Device (ActLabel entry.piece entry.bytes) ∷ []
 
--- that the tag's piece failed is booked, if one could act; else nothing changes
+-- the failure of the tag's piece is booked, if one could act; else nothing changes
 abbrev pub BooksFailure : TracedView → ℕ → Completion → TracedView → Type 0
 BooksFailure old tag completion new =
     ((piece : ℕ) × (srb : Srb) × IsArmed old.stack.adapter tag piece srb × HoldsBooked old tag piece (Err completion) new)

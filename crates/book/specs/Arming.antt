@@ -5,7 +5,7 @@ use Rattle.sector_journal.specs.declared.acted.Entered.{Entered}
 use Rattle.sector_journal.specs.declared.slots.Armed.{Armed}
 use Rattle.sector_journal.specs.Journal.{JournalView}
 
--- the one claim is of this number, of what was armed for this piece
+-- there is one claim, of the arming of this number, which is of this piece
 pub record IsReceipt (number piece : ℕ) (claims : List (ℕ × Armed)) : Type 0 where
   pub armed : Armed
   pub is : claims ≡ (number, armed) ∷ []
@@ -15,7 +15,7 @@ pub record IsReceipt (number piece : ℕ) (claims : List (ℕ × Armed)) : Type 
 abbrev pub IsOfPiece : ℕ → List (ℕ × Armed) → Type 0
 IsOfPiece piece claims = (number : ℕ) × (armed : Armed) × (claims ≡ (number, armed) ∷ []) × (armed.piece ≡ piece)
 
--- what was armed is another piece
+-- another piece was armed
 abbrev pub IsOfOther : ℕ → List (ℕ × Armed) → Type 0
 IsOfOther piece claims = (number : ℕ) (armed : Armed) → claims ≡ (number, armed) ∷ [] → armed.piece ≢ piece
 
@@ -33,17 +33,17 @@ pub record IsOfThis (journal : JournalView) (claims : List (ℕ × Armed)) (numb
 abbrev pub claimed_at : List (Option (List (ℕ × Armed))) → ℕ → Option (List (ℕ × Armed))
 claimed_at tags tag = get_or tags tag None
 
--- the entry of this number is of what was armed there
+-- the entry of this number is of what was armed on the tag
 abbrev pub IsOfTag : JournalView → Option (List (ℕ × Armed)) → ℕ → Type 0
 IsOfTag journal None number = ⊥
 IsOfTag journal (Some claims) number = IsOfThis journal claims number
 
--- nothing was armed there, or another piece
+-- nothing was armed on the tag, or another piece was
 abbrev pub IsFreeOf : ℕ → Option (List (ℕ × Armed)) → Type 0
 IsFreeOf piece None = Unit {0}
 IsFreeOf piece (Some claims) = IsOfOther piece claims
 
--- this piece was armed there
+-- this piece was armed on the tag
 abbrev pub HoldsPiece : ℕ → Option (List (ℕ × Armed)) → Type 0
 HoldsPiece piece None = ⊥
 HoldsPiece piece (Some claims) = IsOfPiece piece claims

@@ -30,13 +30,13 @@ pub record BookView : Type 0 where
 abbrev pub book_of : TracedView → List Entered → BookView
 book_of traced taken = record { traced = traced; taken = taken }
 
--- nothing happened to it
+-- nothing happened to the book
 abbrev pub IsSameBook : TracedView → List Entered → TracedView → List Entered → Type 0
 IsSameBook old before new after = (new ≡ old) × (after ≡ before)
 
 -- WHAT HOLDS WHENEVER THE LOCK IS GOT
 
--- act n of the trace is of entry n, whose sectors stand elsewhere, and what is claimed of the tags may act there
+-- act n of the trace is of entry n, the sectors stand elsewhere, and what is claimed of the tags may act there
 pub record IsKept (rules : Rules) (start : State) (traced : TracedView) (taken : List Entered) (tags : Claimed) : Type 0 where
   pub arrays : List (List (List ℕ))
   pub starts : start ≡ opening arrays
@@ -45,7 +45,7 @@ pub record IsKept (rules : Rules) (start : State) (traced : TracedView) (taken :
   pub apart : IsFalse traced.stack.adapter.faithful
   pub on_tags : AreOnTags traced.stack.adapter tags
 
--- and it still holds where nothing more was booked
+-- what holds of a book still holds where nothing more was booked
 abbrev pub StaysKept : Rules → State → TracedView → Claimed → TracedView → Claimed → Type 0
 StaysKept rules start old tags new tags' = (taken : List Entered) → IsKept rules start old taken tags → IsKept rules start new taken tags'
 
@@ -58,17 +58,17 @@ pub record BooksOne (tag : ℕ) (old new : BookView) : Type 0 where
   pub acts : ActsEntry old.traced next.entry new.traced
   pub taken : new.taken ≡ old.taken ++ next ∷ []
 
--- so many entries are, in the order of their numbers
+-- this many entries are booked, in the order of their numbers
 abbrev pub AreBooked : ℕ → BookView → BookView → Type 0
 AreBooked zero old new = new ≡ old
 AreBooked (suc count) old new = (mid : BookView) × AreBooked count old mid × ((tag : ℕ) × BooksOne tag mid new)
 
--- the last of them is of this tag
+-- the last entry that is booked is of this tag
 abbrev pub EndsWith : ℕ → ℕ → BookView → BookView → Type 0
 EndsWith tag zero old new = ⊥
 EndsWith tag (suc count) old new = (mid : BookView) × AreBooked count old mid × BooksOne tag mid new
 
--- the tag of the last, if there is one
+-- the last entry that is booked has this tag, if one is booked
 abbrev pub EndsWithLast : Option ℕ → ℕ → BookView → BookView → Type 0
 EndsWithLast None count old new = Unit {0}
 EndsWithLast (Some tag) count old new = EndsWith tag count old new
@@ -98,7 +98,7 @@ FitsHandle _ _ = ⊥
 abbrev pub HoldsFailure : TracedView → Event → TracedView → Type 0
 HoldsFailure old event held = (held ≡ old) ⊎ ((tag piece : ℕ) × (completion : Completion) × (event ≡ Act tag) × HoldsBooked old tag piece (Err completion) held)
 
--- the event is the act of the last entry that was booked, and that was its step
+-- the event is the act of the last entry that was booked, whose step was the event's
 pub record IsLastAct (count : ℕ) (before booked : BookView) (event : Event) (reply : Reply) (new : BookView) : Type 0 where
   pub tag : ℕ
   pub is_act : event ≡ Act tag
@@ -129,13 +129,13 @@ pub record ServesAfter (old : BookView) (event : Event) (reply : Reply) (new : B
   pub books : AreBooked count old booked
   pub serves : ServesEvent booked event reply new ⊎ IsLastAct count old booked event reply new
 
--- a call comes with its client's share, of an `Option<&mut Share>` as it comes in and as it is left
+-- a call comes with its client's share: an `Option<&mut Share>`, as it comes in and as it is left
 abbrev pub ServesWith : Option (MutBor ShareView) → Unit {0} ⊎ ((MutBor ShareView × Unit {0}) ⊎ ⊥) → BookView → Event → Reply → BookView → Type 0
 ServesWith (Some share) (inr (inl left)) old event reply new = CallsAfter share.now left.0.now old event reply new
 ServesWith (Some share) _ old event reply new = ⊥
 ServesWith None _ old event reply new = ServesAfter old event reply new
 
--- first the marks, then the acts of the entries that are booked, and then the event
+-- a step carries out first the marks, then the acts of the entries that are booked, and then the event
 pub record IsStepped (slots : ℕ) (share : Option (MutBor ShareView)) (left : Unit {0} ⊎ ((MutBor ShareView × Unit {0}) ⊎ ⊥)) (old : BookView) (event : Event) (reply : Reply) (new : BookView) : Type 0 where
   pub marked : TracedView
   pub looks : AreLooked slots old.traced marked
@@ -143,7 +143,7 @@ pub record IsStepped (slots : ℕ) (share : Option (MutBor ShareView)) (left : U
 
 -- AT FIRST
 
--- a stack of which nothing was told, in the state that was named, and whose sectors stand elsewhere
+-- nothing was told of the stack, which is in the state that was named, and its sectors stand elsewhere
 pub record IsBlank (start : State) (traced : TracedView) : Type 0 where
   pub opens : start ≡ opening start.arrays
   pub no_entries : traced.entries ≡ []

@@ -26,7 +26,7 @@ abbrev pub Leaves : ℕ → Label → Type 0
 Leaves piece (Device label) = LeavesPiece piece label
 Leaves piece _ = Unit {0}
 
--- a piece that may act still may after a right step that tells nothing of it
+-- a piece that may act still may after a right step that tells no act, fault or return of it
 abbrev pub ArmedStays : Type 0
 ArmedStays = (old : ManagerView) (event : Event) (reply : Reply) (new : ManagerView) (tag piece : ℕ) (srb : Srb)
     → IsRight old event reply new → All (Leaves piece) new.labels → IsArmed old.adapter tag piece srb → IsArmed new.adapter tag piece srb
@@ -65,6 +65,6 @@ AreOnTags view tags = (tag number : ℕ) (armed : Armed) → IsClaimed tags tag 
 abbrev pub HaveNoted : Label → Claimed → Claimed → Type 0
 HaveNoted label old new = (tag number : ℕ) (armed : Armed) → IsClaimed new tag number armed → IsClaimed old tag number armed × Leaves armed.piece label
 
--- and none of these labels does
+-- what is still claimed was before, and none of these labels tells of its piece
 abbrev pub HaveNotedAll : List Label → Claimed → Claimed → Type 0
 HaveNotedAll labels old new = (tag number : ℕ) (armed : Armed) → IsClaimed new tag number armed → IsClaimed old tag number armed × All (Leaves armed.piece) labels

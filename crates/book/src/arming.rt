@@ -60,14 +60,14 @@ impl<N: Naming> Arming<N> {
         })
     }
 
-    /// Whether it is of this piece.
+    /// Whether the arming is of this piece.
     pub fn is_of_piece(&self, piece: u128) -> bool
         ensures { MatchBool result (IsOfPiece piece self.now) (IsOfOther piece self.now) }
     {
         self.piece == piece
     }
 
-    /// Whether the entry of a number is of this arming, for who holds both locks: then it is of what was armed here.
+    /// Whether the entry of a number is of this arming, and so of what was armed here. The caller holds both locks.
     pub fn is_of<M: Medium>(
         &mut self,
         journal: &mut Journal<M, N>,

@@ -51,7 +51,7 @@ pub(crate) fn next_request<N: Naming>(traced: &Traced<BookedAdapter, N>) -> u64 
     traced.calls().saturating_add(1)
 }
 
-/// A call that opened no request needs no room.
+/// Gives back the room of a call that opened no request.
 pub(crate) fn give_back<M: Medium, N: Naming>(
     journal: &mut Journal<M, N>,
     number: u64,

@@ -135,7 +135,7 @@ impl<N: Naming> Book<N> {
         self.traced.claim(history, place)
     }
 
-    /// What was claimed stands in the trace.
+    /// Shows the caller that what was claimed stands in the trace.
     pub fn check(&mut self, history: &History<TraceEntry, N>, claims: &mut Claims<TraceEntry, N>)
         ensures same { (self.new ≡ self.old) × (claims.new ≡ claims.old) }
         ensures stand { AllStand self.old.traced.entries claims.old }
@@ -143,7 +143,7 @@ impl<N: Naming> Book<N> {
         self.traced.check(history, claims)
     }
 
-    /// Where every part of the ledger has come back, the parts have the number of calls.
+    /// Shows the caller that the parts of the ledger, once all have come back, have the number of calls.
     pub fn audit(&mut self, all: &mut ledger::Share<N>)
         requires { all.old.parts ≡ N.parts }
         ensures same { self.new ≡ self.old }
@@ -182,7 +182,7 @@ impl<N: Naming> Book<N> {
         noting::look(&mut self.traced, &mut self.tags, alloc, history, marks);
     }
 
-    // Books all entries that are there: the tag of the last, if there was one.
+    // Books all entries that are there. Returns the tag of the last, if there was one.
     fn book_entries<M: Medium>(
         &mut self,
         alloc: Global,
@@ -206,7 +206,7 @@ impl<N: Naming> Book<N> {
         )
     }
 
-    // The journal is told which pieces may act, and which requests were answered.
+    // Tells the journal which pieces may act, and which requests were answered.
     fn settle<M: Medium>(&mut self, journal: &mut Journal<M, N>, words: &sector_journal::History<N>)
         ensures { self.new ≡ self.old }
     {
@@ -214,8 +214,8 @@ impl<N: Naming> Book<N> {
         self.seen = self.traced.len();
     }
 
-    // How the piece of a tag fails if no entry of it is booked: as it failed in the journal, where it acts now unless
-    // it did.
+    // How the piece of a tag fails if no entry of it is booked: as it failed in the journal. It acts there now, unless
+    // it did before.
     fn failure_of<M: Medium>(
         &mut self,
         journal: &mut Journal<M, N>,
@@ -262,7 +262,7 @@ impl<N: Naming> Book<N> {
         )
     }
 
-    // A call for whose acts the journal has room first.
+    // Carries out a call, once the journal has room for its acts.
     fn call_reserved<M: Medium>(
         &mut self,
         alloc: Global,
@@ -315,7 +315,7 @@ impl<N: Naming> Book<N> {
         Some(extent)
     }
 
-    // A read, a write or a flush: it takes the journal's lock where it would open a request.
+    // Carries out a read, a write or a flush. It takes the journal's lock where the call would open a request.
     fn call<M: Medium, R: Wait>(
         &mut self,
         rt: &R,
@@ -395,7 +395,8 @@ impl<N: Naming> Book<N> {
         )
     }
 
-    // The act of a tag: its piece acts in the journal, unless it failed there before, and what is entered is booked.
+    // Carries out the act of a tag: its piece acts in the journal, unless it failed there before, and what is entered
+    // is booked.
     fn act_in<M: Medium>(
         &mut self,
         alloc: Global,
@@ -442,7 +443,7 @@ impl<N: Naming> Book<N> {
         reply
     }
 
-    // Any event but a call: it takes the journal's lock where it may start or end a piece.
+    // Carries out any event but a call. It takes the journal's lock where the event may start or end a piece.
     fn serve<M: Medium, R: Wait>(
         &mut self,
         rt: &R,
@@ -469,14 +470,14 @@ impl<N: Naming> Book<N> {
         self.serve_in(alloc, history, marks, &mut journal, words, event)
     }
 
-    /// Carries an event out, any but an open and a close. First it looks, once at each slot that has an open request,
-    /// and carries out each mark that it sees there. Where the event may start or end a piece it takes the journal's
-    /// lock then, and books all entries that are there, in the order of their numbers: an act of a tag that is armed
-    /// has its piece act in the journal before. A read, a write or a flush comes with the share of its handle's client,
-    /// any other event with none.
+    /// Carries out an event, any but an open and a close. First it looks once at each slot that has an open request,
+    /// and carries out each mark that it sees there. Where the event may start or end a piece, it then takes the
+    /// journal's lock, and books all entries that are there, in the order of their numbers. Before that, the act of an
+    /// armed tag has its piece act in the journal. A read, a write or a flush comes with the share of its handle's
+    /// client, any other event with none.
     ///
     /// Reads, writes, flushes and query-remove are refused as `InsufficientResources`, before any step of theirs, where
-    /// memory for the labels that they may bring, or in the journal for their acts, is refused.
+    /// memory is refused for the labels that they may bring, or in the journal for their acts.
     pub fn step<M: Medium, R: Wait>(
         &mut self,
         rt: &R,
@@ -502,7 +503,8 @@ impl<N: Naming> Book<N> {
         }
     }
 
-    /// The act of a tag whose piece failed in the journal, where a lane had it act: as [`Book::step`] of an `Act`.
+    /// Carries out the act of a tag whose piece failed in the journal, where a lane had it act: as [`Book::step`] does
+    /// for an `Act`.
     pub fn act_failed<M: Medium, R: Wait>(
         &mut self,
         rt: &R,
@@ -531,7 +533,8 @@ impl<N: Naming> Book<N> {
         )
     }
 
-    /// Books all entries that are there, for who holds both locks: what was booked is then the front of the journal's.
+    /// Books all entries that are there: what was booked is then the front of the journal's. The caller holds both
+    /// locks.
     pub fn book_rest<M: Medium>(
         &mut self,
         alloc: Global,

@@ -1,4 +1,4 @@
-//! Entries of the journal are booked, in the order of their numbers, and their acts made.
+//! How entries of the journal are booked, in the order of their numbers, and their acts made.
 
 ghost use Rattle.std.specs.Prelude.{◌≡◌, ◌<◌, ◌+◌, ℕ, Ok, None, Some, MatchOption, length, slice_get, true};
 ghost use Rattle.compose.specs.Journaled.{ArmedMayBeBooked, BookedActsAddEntries, StepsStayApart};
@@ -33,7 +33,7 @@ fn laws_of_acts()
     crate::laws::armed_stays();
 }
 
-/// Whether the journal has as many sectors, as long.
+/// Whether the journal has as many sectors as the stack's disk, of the same size.
 fn is_as_large<M: Medium, N: Naming>(
     traced: &Traced<BookedAdapter, N>,
     journal: &Journal<M, N>,
@@ -52,7 +52,7 @@ fn tag_of<M: Medium, N: Naming>(journal: &Journal<M, N>, number: u64) -> u8
     journal.entries()[number as usize].entry.tag
 }
 
-/// Whether the last entry of the journal is of this tag, and not among the first so many, which were booked.
+/// Whether the last entry of the journal is of this tag, and is not among the first ones, which were booked.
 pub(crate) fn has_acted<M: Medium, N: Naming>(
     journal: &Journal<M, N>,
     booked: u64,
@@ -99,7 +99,7 @@ fn book_entry<M: Medium, N: Naming>(
     tag
 }
 
-/// Books the next entry, if it is there and of what was armed on its tag, and makes its act: the tag.
+/// Books the next entry, if it is there and of what was armed on its tag, and makes its act. Returns the tag.
 pub(crate) fn book_next<M: Medium, N: Naming>(
     traced: &mut Traced<BookedAdapter, N>,
     taken: &mut Taken<N>,
@@ -131,7 +131,7 @@ pub(crate) fn book_next<M: Medium, N: Naming>(
     Some(tag)
 }
 
-/// Books all entries that are there: the tag of the last, if there was one.
+/// Books all entries that are there. Returns the tag of the last, if there was one.
 pub(crate) fn book_all<M: Medium, N: Naming>(
     traced: &mut Traced<BookedAdapter, N>,
     taken: &mut Taken<N>,

@@ -27,7 +27,7 @@ use srb::{Booked, Completion};
 use std::alloc::Global;
 use traced::{TraceEntry, Traced};
 
-/// SPC, "Sense key and sense code definitions": HARDWARE ERROR. How a piece fails that the journal doesn't let act.
+/// How a piece that the journal doesn't let act fails: HARDWARE ERROR (SPC, "Sense key and sense code definitions").
 const HARDWARE_ERROR: Completion = Completion {
     srb_status: 0x84,
     scsi_status: 0x02,
@@ -46,7 +46,7 @@ fn armed_piece<N: Naming>(traced: &Traced<BookedAdapter, N>, tag: u8) -> Option<
     Some(piece)
 }
 
-/// The piece of a tag acts in the journal, if it may: how it failed, where it did.
+/// Lets the piece of a tag act in the journal, if it may. Returns how it failed, where it did.
 pub(crate) fn transfer<M: Medium, N: Naming>(
     traced: &Traced<BookedAdapter, N>,
     journal: &mut Journal<M, N>,
@@ -86,7 +86,7 @@ fn book_failure<N: Naming>(traced: &mut Traced<BookedAdapter, N>, tag: u8, compl
     }
 }
 
-/// The piece of a tag fails, if one could act, and its act is made.
+/// Fails the piece of a tag, if one could act, and makes its act.
 pub(crate) fn fail<N: Naming>(
     traced: &mut Traced<BookedAdapter, N>,
     tags: &mut Tags<N>,
@@ -109,7 +109,7 @@ pub(crate) fn fail<N: Naming>(
     serve(traced, tags, alloc, history, marks, Event::Act { tag })
 }
 
-/// Returns how a piece fails that made no entry: as it failed in the journal, or because it may not act there.
+/// Returns how a piece that made no entry fails: as it failed in the journal, or because it may not act there.
 pub(crate) fn failure(failed: Option<Completion>) -> Completion
     requires { IfSome failed (λ completion. class_of completion ≡ Bad completion) }
     ensures { class_of result ≡ Bad result }

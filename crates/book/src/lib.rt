@@ -1,24 +1,25 @@
 //! The book of a stack whose sectors stand in a journal: stack and journal are each under a lock of its own, and the
 //! book's is taken first.
 //!
-//! A [`Book`] is a [`traced::Traced`] stack over an adapter without sectors, and what it knows of the journal while it
-//! holds its own lock alone, by receipts:
-//! - for act n of its trace that of entry n ([`Taken`]): whenever both locks are held, what was booked is the front of
-//!   the journal's entries ([`Taken::check`]);
-//! - for a piece that may act that of its arming ([`Arming`], and [`Tags`] of all tags): an entry that names it is of
-//!   what was armed ([`Tags::is_of`]), and the piece may act until a label tells of it ([`armed_stays`]).
+//! A [`Book`] is a [`traced::Traced`] stack over an adapter without sectors. While only its own lock is held, it knows
+//! the journal by receipts:
+//! - for act n of its trace it has the receipt of entry n ([`Taken`]): whenever both locks are held, what was booked is
+//!   the front of the journal's entries ([`Taken::check`]);
+//! - for a piece that may act it has the receipt of its arming ([`Arming`], and [`Tags`] of all tags): an entry that
+//!   names the arming is of what was armed ([`Tags::is_of`]), and the piece may act until a label tells that it acted,
+//!   failed or came back ([`armed_stays`]).
 //!
-//! Promised to the crate above:
-//! - a step carries out the marks that it sees, then the right act of each entry that is there and was not booked, in the
-//!   order of their numbers, and then its event; where the event is the act of the last of them, that was its step
+//! It promises to the crate above:
+//! - a step carries out the marks that it sees, then the right act of each entry that is there and was not booked, in
+//!   the order of their numbers, and then its event; where the event is the act of the last of them, that was its step
 //!   (`stepped` of [`Book::step`]);
-//! - want of memory, for the trace or in the journal, is answered before any step of the event, and only a read, a write, a
-//!   flush and a query-remove are refused for it (`memory`);
+//! - want of memory, for the trace or in the journal, is answered before any step of the event, and only a read, a
+//!   write, a flush and a query-remove are refused for it (`memory`);
 //! - act n of the trace is of the entry of which receipt n is (`receipts`, `acts` of [`Book::into_rows`]), and what was
 //!   booked is the front of the journal's entries (`front` of [`Book::book_rest`]).
 //!
-//! It says nothing of sectors. Not promised: that anything is ever armed or booked. An entry that is not of what was armed
-//! on its tag is not booked, nor any behind it.
+//! It says nothing of sectors, and doesn't promise that anything is ever armed or booked. An entry that is not of what
+//! was armed on its tag is not booked, nor any behind it.
 #![tactic(auto)]
 
 mod arming;

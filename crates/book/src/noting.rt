@@ -30,7 +30,8 @@ fn laws_of_others()
     crate::laws::armed_stays();
 }
 
-/// Notes the labels of the trace from a place on: what was armed for a piece of which one tells is let go.
+/// Notes the labels of the trace from a place on. Where one tells that a piece acted, failed or came back, what was
+/// armed for it is let go.
 pub(crate) fn catch_up<N: Naming>(
     traced: &Traced<BookedAdapter, N>,
     tags: &mut Tags<N>,

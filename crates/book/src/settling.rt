@@ -12,8 +12,8 @@ use sector_journal::Journal;
 use srb::DeviceLabel;
 use traced::Traced;
 
-/// The piece of a tag may act in the journal, where it could in the stack and wasn't armed yet; and no piece of the tag may,
-/// where none could.
+/// Lets the piece of a tag act in the journal, where it could act in the stack and wasn't armed yet. Lets no piece of
+/// the tag act there, where none could act in the stack.
 pub(crate) fn arm_tag<M: Medium, N: Naming>(
     traced: &Traced<BookedAdapter, N>,
     tags: &mut Tags<N>,
@@ -44,7 +44,7 @@ fn is_armed_for<M: Medium, N: Naming>(journal: &Journal<M, N>, tag: u8, piece: u
     }
 }
 
-/// A piece that failed or came back may not act any more.
+/// Lets a piece that failed or came back not act any more.
 fn disarm_piece<M: Medium, N: Naming>(journal: &mut Journal<M, N>, piece: u128) {
     for tag in 0..journal.depth() {
         if is_armed_for(journal, tag, piece) {
@@ -53,8 +53,8 @@ fn disarm_piece<M: Medium, N: Naming>(journal: &mut Journal<M, N>, piece: u128) 
     }
 }
 
-/// The journal follows a label: a piece that was started may act, one that failed or came back may not, and what was reserved
-/// for a request that was answered is given back.
+/// Has the journal follow a label: a piece that was started may act, one that failed or came back may not, and what was
+/// reserved for a request that was answered is given back.
 fn settle_label<M: Medium, N: Naming>(
     traced: &Traced<BookedAdapter, N>,
     tags: &mut Tags<N>,
@@ -76,7 +76,7 @@ fn settle_label<M: Medium, N: Naming>(
     }
 }
 
-/// The journal follows the labels of the trace from a place on.
+/// Has the journal follow the labels of the trace from a place on.
 pub(crate) fn settle_all<M: Medium, N: Naming>(
     traced: &Traced<BookedAdapter, N>,
     tags: &mut Tags<N>,

@@ -55,7 +55,7 @@ fn holds<N: Naming>(slot: &Option<Arming<N>>, piece: u128) -> bool
     }
 }
 
-/// What was armed here for a piece is let go.
+/// Lets go of what was armed here for a piece.
 fn forget_in<N: Naming>(slot: &mut Option<Arming<N>>, piece: u128)
     ensures { Forgets piece slot.old slot.new }
 {
@@ -95,7 +95,7 @@ fn piece_told(label: &Label) -> Option<u128>
 }
 
 impl<N: Naming> Tags<N> {
-    /// Nothing is armed.
+    /// Tags with nothing armed.
     ///
     /// # Errors
     ///
@@ -110,7 +110,7 @@ impl<N: Naming> Tags<N> {
         Ok(Tags { tags })
     }
 
-    /// A piece was armed on a tag.
+    /// Notes that a piece was armed on a tag.
     pub fn put(&mut self, tag: u8, arming: Arming<N>)
         requires { tag < length self.old }
         ensures { self.new ≡ slice_set self.old tag (Some arming) }
@@ -119,7 +119,7 @@ impl<N: Naming> Tags<N> {
         self.tags[at] = Some(arming);
     }
 
-    /// A label told of a piece: what was armed for it is let go.
+    /// Lets go of what was armed for a piece of which a label told.
     pub fn forget(&mut self, piece: u128)
         ensures as_many { length self.new ≡ length self.old }
         ensures each { (tag : ℕ) → tag < length self.old → Forgets piece (claimed_at self.old tag) (claimed_at self.new tag) }
@@ -127,7 +127,7 @@ impl<N: Naming> Tags<N> {
         forget_all(self.tags.as_mut_slice(), piece);
     }
 
-    /// A label was told: where it tells that a piece acted, failed or came back, what was armed for it is let go.
+    /// Notes a label. Where it tells that a piece acted, failed or came back, what was armed for it is let go.
     pub fn note(&mut self, label: &Label)
         ensures as_many { length self.new ≡ length self.old }
         ensures noted { HaveNoted label.now self.old self.new }
@@ -145,7 +145,7 @@ impl<N: Naming> Tags<N> {
         matches!(self.tags.get(tag as usize), Some(None))
     }
 
-    /// Whether the entry of a number is of what was armed on a tag, for who holds both locks.
+    /// Whether the entry of a number is of what was armed on a tag. The caller holds both locks.
     pub fn is_of<M: Medium>(
         &mut self,
         journal: &mut Journal<M, N>,

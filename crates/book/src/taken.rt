@@ -9,7 +9,7 @@ use disk::Medium;
 use sector_journal::{Entered, History, Journal, Naming, OfEntries};
 use std::marker::Model;
 
-/// For act n of a trace the journal's receipt of number n, from 0. Contracts see the entries.
+/// The journal's receipts of what was booked: for act n of a trace that of entry n, from 0. Contracts see the entries.
 #[derive(Drop)]
 pub struct Taken<N: Naming> {
     receipts: Claims<Entered, OfEntries<N>>,
@@ -32,7 +32,7 @@ impl<N: Naming> Model for Taken<N> {
 }
 
 impl<N: Naming> Taken<N> {
-    /// Nothing was booked yet.
+    /// The receipts of nothing, before anything was booked.
     pub fn new<M: Medium>(journal: &mut Journal<M, N>, words: &History<N>) -> Taken<N>
         ensures none { result ≡ [] }
         ensures same { journal.new ≡ journal.old }
@@ -56,7 +56,7 @@ impl<N: Naming> Taken<N> {
         journal.check(words, &mut self.receipts);
     }
 
-    /// The next entry of the journal was booked.
+    /// Notes that the next entry of the journal was booked.
     pub fn add<M: Medium>(&mut self, journal: &mut Journal<M, N>, words: &History<N>)
         requires next { length self.old < length journal.old.entered }
         ensures takes { TakesNext journal.old.entered self.old self.new }

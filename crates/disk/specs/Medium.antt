@@ -13,14 +13,14 @@ pub record MediumView : Type 0 where
   pub sectors : List (List ℕ)
   -- the numbers of the sectors that can't be read or written
   pub bad : List ℕ
-  -- the extents whose writing was reserved
+  -- the extents that were reserved for writes
   pub reserved : List Extent
   -- sectors are reserved in runs of this many, counted from sector 0
   pub run : ℕ
-  -- the calls that failed
+  -- how many calls failed
   pub failures : ℕ
 
--- each sector is as long as a sector has to be
+-- each sector has as many bytes as a sector of the medium
 abbrev pub HasWholeSectors : MediumView → Type 0
 HasWholeSectors view = All (IsSector view.sector_size) view.sectors
 
@@ -40,15 +40,15 @@ IsReserved view extent = IsCovered view.reserved extent
 abbrev pub bytes_at : MediumView → Extent → List ℕ
 bytes_at view extent = concat (slice_range view.sectors extent.first (extent.first + extent.count))
 
--- what is reserved now was before, or is in a run with a sector of the extent
+-- each sector that is reserved now was reserved before, or is in a run with a sector of the extent
 abbrev pub ReservesNear : MediumView → Extent → MediumView → Type 0
 ReservesNear old extent new = CoversMoreNear old.run extent old.reserved new.reserved
 
--- nothing is reserved but the runs that the extent has a part in
+-- only the runs that the extent has a part in are reserved
 abbrev pub ReservesOnly : MediumView → Extent → Type 0
 ReservesOnly view extent = (sector : ℕ) → IsInSome view.reserved sector → IsNear view.run extent sector
 
--- nothing but what is reserved may differ, and what was reserved still is
+-- only the reserved extents may differ, and what was reserved still is
 pub record Reserves (old new : MediumView) : Type 0 where
   pub lasts : (extent : Extent) → IsReserved old extent → IsReserved new extent
   pub after : new ≡ record old { reserved = new.reserved }
@@ -70,13 +70,13 @@ pub record Writes (old : MediumView) (extent : Extent) (bytes : List ℕ) (new :
 abbrev pub failed : MediumView → MediumView
 failed view = record view { failures = view.failures + 1 }
 
--- a medium on which nothing but zeros stands, and no call failed
+-- only zeros stand on the medium, and no call has failed
 pub record IsBlank (view : MediumView) (sector_size sectors : ℕ) : Type 0 where
   pub size_is : view.sector_size ≡ sector_size
   pub zeros : view.sectors ≡ replicate sectors (replicate sector_size 0)
   pub none_failed : view.failures ≡ 0
 
--- a medium on which some bytes stand from its start, zeros after them, and no call failed
+-- these bytes stand at the start of the medium, zeros behind them, and no call has failed
 pub record StartsWith (view : MediumView) (sector_size sectors : ℕ) (first : List ℕ) : Type 0 where
   pub size_is : view.sector_size ≡ sector_size
   pub count_is : length view.sectors ≡ sectors

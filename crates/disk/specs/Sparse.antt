@@ -22,7 +22,7 @@ held chunks number = option_map (λ bytes. bytes.items) (get nat_cmp chunks numb
 abbrev pub chunk_length : ℕ → ℕ → ℕ → ℕ
 chunk_length size sectors number = (chunk_of sectors number).count * size
 
--- the bytes of a chunk: zeros if it isn't there
+-- the bytes of a chunk, which are zeros if it isn't there
 abbrev pub chunk_bytes : ℕ → ℕ → ByNumber → ℕ → List ℕ
 chunk_bytes size sectors chunks number = unwrap_or (held chunks number) (replicate (chunk_length size sectors number) 0)
 

@@ -4,7 +4,7 @@ use Rattle.std.specs.Simd.{first_chunks}
 use Rattle.disk.specs.Medium.{MediumView}
 use Rattle.disk.specs.declared.vec_disk.VecDisk.{VecDisk}
 
--- its memory cut into sectors; the whole disk is reserved
+-- the disk's memory, cut into sectors; the whole disk is reserved
 abbrev pub shown : VecDisk → MediumView
 shown disk = record {
   sector_size = disk.sector_size;

@@ -1,4 +1,4 @@
-//! The sectors that can't be read or written, looked up by halves, and the calls that failed at one.
+//! The sectors that can't be read or written, looked up by binary search, and the calls that failed at one.
 
 ghost use Rattle.std.specs.Prelude.{◌≡◌, ℕ, ◌+◌, ◌^◌, ◌<◌, ◌≤◌, ◌↔◌, IsTrue, IsErr, OnOk, OnErr, Contains, length, slice_index};
 ghost use Rattle.std.specs.List.Sorted.{IsStrictlyIncreasing};
@@ -16,7 +16,8 @@ pub(crate) struct BadList {
 }
 
 impl BadList {
-    /// The numbers, in any order and perhaps more than once, put in order in the same memory. No call failed yet.
+    /// The list of these numbers, which come in any order and perhaps more than once. They are put in order in their
+    /// own memory. No call has failed yet.
     pub fn new(mut sectors: Vec<u64>) -> BadList
         ensures same { (sector : ℕ) → Contains result.sectors.items sector ↔ Contains sectors.items sector }
         ensures none_failed { result.failures ≡ 0 }
@@ -53,7 +54,7 @@ impl BadList {
     }
 }
 
-/// The place of the first of some rising numbers that isn't below a sector.
+/// The place of the first number that isn't below a sector, among rising numbers.
 fn first_from(numbers: &[u64], sector: u64) -> usize
     requires { IsStrictlyIncreasing numbers.now }
     ensures below { (k : ℕ) → k < result → slice_index numbers.now k < sector }

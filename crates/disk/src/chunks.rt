@@ -1,4 +1,4 @@
-//! The sectors of a disk in chunks, of which only those are in memory that were reserved.
+//! The sectors of a disk in chunks, of which only those that were reserved are in memory.
 
 ghost use Rattle.std.specs.Prelude.{◌≡◌, ℕ, ◌+◌, ◌*◌, ◌/◌, ◌%◌, ◌≤◌, ◌<◌, ◌^◌, length, take, drop, replicate, IsSome, IfSome, IsOk, OnOk, OnErr, MatchOption};
 ghost use Rattle.std.specs.Option.{ForSome};
@@ -12,10 +12,10 @@ use sector::Extent;
 use std::alloc::{AllocError, Global};
 use std::collections::BTreeMap;
 
-/// The sectors of a chunk.
+/// How many sectors a chunk has.
 const CHUNK: u64 = 64;
 
-/// A disk of zeros, but for its chunks: 64 sectors each, the last one short where the disk ends in it.
+/// A disk of zeros, except for its chunks. A chunk has 64 sectors; the last one is shorter where the disk ends in it.
 #[derive(Debug, Drop)]
 pub(crate) struct Chunks {
     alloc: Global,
@@ -30,7 +30,7 @@ impl Chunks {
     ghost use Rattle.disk.specs.SparseDisk.{sectors_of};
     ghost use Rattle.disk.specs.inside.SparseDisk.{AreThere, IsThere, Makes, MakesOf, MakesOne, Overwrites};
 
-    /// A disk of which no chunk is there.
+    /// A disk with no chunk in memory.
     pub fn new(alloc: Global, sector_size: u32, sectors: u64) -> Chunks
         ensures size { result.sector_size ≡ sector_size }
         ensures count { result.sectors ≡ sectors }

@@ -2,10 +2,10 @@
 //!
 //! Promises to the crate above, by the contract of [`Medium`]: it is seen as a list of sectors, each of `sector_size`
 //! bytes; a read gives the bytes that stand in its extent, a write replaces the sectors of its extent alone, and a call
-//! whose extent holds a bad sector fails whole, changes nothing and is counted. No other call fails. [`VecDisk`] keeps all
-//! sectors in one block of memory, [`SparseDisk`] those chunks alone that were reserved.
+//! whose extent holds a bad sector fails whole, changes nothing and is counted. No other call fails. [`VecDisk`] keeps
+//! all sectors in one block of memory, [`SparseDisk`] only the chunks that were reserved.
 //!
-//! Doesn't promise that anything stands after the process ends.
+//! It doesn't promise that anything outlives the process.
 #![tactic(auto)]
 
 mod bad_list;
@@ -55,7 +55,8 @@ pub trait Medium: Drop {
     fn failures(&self) -> u128
         ensures { result ≡ (view self.now).failures };
 
-    /// Makes room for writes of an extent, for good: for the runs of sectors that the extent has a part in, and no others.
+    /// Makes room for writes of an extent, for good: for the runs of sectors that the extent has a part in, and no
+    /// others.
     ///
     /// # Errors
     ///
@@ -82,7 +83,7 @@ pub trait Medium: Drop {
         ensures buffer { OnErr result (buffer.new ≡ buffer.old) }
         ensures fails { OnErr result (view self.new ≡ failed (view self.old)) };
 
-    /// Writes the bytes of an extent within the medium that was reserved before.
+    /// Writes the bytes of an extent within the medium, which was reserved before.
     ///
     /// # Errors
     ///

@@ -8,8 +8,8 @@ use crate::{BadSector, Medium, NoMemory};
 use sector::Extent;
 use std::alloc::Global;
 
-/// A disk in chunks of 64 sectors, of which only those are in memory that were reserved. A chunk that isn't there reads as
-/// zeros.
+/// A disk in chunks of 64 sectors, of which only those that were reserved are in memory. A chunk that isn't there reads
+/// as zeros.
 #[derive(Debug)]
 pub struct SparseDisk {
     chunks: Chunks,
@@ -27,8 +27,8 @@ impl SparseDisk {
     ghost use Rattle.disk.specs.Medium.{IsBlank, ReservesOnly, StartsWith};
     ghost use Rattle.disk.specs.SparseDisk.{shown};
 
-    /// A disk of this many sectors of zeros, each of `sector_size` bytes, in which the sectors of the list are bad. Numbers
-    /// that are no sectors of it say nothing. It takes no memory.
+    /// A disk of this many sectors of zeros, each of `sector_size` bytes, in which the sectors of the list are bad.
+    /// Numbers past its end are ignored. It takes no memory.
     pub fn new(alloc: Global, sector_size: u32, sectors: u64, bad: Vec<u64>) -> SparseDisk
         ensures blank { IsBlank (shown result) sector_size sectors }
         ensures bad { (sector : ℕ) → Contains (shown result).bad sector ↔ Contains bad.items sector }

@@ -22,8 +22,8 @@ impl VecDisk {
     ghost use Rattle.disk.specs.Medium.{IsBlank, StartsWith, IsWithin, IsReserved, HasBad, failed};
     ghost use Rattle.disk.specs.VecDisk.{shown};
 
-    /// A disk of this many sectors of zeros, each of `sector_size` bytes, in which the sectors of the list are bad. It has
-    /// fewer than 2^64 bytes. Numbers that are no sectors of it say nothing.
+    /// A disk of this many sectors of zeros, each of `sector_size` bytes, in which the sectors of the list are bad. It
+    /// has fewer than 2^64 bytes. Numbers past its end are ignored.
     ///
     /// # Errors
     ///

@@ -24,7 +24,7 @@ disk_of medium write_protected = record {
   write_protected = write_protected;
 }
 
--- what of it is known before a sector is looked at
+-- what is known of the disk before a sector is looked at
 abbrev pub sizes_of : MediumView → Bool → Sizes
 sizes_of medium write_protected = record {
   sector_size = medium.sector_size;
@@ -56,7 +56,7 @@ Writes medium extent srb (Moved srb') medium' =
 Writes medium extent srb (Failed srb' completion) medium' =
     HasBad medium extent × (completion ≡ error 3 0x0C 0x00) × (srb' ≡ srb) × (medium' ≡ failed medium)
 
--- the command is carried out: its bytes, as many as there were, stand in the data
+-- the command is carried out: its bytes, as many as the data had, stand in the data
 pub record CarriesOut (medium : MediumView) (write_protected : Bool) (srb srb' : Srb) (medium' : MediumView) : Type 0 where
   pub command : Cdb
   pub bytes : List ℕ

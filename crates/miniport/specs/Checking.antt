@@ -17,13 +17,13 @@ disk_with sizes bad = record {
   write_protected = sizes.write_protected;
 }
 
--- a command that only a bad sector can fail
+-- only a bad sector can fail the command
 pub record Fits (sizes : Sizes) (srb : Srb) (command : Cdb) : Type 0 where
   pub within : lba_of command + blocks_of command ≤ sizes.sectors
   pub as_long : length srb.data ≡ bytes_of sizes.sector_size command
   pub left : (bad : List ℕ) → fault_of_command (disk_with sizes bad) srb command ≡ fault_of_medium (disk_with sizes bad) command
 
--- a command that fails, whatever sectors are bad
+-- the command fails with this completion, whatever sectors are bad
 abbrev pub IsMisfit : Sizes → Srb → Cdb → Completion → Type 0
 IsMisfit sizes srb command completion = (bad : List ℕ) → fault_of_command (disk_with sizes bad) srb command ≡ Some completion
 

@@ -1,4 +1,4 @@
--- What an adapter in memory fails, and with which completion.
+-- Which commands an adapter in memory fails, and with which completion.
 use Rattle.std.specs.Prelude.{ℕ, ◌+◌, ◌*◌, ◌==◌, ◌&&◌, Bool, true, false, not, nat_le, nat_lt, List, [], ◌∷◌, length, Option, Some, None, Result, Ok, Err, MatchResult, if◌then◌else◌}
 use Rattle.std.specs.List.{list_any}
 use Rattle.cdb.specs.declared.Cdb.{Cdb}
@@ -44,7 +44,7 @@ error key asc ascq = record { srb_status = 0x84; scsi_status = 0x02; sense = Som
 -- the disk that carries commands out
 pub record Disk : Type 0 where
   pub sector_size : ℕ
-  -- how many
+  -- how many sectors it has
   pub sectors : ℕ
   -- the numbers of the bad sectors
   pub bad : List ℕ
@@ -102,7 +102,7 @@ fault_of_block ShortCdb = error 5 0x24 0x00
 fault_of_block InvalidField = error 5 0x24 0x00
 fault_of_block UnknownOpcode = error 5 0x20 0x00
 
--- a bad sector under a transfer
+-- the completion of a transfer with a bad sector
 abbrev pub fault_of_medium : Disk → Cdb → Option Completion
 fault_of_medium disk command = first_some (
     when (is_read command && names_bad disk command) (error 3 0x11 0x00)
@@ -121,6 +121,6 @@ abbrev pub fault_of_decoded : Disk → Srb → Result Cdb CdbFault → Option Co
 fault_of_decoded disk srb (Ok command) = fault_of_command disk srb command
 fault_of_decoded disk srb (Err fault) = Some (fault_of_block fault)
 
--- the completion with which an SRB fails, by what its block asks for; None where it is carried out
+-- the completion with which an SRB fails, by what its block asks for; None where its command is carried out
 abbrev pub fault_of : Disk → Srb → Result Cdb CdbFault → Option Completion
 fault_of disk srb decoded = if is_execute srb.function then fault_of_decoded disk srb decoded else Some invalid_request

@@ -1,4 +1,4 @@
--- What a disk shows of which the first sector alone is there.
+-- What a disk shows of which only the first sector is there.
 use Rattle.std.specs.Prelude.{◌≡◌, ℕ, ◌-◌, List, [], ◌∷◌, length, replicate, All}
 use Rattle.std.specs.List.{range_with_len}
 use Rattle.std.proofs.Common.{arith}
@@ -23,7 +23,7 @@ shown disk = record {
   failures = disk.failures;
 }
 
--- this many sectors, the first of them this one, and no call failed
+-- the disk has this many sectors, of which this is the first, and no call has failed
 pub record IsFirst (first : List ℕ) (sectors : ℕ) (view : MediumView) : Type 0 where
   pub size_is : view.sector_size ≡ length first
   pub count_is : length view.sectors ≡ sectors

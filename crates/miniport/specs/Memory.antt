@@ -49,7 +49,7 @@ view_of medium max_transfer write_protected table = record {
   due = map slot_completion table.slots;
 }
 
--- no piece on any tag, and nothing counted
+-- an adapter with no piece on a tag and nothing counted
 abbrev pub new_view : MediumView → ℕ → ℕ → Bool → MemView
 new_view medium max_transfer depth write_protected = record {
   shown = record {
@@ -72,11 +72,11 @@ new_view medium max_transfer depth write_protected = record {
 
 -- WHAT ITS CALLS DO, BEYOND ANY ADAPTER'S
 
--- beside what an adapter shows, only the completion due on a tag differs
+-- beside what any adapter shows, only the completion due on a tag changes
 abbrev pub Dues : ℕ → Option Completion → MemView → MemView → Type 0
 Dues tag completion old new = new ≡ record old { shown = new.shown; due = slice_set old.due tag completion }
 
--- nothing differs but what an adapter shows
+-- only what any adapter shows changes
 abbrev pub SameDues : MemView → MemView → Type 0
 SameDues old new = new ≡ record old { shown = new.shown }
 
@@ -86,7 +86,7 @@ EndsBy old tag piece None new = ((bytes : List ℕ) × ActsOn old.shown tag piec
 EndsBy old tag piece (Some completion) new =
     FaultsOn old.shown tag piece new.shown × (new.shown.failures ≡ old.shown.failures + 1) × Dues tag (Some completion) old new
 
--- it fails exactly by the first row of the table that fits
+-- the tag's piece fails exactly by the first row of the table that fits
 pub record ActsByTable (old : MemView) (tag : ℕ) (new : MemView) : Type 0 where
   pub use' : TagInUse
   pub others : List TagInUse

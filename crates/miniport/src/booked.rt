@@ -1,4 +1,4 @@
-//! An adapter that has no sectors: what its acts did is booked.
+//! An adapter that has no sectors: what its acts do is booked.
 
 ghost use Rattle.std.specs.Prelude.{◌≡◌, ◌⊎◌, ◌≤◌, ◌^◌, true, length, IfOk};
 ghost use Rattle.miniport.specs.Memory.{MemView};
@@ -13,9 +13,9 @@ use srb::{Booked, Completion, DeviceLabel, Srb};
 use std::alloc::{AllocError, Global};
 use std::marker::Model;
 
-/// An adapter whose sectors stand elsewhere, but for a copy of the first. Piece 0, by which a disk is looked at before its
-/// first request, is carried out on that copy; any other piece acts or fails as was booked of it, and fails with a hardware
-/// error where nothing was.
+/// An adapter whose sectors stand elsewhere, except for a copy of the first. Piece 0, by which the disk is probed
+/// before its first request, is carried out on that copy. Any other piece acts or fails as was booked of it; where
+/// nothing was booked, it fails with a hardware error.
 pub struct BookedAdapter {
     inner: MemAdapter<FirstSector>,
 }
@@ -36,8 +36,8 @@ impl Model for BookedAdapter {
 }
 
 impl BookedAdapter {
-    /// An adapter with no piece on any of its tags, for a disk of 1 to 2^40 sectors that begins with this one, of 512 or 4096
-    /// bytes. `max_transfer` is in sectors, from 1 to 65,536; `depth` is the number of tags, from 1 to 32.
+    /// An adapter with no piece on any of its tags, for a disk of 1 to 2^40 sectors that begins with this one, of 512
+    /// or 4096 bytes. `max_transfer` is in sectors, from 1 to 65,536; `depth` is the number of tags, from 1 to 32.
     pub fn new(
         alloc: Global,
         first: Vec<u8>,

@@ -21,7 +21,7 @@ use srb::{Completion, Srb};
 /// What became of a command.
 #[derive(Debug, Drop)]
 pub enum Outcome {
-    /// It was carried out; its data were read or written.
+    /// The command was carried out; its data were read or written.
     Moved { srb: Srb },
     Failed { srb: Srb, completion: Completion },
 }
@@ -72,7 +72,7 @@ fn write<M: Medium>(medium: &mut M, lba: u64, count: u32, srb: Srb) -> Outcome
     }
 }
 
-/// The number of the last sector as READ CAPACITY(10) tells it: FFFFFFFFh where it is that or more.
+/// The address of the last block as READ CAPACITY(10) gives it: FFFFFFFFh where it is that or more.
 pub(crate) fn last_told(sectors: u64) -> u32
     requires { 1 ≤ sectors }
     ensures { result ≡ min (sectors - 1) (2 ^ 32 - 1) }
@@ -80,7 +80,7 @@ pub(crate) fn last_told(sectors: u64) -> u32
     (sectors - 1).min(0xFFFF_FFFF) as u32
 }
 
-/// Tells the number of the last sector and the bytes of a sector in the SRB's data.
+/// Puts the address of the last block and the block length into the SRB's data (SBC: READ CAPACITY(10)).
 pub(crate) fn tell_capacity(last: u32, sector_size: u32, srb: Srb) -> Outcome
     requires long { length srb.data ≡ 8 }
     ensures { let bytes = big_bytes 4 last ++ big_bytes 4 sector_size in result ≡ Outcome.Moved (with_data bytes srb) }
@@ -94,7 +94,7 @@ pub(crate) fn tell_capacity(last: u32, sector_size: u32, srb: Srb) -> Outcome
     })
 }
 
-/// Bytes put over others, cut where these end; what stands behind them becomes 0.
+/// Puts bytes over others, cut where the others end; what stands behind them becomes 0.
 fn put_cut(bytes: &mut [u8], told: &[u8])
     ensures { bytes.new ≡ take (length bytes.old) (told.now ++ replicate (length bytes.old) 0) }
 {
@@ -103,7 +103,7 @@ fn put_cut(bytes: &mut [u8], told: &[u8])
     bytes[..count].copy_from_slice(&told[..count]);
 }
 
-/// Returns what READ CAPACITY(16) tells first: the number of the last sector, and the bytes of a sector.
+/// Returns the first bytes of the data of READ CAPACITY(16): the address of the last block, and the block length.
 pub(crate) fn long_capacity(last: u64, sector_size: u32) -> [u8; 12]
     ensures { result ≡ big_bytes 8 last ++ big_bytes 4 sector_size }
 {
@@ -122,7 +122,7 @@ fn put_over(told: &[u8], place: Bytes) -> Bytes
     Bytes::new(bytes)
 }
 
-/// Tells the same in the form of READ CAPACITY(16), as far as the SRB's data have room.
+/// Puts the data of READ CAPACITY(16) into the SRB's data, as far as these have room.
 fn tell_long_capacity(last: u64, sector_size: u32, srb: Srb) -> Outcome
     ensures { let bytes = take (length srb.data) (big_bytes 8 last ++ big_bytes 4 sector_size ++ replicate (length srb.data) 0) in result ≡ Outcome.Moved (with_data bytes srb) }
 {
@@ -152,7 +152,7 @@ pub fn check_on<M: Medium>(medium: &M, write_protected: bool, srb: &Srb) -> Resu
     check(&sizes, srb)
 }
 
-/// Carries a command out that only a bad sector can fail.
+/// Carries out a command that only a bad sector can fail.
 fn perform<M: Medium>(medium: &mut M, command: Cdb, srb: Srb) -> Outcome
     requires passes { (write_protected : Bool) × Passes (sizes_of (M.view medium.old) write_protected) srb command }
     requires ready { IsReady (M.view medium.old) srb }
@@ -178,7 +178,7 @@ fn perform<M: Medium>(medium: &mut M, command: Cdb, srb: Srb) -> Outcome
     }
 }
 
-/// Carries the command of an SRB out on a medium, or fails it by the first row of the table that fits.
+/// Carries out the command of an SRB on a medium, or fails it by the first row of the table that fits.
 pub fn carry_out<M: Medium>(medium: &mut M, write_protected: bool, srb: Srb) -> Outcome
     requires ready { IsReady (M.view medium.old) srb }
     requires countable { (M.view medium.old).failures < 2 ^ 120 }

@@ -9,16 +9,16 @@ use cdb::{Cdb, Direction, decode};
 use sector::Extent;
 use srb::{Completion, Srb, SrbFlags, SrbFunction};
 
-/// What of a disk, but for its bad sectors, decides whether it carries a command out.
+/// What decides whether a disk carries out a command, apart from its bad sectors.
 #[derive(Clone, Copy, PartialEq, Eq)]
 pub(crate) struct Sizes {
-    /// Bytes.
+    /// Bytes of a sector.
     pub sector_size: u32,
     pub sectors: u64,
     pub write_protected: bool,
 }
 
-/// The flags of an SRB whose data has this direction.
+/// The flags of an SRB whose data have this direction.
 fn flags(direction: Direction) -> SrbFlags
     ensures { result.0 ≡ flags_for direction }
 {
@@ -29,7 +29,7 @@ fn flags(direction: Direction) -> SrbFlags
     }
 }
 
-/// Whether it is a write, and the disk takes none.
+/// Whether the command is a write, and the disk is write-protected.
 fn is_protected(sizes: &Sizes, command: Cdb) -> bool
     ensures { result ≡ (is_write command && sizes.now.write_protected) }
 {

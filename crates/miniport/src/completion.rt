@@ -48,7 +48,7 @@ pub(crate) fn met_reset() -> Completion
     without_sense(SrbStatus::BusReset, ScsiStatus::Good)
 }
 
-/// The device checked the command and refuses it with sense data.
+/// The device refused the command with sense data (SAM: CHECK CONDITION).
 pub fn failed_with(key: u8, asc: u8) -> Completion
     ensures { result ≡ error key asc 0 }
 {

@@ -1,4 +1,4 @@
-//! A medium of which the first sector alone is there.
+//! A medium of which only the first sector is there.
 
 ghost use Rattle.std.specs.Prelude.{◌≡◌, ◌<◌, ◌≤◌, ◌+◌, ◌^◌, ◌⊎◌, ◌↔◌, IsTrue, IfOk, length};
 

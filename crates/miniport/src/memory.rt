@@ -26,8 +26,8 @@ use srb::{Booked, Completion, DeviceLabel, Srb};
 use std::alloc::{AllocError, Global};
 use std::marker::Model;
 
-/// An adapter over a medium. A command fails exactly where a sector of its extent is bad, the SRB doesn't fit it, the disk
-/// is write-protected or its block asks for nothing that the disk has.
+/// An adapter over a medium. A command fails exactly where a sector of its extent is bad, the SRB doesn't fit the
+/// command, a write meets write protection, or the block asks for nothing that the disk has.
 pub struct MemAdapter<M: Medium> {
     medium: M,
     table: TagTable,
@@ -90,8 +90,8 @@ impl<M: Medium> MemAdapter<M> {
         })
     }
 
-    /// Fails the tag's piece with a completion that says so, whatever its command asks for. False where no piece is on the
-    /// tag, or one that acted or failed before.
+    /// Fails the tag's piece with this completion, whatever its command asks for. False where the tag has no piece, or
+    /// its piece acted or failed before.
     pub(crate) fn fail(&mut self, tag: u8, completion: Completion) -> bool
         requires place { length self.old.shown.labels < 64 }
         requires bad { class_of completion ≡ Bad completion }
@@ -109,7 +109,7 @@ impl<M: Medium> MemAdapter<M> {
     ghost use Rattle.adapter.specs.Booking.{Books, handed};
     ghost use Rattle.miniport.specs.Apart.{apart};
 
-    /// Books of the tag's piece, as an adapter whose sectors are elsewhere.
+    /// Books what the tag's piece did, as an adapter whose sectors stand elsewhere.
     pub(crate) fn book_apart(&mut self, tag: u8, piece: u128, what: Booked<'_>)
         ensures books { Books (apart self.old.shown) tag piece (handed (apart self.old.shown) tag piece what.entry) (apart self.new.shown) }
         ensures order { IsInOrder self.new.shown }
@@ -119,7 +119,8 @@ impl<M: Medium> MemAdapter<M> {
         let _booked = book_on(&sizes, &mut self.table, tag, piece, what);
     }
 
-    /// Ends the tag's piece as it was booked. Piece 0 is carried out; any other of which nothing was booked fails.
+    /// Ends the tag's piece as it was booked. Piece 0 is carried out. Any other piece fails where nothing was booked of
+    /// it.
     pub(crate) fn act_apart(&mut self, tag: u8) -> bool
         requires place { length self.old.shown.labels < 64 }
         requires protected { self.old.write_protected ≡ true }
@@ -262,7 +263,7 @@ impl<M: Medium> Adapter for MemAdapter<M> {
     }
 }
 
-/// Carries the command of a piece out, and puts it back on its tag.
+/// Carries out the command of a piece, and puts the piece back on its tag.
 fn carry_on<M: Medium>(
     medium: &mut M,
     write_protected: bool,
@@ -327,7 +328,7 @@ fn is_bookable(sizes: &Sizes, table: &TagTable, tag: u8, piece: u128, what: &Boo
     }
 }
 
-/// Books of the tag's piece, where this may be; whether it was.
+/// Books this of the tag's piece, where it may be booked. Returns whether it was.
 fn book_on(sizes: &Sizes, table: &mut TagTable, tag: u8, piece: u128, what: Booked<'_>) -> bool
     ensures { MatchBool result (BooksIn sizes.now table.old tag piece what.entry table.new) (CannotBook sizes.now table.old tag piece what.entry × (table.new ≡ table.old)) }
 {
@@ -338,7 +339,7 @@ fn book_on(sizes: &Sizes, table: &mut TagTable, tag: u8, piece: u128, what: Book
     true
 }
 
-/// The piece acts by what was booked of it, and is put back on its tag.
+/// Lets the piece act as was booked, and puts it back on its tag.
 fn move_on(table: &mut TagTable, tag: u8, on_tag: OnTag)
     requires below { tag < length table.old.slots }
     requires free { piece_at table.old.slots tag ≡ None }
@@ -353,7 +354,7 @@ fn move_on(table: &mut TagTable, tag: u8, on_tag: OnTag)
     table.put_moved(tag, on_tag);
 }
 
-/// The piece fails, and is put back on its tag.
+/// Fails the piece, and puts it back on its tag.
 fn fail_on(table: &mut TagTable, tag: u8, on_tag: OnTag, completion: Completion)
     requires below { tag < length table.old.slots }
     requires free { piece_at table.old.slots tag ≡ None }
@@ -368,7 +369,7 @@ fn fail_on(table: &mut TagTable, tag: u8, on_tag: OnTag, completion: Completion)
     table.put_failed(tag, on_tag);
 }
 
-/// A piece of which nothing was booked: piece 0 is carried out, any other fails.
+/// Ends a piece of which nothing was booked: piece 0 is carried out, any other piece fails.
 fn end_unbooked<M: Medium>(medium: &mut M, table: &mut TagTable, tag: u8, on_tag: OnTag)
     requires ready { IsReady (M.view medium.old) on_tag.srb }
     requires room { length on_tag.srb.data ≤ on_tag.srb.for_label }
@@ -387,7 +388,7 @@ fn end_unbooked<M: Medium>(medium: &mut M, table: &mut TagTable, tag: u8, on_tag
     }
 }
 
-/// A piece ends as it was booked.
+/// Ends a piece as it was booked.
 fn end_as_booked<M: Medium>(medium: &mut M, table: &mut TagTable, tag: u8, on_tag: OnTag)
     requires ready { IsReady (M.view medium.old) on_tag.srb }
     requires room { length on_tag.srb.data ≤ on_tag.srb.for_label }
@@ -419,7 +420,7 @@ fn act_apart_on<M: Medium>(medium: &mut M, table: &mut TagTable, tag: u8) -> boo
     true
 }
 
-/// Carries the command of a tag's piece out, if it has done nothing yet.
+/// Carries out the command of a tag's piece, if it has done nothing yet.
 fn act_on<M: Medium>(medium: &mut M, write_protected: bool, table: &mut TagTable, tag: u8) -> bool
     requires kept { (longest : ℕ) × AdapterKept (M.view medium.old) longest table.old }
     requires place { length table.old.labels < 64 }

@@ -11,7 +11,7 @@ pub(crate) enum Progress {
     Untouched,
     /// Its command was carried out.
     Moved,
-    /// It will never be, and comes back so.
+    /// It will never be carried out, and comes back with this completion.
     Failed(Completion),
 }
 

@@ -12,8 +12,8 @@ use srb::{Booked, Completion, DeviceLabel, Srb};
 use std::alloc::AllocError;
 use std::marker::Model;
 
-/// An adapter in memory of which one act fails with a hardware error (sense key 4, 00h/00h), once: all else is the adapter's
-/// in memory. For who wants to see a stack meet a failure at each place in turn.
+/// An adapter in memory of which one act fails with a hardware error (sense key 4, 00h/00h). In all else it is the
+/// adapter in memory. It is for tests that have a stack meet a failure at each place in turn.
 pub struct OnceAdapter<M: Medium> {
     inner: MemAdapter<M>,
     before: Option<u64>,
@@ -36,8 +36,8 @@ impl<M: Medium> Model for OnceAdapter<M> {
 }
 
 impl<M: Medium> OnceAdapter<M> {
-    /// The adapter whose act number `before` fails, counted from 0: each act of a piece that has done nothing yet counts,
-    /// whether it is carried out or fails.
+    /// The adapter whose act number `before` fails, counted from 0. Each act of a piece that has done nothing yet
+    /// counts, whether it is carried out or fails.
     pub fn new(inner: MemAdapter<M>, before: u64) -> OnceAdapter<M>
         ensures { result ≡ record { inner = inner; before = Some before } }
     {
@@ -78,7 +78,7 @@ impl<M: Medium> Adapter for OnceAdapter<M> {
         self.inner.is_faithful()
     }
 
-    /// The failures counted so far, the one of its own among them, at most twice the pieces accepted.
+    /// The failures counted so far, its own one among them; at most twice the pieces accepted.
     fn failures(&self) -> u128
         ensures exact { result ≡ self.now.inner.shown.failures }
         ensures order { IsInOrder self.now.inner.shown }

@@ -48,7 +48,7 @@ pub(crate) fn tell(label: Recorded, slots: &[Option<OnTag>]) -> DeviceLabel
     }
 }
 
-/// The first label gets its bytes, and is put behind the others.
+/// Gives the first label its bytes, and puts it behind the others.
 fn tell_first(labels: &mut VecDeque<Recorded>, slots: &[Option<OnTag>])
     requires { All (IsTellable slots.now) labels.old.items }
     ensures first { (label : Recorded) (rest : List Recorded) → labels.old.items ≡ label ∷ rest → labels.new.items ≡ rest ++ told_of slots.now label ∷ [] }
@@ -60,7 +60,7 @@ fn tell_first(labels: &mut VecDeque<Recorded>, slots: &[Option<OnTag>])
     }
 }
 
-/// All labels get their bytes.
+/// Gives all labels their bytes.
 pub(crate) fn tell_all(labels: &mut VecDeque<Recorded>, slots: &[Option<OnTag>])
     requires { All (IsTellable slots.now) labels.old.items }
     ensures labels { labels.new.items ≡ map (told_of slots.now) labels.old.items }

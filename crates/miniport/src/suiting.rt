@@ -112,7 +112,7 @@ fn is_sent(sizes: &Sizes, bytes: &[u8], command: Cdb) -> bool
     }
 }
 
-/// Whether the SRB asks for a write of all that it sends, or for a flush.
+/// Whether the SRB asks to write all that it sends, or to flush.
 fn sends(sizes: &Sizes, srb: &Srb) -> bool
     ensures { Decides result (SendsAll sizes.now.sector_size sizes.now.sectors srb.now) }
 {

@@ -19,13 +19,13 @@ use std::collections::VecDeque;
 use std::marker::Model;
 use std::mem;
 
-/// The labels that may wait to be taken.
+/// How many labels may wait to be taken.
 const LABELS: usize = 64;
 
-/// The most tags.
+/// How many tags there may be.
 const TAGS: usize = 32;
 
-/// The SRB with a copy of the bytes of an entry. Those of a write or a flush stand there.
+/// The SRB with a copy of the bytes of an entry. The bytes of a write or a flush stand there already.
 fn with_copy(srb: Srb, entry: &Entry) -> Srb
     requires { MayBecome entry.now srb.data }
     ensures { result ≡ with_data entry.now.bytes srb }
@@ -40,8 +40,8 @@ fn with_copy(srb: Srb, entry: &Entry) -> Srb
     }
 }
 
-/// The SRB with the bytes of an entry of a read, which is left the place of the SRB's data. Those of a write or a flush
-/// stand there.
+/// The SRB with the bytes of an entry of a read, which gets what was the SRB's data. The bytes of a write or a flush
+/// stand there already.
 fn with_taken(srb: Srb, entry: &mut Entry) -> Srb
     requires { MayBecome entry.old srb.data }
     ensures { result ≡ with_data entry.old.bytes srb }
@@ -196,7 +196,7 @@ impl TagTable {
         }
     }
 
-    /// Books of the piece on a tag, if it has done nothing yet.
+    /// Books this of the piece on a tag, if the piece has done nothing yet.
     pub fn book(&mut self, tag: u8, what: Booked<'_>)
         requires below { tag < length self.old.slots }
         requires fits { (on : OnTag) → piece_at self.old.slots tag ≡ Some on → Fits what on.srb.data }
@@ -219,7 +219,7 @@ impl TagTable {
         }
     }
 
-    /// Puts a piece back on its tag, which was carried out.
+    /// Puts back on its tag a piece that was carried out.
     pub fn put_moved(&mut self, tag: u8, on_tag: OnTag)
         requires below { tag < length self.old.slots }
         requires free { piece_at self.old.slots tag ≡ None }
@@ -235,7 +235,7 @@ impl TagTable {
             .push_back_reserved(Recorded::Acted { piece, tag, room });
     }
 
-    /// Puts a piece back on its tag, which failed.
+    /// Puts back on its tag a piece that failed.
     pub fn put_failed(&mut self, tag: u8, on_tag: OnTag)
         requires below { tag < length self.old.slots }
         requires free { piece_at self.old.slots tag ≡ None }
@@ -275,7 +275,7 @@ impl TagTable {
         put(&mut self.slots, tag, on_tag);
     }
 
-    /// The piece of a tag comes back, with the completion and its sense.
+    /// Takes the piece of a tag back, with its completion and its sense data.
     pub fn finish(&mut self, tag: u8) -> Option<(Srb, Completion)>
         requires { length self.old.labels < 64 }
         ensures { MatchOption result ((piece_at self.old.slots tag ≡ None) × (self.new ≡ self.old)) (λ back. ComesBack self.old tag back.0 back.1 self.new) }
@@ -315,7 +315,7 @@ impl TagTable {
         }
     }
 
-    /// What a reset asks of the piece on a tag: its number, what it has done, and whether a reset met it before.
+    /// What a reset has to know of the piece on a tag: its number, what it has done, and whether a reset met it before.
     fn met(&self, tag: u8) -> Option<(u128, Progress, bool)>
         ensures { result ≡ option_map met_of (piece_at self.now.slots tag) }
     {
@@ -325,7 +325,7 @@ impl TagTable {
         }
     }
 
-    /// The piece on a tag has met a reset, and has done this.
+    /// Notes that the piece on a tag has met a reset, and has done this.
     fn mark_reset(&mut self, tag: u8, progress: Progress)
         requires below { tag < length self.old.slots }
         requires acted { (on : OnTag) → piece_at self.old.slots tag ≡ Some on → on.progress ≡ Moved → progress ≡ Moved }
@@ -365,7 +365,7 @@ impl TagTable {
         Progress::Failed(met_reset())
     }
 
-    /// The earliest label leaves.
+    /// Takes the earliest label.
     pub fn take_label(&mut self) -> Option<DeviceLabel>
         ensures { MatchOption result ((self.old.labels ≡ []) × (self.new ≡ self.old)) (λ label. (rest : List DeviceLabel) × (self.old.labels ≡ label ∷ rest) × (self.new ≡ record self.old { labels = rest })) }
     {
@@ -373,7 +373,7 @@ impl TagTable {
         Some(tell(label, self.slots.as_slice()))
     }
 
-    /// All labels leave, and nobody reads them.
+    /// Forgets all labels.
     pub fn forget_labels(&mut self)
         ensures { self.new ≡ record self.old { labels = [] } }
     {

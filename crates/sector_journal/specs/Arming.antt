@@ -1,11 +1,11 @@
--- The SRB by which a piece acts on the sectors, and its own at the adapter.
+-- The SRB by which a piece acts on the sectors, and the piece's own at the adapter.
 use Rattle.std.specs.Prelude.{◌≡◌, ℕ, Bool, length}
 use Rattle.cdb.specs.Meaning.{AsksToWrite}
 use Rattle.srb.specs.declared.Srb.{Srb}
 use Rattle.srb.specs.declared.Kind.{Kind}
 use Rattle.srb.specs.declared.Kind.TheVariants.{Write}
 
--- they ask for the same: a write's bytes are the same, a read's place is as long
+-- the two SRBs ask for the same: a write's bytes are the same, and a read's data are as long
 pub record AskTheSame (one other : Srb) : Type 0 where
   pub same_block : one.block ≡ other.block
   pub as_long : length one.data ≡ length other.data

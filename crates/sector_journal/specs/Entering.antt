@@ -40,13 +40,13 @@ abbrev pub outcome_of : Srb → Result (List ℕ) Completion → Outcome
 outcome_of srb (Ok bytes) = Moved (with_data bytes srb)
 outcome_of srb (Err completion) = Failed srb completion
 
--- the command that the SRB asks for fits no row of the table by which a disk fails commands
+-- the SRB's command fits no row of the table by which a disk fails commands
 pub record FitsNoRow (medium : MediumView) (write_protected : Bool) (srb : Srb) : Type 0 where
   pub command : Cdb
   pub means : Means srb.block command
   pub no_fault : fault_of (disk_of medium write_protected) srb (Ok command) ≡ None
 
--- the first row that fits fails it with this completion
+-- the first row that fits fails the SRB's command with this completion
 pub record FailsByRow (medium : MediumView) (write_protected : Bool) (srb : Srb) (completion : Completion) : Type 0 where
   pub decoded : Result Cdb CdbFault
   pub decodes : Decodes srb.block decoded

@@ -24,13 +24,13 @@ pub record JournalView : Type 0 where
   pub write_protected : Bool
   -- what acts did, in their order, each with its arming
   pub entered : List Entered
-  -- the entries for which there is room, those that are there among them
+  -- for how many entries there is room, those that are there among them
   pub places : ℕ
   -- for each tag the piece that may act
   pub slots : List (Option Armed)
   -- all that was ever armed, in its order
   pub armings : List Armed
-  -- what open requests may move
+  -- the reservations: what open requests may move
   pub reservations : List Reservation
   -- for how many pieces of this many bytes there are buffers
   pub room : List ShelfView
@@ -52,11 +52,11 @@ pub record IsOfArming (size sectors : ℕ) (armings : List Armed) (entered : Ent
   pub is_tag : entered.entry.tag ≡ armed.tag
   pub of_srb : IsOfSrb size sectors armed.srb entered.entry
 
--- each entry is of its arming
+-- each entry is of the arming that it names
 abbrev pub AreOfArmings : MediumView → List Armed → List Entered → Type 0
 AreOfArmings medium armings entered = All (IsOfArming medium.sector_size (length medium.sectors) armings) entered
 
--- a piece has a sector at least, and what a write may move is reserved in the medium
+-- a piece has at least one sector, and what a write may move is reserved in the medium
 pub record IsHeld (medium : MediumView) (reservation : Reservation) : Type 0 where
   pub some : 1 ≤ reservation.max_transfer
   pub reserved : reservation.kind ≡ Write → IsReserved medium reservation.extent
@@ -78,14 +78,15 @@ pub record IsNew (medium : MediumView) (depth : ℕ) (write_protected : Bool) (j
   pub no_arming : journal.armings ≡ []
   pub none_open : journal.reservations ≡ []
 
--- there may be more room for entries and in the medium, and nothing else changed
+-- there may be more room for entries and in the medium, and nothing else has changed
 pub record GainsRoom (old new : JournalView) : Type 0 where
   pub medium : Reserves old.medium new.medium
   pub more : old.places ≤ new.places
   pub buffers : (long : ℕ) → pieces_at new.room long ≡ pieces_at old.room long
   pub after : new ≡ record old { medium = new.medium; places = new.places; room = new.room }
 
--- there is room for what the request may move: for an entry of each piece of all open requests, and for the buffers of its own pieces beside all others
+-- there is room for what the request may move: for an entry of each piece of all open requests, and for the buffers of
+-- its own pieces beside all others
 pub record Admits (old : JournalView) (reservation : Reservation) (new : JournalView) : Type 0 where
   pub medium : Reserves old.medium new.medium
   pub held : IsHeld new.medium reservation
@@ -93,7 +94,7 @@ pub record Admits (old : JournalView) (reservation : Reservation) (new : Journal
   pub buffers : (long : ℕ) → pieces_at new.room long ≡ pieces_at old.room long + pieces_with old.medium.sector_size long reservation
   pub after : new ≡ record old { medium = new.medium; places = new.places; room = new.room; reservations = old.reservations ++ reservation ∷ [] }
 
--- the first reservation of the request, if there is one, is no more
+-- the first reservation of the request is gone, if there was one
 abbrev pub without : ℕ → List Reservation → List Reservation → Type 0
 without request old new = MatchOption (position (is_of request) old) (new ≡ old) (λ at. new ≡ remove old at)
 
@@ -129,11 +130,11 @@ pub record Disarms (old : JournalView) (tag : ℕ) (new : JournalView) : Type 0 
   pub no_less : (long : ℕ) → pieces_at old.room long ≤ pieces_at new.room long
   pub after : new ≡ record old { slots = slice_set old.slots tag None; room = new.room }
 
--- an entry, of this arming
+-- an entry, with the number of its arming
 abbrev pub of_arming : ℕ → Entry → Entered
 of_arming number entry = record { arming = number; entry = entry }
 
--- what came of it, in the medium and in the entries
+-- what came of the act, in the medium and in the entries
 abbrev pub Does : JournalView → ℕ → ℕ → Armed → Result ℕ Completion → JournalView → Type 0
 Does old tag piece armed (Ok number) new =
     (entry : Entry) × (number ≡ length old.entered) × Enters old.medium old.write_protected tag piece armed.srb entry new.medium × (new.entered ≡ old.entered ++ of_arming armed.number entry ∷ [])

@@ -45,11 +45,12 @@ pieces_by Flush count most = 1
 abbrev pub pieces_of : Reservation → ℕ
 pieces_of reservation = pieces_by reservation.kind reservation.extent.count reservation.max_transfer
 
--- the pieces of one length, which is this
+-- this many pieces where their length is this one, else none
 abbrev pub of_length : ℕ → ℕ → ℕ → ℕ
 of_length pieces bytes long = if bytes == long then pieces else 0
 
--- the pieces of this many bytes that a transfer is cut into: those of full length, and the last; a flush has none
+-- how many pieces of this many bytes a transfer is cut into: those of full length, and the last; a flush is one, of no
+-- bytes
 abbrev pub lengths_by : Kind → ℕ → ℕ → ℕ → ℕ → ℕ
 lengths_by Read count most size long = of_length (count / most) (most * size) long + of_length (min (count % most) 1) (count % most * size) long
 lengths_by Write count most size long = of_length (count / most) (most * size) long + of_length (min (count % most) 1) (count % most * size) long

@@ -25,7 +25,7 @@ fn extent(first: u64, count: u32) -> Extent
     }
 }
 
-/// Returns what a command names: of a read capacity nothing.
+/// Returns the kind and the extent that a command names. A READ CAPACITY names none.
 fn named_by(command: Cdb) -> Option<(Kind, Extent)>
     ensures { result ≡ named command }
 {
@@ -41,7 +41,7 @@ fn named_by(command: Cdb) -> Option<(Kind, Extent)>
     }
 }
 
-/// Returns what a block names, where it asks for a transfer or a flush.
+/// Returns the kind and the extent that a block names, where it asks for a transfer or a flush.
 pub(crate) fn named_in(block: &[u8]) -> Option<(Kind, Extent)>
     ensures by_meaning { (command : Cdb) → Means block.now command → result ≡ named command }
     ensures names { IfSome result (λ what. Names block.now what) }
@@ -80,7 +80,7 @@ fn write<M: Medium>(medium: &mut M, lba: u64, count: u32, srb: Srb) -> Result<By
     }
 }
 
-/// Carries a command out that only a bad sector can fail: the bytes that it moved, in the SRB's own memory.
+/// Carries out a command that only a bad sector can fail. Returns the bytes that it moved, in the SRB's own memory.
 fn perform<M: Medium>(medium: &mut M, command: Cdb, srb: Srb) -> Result<Bytes, Completion>
     requires passes { (write_protected : Bool) × Passes (sizes_of (M.view medium.old) write_protected) srb command }
     requires ready { IsReady (M.view medium.old) srb }
@@ -100,8 +100,9 @@ fn perform<M: Medium>(medium: &mut M, command: Cdb, srb: Srb) -> Result<Bytes, C
     }
 }
 
-/// Carries the SRB of a piece out on a medium, by the table of the adapter in memory: its entry, or how it failed. The entry
-/// has the very memory of the SRB's data; a read's bytes are copied once, out of the medium, a write's once, into it.
+/// Carries out the SRB of a piece on a medium, by the table of the adapter in memory. Returns its entry, or how it
+/// failed. The entry has the very memory of the SRB's data: a read's bytes are copied once, out of the medium, and a
+/// write's once, into it.
 pub fn enter<M: Medium>(
     medium: &mut M,
     write_protected: bool,

@@ -40,10 +40,10 @@ pub struct Journal<M: Medium, N: Naming> {
     medium: M,
     write_protected: bool,
     entries: Vec<Entered>,
-    /// The pieces of all open requests, those that acted among them.
+    /// How many pieces the open requests have, those that acted among them.
     promised: usize,
     slots: Slots,
-    /// The armings so far.
+    /// How many armings there were so far.
     armings: u64,
     reservations: Vec<Reservation>,
     stock: Stock,
@@ -91,7 +91,7 @@ fn own_data(srb: &Srb, kind: Kind, place: Bytes) -> Bytes
     }
 }
 
-/// The journal's own SRB of a piece, with this buffer; its acts have no label, and want no room for one.
+/// The journal's own SRB of a piece, with this buffer. Its act has no label, and needs no room for one.
 fn own_srb(alloc: Global, srb: &Srb, kind: Kind, place: Bytes) -> Srb
     requires { IsOfLength place (length srb.now.data) }
     ensures { IsCopy kind srb.now result }
@@ -106,7 +106,7 @@ fn own_srb(alloc: Global, srb: &Srb, kind: Kind, place: Bytes) -> Srb
     }
 }
 
-/// The pieces of both batches.
+/// How many pieces both batches have.
 fn pieces_in(batches: &(Batch, Batch)) -> usize
     requires { batches.now.0.pieces + batches.now.1.pieces < 2 ^ 64 }
     ensures { result ≡ batches.now.0.pieces + batches.now.1.pieces }
@@ -158,8 +158,8 @@ fn find_request(reservations: &[Reservation], request: u64) -> Option<usize>
 }
 
 impl<M: Medium, N: Naming> Journal<M, N> {
-    /// A journal of these sectors, one at least, with no entry, no armed piece and no open request; and the words of its
-    /// histories. `depth` is the number of tags.
+    /// A journal of these sectors, at least one, with no entry, no armed piece and no open request; and the words of
+    /// its histories. `depth` is the number of tags.
     ///
     /// # Errors
     ///
@@ -232,7 +232,7 @@ impl<M: Medium, N: Naming> Journal<M, N> {
         self.entries.as_slice()
     }
 
-    /// The entries give the sectors, replayed from those that the journal was opened with.
+    /// Shows the caller that the entries, replayed from the sectors that the journal was opened with, give its sectors.
     pub fn shows_rule(&self)
         ensures { Replays self.now.medium.sector_size N.opening (entries_of self.now) self.now.medium.sectors }
     {
@@ -240,27 +240,29 @@ impl<M: Medium, N: Naming> Journal<M, N> {
         let _slots = &self.slots;
     }
 
-    /// What the journal was opened with are sectors of the size of its medium's.
+    /// Shows the caller that the journal was opened with sectors of the size of its medium's.
     pub fn shows_opening(&self)
         ensures { All (IsSector self.now.medium.sector_size) N.opening }
     {
         let _slots = &self.slots;
     }
 
-    /// Each entry is of the piece that was armed under the number that it names, and of what its SRB asks for.
+    /// Shows the caller that each entry is of the piece that was armed under the number that it names, and of what its
+    /// SRB asks for.
     pub fn shows_armings(&self)
         ensures { AreOfArmings self.now.medium self.now.armings self.now.entered }
     {
         let _slots = &self.slots;
     }
 
-    /// Makes room for the acts of a request: for their entries beside those of all open requests, for the buffers of its
-    /// pieces, and in the medium for a write. `extent` is on the disk; of a flush it says nothing. The pieces are cut by
-    /// `max_transfer`, in sectors, which is 1 at least. No other call takes memory.
+    /// Makes room for the acts of a request: for their entries beside those of all open requests, for the buffers of
+    /// its pieces, and in the medium for a write. `extent` is on the disk; that of a flush is ignored. The pieces are
+    /// cut by `max_transfer`, in sectors, at least 1. No other call takes memory.
     ///
     /// # Errors
     ///
-    /// Where memory was refused; there may then be room for more entries and in the medium, and there are no more buffers.
+    /// Where memory was refused; there may then be room for more entries and in the medium, and there are no more
+    /// buffers.
     pub fn reserve(
         &mut self,
         request: u64,
@@ -293,7 +295,7 @@ impl<M: Medium, N: Naming> Journal<M, N> {
         Ok(())
     }
 
-    /// A request was answered: what was reserved for it and not used serves others, or is given back.
+    /// Notes that a request was answered. What was reserved for it and not used serves others, or is given back.
     pub fn release(&mut self, request: u64)
         ensures { Releases self.old request self.new }
     {
@@ -312,9 +314,9 @@ impl<M: Medium, N: Naming> Journal<M, N> {
             .withdraw(last, self.slots.armed_with(last.length));
     }
 
-    /// Lets a piece act on a tag, by a copy of its SRB in room that was reserved. True exactly where the tag is there and
-    /// free, the block asks for a read, a write or a flush within an open request's, and there is a buffer for the length of
-    /// its data, a place for its entry and a number for the arming; else nothing changes.
+    /// Lets a piece act on a tag, by a copy of its SRB in room that was reserved. True exactly where the tag is there
+    /// and free, the block asks for a read, a write or a flush within an open request's, and there is a buffer for the
+    /// length of its data, a place for its entry and a number for the arming. Else nothing changes.
     pub fn arm(&mut self, history: &History<N>, tag: u8, piece: u128, srb: &Srb) -> bool
         ensures decides { Decides result (MayArm self.old tag srb.now) }
         ensures arms { MatchBool result (Arms self.old tag piece srb.now self.new) (self.new ≡ self.old) }
@@ -344,7 +346,7 @@ impl<M: Medium, N: Naming> Journal<M, N> {
         true
     }
 
-    /// No piece may act on a tag any more; its room is there for another.
+    /// Lets no piece act on a tag any more. The room of its piece is there for another.
     pub fn disarm(&mut self, tag: u8)
         ensures { Disarms self.old tag self.new }
     {
@@ -353,8 +355,8 @@ impl<M: Medium, N: Naming> Journal<M, N> {
         }
     }
 
-    /// The piece of a tag acts: the number of its entry, or how it failed. It may not act again. None, and nothing changes,
-    /// where the tag isn't armed for it.
+    /// Lets the piece of a tag act. Returns the number of its entry, or how it failed. It may not act again. `None`,
+    /// and nothing changes, where the tag isn't armed for this piece.
     pub fn act(
         &mut self,
         history: &History<N>,
@@ -401,7 +403,7 @@ impl<M: Medium, N: Naming> Journal<M, N> {
         self.entered.claim(&history.entries, at, &self.entries[at])
     }
 
-    /// Each entry that was receipted stands at its number.
+    /// Shows the caller that each entry that was receipted stands at its number.
     pub fn check(&mut self, history: &History<N>, receipts: &mut Claims<Entered, OfEntries<N>>)
         ensures same { (self.new ≡ self.old) × (receipts.new ≡ receipts.old) }
         ensures stand { AllStand self.old.entered receipts.old }
@@ -425,7 +427,7 @@ impl<M: Medium, N: Naming> Journal<M, N> {
         )
     }
 
-    /// Each arming that was receipted stands at its number.
+    /// Shows the caller that each arming that was receipted stands at its number.
     pub fn check_armings(
         &mut self,
         history: &History<N>,

@@ -10,13 +10,13 @@ use std::marker::{Brand, PhantomData};
 /// program picks it: a function that is generic in it takes an [`Opened`](crate::Opened) and requires that this is the
 /// one named, and its caller passes `Brand`.
 pub trait Naming {
-    /// What was armed.
+    /// The history of what was armed.
     ghost armings: { TableId };
 
-    /// What acted.
+    /// The history of what acted.
     ghost entries: { TableId };
 
-    /// Each sector's bytes, in order.
+    /// The sectors that the journal was opened with: each sector's bytes, in order.
     ghost opening: { List (List ℕ) };
 }
 

@@ -40,14 +40,14 @@ impl Opened {
     }
 }
 
-// A history that nobody wants.
+// Ends a history that nobody needs.
 fn end<E, N: chronicle::Naming>(opened: chronicle::Opened<E>)
     requires { opened ≡ N.table }
 {
     let (_history, _whole) = opened.named::<N>();
 }
 
-/// The words of a journal's histories, which threads share by reference. They say nothing, and never change.
+/// The words of a journal's histories, which threads share by reference. They mean nothing, and never change.
 #[derive(Drop)]
 pub struct History<N: Naming>
 where

@@ -12,7 +12,7 @@ pub struct Reservation {
     /// The request, by whatever number its caller gave it.
     pub request: u64,
     pub kind: Kind,
-    /// On the disk; of a flush it says nothing.
+    /// The extent on the disk; that of a flush is ignored.
     pub extent: Extent,
     /// The most sectors of a piece, at least 1.
     pub max_transfer: u32,
@@ -22,7 +22,7 @@ pub struct Reservation {
 #[derive(Debug, Clone, Copy, PartialEq, Eq)]
 pub(crate) struct Batch {
     pub pieces: usize,
-    /// In bytes.
+    /// The length of a piece, in bytes.
     pub length: usize,
 }
 
@@ -80,7 +80,7 @@ impl Reservation {
         is_same(kind, self.kind) && (is_flush(kind) || lies_in(extent, self.extent))
     }
 
-    /// The pieces of full length, and the piece of what is left, if there is one: of a flush this is the only one.
+    /// The pieces of full length, and the piece of what is left, if there is one. A flush has only this one.
     pub(crate) fn batches(&self, sector_size: u32) -> (Batch, Batch)
         requires { 1 ≤ self.now.max_transfer }
         ensures together { result.0.pieces + result.1.pieces ≡ pieces_of self.now }

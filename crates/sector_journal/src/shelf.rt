@@ -7,13 +7,13 @@ use sector::Bytes;
 use std::alloc::{AllocError, Global};
 use std::marker::Model;
 
-/// The buffers of one length that are there. Contracts see the length, and for how many pieces they are.
+/// The buffers of one length that are there. Contracts see the length, and how many pieces they are for.
 #[derive(Debug, Drop)]
 pub(crate) struct Shelf {
     /// The length of each buffer, in bytes.
     bytes: usize,
     free: Vec<Bytes>,
-    /// The pieces of this length that the open requests have.
+    /// How many pieces of this length the open requests have.
     promised: usize,
 }
 
@@ -97,7 +97,7 @@ impl Shelf {
         self.free.truncate(self.free.len().saturating_sub(pieces));
     }
 
-    /// Drops what no open request can want.
+    /// Drops the buffers that no open request can need.
     fn trim(&mut self, out: usize)
         ensures { self.new.bytes ≡ self.old.bytes }
     {
@@ -112,14 +112,14 @@ impl Shelf {
         self.trim(out);
     }
 
-    /// The buffer of a piece.
+    /// Takes the buffer of a piece.
     pub fn take(&mut self) -> Option<Bytes>
         ensures { MatchOption result ((self.old.pieces ≡ 0) × (self.new ≡ self.old)) (λ b. IsOfLength b self.old.bytes × TakesOne self.old self.new) }
     {
         self.free.pop()
     }
 
-    /// The buffer of a piece that won't act.
+    /// Puts back the buffer of a piece that won't act.
     pub fn put(&mut self, buffer: Bytes)
         requires { IsOfLength buffer self.old.bytes }
         ensures same { self.new.bytes ≡ self.old.bytes }

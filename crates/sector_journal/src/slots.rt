@@ -12,7 +12,7 @@ use std::marker::Model;
 /// A piece that may act, with the journal's own copy of its SRB.
 #[derive(Debug, Drop)]
 pub struct Armed {
-    /// Its place among all armings, from 0.
+    /// The number of its arming among all, from 0.
     pub number: u64,
     pub tag: u8,
     pub piece: u128,
@@ -39,7 +39,7 @@ impl Model for Slots {
 }
 
 impl Slots {
-    /// No piece may act.
+    /// Slots with no piece that may act.
     pub fn new(alloc: Global, depth: u8) -> Result<Slots, AllocError>
         ensures { IfOk result (λ s. s ≡ replicate depth None) }
     {
@@ -90,7 +90,7 @@ impl Slots {
         }
     }
 
-    /// A piece may act on a free tag.
+    /// Lets a piece act on a free tag.
     pub fn put(&mut self, armed: Armed)
         requires { IsFree self.old armed.tag }
         ensures { self.new ≡ slice_set self.old armed.tag (Some armed) }

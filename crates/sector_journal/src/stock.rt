@@ -12,7 +12,7 @@ use sector::Bytes;
 use std::alloc::{AllocError, Global};
 use std::marker::Model;
 
-/// So many shelves stay though no open request has a piece for them: the next request is often as long.
+/// How many shelves stay although no open request has a piece for them: the next request is often as long.
 const SPENT_SHELVES: usize = 4;
 
 /// The buffers that armings have yet to take, by their length.
@@ -85,7 +85,7 @@ impl Stock {
         }
     }
 
-    /// These pieces won't come any more.
+    /// Counts pieces that won't come any more.
     pub fn withdraw(&mut self, batch: Batch, out: usize) {
         let Some(at) = self.find(batch.length) else {
             return;
@@ -96,7 +96,7 @@ impl Stock {
         }
     }
 
-    /// A buffer of this length, if a piece may have one.
+    /// Takes a buffer of this length, if a piece may have one.
     pub fn take(&mut self, length: usize) -> Option<Bytes>
         ensures { MatchOption result ((pieces_at self.old length ≡ 0) × (self.new ≡ self.old)) (λ b. IsOfLength b length × (pieces_at self.new length + 1 ≡ pieces_at self.old length) × ((long : ℕ) → long ≢ length → pieces_at self.new long ≡ pieces_at self.old long)) }
     {
@@ -104,7 +104,7 @@ impl Stock {
         self.shelves[at].take()
     }
 
-    /// The buffer of a piece that won't act.
+    /// Puts back the buffer of a piece that won't act.
     pub fn put(&mut self, buffer: Bytes)
         ensures { (long : ℕ) → pieces_at self.old long ≤ pieces_at self.new long }
     {

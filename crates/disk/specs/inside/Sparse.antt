@@ -9,7 +9,7 @@ use Rattle.disk.specs.Sparse.{ByNumber, held, chunk_length}
 abbrev pub AreWhole : ℕ → ℕ → ByNumber → Type 0
 AreWhole size sectors chunks = (number : ℕ) → ForSome (held chunks number) (λ bytes. length bytes ≡ chunk_length size sectors number)
 
--- where nothing stood at the number, this many zeros do; all else stays
+-- where nothing stood at the number, this many zeros stand there now; all else stays
 pub record PutsZeros (count number : ℕ) (old new : ByNumber) : Type 0 where
   pub here : held new number ≡ Some (unwrap_or (held old number) (replicate count 0))
   pub others : (other : ℕ) → other ≢ number → held new other ≡ held old other

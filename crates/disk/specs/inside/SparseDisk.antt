@@ -27,7 +27,7 @@ HasPartOf extent number = (sector : ℕ) × IsIn sector extent × (sector / 64 �
 abbrev pub MakesOne : ℕ → Chunks → Chunks → Type 0
 MakesOne number old new = (other : ℕ) → IsThere new other → IsThere old other ⊎ (other ≡ number)
 
--- only chunks may have come in which the extent has a part
+-- only chunks in which the extent has a part may have come
 abbrev pub MakesOf : Extent → Chunks → Chunks → Type 0
 MakesOf extent old new = (number : ℕ) → IsThere new number → IsThere old number ⊎ HasPartOf extent number
 

@@ -1,4 +1,4 @@
--- How a table of pieces is booked, and how a piece ends as it was booked.
+-- How something is booked in a table of pieces, and how a piece ends as it was booked.
 use Rattle.std.specs.Prelude.{◌≡◌, ◌≢◌, ℕ, ◌==◌, Bool, true, false, Some, None, Result}
 use Rattle.srb.specs.declared.Completion.{Completion}
 use Rattle.srb.specs.declared.Entry.{Entry}
@@ -16,7 +16,7 @@ use Rattle.miniport.specs.Once.{hardware_error}
 use Rattle.miniport.specs.inside.Slots.{Table, booked_with, piece_at, with_slot, with_moved, with_failed}
 use Rattle.miniport.specs.declared.carrying.Outcome.{Outcome}
 
--- this is to be booked of this piece, which isn't piece 0, and suits it
+-- the piece has this number, which isn't 0, and what is to be booked suits it
 pub record SuitsPiece (size sectors : ℕ) (on : OnTag) (piece : ℕ) (what : Result Entry Completion) : Type 0 where
   pub not_first : piece ≢ 0
   pub is_piece : on.piece ≡ piece
@@ -34,12 +34,12 @@ CannotBook sizes table tag piece what =
     (on : OnTag) → piece_at table.slots tag ≡ Some on → on.progress ≡ Untouched
     → ¬ SuitsPiece sizes.sector_size sizes.sectors on piece (handed_of tag piece on.srb what)
 
--- it is booked
+-- this is booked of the piece on the tag
 pub record BooksIn (sizes : Sizes) (table : Table) (tag piece : ℕ) (what : Booked) (table' : Table) : Type 0 where
   pub can : CanBook sizes table tag piece what
   pub after : table' ≡ with_slot tag (Some (booked_with what can.on)) (with_slot tag None table)
 
--- the piece acted by the bytes in its data
+-- the piece has acted, by the bytes in its data
 abbrev pub moved_as_booked : OnTag → OnTag
 moved_as_booked on = record on { progress = Done }
 

@@ -49,7 +49,7 @@ left_by Untouched = 2
 left_by Done = 1
 left_by (Refused completion) = 1
 
--- the failures that a piece may still count
+-- how many failures may still be counted for a piece
 abbrev pub failures_left : Option OnTag → ℕ
 failures_left None = 0
 failures_left (Some on) = if on.was_reset then 0 else left_by on.progress

@@ -17,7 +17,7 @@ abbrev pub HasActed : Option OnTag → Type 0
 HasActed None = ⊥
 HasActed (Some on) = on.progress ≡ Moved
 
--- the label, which tells of an act the data of its piece
+-- the label as it is taken: that of an act has the data of its piece
 abbrev pub told : List (Option OnTag) → Recorded → DeviceLabel
 told slots (Told label) = label
 told slots (Acted piece tag room) = Act piece (data_of (piece_at slots tag))

@@ -53,7 +53,7 @@ in_use_of size tag on = record {
   booked = has_bytes on.booking;
 }
 
--- the tags in use, the slots being those from this tag on
+-- the tags in use among these slots, of which the first is that of this tag
 abbrev pub tags_of : ℕ → ℕ → List (Option OnTag) → List TagInUse
 tags_of size tag [] = []
 tags_of size tag (None ∷ slots) = tags_of size (suc tag) slots
@@ -98,14 +98,14 @@ with_new tag piece srb table = record table {
 abbrev pub emptied : List ℕ → Srb → Srb
 emptied bytes srb = record srb { «data» = bytes; for_label = 0 }
 
--- the piece acted, and is this now; its bytes stand in its data, and in the label in the room that was for them
+-- the table once the piece has acted and is this; its bytes stand in its data, and the label has the room for them
 abbrev pub with_moved : ℕ → OnTag → Table → Table
 with_moved tag on table = record table {
   slots = slice_set table.slots tag (Some (record on { srb = emptied on.srb.data on.srb }));
   labels = table.labels ++ Act on.piece on.srb.data ∷ [];
 }
 
--- the piece failed, and is this now
+-- the table once the piece has failed and is this
 abbrev pub with_failed : ℕ → OnTag → Table → Table
 with_failed tag on table = record table {
   slots = slice_set table.slots tag (Some on);
@@ -113,7 +113,7 @@ with_failed tag on table = record table {
   labels = table.labels ++ Fault on.piece ∷ [];
 }
 
--- the bytes of the entry may become these data: as many, and but for a read the same
+-- the bytes of the entry may become these data: there are as many and, unless it is a read, they are the same
 pub record MayBecome (entry : Entry) (place : List ℕ) : Type 0 where
   pub as_many : length entry.bytes ≡ length place
   pub same : entry.kind ≢ Read → entry.bytes ≡ place
@@ -136,7 +136,7 @@ abbrev pub booked_piece : Result Entry Completion → OnTag → OnTag
 booked_piece (Ok entry) on = record on { srb = with_data entry.bytes on.srb; booking = Bytes }
 booked_piece (Err completion) on = record on { booking = Failure completion }
 
--- the piece left
+-- the table once the piece has left
 abbrev pub with_returned : ℕ → OnTag → Table → Table
 with_returned tag on table = record table {
   slots = slice_set table.slots tag None;
@@ -169,11 +169,11 @@ abbrev pub labels_of_reset : Option OnTag → List DeviceLabel
 labels_of_reset None = []
 labels_of_reset (Some on) = labels_by on.piece on.progress
 
--- what a reset asks of a piece
+-- what a reset has to know of a piece
 abbrev pub met_of : OnTag → ℕ × Progress × Bool
 met_of on = (on.piece, on.progress, on.was_reset)
 
--- a slot's reset counted and recorded
+-- the table with the reset of a slot counted and recorded
 abbrev pub with_reset_counted : Option OnTag → Table → Table
 with_reset_counted slot table = record table {
   failures = table.failures + failures_of_reset slot;
@@ -183,7 +183,7 @@ with_reset_counted slot table = record table {
 abbrev pub with_reset_at : ℕ → Table → Table
 with_reset_at tag table = with_slot tag (slot_after_reset (piece_at table.slots tag)) (with_reset_counted (piece_at table.slots tag) table)
 
--- the first slots reset
+-- the table with its first slots reset
 abbrev pub with_first_reset : ℕ → Table → Table
 with_first_reset count table = record table {
   slots = map slot_after_reset (take count table.slots) ++ drop count table.slots;
@@ -200,7 +200,7 @@ with_reset table = record table {
 
 -- WHAT A CALL FINDS
 
--- no piece on the tag that has done nothing yet
+-- the tag has no piece that has done nothing yet
 abbrev pub HasNoneUntouched : List (Option OnTag) → ℕ → Type 0
 HasNoneUntouched slots tag = (on : OnTag) → piece_at slots tag ≡ Some on → on.progress ≢ Untouched
 

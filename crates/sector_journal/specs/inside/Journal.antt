@@ -31,7 +31,7 @@ pub record JournalKept (opening : List (List ℕ)) (medium : MediumView) (entere
   pub replays : Replays medium.sector_size opening (entries_in entered) medium.sectors
   pub of_armings : AreOfArmings medium armings entered
   pub some : 1 ≤ length medium.sectors
-  -- what it was opened with are sectors of the same size
+  -- the journal was opened with sectors of the same size
   pub whole : All (IsSector medium.sector_size) opening
   pub ready : (tag : ℕ) (armed : Armed) → armed_at slots tag ≡ Some armed → MayAct medium armings tag armed
   -- each armed piece has a place for its entry
