@@ -87,7 +87,7 @@ row_of SurpriseRequest RemovePending q label h k = (refl, cc (h), cc (k))
 row_of SurpriseRequest Removing q label h k = cc (h)
 row_of SurpriseRequest Removed q label h k = cc (h)
 
--- none is told of a query that is taken back and not pending, and of nothing else
+-- a query is taken back with no label only where none is pending
 unasked : (p : PnpState) → label_of CancelRequest p ≡ None → p ≡ Started
 unasked Started none = refl
 unasked RemovePending none = cc (none)

@@ -15,7 +15,7 @@ pub data Event : Type 0 where
   SurpriseRemove : Event
   Drained : Event
 
--- as such a request moves it
+-- the event that a request of the PnP manager is
 abbrev pub event_of : Request → Event
 event_of QueryRequest = QueryRemove
 event_of CancelRequest = CancelRemove

@@ -47,7 +47,7 @@ pub enum Request {
 pub struct InvalidDeviceRequest;
 
 impl State {
-    /// The state after a request, which is refused where the call of its own is.
+    /// Moves the device by a request, as the call of the request's name does.
     pub fn next(self, request: Request) -> Result<State, InvalidDeviceRequest>
         ensures { result_ok result ≡ next (event_of request) self }
     {
