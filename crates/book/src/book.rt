@@ -163,8 +163,8 @@ impl<N: Naming> Book<N> {
         self.traced.take_answer(number)
     }
 
-    /// Whenever a book is at rest, its trace is a run from the state that it was opened with to the state that the
-    /// stack shows, each label in its row. It does nothing; its contract is for callers.
+    /// Shows the caller that the trace of a book at rest is a run from the state that it was opened with to the state
+    /// that the stack shows, each label in its row.
     pub fn shows_whole(&self)
         ensures { IsTraced N.rules N.start N.partitions N.handles self.now.traced }
     {

@@ -1,3 +1,4 @@
+-- What no reader of the public clauses needs.
 pub mod Blocks
 pub mod Driver
 pub mod DuringACall

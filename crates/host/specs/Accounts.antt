@@ -23,7 +23,8 @@ pub record AccountView : Type 0 where
   pub called : ReceiptsView
   pub answered : ReceiptsView
 
--- calls and answers of its own, the calls in rising places, as many as its share has counted; and its handle is open on its partition
+-- the receipts are of calls and answers of its own, the calls in rising places, as many as its share has counted; its
+-- handle is open on its partition
 pub record AccountKept (handles : List (Option OpenHandle)) (partitions : List ℕ) (share : ShareView) (called answered : List Receipt) : Type 0 where
   pub counted : share.calls ≡ length called
   pub calls : AreCalls share.client called
@@ -46,7 +47,7 @@ pub record IsCalled (partition : ℕ) (old : AccountView) (t : TicketView) (call
   pub called : new.called.list ≡ old.called.list ++ t.call
   pub answered : new.answered ≡ old.answered
 
--- the receipts of a call that the book refused, above all others of the client, with its answer right behind it
+-- the receipts are of a call that the book refused, above all others of the client, and of its answer right behind it
 pub record AreAnsweredAt (partition : ℕ) (call : Call) (reason : Why) (places : Places) (client : ℕ) (called answered called' answered' : List Receipt) : Type 0 where
   pub number : ℕ
   pub behind : places.answer ≡ places.call + 1
@@ -55,7 +56,7 @@ pub record AreAnsweredAt (partition : ℕ) (call : Call) (reason : Why) (places 
   pub called_is : called' ≡ called ++ receipt places.call (CallLabel number (without_bytes (request_of partition call))) client
   pub answered_is : answered' ≡ answered ++ receipt places.answer (AnswerLabel number (status_of_refusal reason) 0 []) client
 
--- a call that the book turned down: with two labels, or with none
+-- the book turned a call down, with two labels or with none
 abbrev pub HasLabels : ℕ → AccountView → Call → Reason → Option Places → AccountView → Type 0
 HasLabels partition old call (Refused reason) None new = IsWant reason × (new.called.list ≡ old.called.list) × (new.answered.list ≡ old.answered.list)
 HasLabels partition old call (Refused reason) (Some places) new = AreAnsweredAt partition call reason places old.share.client old.called.list old.answered.list new.called.list new.answered.list
@@ -67,7 +68,7 @@ pub record IsTurnedDown (partition : ℕ) (old : AccountView) (call : Call) (ref
   pub room : old.answered.room ≤ new.answered.room + 1
   pub labels : HasLabels partition old call refusal.reason refusal.places new
 
--- the answer to a ticket's request, which stands behind its call
+-- the answer to a ticket's request was taken; it stands behind its call
 pub record IsTaken (old : AccountView) (number call : ℕ) (answered : Answered) (new : AccountView) : Type 0 where
   pub call_is : answered.places.call ≡ call
   pub behind : call < answered.places.answer

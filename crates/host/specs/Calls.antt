@@ -25,7 +25,7 @@ event_of handle (Read offset buffer) = ReadEvent handle offset buffer
 event_of handle (Write offset bytes through) = WriteEvent handle offset bytes through
 event_of handle Flush = FlushEvent handle
 
--- the caller's bytes
+-- the bytes that a call hands in
 abbrev pub buffer_of : Call → List ℕ
 buffer_of (Read offset buffer) = buffer
 buffer_of (Write offset bytes through) = bytes
@@ -49,7 +49,7 @@ request_of partition Flush = asked partition FlushKind 0 [] false
 
 -- WHAT IS TOLD OF A CALL
 
--- the first call from a place on, or that there is none
+-- this is the place of the first call from a place on, or there is none
 abbrev pub FindsCall : ℕ → List TraceEntry → Option ℕ → Type 0
 FindsCall from entries (Some place) = (from ≤ place) × ((e : TraceEntry) × (slice_get entries place ≡ Some e) × (is_call e.label ≡ true))
 FindsCall from entries None = (place : ℕ) (e : TraceEntry) → from ≤ place → slice_get entries place ≡ Some e → is_call e.label ≡ false
@@ -58,13 +58,13 @@ FindsCall from entries None = (place : ℕ) (e : TraceEntry) → from ≤ place 
 abbrev pub Stands : List TraceEntry → ℕ → Label → ℕ → Type 0
 Stands entries place label client = slice_get entries place ≡ Some (entry label (Some client))
 
--- the share has counted so many calls
+-- the share has counted this many more calls
 pub record HasCounted (old : ShareView) (calls : ℕ) (new : ShareView) : Type 0 where
   pub client : new.client ≡ old.client
   pub handle : new.handle ≡ old.handle
   pub more : new.calls ≡ old.calls + calls
 
--- a request was opened
+-- the call opened a request
 pub record IsOpened (slots : ℕ) (old new : ShareView) (q : ClientRequest) (entries : List TraceEntry) (slot number place : ℕ) : Type 0 where
   pub counted : HasCounted old 1 new
   pub called : Stands entries place (CallLabel number q) old.client
@@ -72,7 +72,7 @@ pub record IsOpened (slots : ℕ) (old new : ShareView) (q : ClientRequest) (ent
   pub some_number : 0 < number
   pub small : number < 2 ^ 62
 
--- a call was answered at once, with its answer right behind it
+-- the call was answered at once, and its answer stands right behind it
 pub record IsAnsweredAtOnce (old new : ShareView) (q : ClientRequest) (entries : List TraceEntry) (number : ℕ) (answer : Label) (place : ℕ) : Type 0 where
   pub counted : HasCounted old 1 new
   pub called : Stands entries place (CallLabel number (without_bytes q)) old.client

@@ -24,7 +24,7 @@ use Rattle.host.specs.Calls.{buffer_of, request_of}
 use Rattle.host.specs.Tickets.{TicketView}
 use Rattle.host.specs.Accounts.{AccountView, AreAnsweredAt, told_request}
 
--- a client has at most so many tickets out
+-- how many tickets a client may have out
 abbrev pub ticket_limit : ℕ
 ticket_limit = 64
 
@@ -49,7 +49,8 @@ pub record AreNumbered (count : ℕ) (clients : List ClientView) : Type 0 where
 
 -- WHAT A CLIENT KEEPS
 
--- a pass of the gate that has a hold for each ticket, of its quota, a seat at the marks, and room for the answers of all tickets
+-- the client has a pass of the gate with a hold for each ticket that is out, a seat at the marks, and room for the
+-- answers to all tickets
 pub record ClientKept (gate marks : TableId) (account : AccountView) (pass : PassStanding) (seat : SeatStanding) (out : ℕ) : Type 0 where
   pub gate_is : pass.gate ≡ gate
   pub quota : pass.view.quota ≡ ticket_limit
@@ -74,7 +75,8 @@ pub record HasNoReceipt (old new : ClientView) : Type 0 where
   pub called : new.called ≡ old.called
   pub answered : new.answered ≡ old.answered
 
--- why no receipt came: the pass saw the gate closed, or all tickets are out; else for want of memory, or of a number for the call
+-- why no receipt came: the pass saw the gate closed, or all tickets are out; else there was no memory, or no number for
+-- the call
 abbrev pub IsWithoutReceipt : ClientView → Reason → ClientView → Type 0
 IsWithoutReceipt old (Refused DeletePending) new = new.pass.saw_closed ≡ true
 IsWithoutReceipt old (Refused reason) new = IsWant reason
@@ -92,7 +94,7 @@ HasNoHold (Refused DeletePending) old new = (new.holds ≡ old.holds) × (new.qu
 HasNoHold (Refused _) old new = ⊥
 HasNoHold TooManyTickets old new = (new ≡ old) × (old.holds ≡ old.quota)
 
--- no ticket, and the caller's bytes
+-- the call got no ticket, and the caller's bytes come back
 pub record IsRefused (partition : ℕ) (old : ClientView) (call : Call) (refusal : Refusal) (new : ClientView) : Type 0 where
   pub bytes : refusal.bytes ≡ buffer_of call
   pub client : new.client ≡ old.client
@@ -102,7 +104,7 @@ pub record IsRefused (partition : ℕ) (old : ClientView) (call : Call) (refusal
 
 -- WAITING
 
--- the answer to the ticket's request, which stands behind its call; the ticket's hold is given back
+-- the client was told the answer to the ticket's request, which stands behind its call; the ticket's hold is given back
 pub record IsWaited (old : ClientView) (t : TicketView) (answered : Answered) (new : ClientView) : Type 0 where
   pub call : answered.places.call ≡ t.place
   pub behind : t.place < answered.places.answer
@@ -112,7 +114,7 @@ pub record IsWaited (old : ClientView) (t : TicketView) (answered : Answered) (n
 
 -- MARKING
 
--- what the mark on the request of a number met: none is made where it was answered at once
+-- what the mark on the request of a number met; no mark is made where the call was answered at once
 abbrev pub IsMarked : Option ℕ → ℕ → SeatView → Marking → SeatView → Type 0
 IsMarked None number old marking new = (marking ≡ Gone) × (new ≡ old)
 IsMarked (Some slot) number old marking new = IsAnswer marking slot number old new

@@ -43,8 +43,8 @@ abbrev pub call_places : ℕ → ℕ → List TraceEntry → List ℕ
 call_places c from [] = []
 call_places c from (e ∷ es) = if is_call_of c e then from ∷ call_places c (suc from) es else call_places c (suc from) es
 
--- The trace and the rows of a closed host, with what its clients have receipts of: the trace is a run of the machine
--- from the opening state, and each call is in the row of the one client that made it, and an answer in its call's
+-- the trace and the rows of a closed host, with the receipts of its clients: the trace is a run of the machine from the
+-- opening state; each call is in the row of the one client that made it, and an answer in its call's
 pub record IsClosed (rules : Rules) (opening : State) (clients : List ClientView) (trace : List TraceEntry) (rows : List RowView) : Type 0 where
   pub last : State
   pub run : Run rules opening (labels_of trace) last
@@ -56,7 +56,7 @@ pub record IsClosed (rules : Rules) (opening : State) (clients : List ClientView
   -- each row's calls are just its client's, in its order
   pub calls : (c : ℕ) → c < length clients → call_places c 0 trace ≡ places_of (client_at clients c).called
 
--- these labels are a run, and whichever run they are, nothing is open or out at its end
+-- these labels are a run, and nothing is open or out at the end of any such run
 pub record LeaveNothing (rules : Rules) (opening : State) (labels : List Label) : Type 0 where
   pub last : State
   pub run : Run rules opening labels last

@@ -37,24 +37,24 @@ is_notice Removed label = is_removed label
 abbrev pub HasNone : Notice → ℕ → List TraceEntry → Type 0
 HasNone notice from entries = (place : ℕ) (e : TraceEntry) → from ≤ place → slice_get entries place ≡ Some e → is_notice notice e.label ≡ false
 
--- the first from a place on, or that there is none
+-- this is the place of the first such label from a place on, or there is none
 abbrev pub FindsNotice : Notice → ℕ → List TraceEntry → Option ℕ → Type 0
 FindsNotice notice from entries (Some place) = (from ≤ place) × ((e : TraceEntry) × (slice_get entries place ≡ Some e) × (is_notice notice e.label ≡ true))
 FindsNotice notice from entries None = HasNone notice from entries
 
--- one receipt of this label, which stands in no client's row, at a place from this one on
+-- there is one receipt, of this label, which stands in no client's row, at a place from this one on
 pub record IsNoticed (from : ℕ) (label : Label) (claim : List Receipt) : Type 0 where
   pub place : ℕ
   pub late : from ≤ place
   pub claim_is : claim ≡ (place, entry label None) ∷ []
 
--- one receipt more, of this label, at a place above all before
+-- there is one more receipt, of this label, at a place above all before
 pub record HasNoted (label : Label) (old new : List Receipt) : Type 0 where
   pub place : ℕ
   pub above : AreBelow place old
   pub adds : new ≡ old ++ (place, entry label None) ∷ []
 
--- such a receipt where a keeper's call was accepted, and else none
+-- there is one more receipt where a keeper's call was accepted, else none
 pub record HasNotedIfOk (label : Label) (reply : Reply) (old new : List Receipt) : Type 0 where
   pub accepted : reply ≡ OkReply → HasNoted label old new
   pub otherwise : reply ≢ OkReply → new ≡ old

@@ -20,12 +20,12 @@ use Rattle.host.specs.declared.opened.HostFault.{HostFault}
 use Rattle.host.specs.declared.opened.HostFault.TheVariants.{TooManyClients, NoPartition, NoMemory}
 use Rattle.host.specs.Clients.{ticket_limit}
 
--- at most so many clients
+-- how many clients there may be
 abbrev pub client_limit : ℕ
 client_limit = 64
 
--- all that a host's type names: the rules of its stack, the state that it was opened with, the clients' partitions, all handles, the marks with
--- the number of their slots, the history, the ledger with the number of its parts, and the gate
+-- all that a host's type names: the rules of its stack, the state that it was opened with, the clients' partitions, all
+-- handles, the marks with the number of their slots, the history, the ledger with the number of its parts, and the gate
 pub record Names : Type 0 where
   pub rules : Rules
   pub opening : State
@@ -38,7 +38,7 @@ pub record Names : Type 0 where
   pub parts : ℕ
   pub gate : TableId
 
--- a state of which nothing was asked: nothing is open or out, and the next numbers are 1
+-- nothing was asked in this state: nothing is open or out, and the next numbers are 1
 abbrev pub IsOpening : State → Type 0
 IsOpening s = s ≡ opening s.arrays
 
@@ -50,12 +50,13 @@ IsClientPass gate pass = pass ≡ pass_of gate (fresh_pass ticket_limit)
 abbrev pub IsHandleFor : List ℕ → List (Option OpenHandle) → ℕ → Handle → Type 0
 IsHandleFor partitions open' c handle = (handle.number ≡ c + 1) × IsOpenOn open' handle (slice_index_or partitions c 0)
 
--- one for each client
+-- there is one handle for each client
 pub record AreHandlesFor (partitions : List ℕ) (open' : List (Option OpenHandle)) (handles : List Handle) : Type 0 where
   pub count : length handles ≡ length partitions
   pub each : (c : ℕ) (handle : Handle) → slice_get handles c ≡ Some handle → IsHandleFor partitions open' c handle
 
--- a list of the partitions, a table of so many slots with its owner's seat and one for each client, and a gate with a pass for each and one more
+-- the gear is a list of the partitions, a table of this many slots with its owner's seat and one for each client, and a
+-- gate with a pass for each client and one more
 pub record IsGear (partitions : List ℕ) (slots : ℕ) (gear : Gear) : Type 0 where
   pub kept : gear.partitions.items ≡ partitions
   pub slots_is : gear.marks.1 ≡ slots
@@ -65,7 +66,8 @@ pub record IsGear (partitions : List ℕ) (slots : ℕ) (gear : Gear) : Type 0 w
   pub count_passes : length gear.passes.items ≡ length partitions + 1
   pub are_passes : All (IsClientPass gear.gate) gear.passes.items
 
--- a stack of which nothing was asked but a handle for each client, with a part of the ledger, a seat and a pass for each, and one more of each
+-- nothing was asked of the stack but a handle for each client; there is a part of the ledger, a seat and a pass for
+-- each, and one more of each
 pub record IsReady (partitions : List ℕ) (stack : ManagerView) (handles : List Handle) (sizes : StackSizes) (slots parts : ℕ) (marks : TableId × ℕ)
     (owner : SeatStanding) (seats : List SeatStanding) (gate : TableId) (passes : List PassStanding) : Type 0 where
   pub few : length partitions ≤ client_limit
@@ -85,7 +87,7 @@ pub record IsReady (partitions : List ℕ) (stack : ManagerView) (handles : List
   pub count_passes : length passes ≡ length partitions + 1
   pub are_passes : All (IsClientPass gate) passes
 
--- a medium of as many sectors as a stack's disk has, as long, in which the partitions lie
+-- the medium has as many sectors as the stack's disk, of the same size, and the partitions lie in it
 pub record IsDiskFor (rules : Rules) (medium : MediumView) : Type 0 where
   pub sector_size : medium.sector_size ≡ rules.sector_size
   pub sectors : length medium.sectors ≡ rules.disk_sectors
@@ -103,7 +105,7 @@ pub record IsDiskOf (rules : Rules) (disk : List (List ℕ)) : Type 0 where
   pub some : 1 ≤ length disk
   pub map : IsMap (length disk) rules.partitions
 
--- why there is no host: too many clients; or one of their partitions is not there; or memory was refused
+-- why there is no host: there are too many clients, one of their partitions is not there, or memory was refused
 abbrev pub IsHostFault : Rules → List ℕ → HostFault → Type 0
 IsHostFault rules partitions TooManyClients = client_limit < length partitions
 IsHostFault rules partitions NoPartition = NamesNone rules partitions

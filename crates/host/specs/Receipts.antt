@@ -17,11 +17,11 @@ pub record ReceiptsView : Type 0 where
 abbrev pub none_yet : ReceiptsView
 none_yet = record { list = []; room = 0 }
 
--- one receipt, of a label in a client's row
+-- one receipt, that of a label in a client's row
 abbrev pub receipt : ℕ → Label → ℕ → List Receipt
 receipt place label client = (place, entry label (Some client)) ∷ []
 
--- the places
+-- the places of receipts
 abbrev pub places_of : List Receipt → List ℕ
 places_of receipts = map (λ r. r.0) receipts
 

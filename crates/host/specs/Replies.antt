@@ -6,11 +6,11 @@ use Rattle.io_manager.specs.declared.Reply.TheVariants.{Ok as OkReply, Refused, 
 use Rattle.compose.specs.declared.Event.{Event}
 use Rattle.compose.specs.declared.Event.TheVariants.{QueryRemove, CancelRemove, Remove, SurpriseRemove, Act, Finish, Reset}
 
--- done, or there was none to do it to
+-- the step was carried out, or there was no piece for it
 abbrev pub IsTagReply : Reply → Type 0
 IsTagReply reply = (reply ≡ OkReply) ⊎ (reply ≡ Ignored)
 
--- accepted, or invalid in the state that the device is in
+-- the call is accepted, or is invalid in the state that the device is in
 abbrev pub IsPnpReply : Reply → Type 0
 IsPnpReply reply = (reply ≡ OkReply) ⊎ (reply ≡ Refused InvalidDeviceRequest [])
 

@@ -24,7 +24,7 @@ abbrev pub IsStage : ℕ → ℕ → ℕ → ℕ → ℕ → Option (Answer × L
 IsStage slots client number place slot None = (slot < slots) × (0 < number) × (number < 2 ^ 62)
 IsStage slots client number place slot (Some early) = (place + 1 < 2 ^ 64) × (early.0.number ≡ number) × (early.1 ≡ receipt (place + 1) (as_answer early.0) client)
 
--- the receipt is that of its call
+-- what a ticket keeps: its receipt is that of its call
 pub record TicketKept (slots client number place : ℕ) (claim : List Receipt) (slot : ℕ) (early : Option (Answer × List Receipt)) : Type 0 where
   pub request : ClientRequest
   pub receipt_is : claim ≡ receipt place (CallLabel number request) client

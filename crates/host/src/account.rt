@@ -75,7 +75,7 @@ fn find_call<N: Naming>(book: &Book<N>, from: usize) -> Option<usize>
     None
 }
 
-// Carries a call out, and finds its label.
+// Carries out a call, and finds its label.
 fn carry_call<M: Medium, N: Naming, R: Wait>(
     rt: &R,
     host: &Host<M, N>,
@@ -108,7 +108,7 @@ fn carry_call<M: Medium, N: Naming, R: Wait>(
     (reply, place)
 }
 
-// Takes the answer of a request whose call stands at this place, with its own place.
+// Takes the answer of a request whose call stands at this place, and finds the answer's own place.
 fn take_answer<M: Medium, N: Naming>(
     host: &Host<M, N>,
     book: &mut Book<N>,
@@ -152,7 +152,7 @@ impl<N: Naming> Account<N> {
         }
     }
 
-    /// Makes the places of a call's two receipts, beside those of so many answers that are still to come.
+    /// Makes the places of a call's two receipts, beside those of the answers that are still to come.
     pub(crate) fn make_places(&mut self, awaited: usize) -> Result<(), AllocError>
         requires { awaited ≤ 64 }
         ensures share { self.new.share ≡ self.old.share }
@@ -177,7 +177,7 @@ impl<N: Naming> Account<N> {
         Ok(())
     }
 
-    /// Waits until there is a place for the receipt of one answer more. For a ticket that is out there is one.
+    /// Waits until there is a place for the receipt of one more answer. For a ticket that is out there is one already.
     pub(crate) fn await_place<R: Wait>(&mut self, rt: &R)
         ensures share { self.new.share ≡ self.old.share }
         ensures called { self.new.called ≡ self.old.called }
@@ -194,7 +194,7 @@ impl<N: Naming> Account<N> {
         unreachable!()
     }
 
-    /// The part of `issue` that has the book.
+    /// The part of `issue` that holds the book's lock.
     pub(crate) fn issue_in<M: Medium, R: Wait>(
         &mut self,
         rt: &R,
@@ -307,7 +307,7 @@ impl<N: Naming> Account<N> {
         unreachable!()
     }
 
-    // The part of `wait` that has the book.
+    // The part of `wait` that holds the book's lock.
     fn answer_in<M: Medium>(
         &mut self,
         host: &Host<M, N>,
@@ -328,7 +328,7 @@ impl<N: Naming> Account<N> {
         Some(self.keep_answer(&host.history, call, place, answer, told))
     }
 
-    // An answer that stands in the trace, with its receipt.
+    // Keeps the receipt of an answer that stands in the trace.
     fn keep_answer(
         &mut self,
         history: &History<TraceEntry, N>,

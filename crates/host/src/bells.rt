@@ -28,7 +28,7 @@ pub(crate) struct Concerned {
 }
 
 impl Concerned {
-    /// Returns whom the labels concern that stand in the trace from a place on.
+    /// Returns whom the labels of the trace from a place on concern.
     pub(crate) fn since<N: Naming>(book: &Book<N>, from: usize) -> Concerned {
         let mut concerned = Concerned {
             lanes: 0,
@@ -57,7 +57,7 @@ impl Concerned {
     }
 }
 
-/// How often the worker was rung for, and whether the removal has ended.
+/// How often the worker was rung, and whether the removal has ended.
 #[derive(Debug, Clone, Copy, Drop)]
 struct Rung {
     count: u64,
@@ -67,16 +67,16 @@ struct Rung {
 /// The conditions.
 #[derive(Drop)]
 pub(crate) struct Bells {
-    /// By tags.
+    /// The conditions of lanes, by tags.
     lanes: Vec<Condvar>,
-    /// By clients.
+    /// The conditions of clients, by their numbers.
     clients: Vec<Condvar>,
     keeper: Condvar,
     rung: Mutex<Rung>,
     worker: Condvar,
 }
 
-/// So many conditions.
+/// Makes this many conditions.
 fn conditions(alloc: Global, count: usize) -> Result<Vec<Condvar>, AllocError> {
     let mut all = Vec::new(alloc);
     for _ in 0..count {
@@ -86,7 +86,7 @@ fn conditions(alloc: Global, count: usize) -> Result<Vec<Condvar>, AllocError> {
 }
 
 impl Bells {
-    /// The bells of so many clients.
+    /// The bells of this many clients.
     ///
     /// # Errors
     ///
@@ -121,7 +121,7 @@ impl Bells {
         &self.keeper
     }
 
-    /// Wakes whom a step concerns. It is called with the book's lock given back.
+    /// Wakes those whom a step concerns. The caller no longer holds the book's lock.
     pub(crate) fn ring<R: Wait>(&self, rt: &R, concerned: Concerned) {
         if concerned.is_removed {
             return self.ring_all(rt);
@@ -149,7 +149,7 @@ impl Bells {
         rung.count = rung.count.wrapping_add(1);
     }
 
-    /// The worker sleeps until it was rung for more often than it heard, or the removal has ended.
+    /// Has the worker sleep until it was rung more often than it heard, or the removal has ended.
     pub(crate) fn rest<R: Wait>(&self, rt: &R, heard: u64) -> Woken {
         let mut rung = self.rung.lock(rt);
         for _ in rt.forever() {

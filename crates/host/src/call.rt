@@ -1,4 +1,4 @@
-//! A client's call, and what it is told.
+//! A client's call, and what the client is told.
 
 ghost use Rattle.std.specs.Prelude.{◌≡◌, None};
 ghost use Rattle.host.specs.Calls.{buffer_of, event_of};
@@ -42,15 +42,15 @@ pub struct Answered {
 /// Why there is no ticket.
 #[derive(Debug, Clone, Copy, PartialEq, Eq)]
 pub enum Reason {
-    /// As the stack refuses calls; `DeletePending` also where the gate is closed, `InsufficientResources` also where memory
+    /// The reason of the stack. Also `DeletePending` where the gate is closed, and `InsufficientResources` where memory
     /// for the call's receipts was refused.
     Refused(Why),
     /// The client has 64 tickets out, the most that it may have.
     TooManyTickets,
 }
 
-/// A call for which there is no ticket, with the caller's bytes. Where the call reached the trace it has the places of the
-/// two labels there.
+/// A call for which there is no ticket, with the caller's bytes. Where the call reached the trace, the refusal has the
+/// places of its two labels there.
 #[derive(Debug, Drop)]
 pub struct Refusal {
     pub reason: Reason,

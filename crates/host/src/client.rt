@@ -23,7 +23,7 @@ pub struct Client<N: Naming> {
     pub(crate) account: Account<N>,
     pub(crate) pass: Pass,
     pub(crate) seat: Seat,
-    // its tickets that are not waited for yet
+    // how many of its tickets are not waited for yet
     pub(crate) out: usize,
 }
 
@@ -57,7 +57,7 @@ fn take_hold<M: Medium, N: Naming>(host: &Host<M, N>, pass: &mut Pass) -> Result
     }
 }
 
-// Gives the hold of a ticket back, of so many; how many are left.
+// Gives back the hold of a ticket, of those that are out. Returns how many are left.
 fn give_back<M: Medium, N: Naming>(host: &Host<M, N>, pass: &mut Pass, out: usize) -> usize
     requires gate { pass.old.gate ≡ N.gate }
     requires out { out ≡ pass.old.view.holds }

@@ -20,13 +20,13 @@ use std::sync::{Mutex, Wait};
 struct Tags {
     // How many labels were looked at.
     seen: usize,
-    // By tag: a piece was started of which no lane was told.
+    // By tag: whether a piece was started of which no lane was told.
     started: [bool; 32],
     removed: bool,
 }
 
 impl Tags {
-    /// Looks at the labels that have come since.
+    /// Looks at the labels that have come since the last look.
     fn catch_up<N: Naming>(&mut self, book: &Book<N>) {
         for place in self.seen..book.len() {
             match &book.entry(place).label {
@@ -60,7 +60,7 @@ impl Tags {
     }
 }
 
-/// The tags, under a lock that is taken by who has the book.
+/// The tags, under a lock that only a holder of the book's lock takes.
 #[derive(Drop)]
 pub(crate) struct Board {
     tags: Mutex<Tags>,
@@ -86,7 +86,7 @@ impl Board {
 }
 
 impl<M: Medium, N: Naming> Host<M, N> {
-    // The piece of a tag acts in the journal, under its lock alone: how it failed, where it did.
+    // Lets the piece of a tag act in the journal, under the journal's lock alone. Returns how it failed, where it did.
     fn transfer<R: Wait>(&self, rt: &R, tag: u8) -> Option<Completion>
         ensures { IfSome result (λ completion. class_of completion ≡ Bad completion) }
     {
@@ -98,7 +98,7 @@ impl<M: Medium, N: Naming> Host<M, N> {
         }
     }
 
-    // The piece of a tag failed in the journal.
+    // Carries out the act of a tag whose piece failed in the journal.
     fn fail<R: Wait>(&self, rt: &R, tag: u8, completion: Completion)
         requires { class_of completion ≡ Bad completion }
     {

@@ -70,7 +70,7 @@ impl<N: Naming> Model for Keeper<N> {
     ghost invariant = { λ k. (k.part.parts ≡ 1) × (k.part.amount ≡ 0) × (k.pass.gate ≡ N.gate) };
 }
 
-// A client for each handle, with a part of the ledger, a seat and a pass.
+// Makes a client for each handle, with a part of the ledger, a seat and a pass.
 fn make_clients<N: Naming>(
     alloc: Global,
     history: &History<TraceEntry, N>,
@@ -114,7 +114,7 @@ fn make_clients<N: Naming>(
     Ok(clients)
 }
 
-// A client for each handle, and the pass that is left for the keeper.
+// Makes a client for each handle, and returns the pass that is left for the keeper with them.
 fn hand_out<N: Naming>(
     alloc: Global,
     history: &History<TraceEntry, N>,
@@ -213,28 +213,28 @@ impl<M: Medium, N: Naming> Host<M, N> {
         Ok((host, keeper, clients))
     }
 
-    /// The adapter carries out the command of the piece on a tag, or fails it; `Ignored` where there is none.
+    /// Has the adapter carry out the command of the piece on a tag, or fail it; `Ignored` where there is none.
     pub fn act<R: Wait>(&self, rt: &R, tag: u8) -> Reply
         ensures reply { IsReplyTo (Act tag) result }
     {
         self.step(rt, Event::Act { tag })
     }
 
-    /// The adapter hands the piece on a tag back; `Ignored` where there is none.
+    /// Has the adapter hand back the piece on a tag; `Ignored` where there is none.
     pub fn finish<R: Wait>(&self, rt: &R, tag: u8) -> Reply
         ensures reply { IsReplyTo (Finish tag) result }
     {
         self.step(rt, Event::Finish { tag })
     }
 
-    /// The adapter is reset.
+    /// Resets the adapter.
     pub fn reset<R: Wait>(&self, rt: &R) -> Reply
         ensures reply { IsReplyTo Reset result }
     {
         self.step(rt, Event::Reset)
     }
 
-    // The part of a step that has the book.
+    // The part of a step that holds the book's lock.
     pub(crate) fn step_in<R: Wait>(&self, rt: &R, book: &mut Book<N>, event: Event) -> Reply
         requires { (is_handle_event event ≡ false) × (call_handle event ≡ None) }
         ensures stepped { IsStepped N.slots None (inl tt) book.old event result book.new }
@@ -252,7 +252,7 @@ impl<M: Medium, N: Naming> Host<M, N> {
         )
     }
 
-    // Carries the step out, and tells whom it concerns.
+    // Carries out the step, and tells whom it concerns.
     fn step_and_note<R: Wait>(&self, rt: &R, book: &mut Book<N>, event: Event) -> (Reply, Concerned)
         requires { (is_handle_event event ≡ false) × (call_handle event ≡ None) }
         ensures reply { IsReplyTo event result.0 }
@@ -262,7 +262,7 @@ impl<M: Medium, N: Naming> Host<M, N> {
         (reply, Concerned::since(book, from))
     }
 
-    // A step that is no client's, of which those are told whom it concerns.
+    // Carries out a step that is no client's, and wakes those whom it concerns.
     pub(crate) fn step<R: Wait>(&self, rt: &R, event: Event) -> Reply
         requires { (is_handle_event event ≡ false) × (call_handle event ≡ None) }
         ensures reply { IsReplyTo event result }

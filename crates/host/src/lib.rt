@@ -1,28 +1,30 @@
-//! A stack that many threads share, and the journal of its disk, each under a lock: each client issues calls, waits for their
-//! answers and marks them for cancellation, a keeper removes the device, and whoever drives the adapter acts and finishes.
-//! Where both locks are held, the stack's was taken first; a lane has its piece act under the journal's alone.
+//! A stack that many threads share, and the journal of its disk, each under a lock: each client issues calls, waits for
+//! their answers and marks them for cancellation; a keeper removes the device; whoever drives the adapter acts and
+//! finishes. Where both locks are held, the stack's was taken first; a lane has its piece act under the journal's
+//! alone.
 //!
 //! Each client has a part of a ledger that nobody can copy, a pass of the remove lock, a seat at the cancel marks, and
-//! receipts: of each call and each answer that it was told of, the place in the trace and the entry there. So has the keeper
-//! of each pause and of the removal's end. A receipt outlives the lock. What is promised to the crate above:
-//! - `issue` that gives a ticket adds one receipt, of this client's call with the request that was handed in, at a place
-//!   above all of its calls before, and the ticket holds the remove lock until it was waited for (`issued` of
+//! receipts: of each call and each answer that it was told of, the place in the trace and the entry there. So has the
+//! keeper of each pause and of the removal's end. A receipt outlives the lock. What is promised to the crate above:
+//! - an `issue` that gives a ticket adds one receipt, of this client's call with the request that was handed in, at a
+//!   place above all of its calls before, and the ticket holds the remove lock until it was waited for (`issued` of
 //!   [`Client::issue`]); a refusal has the caller's bytes, and says whether the call reached the book (`refused`);
 //! - `wait` spends the ticket and gives the answer of its request, which stands behind its call, with its receipt
 //!   (`waited` of [`Client::wait`]);
 //! - `mark_cancel` marks the ticket's request and no other (`marked` of [`Client::mark_cancel`]);
-//! - a query that is accepted gives the keeper one receipt more, of the query's pause (`told` of [`Host::query_remove`]);
-//! - a removal that is accepted returns once the remove lock was closed and seen drained: no ticket is out; and with one
-//!   receipt more, of the removal's end (`drained`, `told` of [`Host::remove`]);
-//! - once all threads are done, [`Host::close`] gives the trace, which is a run of the sector machine from the state that the
-//!   host was opened with, and a row for each client, in which all its receipts stand: the calls of a row are just its
-//!   client's, in its order (`closed`); and the keeper's receipts stand in the trace (`told`), where nothing is open or out
-//!   from a removal's end on (`settled_at_removed`);
-//! - and what acts did there, in their order: the acts of the trace are the first entries (`acts`), all entries give the
-//!   sectors (`replays`), and the trace is a run whose acts read and write them (`run`).
+//! - a query that is accepted gives the keeper one more receipt, of the query's pause (`told` of
+//!   [`Host::query_remove`]);
+//! - a removal that is accepted returns once the remove lock was closed and seen drained, so that no ticket is out, and
+//!   with one more receipt, of the removal's end (`drained`, `told` of [`Host::remove`]);
+//! - once all threads are done, [`Host::close`] gives the trace, which is a run of the sector machine from the state
+//!   that the host was opened with, and a row for each client, in which all its receipts stand: the calls of a row are
+//!   just its client's, in its order (`closed`); and the keeper's receipts stand in the trace (`told`), where nothing is
+//!   open or out from a removal's end on (`settled_at_removed`);
+//! - it also gives what acts did, in their order: the acts of the trace are the first entries (`acts`), all entries
+//!   give the sectors (`replays`), and the trace is a run whose acts read and write them (`run`).
 //!
-//! It does not promise that anybody is served, nor an order between clients that told each other nothing. A call that takes
-//! a [`Wait`](std::sync::Wait) promises what it does if it returns.
+//! It does not promise that anybody is served, nor an order between clients that told each other nothing. What a call
+//! that takes a [`Wait`](std::sync::Wait) promises holds if it returns.
 #![tactic(auto)]
 
 mod account;

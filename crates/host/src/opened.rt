@@ -17,16 +17,16 @@ use std::sync::ledger::{Blank, Ledger};
 use thiserror::Error;
 use traced::{OpenFault, StackSizes, TraceEntry, open_handles};
 
-/// At most so many clients.
+/// How many clients there may be.
 const CLIENTS: usize = 64;
 
-/// A client has at most so many tickets out.
+/// How many tickets a client may have out.
 const TICKETS: u32 = 64;
 
 /// Why there is no host.
 #[derive(Debug, Clone, Copy, PartialEq, Eq, Drop, Error)]
 pub enum HostFault {
-    /// More than 64 clients.
+    /// There are more than 64 clients.
     #[error("more than 64 clients")]
     TooManyClients,
     /// The stack doesn't have the partition of one of them.
@@ -86,7 +86,7 @@ impl Model for Opened {
     ghost invariant = { λ o. IsReady o.partitions.items o.stack o.handles.items o.sizes o.slots o.ledger.parts o.marks o.owner o.seats.items o.gate o.passes.items };
 }
 
-// A table of so many slots, with the owner's seat and one for each client.
+// Makes a table of this many slots, with the owner's seat and one for each client.
 fn make_marks(
     alloc: Global,
     slots: usize,
@@ -106,7 +106,7 @@ fn make_marks(
     Ok((marks, owner, seats))
 }
 
-// An open gate, with a pass for each client and one for the keeper.
+// Makes an open gate, with a pass for each client and one for the keeper.
 fn make_gate(alloc: Global, clients: usize) -> Result<(Gate, Vec<Pass>), HostFault>
     requires few { clients ≤ client_limit }
     ensures count { IfOk result (λ r. length r.1.items ≡ clients + 1) }
@@ -132,7 +132,7 @@ struct Gear {
     passes: Vec<Pass>,
 }
 
-// All of it, for clients on these partitions, with their handles open on the stack.
+// Makes all gear for clients on these partitions, with their handles open on the stack.
 fn make_gear(
     alloc: Global,
     stack: &mut Stack<BookedAdapter>,
@@ -170,8 +170,8 @@ fn make_gear(
 }
 
 impl Opened {
-    /// Opens handle c + 1 on `partitions[c]` for client c, on a stack as it was started over an adapter without
-    /// sectors, of these sizes and so many slots for open requests; and makes what the threads of a host will share.
+    /// Opens handle c + 1 on `partitions[c]` for client c, and makes what the threads of a host will share. The stack
+    /// is as it was started over an adapter without sectors; it has these sizes, and this many slots for open requests.
     ///
     /// # Errors
     ///
@@ -211,7 +211,7 @@ impl Opened {
         })
     }
 
-    /// Ends what no host is made of.
+    /// Ends all of it, where no host is made of it.
     pub fn end(self) {
         let Opened {
             stack: _,
@@ -232,14 +232,14 @@ impl Opened {
     }
 }
 
-// A history that nobody wants.
+// Ends a history that nobody needs.
 fn end_history<N: chronicle::Naming>(history: chronicle::Opened<TraceEntry>)
     requires { history ≡ N.table }
 {
     let (_history, _whole) = history.named::<N>();
 }
 
-// A ledger that nobody wants.
+// Ends a ledger that nobody needs.
 fn end_ledger<L: Ledger>(ledger: Blank)
     requires { (ledger.name ≡ L.name) × (ledger.parts ≡ L.parts) }
 {

@@ -32,7 +32,7 @@ impl<N: Naming> Model for Receipts<N> {
 }
 
 impl<N: Naming> Receipts<N> {
-    /// None yet.
+    /// No receipts yet.
     pub(crate) fn new(alloc: Global, claims: Claims<TraceEntry, N>) -> Receipts<N>
         requires { claims ≡ [] }
         ensures { result ≡ none_yet }
@@ -44,7 +44,7 @@ impl<N: Naming> Receipts<N> {
         }
     }
 
-    /// Makes room for so many more.
+    /// Makes room for this many more.
     pub(crate) fn reserve(&mut self, room: usize) -> Result<(), AllocError>
         ensures list { self.new.list ≡ self.old.list }
         ensures no_less { self.old.room ≤ self.new.room }
@@ -100,7 +100,7 @@ impl<N: Naming> Receipts<N> {
         claim
     }
 
-    /// All of them stand in the trace.
+    /// Shows the caller that all receipts stand in the trace.
     pub(crate) fn check(&mut self, history: &History<TraceEntry, N>, book: &mut Book<N>)
         ensures same { (book.new ≡ book.old) × (self.new ≡ self.old) }
         ensures stand { AllStand book.old.traced.entries self.old.list }

@@ -53,7 +53,8 @@ impl<N: Naming> Keeper<N> {
 }
 
 impl<M: Medium, N: Naming> Host<M, N> {
-    // The part of a keeper's step that has the book, and the place from which on its labels stand: above all receipts.
+    // The part of a keeper's step that holds the book's lock. Its labels stand from the place on that it returns, which
+    // is above all receipts.
     fn begin<R: Wait>(
         &self,
         rt: &R,
@@ -93,7 +94,7 @@ impl<M: Medium, N: Naming> Host<M, N> {
         (reply, from, Concerned::since(book, from))
     }
 
-    // The part of a query that has the book.
+    // The part of a query that holds the book's lock.
     fn query_in<R: Wait>(
         &self,
         rt: &R,
@@ -156,7 +157,7 @@ impl<M: Medium, N: Naming> Host<M, N> {
         keeper.told.join(&self.history, claim);
     }
 
-    // A removal of either kind.
+    // Removes the device, by either kind of removal.
     fn take_out<R: Wait>(&self, rt: &R, keeper: &mut Keeper<N>, event: Event) -> Reply
         requires { (is_handle_event event ≡ false) × (call_handle event ≡ None) }
         ensures reply { IsReplyTo event result }
@@ -206,7 +207,7 @@ impl<M: Medium, N: Naming> Host<M, N> {
         self.take_out(rt, keeper, Event::Remove)
     }
 
-    /// The device was pulled out (WDK: IRP_MN_SURPRISE_REMOVAL), and else as [`Host::remove`].
+    /// Notes that the device was pulled out (WDK: IRP_MN_SURPRISE_REMOVAL); the rest is as for [`Host::remove`].
     pub fn surprise_remove<R: Wait>(&self, rt: &R, keeper: &mut Keeper<N>) -> Reply
         ensures reply { IsReplyTo SurpriseRemove result }
         ensures drained { result ≡ OkReply → keeper.new.pass.saw_drained ≡ true }

@@ -8,7 +8,7 @@ use cancel_marks::Marks;
 use remove_lock::Gate;
 use std::marker::{Model, PhantomData};
 
-/// The table of marks, of a slot for each request that may be open.
+/// The table of marks, with a slot for each request that may be open.
 #[derive(Drop)]
 pub(crate) struct Table<N: Naming> {
     pub marks: Marks,
@@ -34,7 +34,7 @@ impl<N: Naming> Table<N> {
     {}
 }
 
-/// What the sectors are that the journal was opened with. Contracts see it as these sectors.
+/// What is known of the sectors that the journal was opened with. Contracts see it as these sectors.
 #[derive(Drop)]
 pub(crate) struct Disk<N: Naming> {
     of: PhantomData<N>,
@@ -58,7 +58,7 @@ impl<N: Naming> Disk<N> {
         Disk { of: PhantomData }
     }
 
-    /// Shows the caller that they are those of the stack's disk.
+    /// Shows the caller that these sectors are those of the stack's disk.
     pub(crate) fn shows_disk(&self)
         ensures { IsDiskOf N.rules N.opening }
     {

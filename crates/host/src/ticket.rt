@@ -17,7 +17,7 @@ pub struct Ticket<N: Naming> {
     pub(crate) number: u64,
     pub(crate) place: usize,
     pub(crate) claim: Claims<TraceEntry, N>,
-    // of its request, where it opened one
+    // the slot of its request, where it opened one
     pub(crate) slot: usize,
     // the answer of a call that opened none, right behind it
     pub(crate) early: Option<(Answer, Claims<TraceEntry, N>)>,

@@ -15,7 +15,7 @@ use miniport::BookedAdapter;
 use srb::Booked;
 use std::alloc::Global;
 
-/// Says which steps add an entry to a trace. It does nothing; its contract is for callers.
+/// Shows the caller which steps add an entry to a trace.
 pub(crate) fn laws_of_entries()
     ensures kept { StepsKeepEntries }
     ensures idle { IdleActsKeepEntries }

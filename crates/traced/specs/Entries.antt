@@ -1,4 +1,5 @@
--- The trace: its labels, each with the row that it stands in. There is a row for each client, and a label's row is a function of the number of its request.
+-- The trace: its labels, each with the row that it stands in. There is a row for each client, and the number of its
+-- request tells a label's row.
 use Rattle.std.specs.Prelude.{◌≡◌, ◌<◌, ◌≤◌, ℕ, suc, ◌-◌, ◌==◌, ◌&&◌, Bool, true, false, List, [], ◌∷◌, Option, Some, None, length, map, slice_get, if◌then◌else◌}
 use Rattle.machine.specs.declared.Label.{Label}
 use Rattle.machine.specs.declared.Label.TheVariants.{Call, Answer}
@@ -21,7 +22,7 @@ row_of owners (Call number q) = owner_of owners number
 row_of owners (Answer number status informed bytes) = owner_of owners number
 row_of owners _ = None
 
--- what a label tells of a request, it tells of one that was called
+-- the request that a label tells of was called
 abbrev pub HasOwner : List ℕ → Label → Type 0
 HasOwner owners (Call number q) = WasCalled owners number
 HasOwner owners (Answer number status informed bytes) = WasCalled owners number
@@ -73,7 +74,7 @@ abbrev pub IsAnswerTo : ℕ → Label → Type 0
 IsAnswerTo number (Answer answered status informed bytes) = answered ≡ number
 IsAnswerTo number _ = ⊥
 
--- it answers another, or none
+-- the label answers another request, or none
 abbrev pub IsNoAnswerTo : ℕ → Label → Type 0
 IsNoAnswerTo number label = IsAnswerTo number label → ⊥
 

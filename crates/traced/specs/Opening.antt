@@ -14,7 +14,7 @@ use Rattle.traced.specs.declared.opening.OpenFault.{OpenFault}
 use Rattle.traced.specs.declared.opening.OpenFault.TheVariants.{Refused, NoMemory}
 use Rattle.traced.specs.Serving.{open_at}
 
--- a stack of which nothing was asked yet. It cuts requests on the grid of the longest transfer
+-- nothing was asked of the stack yet, which cuts requests on the grid of the longest transfer
 pub record IsNew (v : ManagerView) : Type 0 where
   pub on_grid : IsFalse v.rules.any_cut
   pub arrays : List (List (List ℕ))
@@ -25,7 +25,7 @@ pub record IsNew (v : ManagerView) : Type 0 where
   pub no_labels : v.labels ≡ []
   pub no_answers : v.answers ≡ []
 
--- a stack on which handles were opened, and of which nothing else was asked
+-- handles were opened on the stack, and nothing else was asked of it
 pub record IsFirst (v : ManagerView) : Type 0 where
   pub on_grid : IsFalse v.rules.any_cut
   pub no_labels : v.labels ≡ []
@@ -33,7 +33,7 @@ pub record IsFirst (v : ManagerView) : Type 0 where
   pub none_wait : awaited v.state ≡ []
   pub none_open : (k : ℕ) → open_at v k ≡ None
   pub no_answers : (answer : Answer) → Contains v.answers answer → ⊥
-  -- a removal and its end
+  -- only the labels of a removal and of its end are left
   pub few_left : labels_left v.rules v.state ≤ 2
 
 -- client c has handle c + 1, on its partition
@@ -64,11 +64,12 @@ pub record AreOpened (partitions : List ℕ) (handles : List Handle) (old new : 
   pub clients : AreClientsOf partitions new.handles
   pub given : AreHandlesOf partitions handles new
 
--- a partition is named that there is not
+-- one of these partitions is not there
 abbrev pub NamesNone : Rules → List ℕ → Type 0
 NamesNone rules partitions = (c : ℕ) × (partition : ℕ) × (slice_get partitions c ≡ Some partition) × (length rules.partitions ≤ partition)
 
--- why not all could be opened: one of these partitions is not there; they are more than handles may be open; or memory was refused
+-- why not all handles could be opened: one of these partitions is not there, there are more of them than handles may be
+-- open, or memory was refused
 abbrev pub IsOpenFault : Rules → List ℕ → OpenFault → Type 0
 IsOpenFault rules partitions (Refused InvalidParameter) = NamesNone rules partitions
 IsOpenFault rules partitions (Refused DeviceBusy) = handle_limit < length partitions

@@ -6,8 +6,8 @@ use Rattle.traced.specs.declared.TraceEntry.{TraceEntry}
 use Rattle.traced.specs.Entries.{entry, owner_of, row_of, AreRowed}
 use Rattle.traced.specs.Rows.{RowView, IsRowAt}
 
--- what there is of a trace: its entries, the clients of all requests by number, for how many labels more there is room, and the client that
--- has the places for a call
+-- what there is of a trace: its entries, the clients of all requests by number, how many more labels there is room for,
+-- and the client that has the places for a call
 pub record PagesView : Type 0 where
   pub entries : List TraceEntry
   pub owners : List ℕ
@@ -37,7 +37,7 @@ abbrev pub noted_all : ℕ → PagesView → List Label → PagesView
 noted_all client p [] = p
 noted_all client p (label ∷ labels) = noted_all client (noted client p label) labels
 
--- the rows are those of the entries, one for each client, and of each request the client is one of these
+-- the rows are those of the entries, one for each client, and each request is of one of these clients
 pub record AreKept (clients : ℕ) (entries : List TraceEntry) (owners : List ℕ) (rows : List RowView) : Type 0 where
   pub rowed : AreRowed owners entries
   pub owned : (number c : ℕ) → owner_of owners number ≡ Some c → c < clients

@@ -3,7 +3,7 @@ use Rattle.std.specs.Prelude.{◌≡◌, ◌+◌, ◌≤◌, ℕ, List, [], slic
 use Rattle.traced.specs.declared.TraceEntry.{TraceEntry}
 use Rattle.traced.specs.Entries.{places, count_of, is_call_of, is_answer_of}
 
--- the places, how many answers are still to come, and for how many places there is room
+-- the places, how many answers are still to come, and how many places there is room for
 pub record RowView : Type 0 where
   pub places : List ℕ
   pub awaited : ℕ

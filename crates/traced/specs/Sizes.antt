@@ -13,7 +13,7 @@ sizes_of rules = record {
   busy_limit = rules.busy_limit;
 }
 
--- sizes by which labels can be counted: a sector has bytes, and a piece sectors
+-- labels can be counted by these sizes: a sector has bytes, and a piece has sectors
 pub record AreSizes (sizes : StackSizes) : Type 0 where
   pub some_bytes : 0 < sizes.sector_size
   pub some_sectors : 0 < sizes.max_transfer

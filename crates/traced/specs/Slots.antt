@@ -15,7 +15,8 @@ pub record LooksNowhere (old new : View) : Type 0 where
   pub seen : new.seen ≡ old.seen
   pub marks : new.marks ≡ old.marks
 
--- a slot that has an open request is looked at once, and this is the number if it is marked; one that has none is not looked at
+-- a slot that has an open request is looked at once, and this is the number if it is marked; a slot that has none is
+-- not looked at
 abbrev pub LooksAt : Option ℕ → ℕ → View → Option ℕ → View → Type 0
 LooksAt None slot old seen new = (new ≡ old) × (seen ≡ None)
 LooksAt (Some number) slot old seen new =

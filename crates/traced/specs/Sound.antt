@@ -5,7 +5,7 @@ use Rattle.machine.specs.State.{State}
 use Rattle.io_manager.specs.declared.OpenHandle.{OpenHandle}
 use Rattle.io_manager.specs.Shown.{ManagerView}
 
--- a stack is the one that was named
+-- the stack is the one that was named
 pub record IsNamed (rules : Rules) (opening : State) (handles : List (Option OpenHandle)) (count : ℕ) (stack : ManagerView) : Type 0 where
   pub same_rules : stack.rules ≡ rules
   pub same_state : stack.state ≡ opening

@@ -9,7 +9,7 @@ use Rattle.traced.specs.Entries.{owner_of, WasCalled, is_row, calls, count_of, i
 use Rattle.traced.specs.Pages.{PagesView, noted}
 use Rattle.traced.specs.inside.Pages.{MayNote}
 
--- one for a number of a row, and none for another
+-- 1 where the number is of this row, else 0
 abbrev pub one_of : List ℕ → ℕ → ℕ → ℕ
 one_of owners c number = if is_row c (owner_of owners number) then 1 else 0
 
@@ -17,8 +17,8 @@ one_of owners c number = if is_row c (owner_of owners number) then 1 else 0
 abbrev pub awaited_of : List ℕ → ℕ → List ℕ → ℕ
 awaited_of owners c numbers = sum_by (one_of owners c) numbers
 
--- the calls so far have the numbers from 1 on, an owner each, what waits for its answer was called, and each call of a
--- row is answered or waits for its answer
+-- the calls so far have the numbers from 1 on, each with an owner; what waits for its answer was called; and each call
+-- of a row is answered or waits for its answer
 pub record AreTold (entries : List TraceEntry) (owners : List ℕ) (s : State) : Type 0 where
   pub next : s.next_request ≡ length owners + 1
   pub counted : calls entries ≡ length owners

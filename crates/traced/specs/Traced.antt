@@ -26,7 +26,7 @@ use Rattle.traced.specs.Shares.{ShareView}
 use Rattle.traced.specs.Slots.{IsArmedAs, LooksNowhere, LooksAt}
 use Rattle.traced.specs.Told.{AreTold}
 
--- its stack between two steps, the entries of the trace, the clients of all requests by number, and what the owner of
+-- the stack between two steps, the entries of the trace, the clients of all requests by number, and what the owner of
 -- the marks knows
 pub record TracedView : Type 0 where
   pub stack : ManagerView
@@ -75,7 +75,8 @@ abbrev pub CarriesSeen : Option ℕ → TracedView → TracedView → Type 0
 CarriesSeen None old new = new ≡ old
 CarriesSeen (Some number) old new = (reply : Reply) × IsCarried 0 old (Mark number) reply new
 
--- one look at the slot of an open request, and the step for a mark seen there; a slot without one is left alone
+-- the slot of an open request is looked at once, and a mark seen there is carried out; a slot with no open request is
+-- left alone
 pub record IsLooked (slot : ℕ) (old new : TracedView) : Type 0 where
   pub seen : Option ℕ
   pub looked : View
@@ -87,7 +88,7 @@ abbrev pub AreLooked : ℕ → TracedView → TracedView → Type 0
 AreLooked zero old new = new ≡ old
 AreLooked (suc slot) old new = (mid : TracedView) × AreLooked slot old mid × IsLooked slot mid new
 
--- events that may be refused for want of memory: the trace grows by places of their own
+-- whether an event may be refused for want of memory: the trace grows by places for its labels
 abbrev pub may_want : Event → Bool
 may_want (Read handle offset buffer) = true
 may_want (Write handle offset bytes through) = true
@@ -95,7 +96,7 @@ may_want (Flush handle) = true
 may_want QueryRemove = true
 may_want _ = false
 
--- the caller's bytes
+-- the bytes that an event hands in
 abbrev pub bytes_of : Event → List ℕ
 bytes_of (Read handle offset buffer) = buffer
 bytes_of (Write handle offset bytes through) = bytes
@@ -113,7 +114,7 @@ IsServed client old event reply new = IsCarried client old event reply new ⊎ I
 
 -- SHARES
 
--- the share counts the calls that were noted, and stays the same otherwise
+-- the share counts the calls that were noted, and keeps its client and its handle
 pub record HasCounted (old : TracedView) (before after : ShareView) (new : TracedView) : Type 0 where
   pub client : after.client ≡ before.client
   pub handle : after.handle ≡ before.handle

@@ -18,7 +18,7 @@ pub trait Naming: chronicle::Naming + Ledger {
 
     ghost start: { State };
 
-    /// The names of its clients, by their numbers.
+    /// The partitions of its clients, by their numbers.
     ghost partitions: { List ℕ };
 
     ghost handles: { List (Option OpenHandle) };

@@ -14,7 +14,8 @@ use thiserror::Error;
 /// Why the handles of the clients could not be opened.
 #[derive(Debug, Clone, Copy, PartialEq, Eq, Error)]
 pub enum OpenFault {
-    /// The stack refused to open one of them: `InvalidParameter` where it has no such partition, `DeviceBusy` for the 65th.
+    /// The stack refused to open one of them: `InvalidParameter` where it has no such partition, `DeviceBusy` for the
+    /// 65th.
     #[error("a handle was refused")]
     Refused(Refusal),
     /// Memory was refused.
@@ -37,8 +38,8 @@ impl From<AllocError> for OpenFault {
 ///
 /// # Errors
 ///
-/// [`OpenFault::Refused`] with `InvalidParameter` where one of them is not there, and with `DeviceBusy` where they are more
-/// than 64; [`OpenFault::NoMemory`]. Some handles may then be open.
+/// [`OpenFault::Refused`] with `InvalidParameter` where one of the partitions is not there, and with `DeviceBusy` where
+/// there are more than 64; [`OpenFault::NoMemory`]. Some handles may then be open.
 pub fn open_handles<A: Adapter>(
     alloc: Global,
     stack: &mut Stack<A>,
@@ -59,7 +60,7 @@ pub fn open_handles<A: Adapter>(
     Ok(handles)
 }
 
-// The step of an open.
+// Carries out an open.
 fn open_step<A: Adapter>(alloc: Global, stack: &mut Stack<A>, partition: u8) -> Reply
     requires taken { stack.old.labels ≡ [] }
     ensures right { IsRight stack.old (Open partition) result stack.new }
@@ -69,7 +70,7 @@ fn open_step<A: Adapter>(alloc: Global, stack: &mut Stack<A>, partition: u8) -> 
     stack.step(alloc, Event::Open { partition })
 }
 
-// One handle.
+// Opens one handle.
 fn open_one<A: Adapter>(
     alloc: Global,
     stack: &mut Stack<A>,

@@ -24,7 +24,7 @@ pub(crate) struct Pages<N: Naming> {
     // the clients of all requests, by number from 1
     owners: Vec<usize>,
     rows: Vec<Row>,
-    // labels that fit in the trace with no memory
+    // how many labels fit in the trace without more memory
     room: usize,
     // the client that has the places for a call
     ready: Option<usize>,
@@ -97,7 +97,7 @@ impl<N: Naming> Pages<N> {
         Ok(())
     }
 
-    /// For how many labels more there is room.
+    /// Returns how many more labels there is room for.
     pub(crate) fn room(&self) -> usize
         ensures { result ≡ self.now.room }
     {
@@ -192,7 +192,7 @@ impl<N: Naming> Pages<N> {
         self.whole.claim(history, place, &self.trace[place])
     }
 
-    /// What was claimed stands in the trace.
+    /// Shows the caller that what was claimed stands in the trace.
     pub(crate) fn check(
         &mut self,
         history: &History<TraceEntry, N>,
@@ -213,7 +213,7 @@ impl<N: Naming> Pages<N> {
     }
 }
 
-// Notes whose request a call is, and gives the row of the label.
+// Notes whose request a call is, and returns the row of the label.
 fn note_owner(owners: &mut Vec<usize>, label: &Label, client: usize) -> Option<usize>
     requires next { IsNext owners.old.items label.now }
     requires place { is_call label.now ≡ true → vec_len owners.old < vec_capacity owners.old }

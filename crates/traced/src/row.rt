@@ -11,7 +11,7 @@ use std::marker::Model;
 #[derive(Drop)]
 pub struct Row {
     places: Vec<usize>,
-    // answers still to come
+    // how many answers are still to come
     awaited: usize,
     room: usize,
 }
@@ -56,7 +56,7 @@ impl Row {
         Ok(())
     }
 
-    /// A call more.
+    /// Adds a call.
     pub(crate) fn call(&mut self, place: usize)
         requires { self.old.awaited + 2 ≤ self.old.room }
         ensures { self.new ≡ called self.old place }
@@ -66,7 +66,7 @@ impl Row {
         self.awaited += 1;
     }
 
-    /// An answer more.
+    /// Adds an answer.
     pub(crate) fn answer(&mut self, place: usize)
         requires { (0 < self.old.awaited) × (self.old.awaited ≤ self.old.room) }
         ensures { self.new ≡ answered self.old place }
@@ -82,7 +82,7 @@ impl Row {
         self.places.as_slice()
     }
 
-    /// The places.
+    /// The places of the row.
     pub fn into_places(self) -> Vec<usize>
         ensures { result.items ≡ self.places }
     {

@@ -57,14 +57,14 @@ impl<N: Naming> Share<N> {
         self.client
     }
 
-    /// Its handle.
+    /// The client's handle.
     pub fn handle(&self) -> Handle
         ensures { result ≡ self.now.handle }
     {
         self.handle
     }
 
-    /// The part of the ledger that it was.
+    /// The part of the ledger that the share was made of.
     pub fn into_part(self) -> Part<N>
         ensures { (result.parts ≡ 1) × (result.amount ≡ self.calls) }
     {

@@ -65,7 +65,7 @@ impl<N: Naming> Slots<N> {
         self.numbers.len()
     }
 
-    /// Returns a slot from which on none has an open request.
+    /// Returns a slot such that neither it nor one behind it has an open request.
     pub(crate) fn end(&self) -> usize
         ensures few { result ≤ N.slots }
         ensures empty { AreEmptyFrom result self.now.numbers }
@@ -81,7 +81,7 @@ impl<N: Naming> Slots<N> {
         let _seat = &self.seat;
     }
 
-    /// A request is open in a slot.
+    /// Notes that a request is open in a slot.
     #[tactic(auto, using(crate::proofs::Arming::number_set))]
     pub(crate) fn arm(&mut self, marks: &Marks, slot: usize, number: u64)
         requires marks { marks.now ≡ (N.marks, N.slots) }
@@ -97,7 +97,7 @@ impl<N: Naming> Slots<N> {
         self.end = self.end.max(slot + 1);
     }
 
-    /// The request of this number is no longer open.
+    /// Notes that the request of this number is no longer open.
     pub(crate) fn retire(&mut self, marks: &Marks, number: u64)
         requires marks { marks.now ≡ (N.marks, N.slots) }
         ensures numbers { Leaves number self.old.numbers self.new.numbers }
@@ -123,7 +123,7 @@ impl<N: Naming> Slots<N> {
         }
     }
 
-    /// Looks at a slot that has an open request: its number, if it is marked.
+    /// Looks at a slot that has an open request. Returns its number, if it is marked.
     pub(crate) fn look(&mut self, marks: &Marks, slot: usize) -> Option<u64>
         requires marks { marks.now ≡ (N.marks, N.slots) }
         requires slot { slot < N.slots }
@@ -139,7 +139,7 @@ impl<N: Naming> Slots<N> {
     }
 }
 
-// The slot behind the last of the first so many that has a number.
+// Returns the slot behind the last that has a number, among the slots before this end.
 fn end_below(numbers: &[Option<u64>], end: usize) -> usize
     requires few { end ≤ length numbers.now }
     requires empty { AreEmptyFrom end numbers.now }

@@ -92,10 +92,10 @@ impl<A: Adapter, N: Naming> Model for Traced<A, N> {
     } };
 }
 
-// A removal and its end may always come.
+// How many labels may always come: those of a removal and of its end.
 const REMOVAL_LABELS: usize = 2;
 
-// Pages with room for a removal, and slots, all empty.
+// Makes pages with room for a removal, and slots, all empty.
 fn make_rows<N: Naming>(
     alloc: Global,
     whole: Whole<TraceEntry, N>,
@@ -127,7 +127,7 @@ fn laws_of_numbers()
     machine_laws::calls_await_answers();
 }
 
-// A right step of the stack, and what the trace, its rows and the slots go by.
+// Carries out a right step of the stack, and shows what the trace, its rows and the slots need of it.
 fn serve_right<A: Adapter>(stack: &mut Stack<A>, alloc: Global, event: Event) -> Reply
     requires taken { stack.old.labels ≡ [] }
     requires on_grid { IsFalse stack.old.rules.any_cut }
@@ -142,7 +142,7 @@ fn serve_right<A: Adapter>(stack: &mut Stack<A>, alloc: Global, event: Event) ->
     stack.step(alloc, event)
 }
 
-// An answer takes its request out of its slot.
+// Takes a request that is answered out of its slot.
 fn retire_if_answered<N: Naming>(slots: &mut Slots<N>, marks: &Marks, label: &Label)
     requires marks { marks.now ≡ (N.marks, N.slots) }
     ensures numbers { (k : ℕ) → number_at slots.new.numbers k ≡ unless_label label.now (number_at slots.old.numbers k) }
@@ -154,7 +154,7 @@ fn retire_if_answered<N: Naming>(slots: &mut Slots<N>, marks: &Marks, label: &La
     }
 }
 
-// A request that was opened arms its slot.
+// Arms the slot of a request that was opened.
 fn arm_if_opened<N: Naming>(slots: &mut Slots<N>, marks: &Marks, reply: &Reply)
     requires marks { marks.now ≡ (N.marks, N.slots) }
     requires may { MayArm N.slots slots.old.owner reply.now }
@@ -191,7 +191,7 @@ fn note_all<A: Adapter, N: Naming>(
     }
 }
 
-// Carries an event out, and notes its labels.
+// Carries out an event, and notes its labels.
 fn carry<A: Adapter, N: Naming>(
     stack: &mut Stack<A>,
     pages: &mut Pages<N>,
@@ -220,7 +220,7 @@ fn carry<A: Adapter, N: Naming>(
     reply
 }
 
-// Carries out a mark that was seen. Apart from the look, so that a look that sees none makes no event.
+// Carries out a mark that was seen. It stands apart from the look, so that a look that sees none makes no event.
 fn carry_mark<A: Adapter, N: Naming>(
     stack: &mut Stack<A>,
     pages: &mut Pages<N>,
@@ -248,7 +248,7 @@ fn carry_mark<A: Adapter, N: Naming>(
     );
 }
 
-// Looks at a slot, and carries a mark out that it sees there.
+// Looks at a slot, and carries out a mark that it sees there.
 fn look_at<A: Adapter, N: Naming>(
     stack: &mut Stack<A>,
     pages: &mut Pages<N>,
@@ -270,7 +270,7 @@ fn look_at<A: Adapter, N: Naming>(
     }
 }
 
-// Looks once at each slot that has an open request, and carries each mark out that it sees.
+// Looks once at each slot that has an open request, and carries out each mark that it sees.
 fn look_all<A: Adapter, N: Naming>(
     stack: &mut Stack<A>,
     pages: &mut Pages<N>,
@@ -401,7 +401,7 @@ impl<A: Adapter, N: Naming> Traced<A, N> {
         self.pages.claim(history, place)
     }
 
-    /// What was claimed stands in the trace.
+    /// Shows the caller that what was claimed stands in the trace.
     pub fn check(&mut self, history: &History<TraceEntry, N>, claims: &mut Claims<TraceEntry, N>)
         ensures same { (self.new ≡ self.old) × (claims.new ≡ claims.old) }
         ensures stand { AllStand self.old.entries claims.old }
@@ -409,7 +409,7 @@ impl<A: Adapter, N: Naming> Traced<A, N> {
         self.pages.check(history, claims)
     }
 
-    /// Where every part of the ledger has come back, the parts have the number of calls.
+    /// Shows the caller that the parts of the ledger, once all have come back, have the number of calls.
     pub fn audit(&mut self, all: &mut ledger::Share<N>)
         requires { all.old.parts ≡ N.parts }
         ensures same { self.new ≡ self.old }
@@ -575,9 +575,9 @@ impl<A: Adapter, N: Naming> Traced<A, N> {
         self.stack.take_answer_of(number)
     }
 
-    /// Whenever a book is at rest, its trace is a run from the state that it was opened with to the state that the
-    /// stack shows, each label in its row; the handles are those that it was opened with; and a slot is armed exactly
-    /// with the open request there. It is available to the caller.
+    /// Shows the caller that the trace of a book at rest is a run from the state that it was opened with to the state
+    /// that the stack shows, each label in its row; that the handles are those that it was opened with; and that a slot
+    /// is armed exactly with the open request there.
     pub fn shows_whole(&self)
         ensures { IsTraced N.rules N.start N.partitions N.handles self.now }
     {

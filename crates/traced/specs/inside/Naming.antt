@@ -1,4 +1,4 @@
--- The names of no book, for a type that names one.
+-- What stands for the names of a book, for a type that names none.
 use Rattle.std.specs.Prelude.{true, false, [], None}
 use Rattle.machine.specs.Rules.{Rules}
 

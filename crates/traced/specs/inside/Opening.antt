@@ -18,7 +18,7 @@ pub record KeepsAll (old new : ManagerView) : Type 0 where
   pub same_open : (k : ℕ) → open_at new k ≡ open_at old k
   pub same_answers : (answer : Answer) → Contains new.answers answer → Contains old.answers answer
 
--- a handle more, under the next number and in a slot that was free
+-- one more handle is open, under the next number and in a slot that was free
 pub record OpensOne (old : ManagerView) (partition : ℕ) (handle : Handle) (new : ManagerView) : Type 0 where
   pub keeps : KeepsAll old new
   pub few : count_by is_some old.handles < handle_limit
@@ -27,7 +27,7 @@ pub record OpensOne (old : ManagerView) (partition : ℕ) (handle : Handle) (new
   pub was_free : slice_index_or old.handles handle.slot None ≡ None
   pub opens : Updates old.handles new.handles handle.slot (Some (record { number = handle.number; partition = partition }))
 
--- none, and why
+-- no handle is opened, for this reason
 abbrev pub RefusesOne : ManagerView → ℕ → OpenFault → ManagerView → Type 0
 RefusesOne old partition NoMemory new = ⊥
 RefusesOne old partition (Refused reason) new = (open_refusal old partition ≡ Some (status_of_refusal reason)) × IsSame old new

@@ -50,7 +50,7 @@ abbrev pub OpensSlot : ManagerView → Reply → ManagerView → Type 0
 OpensSlot old (Requested id) new = HasSlot old id new
 OpensSlot old _ new = Unit {0}
 
--- of a right step: what the trace, its rows and the slots go by
+-- what the trace, its rows and the slots need of a right step
 pub record Serves (old : ManagerView) (event : Event) (reply : Reply) (new : ManagerView) : Type 0 where
   pub same_rules : new.rules ≡ old.rules
   pub run : Run old.rules old.state new.labels new.state

@@ -1,4 +1,4 @@
--- The slots of open requests in the word of cancellations.
+-- The slots of open requests, and the marks of their cancellation.
 use Rattle.std.specs.Prelude.{◌≡◌, ◌<◌, ◌≤◌, ℕ, ◌==◌, List, Option, Some, None, slice_index_or, if◌then◌else◌}
 use Rattle.cancel_marks.specs.declared.rule.View.{View}
 use Rattle.cancel_marks.specs.Marks.{slot_at}
@@ -21,7 +21,7 @@ AreArmed numbers owner = (k : ℕ) → IsArmedAs (slot_at owner k) (number_at nu
 abbrev pub ArmedBelow : ℕ → View → Type 0
 ArmedBelow next owner = (k : ℕ) → (slot_at owner k).last < next
 
--- a slot without this number
+-- what a slot has, unless it is this number
 abbrev pub unless_number : ℕ → Option ℕ → Option ℕ
 unless_number number None = None
 unless_number number (Some other) = if other == number then None else Some other
