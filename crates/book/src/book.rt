@@ -17,9 +17,9 @@ ghost use Rattle.traced.specs.Traced.{AreLooked, AreRowsOf, HasCounted, IsServed
 ghost use Rattle.book.specs.Book.{AreBooked, CallsAfter, FitsHandle, HasBooked, HoldsFailure, IsBlank, IsStepped, ServesAfter, ActsAreOf, book_of, call_handle};
 ghost use Rattle.book.specs.Taken.{BeginsWith, numbered_from};
 
-use crate::asking::{give_back, next_request, refused, reserve};
 use crate::booking::{book_all, has_acted};
 use crate::failing::{fail, failure, transfer};
+use crate::journal_room::{give_back, next_request, refused, reserve};
 use crate::name::Naming;
 use crate::noting;
 use crate::settling::{arm_tag, settle_all};

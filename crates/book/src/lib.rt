@@ -23,10 +23,10 @@
 #![tactic(auto)]
 
 mod arming;
-mod asking;
 mod book;
 mod booking;
 mod failing;
+mod journal_room;
 mod laws;
 mod name;
 mod noting;

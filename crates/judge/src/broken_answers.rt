@@ -9,7 +9,7 @@ ghost use Rattle.judge.specs.Deciding.{is_given_up, is_worn_out};
 ghost use Rattle.judge.specs.Ruling.{difference, is_byte, too_many, is_unended, is_undone, unended_rule, status_due, status_rule, information_rule, bytes_rule, ending_rule, answering_rule_of, answering_rule};
 ghost use Rattle.judge.specs.Views.{rules_of, joined_marks};
 
-use crate::calls::information_of;
+use crate::call_rules::information_of;
 use crate::label_rules::{AnswerRule, Difference};
 use crate::machine_state::Machine;
 use crate::open::Open;

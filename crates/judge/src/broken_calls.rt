@@ -7,7 +7,7 @@ ghost use Rattle.judge.specs.Deciding.{has_number};
 ghost use Rattle.judge.specs.Ruling.{unpaid_rule, owing_rule, carried_rule, calling_rule, cancelling_rule_of, cancelling_rule, pausing_rule, paused_rule, surprising_rule, removed_rule};
 ghost use Rattle.judge.specs.Views.{rules_of, owed_of};
 
-use crate::calls::bytes_carried;
+use crate::call_rules::bytes_carried;
 use crate::label_rules::{CallRule, CancelRule, OwedRule, RemovalRule};
 use crate::machine_state::{Debt, Machine};
 use crate::open::Open;

@@ -26,7 +26,7 @@ mod broken_answers;
 mod broken_calls;
 mod broken_pieces;
 mod broken_starts;
-mod calls;
+mod call_rules;
 mod commands;
 mod copies;
 mod finding;

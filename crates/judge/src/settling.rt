@@ -7,7 +7,7 @@ ghost use Rattle.machine.specs.Settled.{has_out, Settled};
 ghost use Rattle.judge.specs.Settling.{is_held, waits_if_cancelled, is_all_sent, is_held_back, has_more, is_at_work, is_within, are_waiting, is_idle_well, is_served, is_settled};
 ghost use Rattle.judge.specs.Views.{rules_of};
 
-use crate::calls::is_full;
+use crate::call_rules::is_full;
 use crate::machine_state::Machine;
 use crate::open::Open;
 use crate::rules::MachineRules;

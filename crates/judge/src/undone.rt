@@ -10,7 +10,7 @@ ghost use Rattle.judge.specs.Undoing.{failing, owed_undone, window_undone, remov
 ghost use Rattle.judge.specs.LeftUndone.{IsUndone};
 ghost use Rattle.judge.specs.Views.{rules_of, owed_of};
 
-use crate::calls::is_full;
+use crate::call_rules::is_full;
 use crate::machine_state::{Debt, Machine};
 use crate::open::Open;
 use crate::rules::MachineRules;

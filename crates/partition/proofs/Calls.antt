@@ -27,7 +27,7 @@ use Rattle.device.specs.View.{Packet, IsBounded}
 use Rattle.partition.specs.inside.Noted.{asked}
 use Rattle.partition.specs.OnDisk.{rules_over, on_disk}
 use Rattle.partition.specs.Shown.{called, as_called, on_partitions}
-use Rattle.partition.specs.inside.Kept.{LiesInside}
+use Rattle.partition.specs.inside.Invariant.{LiesInside}
 use Rattle.partition.proofs.Noted.{asked_behind}
 use Rattle.partition.proofs.Alike.{AreNotedAlike, called_alike, state_alike, Stands-alike, lie_alike}
 use Rattle.partition.proofs.Steps.{Stands, IsSame-up, moved, only_array}

@@ -19,7 +19,7 @@ use Rattle.device.proofs.Reserving.{home_of_whole}
 use Rattle.partition.specs.OnDisk.{rules_over, on_disk}
 use Rattle.partition.specs.Opening.{IsWholeDisk}
 use Rattle.partition.specs.inside.Rooms.{for_wanted, rooms_with, wanted_at, Notes}
-use Rattle.partition.specs.inside.Kept.{IsKept, IsNotedAt, IsOnDisk, IsWantedFor}
+use Rattle.partition.specs.inside.Invariant.{IsKept, IsNotedAt, IsOnDisk, IsWantedFor}
 use Rattle.partition.specs.Shown.{view_of, shown_of}
 use Rattle.partition.proofs.Steps.{Keeps}
 use Rattle.partition.proofs.Settled.{IsOrderly-over, disk_is}

@@ -36,7 +36,7 @@ use Rattle.partition.specs.inside.Noted.{noted_in, asked}
 use Rattle.partition.specs.OnDisk.{rules_over, on_disk}
 use Rattle.partition.specs.Shown.{called, as_called, on_partitions, packet_above, view_of, shown_of}
 use Rattle.partition.specs.inside.Rooms.{for_wanted, rooms_with, wanted_at}
-use Rattle.partition.specs.inside.Kept.{ComesBack, LiesInside, IsOnDisk, IsKept, IsNotedAt}
+use Rattle.partition.specs.inside.Invariant.{ComesBack, LiesInside, IsOnDisk, IsKept, IsNotedAt}
 use Rattle.partition.proofs.Noted.{Contains-map, asked_behind, asked_same, asked_at, noted_at, front_is}
 use Rattle.partition.proofs.Steps.{Stands}
 use Rattle.partition.proofs.Alike.{AreNotedAlike}

@@ -15,7 +15,7 @@ use Rattle.device.specs.View.{Packet}
 use Rattle.device.specs.Served.{NoneToCancel}
 use Rattle.partition.specs.OnDisk.{rules_over}
 use Rattle.partition.specs.Shown.{as_called, on_partitions}
-use Rattle.partition.specs.inside.Kept.{LiesInside}
+use Rattle.partition.specs.inside.Invariant.{LiesInside}
 use Rattle.partition.proofs.Noted.{maps_are, from_map}
 use Rattle.partition.proofs.Steps.{IsSame-up}
 

@@ -26,7 +26,7 @@ use Rattle.partition.specs.inside.Noted.{asked}
 use Rattle.partition.specs.OnDisk.{rules_over}
 use Rattle.partition.specs.Shown.{called, as_called, on_partitions, packet_above, view_of}
 use Rattle.partition.specs.Opening.{IsWholeDisk}
-use Rattle.partition.specs.inside.Kept.{ComesBack, LiesInside, IsOnDisk}
+use Rattle.partition.specs.inside.Invariant.{ComesBack, LiesInside, IsOnDisk}
 use Rattle.partition.proofs.Noted.{Contains-map, from_map, asked_same}
 use Rattle.partition.proofs.Steps.{Stands, Run-over, Run-keeps, Keeps, moved, only_array}
 use Rattle.partition.proofs.Alike.{AreNotedAlike, state_alike, lie_alike}

@@ -21,7 +21,7 @@ use Rattle.device.specs.View.{DeviceView, Packet, IsRead, IsSending, WaitsForTag
 use Rattle.partition.specs.OnDisk.{rules_over}
 use Rattle.partition.specs.Shown.{as_called, on_partitions, packet_above, view_of}
 use Rattle.partition.specs.Opening.{IsWholeDisk}
-use Rattle.partition.specs.inside.Kept.{IsOnDisk}
+use Rattle.partition.specs.inside.Invariant.{IsOnDisk}
 use Rattle.partition.proofs.Noted.{maps_are}
 use Rattle.partition.proofs.Steps.{Stands}
 

@@ -37,7 +37,7 @@ use Rattle.partition.specs.inside.Noted.{asked}
 use Rattle.partition.specs.OnDisk.{rules_over}
 use Rattle.partition.specs.Shown.{as_called, on_partitions}
 use Rattle.partition.specs.Opening.{IsWholeDisk}
-use Rattle.partition.specs.inside.Kept.{LiesInside}
+use Rattle.partition.specs.inside.Invariant.{LiesInside}
 use Rattle.partition.proofs.Noted.{Contains-map}
 
 -- THE SECTORS OF NO PARTITION

@@ -30,7 +30,7 @@ use Rattle.partition.specs.OnDisk.{rules_over, on_disk}
 use Rattle.partition.specs.Shown.{called, as_called, on_partitions, packet_above, view_of, shown_of}
 use Rattle.partition.specs.Opening.{IsWholeDisk}
 use Rattle.partition.specs.inside.Rooms.{for_wanted, rooms_with}
-use Rattle.partition.specs.inside.Kept.{ComesBack, IsOnDisk, IsKept, IsNotedAt}
+use Rattle.partition.specs.inside.Invariant.{ComesBack, IsOnDisk, IsKept, IsNotedAt}
 use Rattle.machine_laws.proofs.DiskMap.{count_at, home_at}
 use Rattle.partition.proofs.Noted.{asked_first, asked_behind, noted_at, front_is}
 use Rattle.partition.proofs.Steps.{Stands}

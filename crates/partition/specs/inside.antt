@@ -1,4 +1,4 @@
 -- What no reader of the public clauses needs.
-pub mod Kept
+pub mod Invariant
 pub mod Noted
 pub mod Rooms

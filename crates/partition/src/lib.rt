@@ -49,7 +49,7 @@ impl<D: Shown> Drop for Partitions<D> {
 impl<D: Shown> Model for Partitions<D> {
     ghost use Rattle.device.specs.View.{DeviceView};
     ghost use Rattle.partition.specs.Shown.{shown_of};
-    ghost use Rattle.partition.specs.inside.Kept.{IsKept};
+    ghost use Rattle.partition.specs.inside.Invariant.{IsKept};
 
     ghost Value = { DeviceView };
 
