@@ -98,7 +98,7 @@ FitsHandle _ _ = ⊥
 abbrev pub HoldsFailure : TracedView → Event → TracedView → Type 0
 HoldsFailure old event held = (held ≡ old) ⊎ ((tag piece : ℕ) × (completion : Completion) × (event ≡ Act tag) × HoldsBooked old tag piece (Err completion) held)
 
--- the event is the act of the last entry that was booked, whose step was the event's
+-- the event is the act of the last entry that was booked, so that the entry's step was the event's
 pub record IsLastAct (count : ℕ) (before booked : BookView) (event : Event) (reply : Reply) (new : BookView) : Type 0 where
   pub tag : ℕ
   pub is_act : event ≡ Act tag

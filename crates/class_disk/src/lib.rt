@@ -1,6 +1,6 @@
 //! The class driver of a disk: it cuts long transfers into pieces, each an SRB of its own to the port below.
 //!
-//! Promises to the layer above, by the contract of [`device::Device`]: one volume, the whole disk; requests of up
+//! It promises to the layer above, by the contract of [`device::Device`]: one volume, the whole disk; requests of up
 //! to 65,536 sectors, each sent below as parts of at most the longest transfer there, all at once and in rising
 //! order. A part that comes back busy goes to the back of the queue below again, sixteen times a request, unless the
 //! request is cancelled or the device removed. A failure stops no other part. Once all have ended, the packet is

@@ -1,9 +1,9 @@
 //! A medium: the sectors of a disk, read and written by extents.
 //!
-//! Promises to the crate above, by the contract of [`Medium`]: it is seen as a list of sectors, each of `sector_size`
-//! bytes; a read gives the bytes that stand in its extent, a write replaces the sectors of its extent alone, and a call
-//! whose extent holds a bad sector fails whole, changes nothing and is counted. No other call fails. [`VecDisk`] keeps
-//! all sectors in one block of memory, [`SparseDisk`] only the chunks that were reserved.
+//! It promises to the crate above, by the contract of [`Medium`]: it is seen as a list of sectors, each of
+//! `sector_size` bytes; a read gives the bytes that stand in its extent, a write replaces the sectors of its extent
+//! alone, and a call whose extent holds a bad sector fails whole, changes nothing and is counted. No other call fails.
+//! [`VecDisk`] keeps all sectors in one block of memory, [`SparseDisk`] only the chunks that were reserved.
 //!
 //! It doesn't promise that anything outlives the process.
 #![tactic(auto)]

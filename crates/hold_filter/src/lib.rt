@@ -1,6 +1,6 @@
 //! The hold filter: it lets at most a window of requests into the device below, and holds the others.
 //!
-//! Promises to the layer above, by the contract of [`Device`](device::Device), over any device that takes packets
+//! It promises to the layer above, by the contract of [`Device`](device::Device), over any device that takes packets
 //! without an SRB: the machine of the device below with more open requests, a window, and a pause. Packets are held
 //! first in, first out, and go below as soon as fewer than the window are there. A packet that need not be held goes
 //! below at once. By the contract of [`Hold`](device::Hold): during a pause each new packet is held and none goes

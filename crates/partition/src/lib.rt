@@ -1,7 +1,7 @@
 //! The partition driver: one volume for each partition of a disk, over the layer that has the whole disk as its one
 //! volume.
 //!
-//! Promises to the layer above, by the contract of [`Device`]: the machine of the layer below, with one array a
+//! It promises to the layer above, by the contract of [`Device`]: the machine of the layer below, with one array a
 //! partition (`shown_of`), which [`Partitions::new`] opens (`opening`). Sector i of a partition is the disk's sector
 //! `first + i` (`on_disk`); requests keep their numbers and their spots. No act changes a sector of another partition
 //! (`acts`) or one of none (`outside`). Each call passes on to the layer below with no search. What a spot is reserved

@@ -1,7 +1,7 @@
 //! The port: it queues the packets of the disk, and hands their SRBs to an adapter by tags.
 //!
-//! Promises to the layer above, by the contract of [`Device`]: one volume, which is the whole disk; a packet's SRB is
-//! the one command of its one piece. Packets wait first in, first out, and none waits while a tag is free
+//! It promises to the layer above, by the contract of [`Device`]: one volume, which is the whole disk; a packet's SRB
+//! is the one command of its one piece. Packets wait first in, first out, and none waits while a tag is free
 //! (`IsSending`); the front one starts on the lowest free tag. A busy return ends its packet as DEVICE_BUSY, a packet
 //! that is cancelled while it waits ends as REQUEST_FLUSHED, and one that waits at a removal as NO_DEVICE. Each goes up
 //! with the cancel routine that it came with (`brings_routine`). By its spot a packet that waits is found in a few

@@ -13,13 +13,13 @@ use srb::{Kind, Srb};
 #[derive(Debug, Clone, Copy)]
 pub(crate) struct Asked {
     pub(crate) kind: Kind,
-    /// Of the disk.
+    /// On the disk.
     pub(crate) extent: Extent,
     /// Past volatile caches (SBC: FUA).
     pub(crate) through: bool,
 }
 
-/// What C is told of it.
+/// What C is told of what a command block asks for.
 #[repr(C)]
 #[derive(Debug, Clone, Copy)]
 pub struct StackAsked {

@@ -38,7 +38,7 @@ pub struct StackBooking {
     pub length: u64,
     pub tag: u8,
     pub failed: bool,
-    /// Of a failure.
+    /// For a failure: how the piece failed.
     pub completion: StackCompletion,
 }
 

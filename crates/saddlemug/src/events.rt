@@ -69,32 +69,32 @@ impl EventKind {
 pub struct StackEvent {
     /// The number of its [`EventKind`].
     pub kind: u32,
-    /// Of an open.
+    /// For an open, counted from 0.
     pub partition: u8,
-    /// Of an act and a finish.
+    /// For an act or a finish.
     pub tag: u8,
-    /// Of a write.
+    /// For a write: whether it goes past volatile caches.
     pub through: bool,
     /// Whether a CancelIoEx is for `request` alone.
     pub one: bool,
     pub handle: StackId,
     /// For a CancelIoEx of one request: its number, which the mark has too.
     pub request: StackId,
-    /// In bytes, of a read and a write.
+    /// For a read or a write, in bytes.
     pub offset: u64,
-    /// In bytes, of a read.
+    /// For a read, in bytes.
     pub length: u64,
 }
 
-/// What an event was answered.
+/// The reply to an event.
 #[repr(C)]
 #[derive(Debug, Clone, Copy)]
 pub struct StackReply {
     /// Which reply, in the order of [`Reply`], from 0.
     pub kind: u32,
-    /// Of a request that was answered at once, or of a refusal; else 0.
+    /// For a request that was answered at once, or a refusal; else 0.
     pub status: u32,
-    /// The handle or the request; only the number, of a request that was answered at once; else 0.
+    /// The handle or the request; for a request that was answered at once only its number; else 0.
     pub id: StackId,
 }
 

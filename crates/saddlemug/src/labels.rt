@@ -15,7 +15,7 @@ pub struct StackLabel {
     /// Which: 0 to 11 for a call, a start, an act, a fault, a return, an answer, a cancel, a pause, a resume, a remove,
     /// a surprise, and the end of a removal.
     pub kind: u32,
-    /// Of an answer.
+    /// For an answer.
     pub status: u32,
     /// For a call, an answer or a cancel: the number of its request.
     pub number: u64,
@@ -24,19 +24,19 @@ pub struct StackLabel {
     /// The low and the high 64 bits of the piece of a start, an act, a fault or a return.
     pub piece_low: u64,
     pub piece_high: u64,
-    /// Of a start.
+    /// For a start.
     pub tag: u32,
-    /// Of a return: 0 good, 1 busy, 2 bad.
+    /// For a return: 0 good, 1 busy, 2 bad.
     pub class: u32,
-    /// Of a call: 0 read, 1 write, 2 flush.
+    /// For a call: 0 read, 1 write, 2 flush.
     pub request: u32,
-    /// Of a call: its partition, counted from 1, or 0 where its handle isn't open.
+    /// For a call: its partition, counted from 1, or 0 where its handle isn't open.
     pub partition: u32,
-    /// Of a call, in bytes.
+    /// For a call, in bytes.
     pub offset: u64,
-    /// Of a call, in bytes.
+    /// For a call, in bytes.
     pub length: u64,
-    /// Of a call: 1 for a write-through.
+    /// For a call: 1 for a write-through.
     pub through: u32,
     /// The number of bytes that come with the label.
     pub bytes: u64,
@@ -46,7 +46,7 @@ pub struct StackLabel {
 #[repr(C)]
 #[derive(Debug, Clone, Copy, Default)]
 pub struct StackAnswer {
-    /// Of its request.
+    /// The number of its request.
     pub number: u64,
     /// The number of bytes that it moved.
     pub information: u64,

@@ -65,7 +65,7 @@ impl<N: Naming> Slots<N> {
         self.numbers.len()
     }
 
-    /// Returns a slot such that neither it nor one behind it has an open request.
+    /// Returns a number such that no slot from it on has an open request.
     pub(crate) fn end(&self) -> usize
         ensures few { result ≤ N.slots }
         ensures empty { AreEmptyFrom result self.now.numbers }
