@@ -1,11 +1,11 @@
 -- Answers put in their place by number.
-use Rattle.std.proofs.Common.{◌≡◌, ◌<◌, ◌≤◌, ℕ, zero, suc, ◌+◌, ◌-◌, true, false, List, [], ◌∷◌, ◌++◌, take, drop, Option, Some, None, refl, ◌∙◌, ap, arith, map, length, get_or, nat_lt}
+use Rattle.std.proofs.Common.{◌≡◌, ◌<◌, ◌≤◌, ℕ, zero, suc, ◌+◌, ◌-◌, true, false, List, [], ◌∷◌, ◌++◌, take, drop, Option, Some, None, refl, sym, ◌∙◌, ap, arith, map, length, get_or, nat_lt}
 use Rattle.std.specs.Prelude.{IsPermutation, ◌==◌, ◌||◌, if◌then◌else◌}
 use Rattle.std.specs.List.{list_any}
 use Rattle.std.proofs.Math.ListN.{get_or-map}
 use Rattle.std.proofs.Math.Seq.{drop-append_seam, take-append_seam}
 use Rattle.std.proofs.lemmas.Bool.Decides.{nat_tests}
-use Rattle.std.proofs.lemmas.List.{length-drop, length-map}
+use Rattle.std.proofs.lemmas.List.{drop_all, length-drop, length-map, take_all}
 use Rattle.std.proofs.Math.Bool.{or-true}
 use Rattle.std.proofs.lemmas.List.Sorted.{list_any-IsPermutation}
 use Rattle.io_manager.specs.declared.Answer.{Answer}
@@ -43,6 +43,16 @@ turned_in answer answers place turned longer last count at counted first second 
     ∙ ap (λ n. drop n (front ++ take place answers) ++ take n (front ++ take place answers)) long
     ∙ ap (λ xs. xs ++ take (length front) (front ++ take place answers)) (drop-append_seam front (take place answers))
     ∙ ap (λ xs. take place answers ++ xs) (take-append_seam front (take place answers))
+    ∙ ap (λ n. take n answers ++ answer ∷ drop n answers) at
+    ∙ between answer answers
+
+-- behind all, where all have lower numbers
+pub put_last : (answer : Answer) (answers : List Answer) (place : ℕ) (longer : List Answer) → place ≡ lower_first answer.number answers → place ≡ length answers
+    → longer ≡ answers ++ answer ∷ [] → longer ≡ inserted answer answers
+put_last answer answers place longer at all last =
+    last
+    ∙ ap (λ xs. answers ++ answer ∷ xs) (sym (drop_all place answers (omega (arith, all))))
+    ∙ ap (λ xs. xs ++ answer ∷ drop place answers) (sym (take_all place answers (omega (arith, all))))
     ∙ ap (λ n. take n answers ++ answer ∷ drop n answers) at
     ∙ between answer answers
 

@@ -33,8 +33,12 @@ pub(crate) fn insert_rising(answers: &mut VecDeque<Answer>, answer: Answer)
     ensures len { deque_len answers.new ≡ deque_len answers.old + 1 }
     ensures capacity { deque_capacity answers.new ≡ deque_capacity answers.old }
 {
-    // `insert` may take memory; these calls never do. Each rotation goes the shorter way.
     let place = place_of(answers, answer.number);
+    if place == answers.len() {
+        answers.push_back_reserved(answer);
+        return;
+    }
+    // `insert` may take memory; these calls never do. Each rotation goes the shorter way.
     answers.rotate_left(place);
     answers.push_front_reserved(answer);
     answers.rotate_right(place);

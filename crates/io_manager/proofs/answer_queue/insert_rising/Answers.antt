@@ -1,9 +1,16 @@
--- The place is within the queue, and an answer that goes in at the front between two turns stands there.
+-- An answer goes in behind all, or the place is within the queue, and an answer that goes in at the front between two
+-- turns stands there.
 use Rattle.std.proofs.Common.{◌≡◌, ◌≤◌, ◌+◌, ◌∙◌, ap, arith, length}
 use Rattle.std.specs.VecDeque.{deque_len}
 use Rattle.io_manager.specs.inside.Ordering.{lower_first}
-use Rattle.io_manager.proofs.Inserting.{lower_first_within, turned_in}
+use Rattle.io_manager.proofs.Inserting.{lower_first_within, put_last, turned_in}
 use Rattle.io_manager.proofs.answer_queue.insert_rising.Goals as goal
+
+pub returns-then-place-len-clause-items : goal.returns-then-place-len-clause-items
+returns-then-place-len-clause-items c =
+    let counted : c.args.answers.now.len ≡ length c.args.answers.now.items = c.args.answers.now.ok.0 in
+    put_last c.args.answer c.args.answers.now.items c.place_of-place.result c.push_back_reserved.new.self.items
+    c.place_of-place.ensures (omega (arith, c.if-place-len.true, c.len.ensures, counted)) c.push_back_reserved.ensures.items
 
 pub rotate_left-requires : goal.rotate_left-requires
 rotate_left-requires c =
