@@ -147,6 +147,7 @@ impl Tables {
 /// Moves the deferred answers to the end of the labels, which have places for them.
 fn move_answers(answered: &mut LabelQueue<Answer>, labels: &mut LabelQueue<Label>)
     requires kept { IsTrue answered.old.keeps }
+    requires labels_kept { IsTrue labels.old.keeps }
     requires places { length labels.old.items + length answered.old.items ≤ labels.old.places }
     ensures told { labels.new.items ≡ labels.old.items ++ map as_answer answered.old.items }
     ensures none_left { answered.new.items ≡ [] }
@@ -160,7 +161,7 @@ fn move_answers(answered: &mut LabelQueue<Answer>, labels: &mut LabelQueue<Label
             information,
             bytes,
         } = answer;
-        labels.tell(Label::Answer {
+        labels.keep_one(Label::Answer {
             number,
             status,
             information,
@@ -188,13 +189,14 @@ fn tell_answers(answered: &mut LabelQueue<Answer>, labels: &mut LabelQueue<Label
 
 /// Moves all labels of the device to the end of these, which have places for them.
 fn move_labels<D: Device>(device: &mut D, labels: &mut LabelQueue<Label>)
+    requires kept { IsTrue labels.old.keeps }
     requires places { length labels.old.items + length (D.view device.old).adapter.labels ≤ labels.old.places }
     ensures moved { labels.new.items ≡ labels.old.items ++ map as_label (D.view device.old).adapter.labels }
     ensures taken { D.view device.new ≡ unlabelled (D.view device.old) }
     ensures places { SameQueue labels.old labels.new }
 {
     while let Some(label) = device.take_label() {
-        labels.tell(Label::Device(label));
+        labels.keep_one(Label::Device(label));
     }
 }
 

@@ -75,6 +75,18 @@ impl<T: Drop> LabelQueue<T> {
         }
     }
 
+    /// Tells one more, which memory keeps.
+    pub(crate) fn keep_one(&mut self, item: T)
+        requires kept { IsTrue self.old.keeps }
+        requires place { length self.old.items < self.old.places }
+        ensures tells { self.new.items ≡ self.old.items ++ item ∷ [] }
+        ensures one_more { length self.new.items ≡ length self.old.items + 1 }
+        ensures same { SameQueue self.old self.new }
+    {
+        self.told = self.told.with(&item);
+        self.queue.push_back_reserved(item);
+    }
+
     /// Makes what is told these items, in a queue of which memory keeps none. The caller reads them off what it lends.
     pub(crate) fn note<S>(&mut self, from: &S)
         ghost items: { List T }
