@@ -34,8 +34,8 @@ fn data_in(slots: &[Option<OnTag>], tag: u8, room: LabelRoom) -> Bytes
     }
 }
 
-/// A label with its bytes.
-pub(crate) fn tell(label: Recorded, slots: &[Option<OnTag>]) -> DeviceLabel
+/// A label with its bytes, copied to their room where it is that of an act.
+fn filled(label: Recorded, slots: &[Option<OnTag>]) -> DeviceLabel
     requires { IsTellable slots.now label }
     ensures { result ≡ told slots.now label }
 {
@@ -48,6 +48,17 @@ pub(crate) fn tell(label: Recorded, slots: &[Option<OnTag>]) -> DeviceLabel
     }
 }
 
+/// A label with its bytes. Most have them, and those are handed on without a call.
+pub(crate) fn tell(label: Recorded, slots: &[Option<OnTag>]) -> DeviceLabel
+    requires { IsTellable slots.now label }
+    ensures { result ≡ told slots.now label }
+{
+    match label {
+        Recorded::Told(label) => label,
+        label => filled(label, slots),
+    }
+}
+
 /// Gives the first label its bytes, and puts it behind the others.
 fn tell_first(labels: &mut VecDeque<Recorded>, slots: &[Option<OnTag>])
     requires { All (IsTellable slots.now) labels.old.items }
@@ -56,7 +67,7 @@ fn tell_first(labels: &mut VecDeque<Recorded>, slots: &[Option<OnTag>])
     ensures room { deque_capacity labels.new ≡ deque_capacity labels.old }
 {
     if let Some(label) = labels.pop_front() {
-        labels.push_back_reserved(Recorded::Told(tell(label, slots)));
+        labels.push_back_reserved(Recorded::Told(filled(label, slots)));
     }
 }
 
