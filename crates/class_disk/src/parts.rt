@@ -187,16 +187,11 @@ impl Part {
         ensures gives { result ≡ given_by self.old.progress }
         ensures left { IsLeft self.old self.new }
     {
-        match mem::replace(&mut self.progress, Progress::Below { number: 0, spot: 0 }) {
-            Progress::Ended(mut ended) => {
-                let payload = mem::replace(&mut ended.packet.irp.payload, Payload::Sent);
-                self.progress = Progress::Ended(ended);
-                given(payload)
+        match &mut self.progress {
+            Progress::Ended(ended) => {
+                given(mem::replace(&mut ended.packet.irp.payload, Payload::Sent))
             }
-            progress => {
-                self.progress = progress;
-                Payload::Sent
-            }
+            Progress::Ready(_) | Progress::Below { .. } => Payload::Sent,
         }
     }
 
