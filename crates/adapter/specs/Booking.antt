@@ -30,7 +30,7 @@ pub record IsArmed (view : AdapterView) (tag piece : ℕ) (srb : Srb) : Type 0 w
 
 -- WHAT MAY BE BOOKED OF IT
 
--- an entry of this kind, of these sectors, which lie in the disk, and as many bytes as the SRB has
+-- the entry has this kind, these sectors, which lie in the disk, and as many bytes as the SRB
 pub record IsTransferOf (size sectors : ℕ) (bytes : List ℕ) (kind : Kind) (lba count : ℕ) (entry : Entry) : Type 0 where
   pub kind_is : entry.kind ≡ kind
   pub first_is : entry.extent.first ≡ lba
@@ -113,13 +113,13 @@ SendsFor size sectors bytes (Write16 lba count fua) = (lba + count ≤ sectors) 
 SendsFor size sectors bytes (Sync16 lba count) = length bytes ≡ 0
 SendsFor size sectors bytes (ReadCapacity16 allocation) = ⊥
 
--- the SRB asks for a write of all that it sends, or for a flush
+-- the SRB asks to write all that it sends, or to flush
 pub record SendsAll (size sectors : ℕ) (srb : Srb) : Type 0 where
   pub command : Cdb
   pub means : Means srb.block command
   pub sends : SendsFor size sectors srb.data command
 
--- the law: of such an SRB, and of no other, the entry of what it sends may be booked
+-- the law: the entry of what an SRB sends may be booked exactly where the SRB is such a one
 abbrev pub SentSuits : Type 0
 SentSuits = (size sectors tag piece : ℕ) (srb : Srb) → SendsAll size sectors srb ↔ Suits size sectors srb (Ok (entry_sent tag piece srb))
 

@@ -74,11 +74,11 @@ pub record IsInOrder (view : AdapterView) : Type 0 where
 
 -- TAGS
 
--- its tag is this one
+-- the tag in use is this one
 abbrev pub HasTag : ℕ → TagInUse → Type 0
 HasTag tag use' = use'.tag ≡ tag
 
--- it has another tag
+-- the tag in use is another
 abbrev pub HasNotTag : ℕ → TagInUse → Type 0
 HasNotTag tag use' = use'.tag ≢ tag
 
@@ -127,7 +127,7 @@ IsWritable view srb =
 
 -- ONE LABEL
 
--- a tag as it takes a piece, which has done nothing yet
+-- a tag in use as it takes a piece, which has done nothing yet
 abbrev pub in_use_from : AdapterView → ℕ → ℕ → Srb → TagInUse
 in_use_from view tag piece srb = record {
   tag = tag;
@@ -196,7 +196,7 @@ pub record FaultsOn (old : AdapterView) (tag piece : ℕ) (new : AdapterView) : 
   pub in_use : IsPermutation tags (faulted left use' ∷ others)
   pub after : new ≡ record old { tags = tags; failures = failures; labels = old.labels ++ Fault piece ∷ [] }
 
--- the low six bits of BUS_RESET
+-- the low six bits of the SRB status are those of SRB_STATUS_BUS_RESET
 abbrev pub IsBusReset : Completion → Type 0
 IsBusReset completion = bit_and completion.srb_status 63 ≡ 14
 
@@ -239,7 +239,7 @@ MovesBy old label new = (tag : ℕ) × MovesOn old tag label new
 abbrev pub met_by_reset : TagInUse → TagInUse
 met_by_reset use' = record use' { was_reset = true }
 
--- only the reserved extents may differ, and what was reserved still is
+-- only the reserved extents may change, and what was reserved still is
 pub record ReservesMore (old new : AdapterView) : Type 0 where
   pub reserved : List Extent
   pub after : new ≡ record old { reserved = reserved }

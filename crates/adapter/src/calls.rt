@@ -40,7 +40,7 @@ pub trait Adapter: Drop {
     fn is_faithful(&self) -> bool
         ensures { result ≡ (view self.now).faithful };
 
-    /// The failures counted so far, at most twice the pieces accepted and one.
+    /// The failures counted so far: at most one more than twice the pieces accepted.
     fn failures(&self) -> u128
         ensures exact { result ≡ (view self.now).failures }
         ensures order { IsInOrder (view self.now) };
@@ -83,7 +83,7 @@ pub trait Adapter: Drop {
         ensures acts { MatchBool result (ActsOrFaults (view self.old) tag (view self.new)) (ActsNot (view self.old) tag (view self.new)) }
         ensures order { IsInOrder (view self.new) };
 
-    /// The piece of the tag that has neither acted nor failed, with its SRB. None where there is none.
+    /// The piece of the tag, with its SRB, where it has neither acted nor failed; else `None`.
     fn armed(&self, tag: u8) -> Option<(u128, &Srb)>
         ensures exact { MatchOption result (HasNoneFresh (view self.now) tag) (λ found. IsArmed (view self.now) tag found.0 found.1.now) }
         ensures order { IsInOrder (view self.now) };
@@ -96,7 +96,7 @@ pub trait Adapter: Drop {
         ensures books { Books (view self.old) tag piece (handed (view self.old) tag piece what.entry) (view self.new) }
         ensures order { IsInOrder (view self.new) };
 
-    /// Hands the tag's piece back and frees the tag. None where the tag is free.
+    /// Hands back the tag's piece and frees the tag. `None` where the tag is free.
     fn finish(&mut self, tag: u8) -> Option<(Srb, Completion)>
         requires { length (view self.old).labels < 64 }
         ensures finishes { MatchOption result (FinishesNot (view self.old) tag (view self.new)) (λ back. Finishes (view self.old) tag back.0 back.1 (view self.new)) }
@@ -108,7 +108,7 @@ pub trait Adapter: Drop {
         ensures resets { Resets (view self.old) (view self.new) }
         ensures order { IsInOrder (view self.new) };
 
-    /// The earliest label that was recorded and not taken.
+    /// Takes the earliest label that was recorded and not taken.
     fn take_label(&mut self) -> Option<DeviceLabel>
         ensures takes { MatchOption result (HasNoLabel (view self.old) (view self.new)) (λ label. LeavesFirst (view self.old) label (view self.new)) }
         ensures order { IsInOrder (view self.new) };

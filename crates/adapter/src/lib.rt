@@ -3,8 +3,8 @@
 //!
 //! It promises to the port, by the contract of [`Adapter`], that what an adapter shows moves by the labels that it
 //! records and by nothing else. A piece that was accepted acts once, by the meaning of its command block, or faults and
-//! changes no sector; it comes back good only after an act, busy only where it did nothing, and bad only where failures
-//! were counted since it was accepted; after a reset as BUS_RESET.
+//! changes no sector. It comes back good only after an act, busy only where it did nothing, and bad only where failures
+//! were counted since it was accepted. After a reset it comes back as BUS_RESET.
 //!
 //! It doesn't promise that a piece ever acts, nor that what was written outlives the process.
 #![tactic(auto)]

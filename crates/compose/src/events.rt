@@ -15,7 +15,7 @@ use sector::Extent;
 use std::alloc::Global;
 use std::collections::VecDeque;
 
-/// Carries one event out; its labels and answers then wait to be taken. All labels of the step before have to be taken.
+/// Carries out one event; its labels and answers then wait to be taken. All labels of the step before have to be taken.
 /// Only a read, a write or a flush takes memory, before anything is changed.
 pub(crate) fn step<D: Hold>(manager: &mut IoManager<D>, alloc: Global, event: Event) -> Reply
     requires taken { manager.old.labels ≡ [] }
@@ -56,7 +56,7 @@ pub(crate) fn step<D: Hold>(manager: &mut IoManager<D>, alloc: Global, event: Ev
     reply
 }
 
-/// Carries one event out as [`step`] does, and forgets its labels: none is kept, and none has its bytes made.
+/// Carries out one event as [`step`] does, and forgets its labels: none is kept, and no bytes are made for them.
 pub(crate) fn step_untraced<D: Hold>(
     manager: &mut IoManager<D>,
     alloc: Global,
@@ -97,7 +97,7 @@ pub(crate) fn admits<D: Hold>(manager: &IoManager<D>, event: &Event) -> Option<(
     }
 }
 
-/// Carries events out one after another, and gives the reply and the labels of each, which are then taken. All labels
+/// Carries out events one after another, and gives the reply and the labels of each, which are then taken. All labels
 /// of the step before have to be taken.
 ///
 /// # Errors
@@ -127,7 +127,7 @@ pub(crate) fn run<D: Hold>(
     result
 }
 
-/// Carries events out one after another, as [`run`] does.
+/// Carries out events one after another, as [`run`] does.
 ///
 /// # Errors
 ///
@@ -163,7 +163,7 @@ fn carry_all<D: Hold>(
     Ok(shown)
 }
 
-/// Carries one event out and takes its labels, in exchange for an empty queue with places for those of the next.
+/// Carries out one event and takes its labels, in exchange for an empty queue with places for those of the next.
 fn carry_out<D: Hold>(
     manager: &mut IoManager<D>,
     alloc: Global,

@@ -69,7 +69,7 @@ impl<A: Adapter> Stack<A> {
         }
     }
 
-    /// Carries one event out; its labels and answers then wait to be taken. All labels of the step before have to be
+    /// Carries out one event; its labels and answers then wait to be taken. All labels of the step before have to be
     /// taken. Only a read, a write or a flush takes memory, before anything is changed.
     pub fn step(&mut self, alloc: Global, event: Event) -> Reply
         requires taken { self.old.labels ≡ [] }
@@ -81,7 +81,7 @@ impl<A: Adapter> Stack<A> {
         events::step(&mut self.manager, alloc, event)
     }
 
-    /// Carries one event out as [`Stack::step`] does, and forgets its labels: none has its bytes made.
+    /// Carries out one event as [`Stack::step`] does, and forgets its labels: no bytes are made for them.
     pub fn step_untraced(&mut self, alloc: Global, event: Event) -> Reply
         requires taken { self.old.labels ≡ [] }
         ensures untraced { StepsUntraced self.old event result self.new }
@@ -96,7 +96,7 @@ impl<A: Adapter> Stack<A> {
     /// request is cut into, and its sectors of the disk, in order. A flush has one piece, and an empty extent where its
     /// partition begins. It takes no memory.
     ///
-    /// None where it would be refused or asks for no bytes, once request numbers are used up, and for every other
+    /// `None` where it would be refused or asks for no bytes, once request numbers are used up, and for every other
     /// event. A step of the event then opens just this, unless memory is refused ([`crate::steps_open_as_told`]).
     pub fn admits(&self, event: &Event) -> Option<(u64, Extent)>
         ensures { result ≡ opened_by self.now event.now }
@@ -176,7 +176,7 @@ impl<A: Adapter> Stack<A> {
         self.manager.take_answer_of(number)
     }
 
-    /// Carries events out one after another, and gives the reply and the labels of each, which are then taken. All
+    /// Carries out events one after another, and gives the reply and the labels of each, which are then taken. All
     /// labels of the step before have to be taken.
     ///
     /// # Errors

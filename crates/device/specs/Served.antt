@@ -200,7 +200,8 @@ pub record IsAt (spot number : ℕ) (packet : Packet) : Type 0 where
 abbrev pub HasOtherNumber : ℕ → Packet → Type 0
 HasOtherNumber number packet = packet.number ≢ number
 
--- a packet is cancelled by its spot as by its number; where no packet has the number, nothing changes
+-- a packet is cancelled by its spot and its number as by its number alone; where no packet has the number, nothing
+-- changes
 pub record CancelsAt (old : DeviceView) (spot number : ℕ) (new : DeviceView) : Type 0 where
   pub there : Any (IsAt spot number) old.packets → CancelsIfOpen old number new
   pub gone : All (HasOtherNumber number) old.packets → new ≡ old
@@ -257,7 +258,7 @@ pub record HandsUp (takes_srb : Bool) (old : DeviceView) (climb : Climb) (spot :
   pub is_in : IsPermutation old.packets (packet ∷ others)
   pub answers : Answers old.rules old.state packet.number status bytes answered
   pub is_request : answers.request.request ≡ as_client old.rules request (sent_bytes request.kind payload)
-  -- a read or a write that succeeded moved the sectors that its packet's bytes are
+  -- a read or a write that succeeded moved just the sectors that are its packet's bytes
   pub moved : status ≡ Success → answers.request.marks ≡ map Done (sectors_moved old.rules request payload)
   -- a request that went as a whole and came back busy is answered as busy
   pub busy : IsTrue old.rules.one_piece → All IsBack answers.request.marks → status ≡ DeviceBusy

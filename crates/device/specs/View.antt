@@ -112,7 +112,7 @@ packet_spot packet = packet.spot
 abbrev pub IsOffRooms : List (Option Reserved) → Packet → Type 0
 IsOffRooms rooms packet = room_at rooms packet.spot ≡ None
 
--- the sectors of no partition stay as they are
+-- the sectors in no partition stay as they are
 abbrev pub KeepsOutside : List Extent → AdapterView → AdapterView → Type 0
 KeepsOutside partitions old new =
     (sector : ℕ) → (Any (IsIn sector) partitions → ⊥) → slice_get new.sectors sector ≡ slice_get old.sectors sector

@@ -77,7 +77,7 @@ pub trait Device: Shown {
     fn longest(&self) -> u64
         ensures { result ≡ (Self.view self.now).rules.longest };
 
-    /// Requests that may be submitted in all.
+    /// How many requests may be submitted in all.
     fn most(&self) -> u128
         ensures { result ≡ (Self.view self.now).most };
 
@@ -96,9 +96,9 @@ pub trait Device: Shown {
         ensures near { ReservesNear (Self.view self.old) request.now (Self.view self.new) }
         ensures unless_write { request.now.kind ≢ Write → (Self.view self.new).adapter ≡ (Self.view self.old).adapter };
 
-    /// Takes a packet in at its room's spot (WDK: IoCallDriver). Its last stack location is the layer's own and asks
-    /// for the room's request, as its payload does; with the others that the layer and those below need it has four
-    /// at most. Its number is above all submitted before.
+    /// Takes in a packet at its room's spot (WDK: IoCallDriver). Its last stack location is the layer's own, and asks
+    /// for the room's request, as its payload does. With those that the layers below need, its locations are four at
+    /// most. Its number is above all submitted before.
     fn submit(&mut self, irp: Box<Irp>, room: Room)
         requires ready { IsReady (Self.view self.old).rooms room.spot }
         requires not_removing { IsFalse (Self.view self.old).state.removing }
@@ -168,7 +168,7 @@ pub trait Device: Shown {
         ensures hands_up { MatchOption result (HandsUpNone (Self.view self.old) (Self.view self.new))
             (λ done. HandsUp Self.takes_srb (Self.view self.old) done.0 done.1.spot (Self.view self.new)) };
 
-    /// The earliest label that the adapter recorded and that nobody took yet.
+    /// Takes the earliest label that the adapter recorded and that nobody took yet.
     fn take_label(&mut self) -> Option<DeviceLabel>
         ensures takes { TakesLabel (Self.view self.old) result (Self.view self.new) };
 

@@ -153,7 +153,8 @@ impl<D: Device> IoManager<D> {
     /// disk, in order. A flush, of no bytes from the first on, has one piece, and an empty extent where the partition
     /// begins. It takes no memory.
     ///
-    /// None where the call would be refused or is a read or a write of no bytes, and once request numbers are used up.
+    /// `None` where the call would be refused or is a read or a write of no bytes, and once request numbers are used
+    /// up.
     pub fn admits(
         &self,
         handle: Handle,
