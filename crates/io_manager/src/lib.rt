@@ -62,7 +62,7 @@ pub struct Limits {
     pub max_transfer: u32,
     /// Tags of the adapter.
     pub depth: u8,
-    /// Requests open at once, 1 to 64.
+    /// How many requests may be open at once, 1 to 64.
     pub open_requests: u32,
     /// The sector of the disk where each partition begins, by the partition's number.
     pub first_sectors: [u64; 4],
@@ -82,7 +82,7 @@ pub enum Refusal {
     DeviceBusy,
     /// Memory for the call was refused.
     InsufficientResources,
-    /// A plug and play call in the wrong state.
+    /// A plug and play call came in the wrong state.
     InvalidDeviceRequest,
     /// There is no open request to cancel.
     NotFound,
