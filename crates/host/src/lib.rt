@@ -4,8 +4,10 @@
 //! alone.
 //!
 //! Each client has a part of a ledger that nobody can copy, a pass of the remove lock, a seat at the cancel marks, and
-//! receipts: of each call and each answer that it was told of, the place in the trace and the entry there. So has the
-//! keeper of each pause and of the removal's end. A receipt outlives the lock. What is promised to the crate above:
+//! receipts. A receipt is of a call or an answer that the client was told of: its place in the trace, and the entry
+//! there. The keeper has receipts of each pause and of the removal's end. A receipt outlives the lock.
+//!
+//! It promises to the crate above:
 //! - an `issue` that gives a ticket adds one receipt, of this client's call with the request that was handed in, at a
 //!   place above all of its calls before, and the ticket holds the remove lock until it was waited for (`issued` of
 //!   [`Client::issue`]); a refusal has the caller's bytes, and says whether the call reached the book (`refused`);
