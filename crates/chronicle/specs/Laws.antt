@@ -18,7 +18,7 @@ ClaimsStand E =
     (views : List (View E)) → HistoryKept views → (keeper seat : ℕ) (v w : View E)
     → get_elem? views keeper ≡ some v → v.keeps ≡ true → get_elem? views seat ≡ some w → AllStand v.entries w.claims
 
--- and in each longer history that begins with it
+-- what stands in a history stands in each longer history that begins with it
 abbrev pub ClaimsStayStanding : Type 0 → Type 0
 ClaimsStayStanding E =
     (history more : List E) (claims : List (ℕ × E)) → AllStand history claims → AllStand (history ++ more) claims

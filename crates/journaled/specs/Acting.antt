@@ -22,7 +22,7 @@ pub record ActsThere (old : JournalView) (tag piece : ℕ) (srb : Srb) (done : R
   pub arms : Arms old tag piece srb armed
   pub acts : Acts armed tag piece done new
 
--- it may not be armed: it fails, and nothing changes
+-- the piece may not be armed: it fails, and nothing changes
 pub record FailsUnarmed (old : JournalView) (tag : ℕ) (srb : Srb) (done : Result ℕ Completion)
     (new : JournalView) : Type 0 where
   pub completion : Completion
@@ -59,7 +59,7 @@ pub record HasBooked (old : ManagerView) (before : JournalView) (tag : ℕ) (new
   pub is_that : IsThat after.entered done what
   pub books : BooksPiece old tag piece what new
 
--- there is none that could act, and nothing changes
+-- no piece on the tag could act, and nothing changes
 pub record HasNoneToBook (old : ManagerView) (before : JournalView) (tag : ℕ) (new : ManagerView)
     (after : JournalView) : Type 0 where
   pub none : HasNoneFresh old.adapter tag

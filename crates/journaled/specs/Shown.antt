@@ -31,7 +31,7 @@ pub record JournaledKept (opening : List (List ℕ)) (stack : ManagerView) (jour
   pub disk : IsDiskOf opening stack
   pub some : 1 ≤ max_transfer
 
--- the same number of sectors, of the same length
+-- both have the same number of sectors, of the same length
 pub record IsAsLarge (old new : JournalView) : Type 0 where
   pub sector_size : new.medium.sector_size ≡ old.medium.sector_size
   pub sectors : length new.medium.sectors ≡ length old.medium.sectors

@@ -22,12 +22,12 @@ abbrev pub TellsOn : JournaledView → JournaledView → Type 0
 TellsOn old new = (arrays : List (List (List ℕ))) (trace : List Label) → IsTold arrays trace old
     → IsTold arrays (trace ++ new.stack.labels) new
 
--- and stays as it was
+-- what the stack told before stays told
 abbrev pub StaysTold : JournaledView → JournaledView → Type 0
 StaysTold old new = (arrays : List (List (List ℕ))) (trace : List Label) → IsTold arrays trace old
     → IsTold arrays trace new
 
--- so they are a run of the faithful machine, from these sectors to the journal's
+-- what was told is a run of the faithful machine, from these sectors to the journal's
 abbrev pub RunsFaithfully : List (List ℕ) → JournaledView → Type 0
 RunsFaithfully disk v =
     (arrays : List (List (List ℕ))) (trace : List Label) → IsTold arrays trace v

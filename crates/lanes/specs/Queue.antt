@@ -78,7 +78,7 @@ pub record QueueKept (items : List Item) (views : List View) : Type 0 where
   pub counted : (t : ℕ) (v : View) → get_elem? views (suc t) ≡ some v → v.put ≡ numbered t (length v.put)
   -- what the worker took, then what the queue holds, is in each lane's part just what that lane put
   pub put : (t : ℕ) (v : View) → get_elem? views (suc t) ≡ some v → part t (worker.taken ++ items) ≡ v.put
-  -- and there is nothing of a tag that has no lane
+  -- neither holds anything of a tag that has no lane
   pub none : (t : ℕ) → worker.lanes ≤ t → part t (worker.taken ++ items) ≡ []
 
 -- at some moment the queue held these items, and the pass knew this

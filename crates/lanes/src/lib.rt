@@ -63,8 +63,8 @@ pub struct Woken {
 
 /// Where the pieces of a disk's tags are acted and finished. Many threads share one.
 pub trait Desk {
-    /// Waits for the tag's next step: [`Step::Ready`] once for each piece started on the tag, also one that a reset met,
-    /// and [`Step::Ended`] once the disk is removed.
+    /// Waits for the tag's next step. It is [`Step::Ready`] once for each piece started on the tag, also one that a reset
+    /// met. It is [`Step::Ended`] once the disk is removed.
     fn next<R: Wait>(&self, rt: &R, tag: u8) -> Step;
 
     /// Has the adapter act the piece on the tag.

@@ -20,7 +20,7 @@ pub record Cancels (s : State) (number : ℕ) (s' : State) : Type 0 where
 abbrev pub is_lower : ℕ → OpenRequest → Bool
 is_lower number o = nat_lt o.number number
 
--- it becomes late where at least a window of requests has lower numbers
+-- the request after a look at the window: it is late where the requests with lower numbers fill the window
 abbrev pub beyond : ℕ → List OpenRequest → OpenRequest → OpenRequest
 beyond window requests o = record o { late = o.late || nat_le window (count_by (is_lower o.number) requests) }
 

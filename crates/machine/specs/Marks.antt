@@ -19,7 +19,7 @@ HasEarned o = All (IsEarned o) o.marks
 abbrev pub HaveEarned : State → Type 0
 HaveEarned s = All HasEarned s.requests
 
--- the same but for the bytes
+-- the two marks are the same, but for the bytes
 abbrev pub IsLike : Mark → Mark → Type 0
 IsLike (Done sector) mark = IsTrue (is_done mark)
 IsLike like mark = mark ≡ like

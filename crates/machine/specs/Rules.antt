@@ -74,6 +74,6 @@ as_client rules r bytes = record {
   bytes = bytes;
 }
 
--- the same machine, faithful to its arrays
+-- the rules of the same machine, faithful to its arrays
 abbrev pub as_faithful : Rules → Rules
 as_faithful rules = record rules { faithful = true }

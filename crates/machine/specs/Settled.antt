@@ -49,7 +49,7 @@ pub record IsHeld (o : OpenRequest) : Type 0 where
 abbrev pub WaitsIfCancelled : OpenRequest → Type 0
 WaitsIfCancelled o = IsTrue o.cancelled → IsTrue (has_out o)
 
--- it has a place out
+-- the request has a place out
 abbrev pub Waits : OpenRequest → Type 0
 Waits o = IsTrue (has_out o)
 

@@ -63,12 +63,12 @@ abbrev pub AreOfActs : List Label → List Label → List Entry → Type 0
 AreOfActs trace [] entries = entries ≡ []
 AreOfActs trace (label ∷ labels) entries = (left : List Entry) × TakesEntry trace label entries left × AreOfActs trace labels left
 
--- so they are the acts of the run that the trace is
+-- entries that are of the acts of a trace are the acts of the run that the trace is
 abbrev pub EntriesAreOfRuns : Type 0
 EntriesAreOfRuns = (rules : Rules) (arrays : List (List (List ℕ))) (trace : List Label) (s' : State) (run : Run rules (opening arrays) trace s') (entries : List Entry)
     → AreWhole rules arrays → AreOfActs trace trace entries → AreActsOf rules (opening arrays) trace s' run entries
 
--- and a journal of such entries, replayed from the sectors of a disk, makes the trace a run of the faithful machine from that disk on
+-- a journal of such entries, replayed from the sectors of a disk, makes the trace a run of the faithful machine from that disk on
 abbrev pub JournalsCloseRuns : Type 0
 JournalsCloseRuns = (rules : Rules) (arrays : List (List (List ℕ))) (trace : List Label) (s' : State) (entries : List Entry) (disk after : List (List ℕ))
     → AreWhole rules arrays → IsMap (length disk) rules.partitions → All (IsSector rules.sector_size) disk

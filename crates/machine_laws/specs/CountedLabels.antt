@@ -54,7 +54,7 @@ pub record AreCountedByHand : Type 0 where
   pub started : labels_left small (state_with (open_with false 0 (Out ∷ Out ∷ Untouched ∷ [])) (first_piece Fresh ∷ [])) ≡ 13
   pub acted : labels_left small (state_with (open_with false 0 (Out ∷ Out ∷ Untouched ∷ [])) (first_piece (Acted ([] ∷ [] ∷ [])) ∷ [])) ≡ 12
   pub returned : labels_left small (state_with (open_with false 0 (Done [] ∷ Done [] ∷ Untouched ∷ [])) []) ≡ 11
-  -- or a busy return, a restart, and that twice
+  -- the first part comes back busy and starts again, once and once more
   pub busy : labels_left small (state_with (open_with false 1 (Back ∷ Back ∷ Untouched ∷ [])) []) ≡ 12
   pub restarted : labels_left small (state_with (open_with false 1 (Out ∷ Out ∷ Untouched ∷ [])) (first_piece Fresh ∷ [])) ≡ 11
   pub busy_again : labels_left small (state_with (open_with false 2 (Back ∷ Back ∷ Untouched ∷ [])) []) ≡ 10

@@ -27,7 +27,7 @@ abbrev pub AnsweredAreOver : Type 0
 AnsweredAreOver = (rules : Rules) (s : State) (number : ℕ) (status : NtStatus) (bytes : List ℕ) (answered : State) (labels : List Label) (s' : State)
     → IsReached rules s → Answers rules s number status bytes answered → (run : Run rules answered labels s') → Always (IsOver number) rules answered labels s' run
 
--- so no piece of it writes a sector after its answer
+-- no piece of a request writes a sector after the request is answered
 abbrev pub AnsweredWriteNoMore : Type 0
 AnsweredWriteNoMore = (rules : Rules) (s : State) (number : ℕ) (status : NtStatus) (bytes : List ℕ) (answered : State) (labels : List Label) (s' : State)
     → IsReached rules s → Answers rules s number status bytes answered → (run : Run rules answered labels s') (p i : ℕ) → Sometime (WritesSector rules number p i) rules answered labels s' run → ⊥
@@ -48,7 +48,7 @@ abbrev pub IsNotOfDevice : Label → Type 0
 IsNotOfDevice (Device label) = ⊥
 IsNotOfDevice _ = Unit {0}
 
--- and the device is left alone
+-- no label of the device follows the end of a removal
 abbrev pub RemovedIsLast : Type 0
 RemovedIsLast = (rules : Rules) (arrays : List (List (List ℕ))) (before : List Label) (s removed : State) (after : List Label) (s' : State)
     → Run rules (opening arrays) before s → Step rules s Removed removed → Run rules removed after s' → All IsNotOfDevice after

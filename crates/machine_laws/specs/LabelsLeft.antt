@@ -69,7 +69,7 @@ BringsNone (Call number q) = ⊥
 BringsNone Pause = ⊥
 BringsNone _ = Unit {0}
 
--- so with no call and no pause no more labels come than were left
+-- with no call and no pause no more labels come than were left
 abbrev pub NoMoreAreLeft : Type 0
 NoMoreAreLeft =
     (rules : Rules) → IsFalse rules.any_cut → (s : State) (labels : List Label) (s' : State) → IsReached rules s → Run rules s labels s'

@@ -61,7 +61,7 @@ AreActsOf rules s (label ∷ labels) s' run entries =
 abbrev pub over_disk : Rules → List (List ℕ) → State → State
 over_disk rules disk s = record s { arrays = map (sectors_in disk) rules.partitions }
 
--- the same labels are a run of the faithful machine, from the disk before the journal to the disk after it
+-- the labels of a run are a run of the faithful machine, from the disk before the journal to the disk after it
 abbrev pub RunsLift : Type 0
 RunsLift = (rules : Rules) (s : State) (labels : List Label) (s' : State) (run : Run rules s labels s') (entries : List Entry) (disk after : List (List ℕ))
     → IsReached rules s → IsMap (length disk) rules.partitions → All (IsSector rules.sector_size) disk

@@ -49,7 +49,7 @@ abbrev pub CallsRise : Type 0
 CallsRise = (rules : Rules) (s : State) (labels : List Label) (s' : State) → Run rules s labels s'
     → AreFrom s.next_request (call_numbers labels)
 
--- and no other label takes one
+-- only calls take a request number
 abbrev pub CallsCount : Type 0
 CallsCount = (rules : Rules) (s : State) (labels : List Label) (s' : State) → Run rules s labels s'
     → s'.next_request ≡ s.next_request + length (call_numbers labels)
@@ -76,13 +76,13 @@ abbrev pub CallsAwait : Type 0
 CallsAwait = (rules : Rules) (s : State) (labels : List Label) (s' : State) → Run rules s labels s'
     → IsPermutation (awaited s ++ call_numbers labels) (answer_numbers labels ++ awaited s')
 
--- so where at first none waits, what is answered was called before
+-- where no request waits at first, what is answered was called before
 abbrev pub AnswersWereCalled : Type 0
 AnswersWereCalled = (rules : Rules) (s : State) (before : List Label) (r : ℕ) (status : NtStatus) (informed : ℕ) (bytes : List ℕ)
     (after : List Label) (s' : State)
     → awaited s ≡ [] → Run rules s (before ++ Answer r status informed bytes ∷ after) s' → Contains (call_numbers before) r
 
--- and where at last none waits, what was called is answered behind its call
+-- where no request waits at last, what was called is answered behind its call
 abbrev pub CallsAreAnswered : Type 0
 CallsAreAnswered = (rules : Rules) (s : State) (before : List Label) (r : ℕ) (q : ClientRequest) (after : List Label) (s' : State)
     → awaited s' ≡ [] → Run rules s (before ++ Call r q ∷ after) s' → Contains (answer_numbers after) r

@@ -33,7 +33,7 @@ abbrev pub RunsKeepSectors : Type 0
 RunsKeepSectors = (rules : Rules) (s : State) (labels : List Label) (s' : State) → IsReached rules s → (run : Run rules s labels s') (p i : ℕ)
     → (sector_at s' p i ≡ sector_at s p i) ⊎ Sometime (IsWriteAt rules p i) rules s labels s' run
 
--- the same number of arrays, each of the same length
+-- both have the same number of arrays, each of the same length
 pub record HaveSameLengths (before after : List (List (List ℕ))) : Type 0 where
   pub arrays : length after ≡ length before
   pub sectors : (p : ℕ) → length (array_at after p) ≡ length (array_at before p)
