@@ -26,17 +26,17 @@ TellsCapacity false disk after = Exchanges disk ReadCapacity10 Good after
 TellsCapacity true disk after =
     (between : AdapterView) × Exchanges disk ReadCapacity10 Good between × Exchanges between long_capacity Good after
 
--- the first of them was good, and the second came back bad
+-- the first command for the capacity was good, and the second came back bad
 abbrev pub MissesLong : AdapterView → Completion → AdapterView → Type 0
 MissesLong disk completion after =
     (between : AdapterView) × Exchanges disk ReadCapacity10 Good between
     × Exchanges between long_capacity (Bad completion) after
 
--- one of them came back bad: the first, or the second, which only a long disk is asked
+-- a command for the capacity came back bad: the first, or the second, which only a long disk is asked
 abbrev pub MissesCapacity : AdapterView → Completion → AdapterView → Type 0
 MissesCapacity disk completion after =
     Exchanges disk ReadCapacity10 (Bad completion) after ⊎ (IsTrue (is_long disk) × MissesLong disk completion after)
 
--- memory was refused for one of them: the first, or the second of a long disk after the first was good
+-- memory was refused for a command for the capacity: the first, or the second of a long disk after the first was good
 abbrev pub LacksCapacity : AdapterView → AdapterView → Type 0
 LacksCapacity disk after = (after ≡ disk) ⊎ (IsTrue (is_long disk) × Exchanges disk ReadCapacity10 Good after)

@@ -23,7 +23,8 @@ pub record IsIdle (view : AdapterView) : Type 0 where
 
 -- WHAT A COMMAND BRINGS
 
--- how many bytes a command brings: of READ CAPACITY(10) eight, of READ CAPACITY(16) as many as are asked for, of a read its sectors
+-- how many bytes a command brings: eight of READ CAPACITY(10), as many as are asked for of READ CAPACITY(16), the
+-- sectors of a read
 abbrev pub brought_length : AdapterView → Cdb → ℕ
 brought_length disk (Read10 lba count fua) = count * disk.sector_size
 brought_length disk (Write10 lba count fua) = 0
@@ -45,7 +46,7 @@ pub record IsReading (command : Cdb) (srb : Srb) : Type 0 where
   pub plain : IsPlain srb.block command
   pub sense : srb.sense ≡ None
 
--- such an SRB with data of the length that the command brings, and room for a label of them
+-- an SRB of the command has a buffer of the length that the command brings, and room for a label of it
 pub record LooksBy (disk : AdapterView) (command : Cdb) (srb : Srb) : Type 0 where
   pub reading : IsReading command srb
   pub data_length : length srb.data ≡ brought_length disk command
@@ -64,7 +65,7 @@ pub record AdapterMoves (old : AdapterView) (labels : List DeviceLabel) (new : A
   pub moves : MovesByAll old labels moved
   pub taken : new ≡ record moved { labels = [] }
 
--- such an SRB was piece 0 on tag 0, which acted or faulted and came back in this class; all labels were then taken
+-- the command went as piece 0 on tag 0, which acted or faulted and came back in this class; all labels were then taken
 pub record Exchanges (old : AdapterView) (command : Cdb) (class : Class) (new : AdapterView) : Type 0 where
   pub srb : Srb
   pub accepted : AdapterView
@@ -74,7 +75,7 @@ pub record Exchanges (old : AdapterView) (command : Cdb) (class : Class) (new : 
   pub acts : IsActOrFault 0 told
   pub moves : AdapterMoves accepted (told ∷ Return 0 class ∷ []) new
 
--- the same disk, with nothing on its tags, after at most this many pieces more
+-- the disk is as it was, with nothing on its tags, after at most this many pieces more
 pub record IsSameDisk (asked : ℕ) (old new : AdapterView) : Type 0 where
   pub sector_size : new.sector_size ≡ old.sector_size
   pub sectors : new.sectors ≡ old.sectors

@@ -18,10 +18,10 @@ use byteorder::{BigEndian, ByteOrder};
 use cdb::Cdb;
 use std::alloc::Global;
 
-/// READ CAPACITY(10) tells of no more sectors than this, which stands for as many or more.
+/// The most sectors that READ CAPACITY(10) tells; it stands for more too.
 const SHORT_LIMIT: u64 = 1 << 32;
 
-/// The bytes that READ CAPACITY(16) is asked for.
+/// How many bytes READ CAPACITY(16) is asked for.
 const LONG_LENGTH: u32 = 32;
 
 /// What READ CAPACITY tells.
@@ -32,8 +32,8 @@ pub(crate) struct Capacity {
     pub sector_size: u32,
 }
 
-/// The number of sectors and the bytes of one, from the data of READ CAPACITY(10), which begin with the number of the
-/// last.
+/// Reads the number of sectors and the bytes of one from the data of READ CAPACITY(10). They begin with the LBA of the
+/// last sector.
 fn capacity_of(told: &[u8]) -> Capacity
     requires { 8 ≤ length told.now }
     ensures sectors { result.sectors ≡ big_number 4 told.now + 1 }
@@ -45,8 +45,8 @@ fn capacity_of(told: &[u8]) -> Capacity
     }
 }
 
-/// The number of sectors and the bytes of one, from the data of READ CAPACITY(16), which begin with the number of the
-/// last.
+/// Reads the number of sectors and the bytes of one from the data of READ CAPACITY(16). They begin with the LBA of the
+/// last sector.
 fn long_capacity_of(told: &[u8]) -> Capacity
     requires long { 12 ≤ length told.now }
     requires small { big_number 8 told.now < 2 ^ 40 }
@@ -78,7 +78,7 @@ fn read_short_capacity<A: Adapter>(alloc: Global, adapter: &mut A) -> Result<Cap
     Ok(capacity_of(told.as_slice()))
 }
 
-/// The sizes of an adapter's disk, by READ CAPACITY(16).
+/// Asks an adapter for the sizes of its disk, by READ CAPACITY(16).
 ///
 /// # Errors
 ///
@@ -100,7 +100,8 @@ fn read_long_capacity<A: Adapter>(alloc: Global, adapter: &mut A) -> Result<Capa
     Ok(long_capacity_of(told.as_slice()))
 }
 
-/// The sizes of an adapter's disk, by READ CAPACITY(10), and by READ CAPACITY(16) where the first can't tell them.
+/// Asks an adapter for the sizes of its disk. It sends READ CAPACITY(10), and READ CAPACITY(16) where the first can't
+/// tell the number of sectors.
 ///
 /// # Errors
 ///

@@ -65,7 +65,7 @@ fn exchange<A: Adapter>(
     (srb, completion)
 }
 
-/// A buffer of this many bytes, and room for a label of them.
+/// Makes a buffer of this many bytes, and room for a label of them.
 ///
 /// # Errors
 ///
@@ -79,12 +79,12 @@ fn buffers(alloc: Global, count: usize) -> Result<(Bytes, LabelRoom), AllocError
     Ok((bytes, for_label))
 }
 
-/// The bytes, this many, that a command brings from an idle adapter, whose labels are taken.
+/// Asks an idle adapter for the bytes that a command brings, this many. The adapter's labels are taken.
 ///
 /// # Errors
 ///
-/// [`ProbeFault::NoMemory`], where it was not sent, and [`ProbeFault::Device`] with the status of a command that the
-/// adapter failed.
+/// [`ProbeFault::NoMemory`], where the command was not sent, and [`ProbeFault::Device`] with the status of a command
+/// that the adapter failed.
 pub(crate) fn ask<A: Adapter>(
     alloc: Global,
     adapter: &mut A,

@@ -18,7 +18,7 @@ use mbr::parse;
 use sector::Extent;
 use std::alloc::Global;
 
-/// The partitions that the table in sector 0 says.
+/// Reads the partitions that the table in sector 0 says.
 ///
 /// # Errors
 ///
@@ -50,15 +50,15 @@ fn read_partitions<A: Adapter>(
     }
 }
 
-/// The sizes of a disk and its partitions, asked of an adapter that has accepted nothing: by READ CAPACITY(10), where
-/// that can't tell the number of sectors by READ CAPACITY(16) as well, and by READ(10) of sector 0. Their labels are
-/// taken.
+/// Asks an adapter that has accepted nothing for the sizes of its disk and its partitions. It sends READ CAPACITY(10),
+/// where that can't tell the number of sectors READ CAPACITY(16) as well, and READ(10) of sector 0. The labels of these
+/// commands are taken.
 ///
 /// # Errors
 ///
 /// [`ProbeFault::Device`] with the status of a command that the adapter failed, [`ProbeFault::Mbr`] where sector 0 was
-/// read and its table is wrong, [`ProbeFault::NoMemory`] where memory for a command was refused. No more are sent then,
-/// and the disk is as it was.
+/// read and its table is wrong, [`ProbeFault::NoMemory`] where memory for a command was refused. No more commands are
+/// sent then, and the disk is as it was.
 pub fn probe<A: Adapter>(alloc: Global, adapter: &mut A) -> Result<Probed, ProbeFault>
     requires idle { IsIdle (A.view adapter.old) }
     requires unasked { (A.view adapter.old).accepted ≡ 0 }

@@ -9,7 +9,7 @@ use Rattle.probe.specs.declared.capacity.Capacity.{Capacity}
 use Rattle.probe.specs.Exchange.{IsOfFailure}
 use Rattle.probe.specs.Capacity.{MissesCapacity, LacksCapacity}
 
--- what READ CAPACITY(10) tells of the sizes: no more sectors than 2^32, which stands for as many or more
+-- what READ CAPACITY(10) tells of the sizes: at most 2^32 sectors, a number that stands for more too
 pub record IsToldShort (disk : AdapterView) (capacity : Capacity) : Type 0 where
   pub sectors : capacity.sectors ≡ min (length disk.sectors - 1) (2 ^ 32 - 1) + 1
   pub sector_size : capacity.sector_size ≡ disk.sector_size
