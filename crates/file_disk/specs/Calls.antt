@@ -10,12 +10,12 @@ pub data Call : Type 0 where
   WriteAt : (offset : ℕ) (bytes : List ℕ) (took : Result ℕ Failure) → Call
   Sync : (fault : Option Failure) → Call
 
--- what came, where this many bytes stand at the buffer's start
+-- what a call gave that left this many bytes at the buffer's start
 abbrev pub given : Result ℕ Failure → List ℕ → Result (List ℕ) Failure
 given (Ok n) buffer = Ok (take n buffer)
 given (Err why) buffer = Err why
 
--- since then just such calls were made; calls stand the newest first
+-- just calls of this kind were made since; calls stand the newest first
 pub record Since (old new : List Call) (Made : List Call → Type 0) : Type 0 where
   pub calls : List Call
   pub after : new ≡ calls ++ old
@@ -30,7 +30,7 @@ Reads offset count got (ReadAt at asked (Ok gave) ∷ calls) =
     (before : List ℕ) × (got ≡ before ++ gave) × (at ≡ offset + length before) × (asked ≡ count - length before) × Reads offset count before calls
 Reads offset count got (_ ∷ calls) = ⊥
 
--- these bytes came, and no others were asked for
+-- calls gave these bytes, and asked for no others
 abbrev pub ReadsAll : ℕ → List ℕ → List Call → Type 0
 ReadsAll offset bytes calls = Reads offset (length bytes) bytes calls
 
@@ -53,11 +53,11 @@ Writes offset bytes taken (WriteAt at told (Ok took) ∷ calls) =
     (before : ℕ) × (taken ≡ before + took) × (at ≡ offset + before) × (told ≡ drop before bytes) × Writes offset bytes before calls
 Writes offset bytes taken (_ ∷ calls) = ⊥
 
--- all of these bytes were taken, from this one on
+-- calls took all of these bytes, from this one on
 abbrev pub WritesAll : ℕ → List ℕ → List Call → Type 0
 WritesAll offset bytes calls = Writes offset bytes (length bytes) calls
 
--- what took nothing failed so
+-- a call took nothing: it failed like this, or took 0 bytes
 abbrev pub TookNothing : Result ℕ Failure → Failure → Type 0
 TookNothing (Ok took) why = took ≡ 0
 TookNothing (Err said) why = why ≡ said

@@ -4,7 +4,7 @@ use Rattle.file_disk.specs.declared.storage.Failure.{Failure}
 use Rattle.file_disk.specs.declared.storage.Failure.TheVariants.{Protected, Failed}
 use Rattle.file_disk.specs.Calls.{Call, ReadAt, WriteAt, Sync}
 
--- 0 where it succeeded, 1 where it was protected, else it failed
+-- how a call ended, by its number: 0 says that it succeeded, 1 that the file was protected, any other that it failed
 abbrev pub failure_of : ℕ → Failure
 failure_of code = if code == 1 then Protected else Failed
 

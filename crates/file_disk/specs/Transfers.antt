@@ -24,10 +24,10 @@ use Rattle.file_disk.specs.Calls.{Call, Sync, Since, ReadsAll, StopsReading, Wri
 pub record DiskView : Type 0 where
   -- bytes of a sector
   pub sector_size : ℕ
-  -- how many
+  -- how many sectors it has
   pub sectors : ℕ
   pub write_protected : Bool
-  -- to the storage, the newest first
+  -- the calls to the storage, the newest first
   pub calls : List Call
 
 -- a disk of the sizes of this medium
@@ -76,20 +76,20 @@ abbrev pub WritesPlainly : {X : Type 0} → ℕ → List ℕ → Result X Comple
 WritesPlainly offset bytes (Ok x) calls = WritesAll offset bytes calls
 WritesPlainly offset bytes (Err completion) calls = (why : Failure) × (completion ≡ write_fault why) × StopsWriting offset bytes why calls
 
--- all of them were told, and then a sync came to this
+-- all of these bytes were told, and then a sync came to this
 pub record SyncsAfter (offset : ℕ) (bytes : List ℕ) (fault : Option Failure) (calls : List Call) : Type 0 where
   pub told : List Call
   pub after : calls ≡ Sync fault ∷ told
   pub writes : WritesAll offset bytes told
 
--- they were told and synced, or a call took nothing, or the sync failed
+-- these bytes were told and synced, or a call took nothing, or the sync failed
 abbrev pub WritesThrough : {X : Type 0} → ℕ → List ℕ → Result X Completion → List Call → Type 0
 WritesThrough offset bytes (Ok x) calls = SyncsAfter offset bytes None calls
 WritesThrough offset bytes (Err completion) calls =
     ((why : Failure) × (completion ≡ write_fault why) × StopsWriting offset bytes why calls)
     ⊎ ((why : Failure) × (completion ≡ hardware_fault) × SyncsAfter offset bytes (Some why) calls)
 
--- with FUA they are synced too
+-- the calls of a write; with FUA its bytes are synced too
 abbrev pub WritesBytes : {X : Type 0} → Bool → ℕ → List ℕ → Result X Completion → List Call → Type 0
 WritesBytes false offset bytes result calls = WritesPlainly offset bytes result calls
 WritesBytes true offset bytes result calls = WritesThrough offset bytes result calls
@@ -100,13 +100,13 @@ Does offset bytes ReadTask moved calls = ReadsBytes offset (length bytes) moved 
 Does offset bytes (WriteTask through) moved calls = IfOk moved (λ m. m ≡ bytes) × WritesBytes through offset bytes moved calls
 Does offset bytes FlushTask moved calls = IfOk moved (λ m. length m ≡ length bytes) × Syncs moved calls
 
--- what it moved, sent with these bytes: those that it read, or those
+-- what a task moved: the bytes that it read, or those that it was sent with
 abbrev pub moved_by : List ℕ → Result (Option (List ℕ)) Completion → Result (List ℕ) Completion
 moved_by sent (Ok (Some bytes)) = Ok bytes
 moved_by sent (Ok None) = Ok sent
 moved_by sent (Err completion) = Err completion
 
--- only a read brings bytes of its own, and each does
+-- a read brings bytes of its own, and no other task does
 abbrev pub IsSentOr : Task → Option (List ℕ) → Type 0
 IsSentOr ReadTask (Some bytes) = Unit {0}
 IsSentOr (WriteTask through) None = Unit {0}
@@ -119,7 +119,7 @@ LacksMemory moved calls = (moved ≡ Err hardware_fault) × (calls ≡ [])
 
 -- WHAT A PIECE DOES
 
--- what a command asks of a file, and of which sectors; of a read capacity nothing
+-- what a command asks of a file, and of which sectors; a READ CAPACITY asks nothing of it
 abbrev pub task_in : Cdb → Option (Task × Extent)
 task_in (Read10 lba count fua) = Some (ReadTask, record { first = lba; count = count })
 task_in (Write10 lba count fua) = Some (WriteTask fua, record { first = lba; count = count })
@@ -140,7 +140,7 @@ abbrev pub entry_of : ℕ → ℕ → Task → Extent → Result (List ℕ) Comp
 entry_of tag piece task extent (Ok bytes) = Ok (record { piece = piece; tag = tag; extent = extent; kind = kind_of task; bytes = bytes })
 entry_of tag piece task extent (Err completion) = Err completion
 
--- what is booked of a piece: the entry that it read, or that of what its SRB sends, or how it failed
+-- what is booked of a piece: the entry that it read, or the entry of what its SRB sends, or how it failed
 abbrev pub entry_moved : ℕ → ℕ → Srb → Result Moved Completion → Result Entry Completion
 entry_moved tag piece srb (Ok (ReadMoved entry)) = Ok entry
 entry_moved tag piece srb (Ok Sent) = Ok (entry_sent tag piece srb)
@@ -171,7 +171,7 @@ pub record CarriesOut (old : DiskView) (tag piece : ℕ) (srb : Srb) (what : Res
   pub becomes : what ≡ entry_of tag piece task extent moved
   pub after : new ≡ record old { calls = new.calls }
 
--- a command that asks nothing of a file
+-- the command asks nothing of a file, and fails as an invalid request
 pub record AsksNothing (old : DiskView) (srb : Srb) (what : Result Entry Completion) (new : DiskView) : Type 0 where
   pub command : Cdb
   pub passes : Fits old srb command

@@ -9,13 +9,13 @@ use std::io;
 use std::io::ErrorKind;
 use std::os::unix::fs::FileExt;
 
-/// A call that a signal interrupts is made again, so often at most.
+/// How often a call that a signal interrupts is made again at most.
 const TRIES: u32 = 16;
 
-/// Linux: a descriptor that isn't open for it.
+/// EBADF of Linux: a descriptor that isn't open for what is asked of it.
 const EBADF: i32 = 9;
 
-/// An open file, which is its own to read and write.
+/// An open file that nobody else reads or writes.
 #[derive(Drop)]
 pub struct DiskFile {
     file: File,
@@ -23,7 +23,7 @@ pub struct DiskFile {
 }
 
 impl DiskFile {
-    /// The storage of an open file, of which nothing was asked yet.
+    /// A storage in an open file, of which nothing was asked yet.
     pub fn new(file: File) -> DiskFile {
         DiskFile {
             file,

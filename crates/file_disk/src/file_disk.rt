@@ -27,9 +27,9 @@ const DATA_PROTECT: u8 = 7;
 pub struct Sizes {
     /// Bytes of a sector, 512 or 4096.
     pub sector_size: u32,
-    /// From 1 to 2^40.
+    /// The number of sectors, from 1 to 2^40.
     pub sectors: u64,
-    /// It takes no writes.
+    /// Whether each write fails as WRITE PROTECTED.
     pub write_protected: bool,
 }
 
@@ -37,7 +37,7 @@ pub struct Sizes {
 #[derive(Debug, Clone, Copy, PartialEq, Eq)]
 pub(crate) enum Task {
     Read,
-    /// With `through`, past volatile caches.
+    /// A write; with `through` it goes past volatile caches.
     Write { through: bool },
     Flush,
 }
@@ -63,7 +63,7 @@ fn extent(first: u64, count: u32) -> Extent
     }
 }
 
-/// Returns what a command asks of a file, and of which sectors: of a read capacity nothing.
+/// Returns what a command asks of a file, and of which sectors. A READ CAPACITY asks nothing of it.
 fn task_in(command: Cdb) -> Option<(Task, Extent)>
     ensures { result ≡ task_in command }
 {
@@ -101,7 +101,7 @@ fn write_fault(why: Failure) -> Completion
     }
 }
 
-/// Returns how a sync fails, and a piece for whose bytes there is no memory.
+/// Returns how a sync fails, and how a piece fails for whose bytes there is no memory.
 fn hardware_fault() -> Completion
     ensures { result ≡ hardware_fault }
 {
@@ -119,7 +119,7 @@ fn invalid_request() -> Completion
     }
 }
 
-/// Syncs.
+/// Syncs the storage.
 ///
 /// # Errors
 ///
@@ -133,11 +133,11 @@ fn flush<S: Storage>(storage: &mut S) -> Result<(), Completion>
     }
 }
 
-/// Writes these bytes; with `through` it syncs then.
+/// Writes these bytes, and then syncs with `through`.
 ///
 /// # Errors
 ///
-/// As the calls failed.
+/// What the call that failed comes to.
 fn write<S: Storage>(
     storage: &mut S,
     offset: u64,
@@ -170,7 +170,7 @@ pub struct FileDisk<S: Storage + Drop> {
     /// A blank disk of these sizes, by which commands are checked.
     shape: SparseDisk,
     write_protected: bool,
-    /// For the bytes of the next piece.
+    /// The memory for the bytes of the next piece.
     room: Vec<u8>,
 }
 
@@ -186,7 +186,7 @@ impl<S: Storage + Drop> Model for FileDisk<S> {
 }
 
 impl<S: Storage + Drop> FileDisk<S> {
-    /// The disk of these sizes in a storage that has as many bytes.
+    /// A disk of these sizes in a storage that has all its bytes.
     pub fn new(alloc: Global, storage: S, sizes: Sizes) -> FileDisk<S>
         requires size { (sizes.sector_size ≡ 512) ⊎ (sizes.sector_size ≡ 4096) }
         requires few { sizes.sectors ≤ 2 ^ 40 }
@@ -200,7 +200,7 @@ impl<S: Storage + Drop> FileDisk<S> {
         }
     }
 
-    /// Room for this many bytes. It takes no memory where as much was taken back.
+    /// Makes room for this many bytes. It takes no memory where as much was taken back.
     ///
     /// # Errors
     ///
@@ -217,11 +217,11 @@ impl<S: Storage + Drop> FileDisk<S> {
         }
     }
 
-    /// Reads as many bytes from byte `offset` on.
+    /// Reads `count` bytes from byte `offset` on.
     ///
     /// # Errors
     ///
-    /// As the calls failed; a hardware error where memory was refused.
+    /// A read fault where a call failed, a hardware error where memory was refused.
     fn read(&mut self, offset: u64, count: usize) -> Result<Bytes, Completion>
         requires fits { offset + count < 2 ^ 64 }
         ensures reads { Since self.old.calls self.new.calls (λ calls. ReadsBytes offset count result calls ⊎ LacksMemory result calls) }
@@ -237,11 +237,11 @@ impl<S: Storage + Drop> FileDisk<S> {
         }
     }
 
-    /// Carries out a task of these sectors, sent with these bytes. Of a read it gives the bytes.
+    /// Carries out a task of these sectors, sent with these bytes, and returns what a read brought.
     ///
     /// # Errors
     ///
-    /// As the calls failed; a hardware error where memory was refused.
+    /// What the call that failed comes to; a hardware error where memory was refused.
     fn carry_out(
         &mut self,
         task: Task,
@@ -268,12 +268,13 @@ impl<S: Storage + Drop> FileDisk<S> {
         }
     }
 
-    /// Carries out what the SRB of a piece asks for: what that came to, or how it failed.
+    /// Carries out what the SRB of a piece asks for, and returns what came of it.
     ///
     /// # Errors
     ///
-    /// By the table of the adapter in memory: ILLEGAL REQUEST and the like where the SRB is none that a disk carries out,
-    /// WRITE PROTECTED; MEDIUM ERROR where a read or a write failed, HARDWARE ERROR where a sync did or memory was refused.
+    /// The first row that fits of the table of the adapter in memory, such as ILLEGAL REQUEST or WRITE PROTECTED, where
+    /// the SRB asks for what a disk doesn't carry out. MEDIUM ERROR where a read or a write failed, HARDWARE ERROR
+    /// where a sync failed or memory was refused.
     pub fn transfer(&mut self, tag: u8, piece: u128, srb: &Srb) -> Result<Moved, Completion>
         ensures transfers { Transfers self.old tag piece srb.now (entry_moved tag piece srb.now result) self.new }
         ensures suits { Suits self.old.sector_size self.old.sectors srb.now (entry_moved tag piece srb.now result) }
@@ -295,7 +296,7 @@ impl<S: Storage + Drop> FileDisk<S> {
         }
     }
 
-    /// Takes the memory of an entry back, for the next.
+    /// Takes the memory of an entry back, for the next piece.
     pub fn take_back(&mut self, entry: Entry)
         ensures { self.new ≡ self.old }
     {

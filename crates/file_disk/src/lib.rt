@@ -1,13 +1,15 @@
-//! A disk of one's own: the pieces of a stack are moved by three calls, which a file has.
+//! A disk in a file: the pieces of a stack are moved by three calls, which a file has.
 //!
-//! A [`FileDisk`] carries out what an SRB asks for by the calls of a [`Storage`]. It promises to the crate above, by the
-//! contract of [`FileDisk::transfer`] (`transfers`), which calls a piece makes, in which order, and what comes of it: a read's
-//! bytes are just those that the calls gave, each asking for what was left; a write's bytes are told whole and in their place;
-//! a write with FUA is synced before it is done; a flush is a sync; and a call that fails fails its piece, with the completion
-//! of the adapter's table. What comes of a piece may be booked with an adapter that holds no sectors (`suits`).
+//! A [`FileDisk`] carries out what an SRB asks for by the calls of a [`Storage`]. It promises to the crate above, by
+//! the contract of [`FileDisk::transfer`] (`transfers`), which calls a piece makes, in which order, and what comes of
+//! it. The bytes of a read are just those that the calls gave, each of which asks for what is left. The bytes of a
+//! write are told whole and in their place. A write with FUA is synced before it is done, and a flush is a sync. A call
+//! that fails fails its piece, with the completion of the adapter's table. What comes of a piece may be booked with an
+//! adapter that holds no sectors (`suits`).
 //!
-//! [`MemoryFile`] is such a storage in memory, and [`DiskFile`] a file of the system. Each keeps its calls in a [`Record`], as a
-//! storage of one's own does. It does not promise what a file does: the calls and what they gave are all that is told of it.
+//! [`MemoryFile`] is a storage in memory, and [`DiskFile`] a file of the system. Each keeps its calls in a [`Record`],
+//! as any other storage has to. The crate does not promise what a file does: the calls and what they gave are all that
+//! is told of it.
 #![tactic(auto)]
 
 mod disk_file;

@@ -5,14 +5,14 @@ ghost use Rattle.std.specs.Prelude.{◌≡◌, ◌≤◌, length};
 use crate::record::Record;
 use crate::storage::{Failure, Storage};
 
-/// Bytes in memory, as many as there are at its start. For tests: a call moves no more bytes than it is told to, and one call
-/// can fail.
+/// Bytes in memory, whose number never changes. It is for tests: it can be told how many bytes a call moves at most,
+/// and which call fails.
 #[derive(Drop)]
 pub struct MemoryFile {
     bytes: Vec<u8>,
     /// The most bytes that a call moves.
     longest: usize,
-    /// The calls that succeed before one fails.
+    /// How many calls succeed before one fails.
     before: Option<u64>,
     protected: bool,
     noted: Record,
@@ -30,12 +30,12 @@ impl MemoryFile {
         }
     }
 
-    /// The same file, where a call moves at most this many bytes.
+    /// Makes each call move at most this many bytes.
     pub fn in_steps(self, longest: usize) -> MemoryFile {
         MemoryFile { longest, ..self }
     }
 
-    /// The same file, where call number `before` fails, counted from 0.
+    /// Makes call number `before` fail, counted from 0.
     pub fn failing(self, before: u64) -> MemoryFile {
         MemoryFile {
             before: Some(before),
@@ -43,7 +43,7 @@ impl MemoryFile {
         }
     }
 
-    /// The same file, which can't be written.
+    /// Makes every write fail, as a file does that can't be written.
     pub fn write_protected(self) -> MemoryFile {
         MemoryFile {
             protected: true,
@@ -51,12 +51,12 @@ impl MemoryFile {
         }
     }
 
-    /// Its bytes.
+    /// Returns the bytes of the file.
     pub fn bytes(&self) -> &[u8] {
         self.bytes.as_slice()
     }
 
-    /// Why the next write fails, if it does.
+    /// Returns why the next write fails, if it does.
     fn refuses(&mut self) -> Option<Failure>
         ensures { self.new.noted ≡ self.old.noted }
     {
@@ -69,7 +69,7 @@ impl MemoryFile {
         }
     }
 
-    /// Whether the next call fails; it is counted.
+    /// Returns whether the next call fails, and counts it.
     fn fails(&mut self) -> bool
         ensures { self.new.noted ≡ self.old.noted }
     {
@@ -79,7 +79,7 @@ impl MemoryFile {
     }
 }
 
-/// Copies the bytes from `offset` on into the buffer, at most this many. Returns their number.
+/// Copies the bytes from `offset` on into the buffer, at most `longest`, and returns their number.
 fn copy_from(bytes: &[u8], offset: u64, longest: usize, buffer: &mut [u8]) -> usize
     ensures { result ≤ length buffer.old }
 {
@@ -89,7 +89,7 @@ fn copy_from(bytes: &[u8], offset: u64, longest: usize, buffer: &mut [u8]) -> us
     count
 }
 
-/// Copies the first of these over the bytes from `offset` on, at most this many. Returns their number.
+/// Copies the first bytes of `told` over those from `offset` on, at most `longest`, and returns their number.
 fn copy_to(bytes: &mut [u8], offset: u64, longest: usize, told: &[u8]) -> usize
     ensures { result ≤ length told.now }
 {

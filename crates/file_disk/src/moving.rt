@@ -1,4 +1,4 @@
-//! Bytes of a piece, moved by as many calls as it takes.
+//! The bytes of a piece, moved by as many calls as that takes.
 
 ghost use Rattle.std.specs.Prelude.{◌≡◌, ◌<◌, ◌+◌, ◌^◌, length, MatchResult};
 ghost use Rattle.file_disk.specs.Calls.{ReadsAll, StopsReading, WritesAll, StopsWriting, Since};

@@ -8,14 +8,14 @@ ghost use Rattle.file_disk.specs.Noting.{call_of, failure_of};
 use crate::storage::Failure;
 use std::marker::{Model, PhantomData};
 
-/// How a call ended, as a number.
+/// How a call ended, in one number.
 const DONE: u64 = 0;
 
 const PROTECTED: u64 = 1;
 
 const FAILED: u64 = 2;
 
-/// The calls so far, the newest first. No memory holds any: a storage notes what it did, and contracts read it.
+/// The calls so far, the newest first. It takes no memory: a storage notes what it did, and contracts alone read that.
 #[derive(Drop)]
 pub struct Record {
     marker: PhantomData<u8>,
@@ -27,7 +27,7 @@ impl Model for Record {
 }
 
 impl Record {
-    /// No call yet.
+    /// A record of no calls.
     pub fn new() -> Record
         ensures { result.calls ≡ [] }
     {

@@ -5,10 +5,10 @@ use thiserror::Error;
 /// Why a call failed.
 #[derive(Debug, Clone, Copy, PartialEq, Eq, Error)]
 pub enum Failure {
-    /// It can't be written.
+    /// The file can't be written.
     #[error("write protected")]
     Protected,
-    /// Anything else; also where there is no room.
+    /// The call failed in another way; there was no room, for one.
     #[error("failed")]
     Failed,
 }
@@ -22,7 +22,8 @@ pub trait Storage {
     /// Each call so far with what it gave, the newest first.
     ghost calls: { Self → List Call };
 
-    /// Reads into the first bytes of the buffer, from byte `offset` on: how many. None are left there where it gives 0.
+    /// Reads into the first bytes of the buffer, from byte `offset` on, and returns how many. With 0 none are left
+    /// there.
     ///
     /// # Errors
     ///
@@ -32,7 +33,7 @@ pub trait Storage {
         ensures count { IfOk result (λ n. n ≤ length buffer.old) }
         ensures noted { calls self.new ≡ ReadAt offset (length buffer.old) (given result buffer.new) ∷ calls self.old };
 
-    /// Writes the first of these bytes from byte `offset` on: how many. It takes no more where it gives 0.
+    /// Writes the first of these bytes from byte `offset` on, and returns how many. With 0 the storage takes no more.
     ///
     /// # Errors
     ///

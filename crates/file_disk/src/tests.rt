@@ -14,7 +14,7 @@ use std::fs::OpenOptions;
 use std::process::Abort;
 use std::test::Fail;
 
-/// READ(10), WRITE(10) and SYNCHRONIZE CACHE(10) of sector 1; with FUA in the second of the writes.
+/// READ(10), WRITE(10) and SYNCHRONIZE CACHE(10) of sector 1. The second write has FUA.
 const READ: [u8; 10] = [0x28, 0, 0, 0, 0, 1, 0, 0, 1, 0];
 
 const WRITE: [u8; 10] = [0x2A, 0, 0, 0, 0, 1, 0, 0, 1, 0];
@@ -73,7 +73,7 @@ fn sevens(alloc: Global) -> Result<MemoryFile, Fail> {
     Ok(MemoryFile::new(vec![in alloc; 7; 2048]?).in_steps(100))
 }
 
-/// Where a piece read, how many bytes and the first of them; of what it sent nothing.
+/// Where a piece read, how many bytes, and the first of them; nothing of a piece that sent its bytes.
 type Told = Result<Option<(u64, usize, Option<u8>)>, Completion>;
 
 /// Returns what a piece comes to, or how it failed.
@@ -142,7 +142,7 @@ fn each_failure_has_its_completion(rt: HostRuntime) -> Result<(), Fail> {
     same(&rt, &written, &Err(checked(3, 0x0C)));
     let written = fails_with(&rt, sevens(alloc)?.write_protected(), &WRITE, 128, 512)?;
     same(&rt, &written, &Err(checked(7, 0x27)));
-    // Six calls write it, and the seventh syncs.
+    // Six calls write the sector, and the seventh syncs.
     let through = fails_with(&rt, sevens(alloc)?.failing(6), &WRITE_THROUGH, 128, 512)?;
     same(&rt, &through, &Err(checked(4, 0x00)));
     let synced = fails_with(&rt, sevens(alloc)?.failing(0), &SYNC, 0, 0)?;
