@@ -1,4 +1,4 @@
--- What it says that a label breaks a rule.
+-- What it means that a label breaks a rule.
 use Rattle.std.specs.Prelude.{◌≡◌, ◌≢◌, ◌<◌, ◌≤◌, ℕ, ◌+◌, ◌*◌, ◌%◌, List, Option, Some, None, length, take, slice_get, slice_range, All, Contains, IsTrue, IsFalse, if◌then◌else◌}
 use Rattle.std.specs.List.{list_all, concat}
 use Rattle.ntstatus.specs.declared.NtStatus.{NtStatus}
@@ -65,7 +65,7 @@ pub record IsOpen (s : State) (number : ℕ) (o : OpenRequest) : Type 0 where
 abbrev pub IsNotOpen : State → ℕ → Type 0
 IsNotOpen s number = (o : OpenRequest) → Contains s.requests o → o.number ≢ number
 
--- the first byte in which those that a label tells differ from those that are due
+-- the first byte in which the bytes that a label tells differ from the bytes that are due
 pub record Differs (due told : List ℕ) (d : Difference) : Type 0 where
   pub before : take d.at told ≡ take d.at due
   pub is_due : slice_get due d.at ≡ d.due
@@ -124,7 +124,7 @@ EndsWrong rules s o status informed bytes (answer_rule.Status place due told) =
 EndsWrong rules s o status informed bytes (answer_rule.Information due told) = (due ≡ information o.request status) × (told ≡ informed) × (told ≢ due)
 EndsWrong rules s o status informed bytes (answer_rule.Bytes d) = Differs (answer_bytes o.request.kind o.marks) bytes d
 
--- it isn't open, or is and its answer is wrong
+-- the request isn't open, or it is open and its answer is wrong
 abbrev pub BreaksAnswerOf : Rules → State → ℕ → NtStatus → ℕ → List ℕ → AnswerRule → Type 0
 BreaksAnswerOf rules s number status informed bytes (answer_rule.NotOpen n) = (n ≡ number) × IsNotOpen s number
 BreaksAnswerOf rules s number status informed bytes rule = (o : OpenRequest) × IsOpen s number o × EndsWrong rules s o status informed bytes rule
@@ -145,7 +145,7 @@ BreaksCancel s _ rule = ⊥
 
 -- THE HOLD AND REMOVAL
 
--- what the rule says of the state
+-- the state is as the rule says
 abbrev pub IsSoNow : State → RemovalRule → Type 0
 IsSoNow s removal_rule.Paused = IsTrue s.paused
 IsSoNow s removal_rule.NotPaused = IsFalse s.paused
@@ -154,12 +154,13 @@ IsSoNow s removal_rule.NotRemoving = IsFalse s.removing
 IsSoNow s removal_rule.Removed = IsTrue s.removed
 IsSoNow s (removal_rule.Open number) = (o : OpenRequest) × Contains s.requests o × (o.number ≡ number)
 
--- of which labels it is asked
+-- the rule is asked of a pause
 abbrev pub IsOfPause : RemovalRule → Type 0
 IsOfPause removal_rule.Paused = Unit {0}
 IsOfPause removal_rule.Removing = Unit {0}
 IsOfPause _ = ⊥
 
+-- the rule is asked of the end of a removal
 abbrev pub IsOfEnd : RemovalRule → Type 0
 IsOfEnd removal_rule.NotRemoving = Unit {0}
 IsOfEnd removal_rule.Removed = Unit {0}
@@ -176,18 +177,18 @@ BreaksRemoval s _ rule = ⊥
 
 -- STARTS
 
--- the open request asks for the block by those of its places
+-- the open request asks for the block, for these of its places
 pub record Asks (rules : Rules) (s : State) (block : List ℕ) (o : OpenRequest) (places : Extent) : Type 0 where
   pub is_there : Contains s.requests o
   pub some : 0 < places.count
   pub inside : places.first + places.count ≤ length o.marks
   pub means : Means block (command_for rules o.request places o.request.kind)
 
--- no open request asks for it
+-- no open request asks for the block
 abbrev pub NoneAsks : Rules → State → List ℕ → Type 0
 NoneAsks rules s block = (o : OpenRequest) (places : Extent) → ¬ (Asks rules s block o places)
 
--- what is said of it beside that
+-- what else is said of a block that no request asks for
 abbrev pub IsMisfit : State → Misfit → Type 0
 IsMisfit s (misfit.Kind kind) = (o : OpenRequest) → Contains s.requests o → o.request.kind ≢ kind
 IsMisfit s (misfit.Fua number due) = (o : OpenRequest) × Contains s.requests o × (o.number ≡ number) × (o.request.through ≡ due)
@@ -218,7 +219,7 @@ Hinders rules s o places hindrance.Again = IsTrue rules.one_piece × IsTrue (is_
 abbrev pub AllHeld : Rules → State → List ℕ → Type 0
 AllHeld rules s block = (o : OpenRequest) (places : Extent) → Asks rules s block o places → (h : Hindrance) × Hinders rules s o places h
 
--- that of a number by this
+-- the request of this number asks for the block, and this holds it back
 abbrev pub HoldsOne : Rules → State → List ℕ → ℕ → Hindrance → Type 0
 HoldsOne rules s block number h = (o : OpenRequest) × (places : Extent) × Asks rules s block o places × (o.number ≡ number) × Hinders rules s o places h
 
@@ -231,7 +232,7 @@ pub record IsNotPlainAt (block : List ℕ) (d : Difference) : Type 0 where
   pub is_plain : IsPlain own command
   pub differs : Differs own block d
 
--- it is no start's block, whatever the state
+-- no start may have this block, whatever the state
 abbrev pub BreaksBlock : List ℕ → StartRule → Type 0
 BreaksBlock block (start_rule.Block fault) = HasFault block fault × ((c : Cdb) → ¬ (Means block c))
 BreaksBlock block (start_rule.NotPlain d) = IsNotPlainAt block d × ((c : Cdb) → Means block c → ¬ (IsPlain block c))
@@ -267,7 +268,7 @@ pub record IsOwned (s : State) (number : ℕ) (piece : Piece) (o : OpenRequest) 
   pub piece_out : IsAtAdapter s number piece
   pub owner_open : IsOpen s piece.owner o
 
--- as many bytes move with an act
+-- how many bytes move with an act
 abbrev pub length_due : Rules → Piece → OpenRequest → ℕ
 length_due rules piece o = if is_transfer o.request.kind then piece.places.count * rules.sector_size else 0
 

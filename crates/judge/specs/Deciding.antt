@@ -20,7 +20,7 @@ use Rattle.machine.specs.Sending.{is_unsent, is_started, fits_ten, sectors_at}
 use Rattle.machine.specs.Answering.{is_done, answer_bytes, information}
 use Rattle.judge.specs.Picking.{only}
 
--- both hold or none does
+-- both tests hold, or none does
 abbrev pub same_truth : Bool → Bool → Bool
 same_truth true b = b
 same_truth false b = not b
@@ -28,20 +28,21 @@ same_truth false b = not b
 abbrev pub same_status : NtStatus → NtStatus → Bool
 same_status a b = value_of a == value_of b
 
--- the number is the request's, or the piece's
+-- the request has this number
 abbrev pub has_number : ℕ → OpenRequest → Bool
 has_number number o = o.number == number
 
+-- the piece has this number
 abbrev pub is_piece : ℕ → Piece → Bool
 is_piece number piece = piece.number == number
 
 -- ANSWERS
 
--- a place that waits will never be sent
+-- no place of the request that waits will ever be sent
 abbrev pub is_given_up : State → OpenRequest → Bool
 is_given_up s o = o.cancelled || s.removing
 
--- and this is why
+-- the status with which such a place is given up
 abbrev pub gives_up_as : State → OpenRequest → NtStatus → Bool
 gives_up_as s o status =
     (o.cancelled && same_status status Cancelled) || (s.removing && same_status status (if o.late then DeletePending else NoSuchDevice))
@@ -86,7 +87,7 @@ may_end_as rules s o status =
     list_all (has_ended rules s o) o.marks
     && (same_truth (same_status status Success) (list_all is_done o.marks) && has_cause rules s o status o.marks)
 
--- and these are what its answer tells and hands back
+-- an answer of this status, number of bytes and bytes may be the request's
 abbrev pub may_answer : Rules → State → OpenRequest → NtStatus → ℕ → List ℕ → Bool
 may_answer rules s o status informed bytes =
     may_end_as rules s o status
@@ -108,7 +109,7 @@ all_used (suc tag) pieces = list_any (has_tag tag) pieces && all_used tag pieces
 abbrev pub is_lowest_free : ℕ → List Piece → ℕ → Bool
 is_lowest_free depth pieces tag = nat_lt tag depth && (list_all (has_other_tag tag) pieces && all_used tag pieces)
 
--- the other was started, if it came earlier and isn't cancelled
+-- the other request was started, if it came before this number and isn't cancelled
 abbrev pub is_in_turn : ℕ → OpenRequest → Bool
 is_in_turn number other = not (nat_lt other.number number) || (other.cancelled || is_started other)
 
@@ -117,11 +118,11 @@ may_start s o =
     (not o.cancelled && not s.removing)
     && (not (s.paused && o.late) && list_all (is_in_turn o.number) s.requests)
 
--- the request goes as one piece, and this is all of it for the first time, or it may go in several
+-- requests may go in several pieces, or these are all places of the request and it was not started before
 abbrev pub is_whole : Rules → OpenRequest → Extent → Bool
 is_whole rules o places = not rules.one_piece || ((places.count == length o.marks) && not (is_started o))
 
--- a piece begins at the place, and if it came back a restart is left; or any cut will do
+-- a piece may begin at the place, and a restart is left if the place came back; or any cut will do
 abbrev pub begins_piece : Rules → OpenRequest → ℕ → Bool
 begins_piece rules o place =
     rules.any_cut || ((place % rules.max_transfer == 0) && (not (is_back (mark_at o place)) || nat_lt 0 (restarts_left rules o)))
@@ -139,11 +140,11 @@ places_at rules q lba count =
     let base = home rules q.partition (first_sector rules q) in
     if nat_le base lba then Some (record { first = lba - base; count = count }) else None
 
--- the same, if the command has the form and the access that the machine gives it
+-- those places, if the command has the form and the access that the machine gives it
 abbrev pub places_if : Bool → Rules → ClientRequest → ℕ → ℕ → Option Extent
 places_if test rules q lba count = if test then places_at rules q lba count else None
 
--- the one place of a flush
+-- the one place of a flush, if the test holds
 abbrev pub flush_place : Bool → Option Extent
 flush_place test = if test then Some (record { first = 0; count = 1 }) else None
 
@@ -157,7 +158,7 @@ places_for rules q Flush (Sync10 lba blocks) = flush_place (nat_le rules.disk_se
 places_for rules q Flush (Sync16 lba blocks) = flush_place (not (nat_le rules.disk_sectors (2 ^ 32)) && ((lba == 0) && (blocks == 0)))
 places_for rules q kind command = None
 
--- those places, if they may start now
+-- these places, if they may start now
 abbrev pub startable_at : Rules → State → OpenRequest → Option Extent → Option Extent
 startable_at rules s o None = None
 startable_at rules s o (Some places) = only (may_start s o && is_sendable rules o places) places
@@ -169,12 +170,12 @@ startable rules s (Some command) o = startable_at rules s o (places_for rules o.
 
 -- ACTS
 
--- bytes cut into so many sectors of a size
+-- bytes cut into this many sectors of a size
 abbrev pub chunked : ℕ → ℕ → List ℕ → List (List ℕ)
 chunked zero size bytes = []
 chunked (suc n) size bytes = take size bytes ∷ chunked n size (drop size bytes)
 
--- the same sectors
+-- two lists have the same sectors
 abbrev pub sectors_eq : List (List ℕ) → List (List ℕ) → Bool
 sectors_eq [] [] = true
 sectors_eq [] (y ∷ ys) = false

@@ -14,21 +14,22 @@ pub record JudgeView : Type 0 where
   pub rules : Rules
   pub states : List State
 
--- the judge has taken these labels, from the opening state with these arrays: they are a run, and it holds all states that they lead to
+-- the judge has taken these labels, from the opening state with these arrays: they are a run, and it holds all states
+-- that they lead to
 pub record HasTaken (j : JudgeView) (arrays : List (List (List ℕ))) (labels : List Label) : Type 0 where
   pub reached : AreReached j.rules (opening arrays) labels j.states
   pub some : 0 < length j.states
 
--- the same states, each as often as may be
+-- two lists have the same states, however often each stands there
 pub record AreAlike (states once : List State) : Type 0 where
   pub kept : (s : State) → Contains states s → Contains once s
   pub given : (s : State) → Contains once s → Contains states s
 
--- a state is added, or was there
+-- a state is added, or was there before
 abbrev pub AddsOnce : List State → State → List State → Type 0
 AddsOnce old s new = (new ≡ old ++ s ∷ []) ⊎ (Contains old s × (new ≡ old))
 
--- the states that the label leads to, or as many as differ
+-- the states that the label leads to, each at least once
 abbrev pub GoesOnceTo : Rules → Label → List State → List State → Type 0
 GoesOnceTo rules label states once = (all : List State) × AreNext rules label states all × AreAlike all once
 
@@ -40,7 +41,7 @@ abbrev pub Takes : JudgeView → Label → JudgeView → Type 0
 Takes old label new =
     (arrays : List (List (List ℕ))) (labels : List Label) → HasTaken old arrays labels → HasTaken new arrays (labels ++ label ∷ [])
 
--- no run has the labels before and this one; at a state that those before lead to it breaks the rule
+-- no run has the labels before and this one; at a state that the labels before lead to, this one breaks the rule
 pub record IsRefused (rules : Rules) (arrays : List (List (List ℕ))) (labels : List Label) (label : Label) (rule : Rule) : Type 0 where
   pub no_run : ¬ (IsRun rules (opening arrays) (labels ++ label ∷ []))
   pub broken : (s : State) × Run rules (opening arrays) labels s × Breaks rules s label rule
@@ -57,18 +58,19 @@ AllReached rules states = All (IsReached rules) states
 abbrev pub HasNoStep : Rules → Label → State → Type 0
 HasNoStep rules label s = ¬ (HasStep rules s label)
 
--- it breaks the rule there
+-- the label breaks the rule at the state
 abbrev pub BreaksThere : Rules → Label → Rule → State → Type 0
 BreaksThere rules label rule s = Breaks rules s label rule
 
--- it goes from none of the states, and breaks the rule at one of them
+-- the label goes from none of the states, and breaks the rule at one of them
 pub record StopsAll (rules : Rules) (states : List State) (label : Label) (rule : Rule) : Type 0 where
   pub none : All (HasNoStep rules label) states
   pub there : Any (BreaksThere rules label rule) states
 
+-- some step goes by the label from the state
 abbrev pub Goes : Rules → Label → State → Type 0
 Goes rules label s = HasStep rules s label
 
--- from some of them it goes
+-- the label goes from some of the states
 abbrev pub SomeGoes : Rules → List State → Label → Type 0
 SomeGoes rules states label = Any (Goes rules label) states

@@ -14,7 +14,7 @@ pub record AreReached (rules : Rules) (s : State) (labels : List Label) (states 
 abbrev pub IsRun : Rules → State → List Label → Type 0
 IsRun rules s labels = (s' : State) × Run rules s labels s'
 
--- the labels before this one are a run, and with it they are none
+-- the labels before this one are a run, and the labels up to this one are none
 pub record StopsAt (rules : Rules) (s : State) (labels : List Label) (at : ℕ) : Type 0 where
   pub within : at < length labels
   pub before : IsRun rules s (take at labels)

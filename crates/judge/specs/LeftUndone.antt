@@ -1,4 +1,4 @@
--- What it says that something is left undone.
+-- What it means that something is left undone.
 use Rattle.std.specs.Prelude.{◌≡◌, ◌<◌, ℕ, List, [], Option, Some, length, Contains, IsTrue, IsFalse}
 use Rattle.machine.specs.Rules.{Rules}
 use Rattle.machine.specs.State.{OpenRequest, Owed, State}
@@ -13,7 +13,7 @@ pub record LeftBy (s : State) (P : OpenRequest → Type 0) (number : ℕ) : Type
   pub is_number : request.number ≡ number
   pub fails : ¬ (P request)
 
--- held, in a pause
+-- a pause holds the request
 pub record IsHeldIn (s : State) (o : OpenRequest) : Type 0 where
   pub held : IsHeld o
   pub paused : IsTrue s.paused
@@ -29,7 +29,8 @@ IsUndone rules s (what.AtRest number) = (length s.pieces < rules.depth) × LeftB
 IsUndone rules s (what.Unsent number) = (length s.pieces < rules.depth) × IsFalse s.removing × LeftBy s (IsAllSent rules) number
 IsUndone rules s (what.Unstarted number) = (length s.pieces < rules.depth) × IsFalse s.removing × LeftBy s (IsHeldBack rules s) number
 
--- of one of the states that labels lead to
+-- OF THE STATES THAT LABELS LEAD TO
+
 abbrev pub IsSettled : Rules → State → Type 0
 IsSettled rules s = Settled rules s
 

@@ -24,11 +24,11 @@ use Rattle.judge.specs.declared.piece_rules.ReturnRule.TheVariants as return_rul
 abbrev pub has_size : ℕ → List ℕ → Bool
 has_size size sector = length sector == size
 
--- so many sectors of a size
+-- the list has this many sectors, each of this size
 abbrev pub are_whole : ℕ → ℕ → List (List ℕ) → Bool
 are_whole count size sectors = (length sectors == count) && list_all (has_size size) sectors
 
--- as many bytes move with an act
+-- how many bytes move with an act
 abbrev pub length_moved : Kind → ℕ → ℕ → ℕ
 length_moved kind count size = if is_transfer kind then count * size else 0
 

@@ -26,14 +26,14 @@ use Rattle.judge.specs.declared.label_rules.CancelRule.TheVariants as cancel_rul
 use Rattle.judge.specs.declared.label_rules.RemovalRule.{RemovalRule}
 use Rattle.judge.specs.declared.label_rules.RemovalRule.TheVariants as removal_rule
 
--- the first byte in which those told differ from those due, counted from a number on
+-- the first byte in which the bytes told differ from the bytes due, counted from a number on
 abbrev pub difference : ℕ → List ℕ → List ℕ → Option Difference
 difference first [] [] = None
 difference first [] (t ∷ told) = Some (record { at = first; due = None; told = Some t })
 difference first (d ∷ due) [] = Some (record { at = first; due = Some d; told = None })
 difference first (d ∷ due) (t ∷ told) = if d == t then difference (first + 1) due told else Some (record { at = first; due = Some d; told = Some t })
 
--- it is this byte
+-- there is a byte, and it is this one
 abbrev pub is_byte : ℕ → Option ℕ → Bool
 is_byte byte None = false
 is_byte byte (Some there) = byte == there
@@ -75,7 +75,7 @@ is_unended given_up worn_out mark = not (ended_by given_up worn_out mark)
 abbrev pub is_undone : Mark → Bool
 is_undone mark = not (is_done mark)
 
--- the first place that has not ended
+-- what is wrong with an answer while a place has not ended, which is the first
 abbrev pub unended_rule : OpenRequest → Option ℕ → Option AnswerRule
 unended_rule o None = None
 unended_rule o (Some place) = Some (if is_out (mark_at o place) then answer_rule.Out place else answer_rule.Waits place)
@@ -93,7 +93,7 @@ status_due_of s o None = if o.cancelled then Cancelled else (if s.removing then 
 abbrev pub status_due : State → OpenRequest → Mark → NtStatus
 status_due s o mark = status_due_of s o (failure_of mark)
 
--- the status, by the first place that isn't done
+-- what is wrong with the status, by the first place that isn't done
 abbrev pub status_rule : Rules → State → OpenRequest → NtStatus → Option ℕ → Option AnswerRule
 status_rule rules s o status None = if same_status status Success then None else Some (answer_rule.AllDone status)
 status_rule rules s o status (Some place) =

@@ -7,7 +7,7 @@ use Rattle.machine.specs.Calling.{is_full}
 use Rattle.machine.specs.Sending.{is_started}
 use Rattle.machine.specs.Settled.{has_out, has_unsent, started_count}
 
--- the second holds where the first does
+-- the second test holds where the first does
 abbrev pub holds_if : Bool → Bool → Bool
 holds_if a b = not a || b
 
@@ -25,11 +25,11 @@ is_held o = not (is_started o) && o.late
 abbrev pub waits_if_cancelled : OpenRequest → Bool
 waits_if_cancelled o = holds_if o.cancelled (has_out o)
 
--- a started request, not cancelled, of which no place waits that may go
+-- no place of a request that is started and not cancelled waits and may go
 abbrev pub is_all_sent : ℕ → OpenRequest → Bool
 is_all_sent limit o = o.cancelled || holds_if (is_started o) (list_all (has_gone (nat_le limit o.busy_returns)) o.marks)
 
--- started, late, or behind a full window
+-- the request is started, late, or behind a full window
 abbrev pub is_held_back : Bool → OpenRequest → Bool
 is_held_back full o = is_started o || (o.late || full)
 
@@ -39,7 +39,7 @@ has_more o = holds_if (is_started o) (has_out o || has_unsent o)
 abbrev pub is_at_work : OpenRequest → Bool
 is_at_work o = holds_if (is_started o) (has_out o)
 
--- no more than the window, where there is one
+-- there are no more started requests than the window has, where there is one
 abbrev pub is_within : Option ℕ → ℕ → Bool
 is_within None count = true
 is_within (Some window) count = nat_le count window
@@ -50,11 +50,11 @@ are_waiting s =
     list_all waits_if_cancelled s.requests
     && (holds_if s.removing (list_all has_out s.requests) && list_all has_more s.requests)
 
--- with nothing at the adapter
+-- what holds while nothing is at the adapter
 abbrev pub is_idle_well : State → Bool
 is_idle_well s = list_all is_held s.requests && holds_if (not s.paused) (length s.requests == 0)
 
--- with a tag free
+-- what holds while a tag is free
 abbrev pub is_served : Rules → State → Bool
 is_served rules s =
     list_all is_at_work s.requests

@@ -41,7 +41,7 @@ tag_rule depth pieces tag =
 
 -- WHAT HOLDS A REQUEST BACK
 
--- the places are some, and of the request
+-- there is a place at least, and all are of the request
 abbrev pub is_inside : OpenRequest → Extent → Bool
 is_inside o places = nat_lt 0 places.count && nat_le (places.first + places.count) (length o.marks)
 
@@ -59,7 +59,7 @@ flag_hindrance s o =
     else (if s.removing then Some hindrance.Removing
     else (if s.paused && o.late then Some hindrance.Late else None))
 
--- the other waits, and is to be started before a request of this number
+-- the other request waits, and is to be started before a request of this number
 abbrev pub is_before : ℕ → OpenRequest → Bool
 is_before number other = not (is_in_turn number other)
 
@@ -77,7 +77,7 @@ sent_as place (Failed status) = hindrance.Failed place
 sent_as place Untouched = hindrance.Out place
 sent_as place Back = hindrance.Out place
 
--- by the first of the places that doesn't wait to be sent
+-- what holds a request back by the first of the places that doesn't wait to be sent
 abbrev pub sent_hindrance : OpenRequest → ℕ → Option ℕ → Option Hindrance
 sent_hindrance o first None = None
 sent_hindrance o first (Some place) = Some (sent_as (first + place) (mark_at o (first + place)))

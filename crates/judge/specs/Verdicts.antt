@@ -7,7 +7,7 @@ use Rattle.judge.specs.Judging.{AreReached, StopsAt}
 use Rattle.judge.specs.declared.judging.Verdict.{Verdict}
 use Rattle.judge.specs.declared.judging.Verdict.TheVariants.{Run, Stops}
 
--- a run, with all states that it reaches, of which there is one at least, or the first label that no step allows
+-- a run has all states that it reaches, one at least; else the verdict names the first label that no step allows
 abbrev pub IsVerdict : Rules → State → List Label → Verdict → Type 0
 IsVerdict rules s labels (Run machines) = AreReached rules s labels machines.items × (0 < length machines.items)
 IsVerdict rules s labels (Stops at) = StopsAt rules s labels at

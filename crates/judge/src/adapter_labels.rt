@@ -84,7 +84,7 @@ impl Machine {
         }
     }
 
-    /// By the act of a piece of a request, both taken out.
+    /// The machine after the act of a piece of a request, both taken out.
     fn acted_with(
         self,
         alloc: Global,
@@ -110,7 +110,7 @@ impl Machine {
         Ok(Some(after))
     }
 
-    /// By the act of a piece that was taken out.
+    /// The machine after the act of a piece that was taken out.
     fn acted_one(
         mut self,
         alloc: Global,
@@ -126,7 +126,7 @@ impl Machine {
         self.acted_with(alloc, rules, piece, entry, bytes)
     }
 
-    /// By the act of a piece.
+    /// The machine after the act of a piece.
     pub(crate) fn acted(
         mut self,
         alloc: Global,
@@ -142,7 +142,7 @@ impl Machine {
         self.acted_one(alloc, rules, piece, bytes)
     }
 
-    /// By the fault of a piece that was taken out.
+    /// The machine after the fault of a piece that was taken out.
     fn faulted_one(mut self, piece: Started) -> Result<Option<Machine>, NoVerdict>
         ensures { IfOk result (λ next. next ≡ faulted_of self (Some (piece, self.pieces))) }
     {
@@ -153,7 +153,7 @@ impl Machine {
         Ok(Some(self))
     }
 
-    /// By the fault of a piece.
+    /// The machine after the fault of a piece.
     pub(crate) fn faulted(mut self, number: u128) -> Result<Option<Machine>, NoVerdict>
         ensures { IfOk result (λ next. next ≡ faulted self number) }
     {
@@ -163,7 +163,7 @@ impl Machine {
         self.faulted_one(piece)
     }
 
-    /// By the return of a piece of a request, both taken out.
+    /// The machine after the return of a piece of a request, both taken out.
     fn returned_with(
         mut self,
         alloc: Global,
@@ -182,7 +182,7 @@ impl Machine {
         Ok(Some(self))
     }
 
-    /// By the return of a piece that was taken out.
+    /// The machine after the return of a piece that was taken out.
     fn returned_one(
         mut self,
         alloc: Global,
@@ -197,7 +197,7 @@ impl Machine {
         self.returned_with(alloc, piece, entry, class)
     }
 
-    /// By the return of a piece.
+    /// The machine after the return of a piece.
     pub(crate) fn returned(
         mut self,
         alloc: Global,
@@ -213,7 +213,7 @@ impl Machine {
     }
 }
 
-/// The request after a piece of it came back so.
+/// The request after a piece of it came back.
 fn given_back(entry: Open, first: u64, marks: Vec<Place>, class: &Class) -> Result<Open, NoVerdict>
     ensures { IfOk result (λ o. o ≡ with_busy_returns (entry.busy_returns + one_if_busy class.now) (with_marks first marks.items entry)) }
 {

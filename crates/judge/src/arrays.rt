@@ -213,7 +213,8 @@ pub(crate) fn array_of(arrays: &[Sectors], partition: usize) -> Option<&Sectors>
     arrays.get(partition)
 }
 
-/// The sectors of an array from one on, up to another; fewer where it ends before, and none where there is no such array.
+/// The sectors of an array from one on, up to another; fewer where it ends before, and none where there is no such
+/// array.
 pub(crate) fn part_of(arrays: &[Sectors], partition: usize, from: u128, to: u128) -> Part<'_>
     ensures { result ≡ slice_range (array_at arrays.now partition) from to }
 {

@@ -118,8 +118,8 @@ impl Machine {
         self.broken_by(rules, read, label).is_none()
     }
 
-    /// A rule that the label breaks here; none exactly where some step goes by it. It is said of each machine that labels lead
-    /// to, under the rules by which they did.
+    /// Returns a rule that the label breaks here, and none exactly where some step goes by it. It holds of each machine
+    /// that labels led to under these rules.
     #[tactic(auto, using(crate::proofs::Broken::exactly, crate::proofs::Broken::breaks))]
     pub fn broken(&self, rules: &MachineRules, label: &Label) -> Option<Rule>
         ensures exact { IsReached (rules_of rules.now) self.now → (result ≡ None) ↔ HasStep (rules_of rules.now) self.now label.now }

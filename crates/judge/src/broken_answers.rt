@@ -18,7 +18,7 @@ use crate::rules::MachineRules;
 use machine::{ClientRequest, Kind};
 use ntstatus::NtStatus;
 
-/// The first byte in which those told differ from those due, counted from a number on.
+/// The first byte in which the bytes told differ from the bytes due, counted from a number on.
 pub(crate) fn difference(first: u64, due: &[u8], told: &[u8]) -> Option<Difference>
     requires { first + length told.now < 2 ^ 64 }
     ensures { result ≡ difference first due.now told.now }
@@ -37,7 +37,7 @@ pub(crate) fn difference(first: u64, due: &[u8], told: &[u8]) -> Option<Differen
     too_many(first + due.len() as u64, told.get(due.len()).copied())
 }
 
-/// Whether it is this byte.
+/// Whether there is a byte and it is this one.
 fn is_byte(byte: u8, there: Option<u8>) -> bool
     ensures { result ≡ is_byte byte there }
 {
@@ -59,7 +59,7 @@ fn too_many(at: u64, there: Option<u8>) -> Option<Difference>
     })
 }
 
-/// The first byte in which the rest of those told differs from a part of those due, and what is left behind the part.
+/// The first byte in which the rest of the bytes told differs from a part of the bytes due, and what is left behind it.
 pub(crate) fn next_difference<'t>(
     told: &'t [u8],
     rest: &'t [u8],
@@ -74,7 +74,7 @@ pub(crate) fn next_difference<'t>(
     (found, behind)
 }
 
-/// The first byte in which those told differ from those of the places, end to end.
+/// The first byte in which the bytes told differ from the bytes of the places, end to end.
 fn joined_difference(marks: &[Place], told: &[u8]) -> Option<Difference>
     ensures { result ≡ difference 0 (joined_marks marks.now) told.now }
 {

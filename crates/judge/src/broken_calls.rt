@@ -74,7 +74,7 @@ impl Debt {
     }
 }
 
-/// Returns what is wrong with the bytes that a call brings, which is refused so, or isn't.
+/// Returns what is wrong with the bytes of a call that is refused with this status, or is not refused.
 fn broken_bytes(q: &ClientRequest, refused: Option<NtStatus>) -> Option<CallRule>
     ensures { result ≡ carried_rule q.now refused }
 {

@@ -22,7 +22,7 @@ use machine::{ClientRequest, Kind};
 use sector::Extent;
 use srb::{Class, Completion};
 
-/// The first byte in which those told differ from those of the sectors, end to end.
+/// The first byte in which the bytes told differ from the bytes of the sectors, end to end.
 fn sectors_difference(sectors: &Part<'_>, told: &[u8]) -> Option<Difference>
     ensures { result ≡ difference 0 (concat sectors.now) told.now }
 {
@@ -49,7 +49,7 @@ fn have_size(sectors: &Part<'_>, size: u32) -> bool
     true
 }
 
-/// Whether the sectors are so many, each of this size.
+/// Whether there are this many sectors, each of this size.
 fn are_whole(sectors: &Part<'_>, count: u64, size: u32) -> bool
     ensures { result ≡ are_whole count size sectors.now }
 {

@@ -38,7 +38,7 @@ pub(crate) fn bytes_carried(kind: Kind, length: u64) -> u64
     }
 }
 
-/// The number of bytes that a request tells, if it ends so.
+/// The number of bytes that a request tells when it ends with this status.
 pub(crate) fn information_of(q: &ClientRequest, status: NtStatus) -> u64
     ensures { result ≡ information q.now status }
 {
@@ -69,7 +69,7 @@ impl Machine {
         }
     }
 
-    /// The request is opened, or owed that answer.
+    /// Opens the request, or owes it that answer.
     fn admitted(
         mut self,
         alloc: Global,
@@ -107,7 +107,7 @@ impl Machine {
         Ok(Some(self))
     }
 
-    /// By a call.
+    /// The machine after a call.
     pub(crate) fn called(
         self,
         alloc: Global,
@@ -169,7 +169,7 @@ impl Machine {
         )
     }
 
-    /// By the answer of a request that was taken out.
+    /// The machine after the answer of a request that was taken out.
     fn answered_one(
         self,
         alloc: Global,
@@ -187,7 +187,7 @@ impl Machine {
         Ok(Some(self))
     }
 
-    /// By the answer of an open request.
+    /// The machine after the answer of an open request.
     pub(crate) fn answered(
         mut self,
         alloc: Global,
@@ -205,7 +205,7 @@ impl Machine {
         self.answered_one(alloc, rules, entry, status, information, bytes)
     }
 
-    /// By the answer that a refused call is owed.
+    /// The machine after the answer that a refused call is owed.
     pub(crate) fn repaid(
         mut self,
         debt: Debt,

@@ -24,7 +24,7 @@ fn first_sent(marks: &[Place]) -> Option<usize>
 }
 
 impl Open {
-    /// Whether they are some of its places.
+    /// Whether there is a place at least, and all are of the request.
     fn is_inside(&self, places: Extent) -> bool
         ensures { result ≡ is_inside self.now places }
     {
@@ -53,7 +53,7 @@ impl Open {
         self.inside(places_for(rules, self.request(), command))
     }
 
-    /// The place of those that doesn't wait to be sent, as what it is, if there is one.
+    /// What the first of the places is that doesn't wait to be sent, if there is one.
     fn sent_hindrance(&self, places: Extent) -> Option<Hindrance>
         requires { IsTrue (is_inside self.now places) }
         ensures { result ≡ sent_hindrance self.now places.first (position is_sent (slice_range self.now.marks places.first (places.first + places.count))) }
@@ -92,7 +92,7 @@ impl Open {
         }
     }
 
-    /// Why a request that goes as one piece doesn't go as one of so many places, if it doesn't.
+    /// Why a request that goes as one piece can't go as a piece of this many places, if it can't.
     fn whole_hindrance(&self, rules: &MachineRules, count: u64) -> Option<Hindrance>
         ensures { result ≡ whole_hindrance (rules_of rules.now) self.now count }
     {

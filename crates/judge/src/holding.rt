@@ -61,7 +61,7 @@ fn all_held(
     Ok(after)
 }
 
-/// All but the lowest of the window are late.
+/// Makes all requests late but the lowest, as many as the window has.
 #[tactic(auto, using(crate::proofs::Lateness::held_so))]
 fn held_back(
     alloc: Global,
@@ -77,7 +77,7 @@ fn held_back(
     all_held(alloc, requests, window, numbers.as_slice())
 }
 
-/// No request is late any more.
+/// Makes no request late any more.
 fn all_timely(alloc: Global, requests: Vec<Open>) -> Result<Vec<Open>, AllocError>
     ensures { IfOk result (λ after. after.items ≡ map as_timely requests.items) }
 {
@@ -90,7 +90,7 @@ fn all_timely(alloc: Global, requests: Vec<Open>) -> Result<Vec<Open>, AllocErro
 }
 
 impl Machine {
-    /// By the cancel of a request that was taken out.
+    /// The machine after the cancel of a request that was taken out.
     fn cancelled_one(mut self, entry: Open) -> Result<Option<Machine>, NoVerdict>
         ensures { IfOk result (λ next. next ≡ by_cancel_of self (Some (entry, self.requests))) }
     {
@@ -101,7 +101,7 @@ impl Machine {
         Ok(Some(self))
     }
 
-    /// By a cancel.
+    /// The machine after a cancel.
     pub(crate) fn cancelled(mut self, number: u64) -> Result<Option<Machine>, NoVerdict>
         ensures { IfOk result (λ next. next ≡ by_cancel self number) }
     {
@@ -111,7 +111,7 @@ impl Machine {
         self.cancelled_one(entry)
     }
 
-    /// By a pause.
+    /// The machine after a pause.
     pub(crate) fn paused(
         mut self,
         alloc: Global,
@@ -127,7 +127,7 @@ impl Machine {
         Ok(Some(self))
     }
 
-    /// By the end of a pause.
+    /// The machine after the end of a pause.
     pub(crate) fn resumed(mut self, alloc: Global) -> Result<Option<Machine>, NoVerdict>
         ensures { IfOk result (λ next. next ≡ by_resume self) }
     {
@@ -139,7 +139,7 @@ impl Machine {
         Ok(Some(self))
     }
 
-    /// By a removal.
+    /// The machine after a removal.
     pub(crate) fn drained(mut self) -> Option<Machine>
         ensures { result ≡ by_removal self }
     {
@@ -151,7 +151,7 @@ impl Machine {
         Some(self)
     }
 
-    /// By a surprise removal.
+    /// The machine after a surprise removal.
     pub(crate) fn surprised(
         mut self,
         alloc: Global,
@@ -170,7 +170,7 @@ impl Machine {
         Ok(Some(self))
     }
 
-    /// By the end of a removal.
+    /// The machine after the end of a removal.
     pub(crate) fn ended(mut self) -> Option<Machine>
         ensures { result ≡ by_end self }
     {

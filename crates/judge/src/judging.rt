@@ -17,7 +17,7 @@ use std::alloc::Global;
 /// What is said of a list of labels.
 #[derive(Debug, Drop)]
 pub enum Verdict {
-    /// It is a run, and leads to these machines: one, unless several requests might have made a start.
+    /// The labels are a run and lead to these machines: one, unless several requests might have made a start.
     Run(Vec<Machine>),
     /// No step allows the label of this place, counted from 0, after those before it.
     Stops(usize),
@@ -55,8 +55,8 @@ fn judged(
     Ok(Verdict::Run(machines))
 }
 
-/// Judges whether the labels are a run of the machine with these rules, from its opening state with these sectors in its
-/// partitions, in their order.
+/// Judges whether the labels are a run of the machine with these rules, from its opening state with these sectors in
+/// its partitions, in their order.
 ///
 /// # Errors
 ///

@@ -9,14 +9,14 @@ use thiserror::Error;
 /// A rule of the machine that a label breaks.
 #[derive(Debug, Clone, Copy, PartialEq, Eq, Error)]
 pub enum Rule {
-    /// A refused call is owed its answer.
+    /// What is asked of any label while a refused call is owed its answer.
     #[error("{0}")]
     Owed(OwedRule),
     #[error("{0}")]
     Call(CallRule),
     #[error("{0}")]
     Start(StartRule),
-    /// Of an act or a fault.
+    /// What is asked of an act or a fault.
     #[error("{0}")]
     Act(ActRule),
     #[error("{0}")]
@@ -25,7 +25,7 @@ pub enum Rule {
     Answer(AnswerRule),
     #[error("{0}")]
     Cancel(CancelRule),
-    /// Of a pause and its end, of a removal and its end.
+    /// What is asked of a pause and its end, of a removal and its end.
     #[error("{0}")]
     Removal(RemovalRule),
 }
@@ -33,11 +33,11 @@ pub enum Rule {
 /// The first byte in which bytes differ from those that are due.
 #[derive(Debug, Clone, Copy, PartialEq, Eq)]
 pub struct Difference {
-    /// From 0.
+    /// The place of the byte, counted from 0.
     pub at: u64,
-    /// None where the bytes that are due end before.
+    /// The byte that is due; none where the bytes that are due end before.
     pub due: Option<u8>,
-    /// None where the bytes of the label end before.
+    /// The byte of the label; none where its bytes end before.
     pub told: Option<u8>,
 }
 
@@ -128,7 +128,7 @@ pub enum AnswerRule {
         due: NtStatus,
         told: NtStatus,
     },
-    /// WDK: the field Information of IO_STATUS_BLOCK.
+    /// The answer tells how many bytes were transferred (WDK: the field Information of IO_STATUS_BLOCK).
     #[error("it transferred {due} bytes, and its answer tells of {told}")]
     Information {
         due: u64,

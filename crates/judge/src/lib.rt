@@ -1,17 +1,18 @@
 //! A checker of runs of the sector machine: it takes the rules of a machine, its sectors and a list of labels, whoever
 //! recorded them, and says whether the labels are a run.
 //!
-//! Promises, by `judge`'s `exact` and `verdict`: it answers a run exactly where some state follows from the opening one
-//! by the labels (`IsRun`), and then has all states that do, each in one order of its requests and pieces
-//! (`AreReached`); else it names the first label that no step allows (`StopsAt`). `Machine::is_settled` says whether a
+//! `judge` promises by its clauses `exact` and `verdict`: it answers a run exactly where some state follows from the
+//! opening one by the labels (`IsRun`). It then gives all states that do, each in one order of its requests and pieces
+//! (`AreReached`). Else it names the first label that no step allows (`StopsAt`). `Machine::is_settled` says whether a
 //! state is `Settled`. Most labels lead to one state at most. A start may lead to several, one for each request that
 //! may make it: the blocks of two flushes, or of two reads of one sector, are the same. The checker follows each of
-//! them. A block has to be the plain one of its command (`IsBlockOf`): of one that holds more, [`StartRule::NotPlain`]
-//! tells the first such byte.
+//! these states. A block has to be the plain one of its command (`IsBlockOf`). Of a block that holds more,
+//! [`StartRule::NotPlain`] tells the first such byte.
 //!
-//! `Machine::broken` names a rule that a label breaks: none exactly where some step goes by it (`exact`), else one that
-//! it breaks there (`breaks`), which refutes each step (`breaking_refutes`). [`stepwise::Judge`] takes labels one by
-//! one (`taken`, `refused`). `Machine::undone` names what a state that isn't settled leaves undone (`exact`, `left`).
+//! `Machine::broken` names a rule that a label breaks, and none exactly where some step goes by the label (`exact`).
+//! The label breaks that rule in that state (`breaks`), which refutes each step (`breaking_refutes`).
+//! [`stepwise::Judge`] takes labels one by one (`taken`, `refused`). `Machine::undone` names what a state that isn't
+//! settled leaves undone (`exact`, `left`).
 //!
 //! Requests are cut as this stack cuts them: pieces begin at multiples of the longest transfer, and what came back busy
 //! restarts as often as the busy limit allows. A stack that cuts elsewhere is refused for it, unless the rules say that
@@ -67,8 +68,8 @@ use std::alloc::{AllocError, AllocFailed};
 use thiserror::Error;
 pub use undone_rules::Undone;
 
-/// There is no verdict: memory was refused, or a count of calls, of pieces or of a request's busy returns has no
-/// successor that fits its type, which takes as many labels.
+/// There is no verdict: memory was refused, or the number of calls, of pieces or of a request's busy returns is the
+/// largest of its type, which takes as many labels.
 #[derive(Debug, Clone, Copy, PartialEq, Eq, Error)]
 #[error("no memory for a verdict")]
 pub struct NoVerdict;

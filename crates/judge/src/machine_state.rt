@@ -81,7 +81,7 @@ impl Machine {
         self.requests.as_slice()
     }
 
-    /// The pieces at the adapter, likewise.
+    /// The pieces at the adapter, in no order that means anything.
     pub fn pieces(&self) -> &[Started]
         ensures { result.now ≡ self.now.pieces }
     {

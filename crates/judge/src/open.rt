@@ -52,7 +52,7 @@ impl Model for Open {
     } };
 }
 
-/// So many places that are all alike.
+/// This many places that are all alike.
 pub(crate) fn alike(alloc: Global, count: u64, place: &Place) -> Result<Vec<Place>, AllocError>
     ensures { IfOk result (λ places. places.items ≡ replicate count place.now) }
 {
@@ -142,7 +142,7 @@ fn place_at(marks: &[Place], at: usize) -> Option<&Place>
 }
 
 impl Open {
-    /// A request of so many places, none of which was sent.
+    /// A request of this many places, none of which was sent.
     pub(crate) fn new(
         alloc: Global,
         number: u64,

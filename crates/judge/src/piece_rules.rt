@@ -28,10 +28,10 @@ pub enum ActRule {
 pub enum ReturnRule {
     #[error("piece {piece} is not at the adapter")]
     NoPiece { piece: u128 },
-    /// Also after a fault.
+    /// A piece that comes back good has acted. One that faulted has not.
     #[error("piece {piece} came back good, and hasn't acted")]
     GoodWithoutAct { piece: u128 },
-    /// Also after a fault.
+    /// A piece that comes back busy has neither acted nor faulted.
     #[error("piece {piece} came back busy, and has acted or faulted")]
     BusyAfterAct { piece: u128 },
     /// SRB_STATUS_SUCCESS and SRB_STATUS_BUSY are no errors.

@@ -24,11 +24,11 @@ use std::marker::Model;
 /// What a piece has done.
 #[derive(Debug, Drop)]
 enum Deed {
-    /// Nothing yet.
+    /// It has done nothing yet.
     Fresh,
     /// It acted on these sectors.
     Acted(Vec<Bytes>),
-    /// It never will.
+    /// It faulted, and will never act.
     Faulted,
 }
 

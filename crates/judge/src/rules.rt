@@ -30,8 +30,8 @@ pub struct MachineRules {
     pub one_piece: bool,
     /// Busy returns that end a request.
     pub busy_limit: u64,
-    /// Whether a piece may begin at any place of its request, and start again without end. Else pieces begin at multiples
-    /// of the longest, and restarts are counted.
+    /// Whether a piece may begin at any place of its request, and start again without end. Else pieces begin at
+    /// multiples of the longest, and restarts are counted.
     pub any_cut: bool,
     /// Whether acts read and write the arrays; else the sectors stand elsewhere, and the arrays never change.
     pub faithful: bool,

@@ -1,4 +1,4 @@
-//! Whether two machines are the same: two readings of a start that came to the same are followed as one.
+//! Whether two machines are the same. Readings of a start that led to the same machine are followed as one.
 
 ghost use Rattle.std.specs.Prelude.{◌≡◌, Contains, IfOk, OnOk, option_map};
 ghost use Rattle.std.specs.Bool.{OnTrue};
@@ -14,7 +14,7 @@ use std::alloc::{AllocError, Global};
 
 /// A value that can be compared: what is found the same is the same.
 pub(crate) trait Compared: Sized {
-    /// Whether it is the same.
+    /// Whether the other value is the same.
     fn is_same(&self, other: &Self) -> bool
         ensures { OnTrue result (self.now ≡ other.now) };
 }
@@ -83,7 +83,7 @@ impl Compared for Machine {
     }
 }
 
-/// Whether the machine is among those.
+/// Whether the machine is among these.
 fn is_among(machines: &[Machine], machine: &Machine) -> bool
     ensures { OnTrue result (Contains machines.now machine.now) }
 {

@@ -11,7 +11,7 @@ use machine::Kind;
 use sector::Bytes;
 use std::alloc::{AllocError, Global};
 
-/// Bytes cut into so many sectors of a size; the last ones are shorter where there are too few bytes.
+/// Bytes cut into this many sectors of a size; the last ones are shorter where there are too few bytes.
 fn chunked(alloc: Global, count: u64, size: u32, bytes: &[u8]) -> Result<Vec<Bytes>, AllocError>
     ensures { IfOk result (λ sectors. sectors.items ≡ chunked count size bytes.now) }
 {
@@ -61,7 +61,7 @@ pub(crate) fn are_same_sectors(sectors: &[Bytes], there: &Part<'_>) -> bool
     true
 }
 
-/// The arrays with sectors in place of as many in one of them.
+/// The arrays, with these sectors in place of as many of one array.
 pub(crate) fn with_written(
     mut arrays: Vec<Sectors>,
     partition: usize,

@@ -120,7 +120,7 @@ impl Machine {
         settled
     }
 
-    /// The same, by the test.
+    /// Whether the machine is settled, as a test.
     pub(crate) fn settled(&self, rules: &MachineRules) -> bool
         ensures { result ≡ is_settled (rules_of rules.now) self.now }
     {

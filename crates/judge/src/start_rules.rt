@@ -22,8 +22,8 @@ pub enum StartRule {
     /// The block asks for no command.
     #[error("{0}")]
     Block(CdbFault),
-    /// A block holds its command and nothing else: 0 in each bit that is no field of it, as DPO and the CONTROL byte (SBC,
-    /// SAM), and no byte behind it.
+    /// A block holds its command and nothing else: 0 in each bit that is no field of it, as DPO and the CONTROL byte
+    /// (SBC, SAM), and no byte behind it.
     #[error("the block holds more than its command: {0}")]
     NotPlain(Difference),
     /// No open request asks for the block.
@@ -37,15 +37,15 @@ pub enum StartRule {
 /// Why no open request asks for a command block.
 #[derive(Debug, Clone, Copy, PartialEq, Eq)]
 pub enum Misfit {
-    /// It is no read, no write and no flush.
+    /// The command is no read, no write and no flush.
     Command,
-    /// A command of sixteen bytes where ten have room for its numbers, or the other way round.
+    /// The command has sixteen bytes where ten have room for its numbers, or the other way round.
     Form,
     /// A flush is of the whole disk: address 0, and 0 blocks (SBC: SYNCHRONIZE CACHE).
     Range,
-    /// None is of this kind.
+    /// No open request is of this kind.
     Kind(Kind),
-    /// None has all these sectors.
+    /// No open request has all these sectors.
     Sectors { lba: u64, count: u64 },
     /// A request has them, and its write-through (WDK: SL_WRITE_THROUGH) is another than the FUA bit.
     Fua { number: u64, due: bool },
@@ -91,13 +91,13 @@ pub enum Hindrance {
     Cancelled,
     #[error("the device is being removed")]
     Removing,
-    /// It came in a pause, or was held back by it.
+    /// The request came in a pause, or was held back by it.
     #[error("a pause holds it")]
     Late,
     /// Requests start in the order of their calls.
     #[error("request {number} came earlier, and waits to start")]
     Earlier { number: u64 },
-    /// Longer than the adapter's longest transfer.
+    /// The piece is longer than the adapter's longest transfer.
     #[error("the piece has {count} sectors, and {longest} are the most")]
     Long { longest: u64, count: u64 },
     #[error("its sector {place} is at the adapter")]

@@ -149,7 +149,8 @@ impl Machine {
         Ok(())
     }
 
-    /// Looks at the request at this place. Where it may make the start, that one is pending, and the one before is added.
+    /// Looks at the request at this place. Where it may make the start, that one is pending, and the one before is
+    /// added.
     fn next_pending(
         &self,
         alloc: Global,

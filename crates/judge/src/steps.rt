@@ -144,7 +144,7 @@ impl Machine {
     }
 }
 
-/// The machines that the label leads to from these.
+/// The machines that the label leads to from all of these.
 pub(crate) fn all_next(
     alloc: Global,
     rules: &MachineRules,

@@ -1,7 +1,7 @@
 //! Labels judged one by one.
 //!
-//! A [`Judge`] follows each reading of the labels, as [`crate::judge`] does. Readings that came to the same machine go on as
-//! one. It keeps what is open, what is at the adapter and the sectors: a longer trace needs no more.
+//! A [`Judge`] follows each reading of the labels, as [`crate::judge`] does. Readings that came to the same machine go
+//! on as one. It keeps what is open, what is at the adapter and the sectors: a longer trace needs no more.
 
 ghost use Rattle.std.specs.Prelude.{◌≡◌, ◌<◌, IfOk, OnOk, IfErr, MatchOption, Result, [], length, ◌↔◌, None, Any, IfSome};
 ghost use Rattle.judge.specs.Following.{HasTaken, Takes, GoesTo, GoesOnceTo, AllReached, SomeGoes, StopsAll};
@@ -182,7 +182,7 @@ impl Judge {
         rule
     }
 
-    /// Goes on by a label; nothing is left where there is no memory.
+    /// Goes on by a label. The judge has no machine left where memory is refused.
     fn go(&mut self, alloc: Global, label: &Label) -> Result<(), NoVerdict>
         ensures rules { self.new.rules ≡ self.old.rules }
         ensures next { OnOk result (GoesTo self.old label.now self.new) }

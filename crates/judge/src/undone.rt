@@ -18,35 +18,35 @@ use crate::settling::count_started;
 use crate::undone_rules::Undone;
 
 impl Open {
-    /// Whether it waits for a piece, if it is cancelled.
+    /// Whether the request waits for a piece, if it is cancelled.
     fn waits_if_cancelled(&self) -> bool
         ensures { result ≡ waits_if_cancelled self.now }
     {
         !self.is_cancelled() || self.has_out()
     }
 
-    /// Whether it waits for a piece or has one to send, if it is started.
+    /// Whether the request waits for a piece or has one to send, if it is started.
     fn has_more(&self) -> bool
         ensures { result ≡ has_more self.now }
     {
         !self.is_started() || self.has_out() || self.has_unsent()
     }
 
-    /// Whether a pause holds it.
+    /// Whether a pause holds the request.
     fn is_held(&self) -> bool
         ensures { result ≡ is_held self.now }
     {
         !self.is_started() && self.is_late()
     }
 
-    /// Whether it waits for a piece, if it is started.
+    /// Whether the request waits for a piece, if it is started.
     fn is_at_work(&self) -> bool
         ensures { result ≡ is_at_work self.now }
     {
         !self.is_started() || self.has_out()
     }
 
-    /// Whether it is started, late, or behind a full window.
+    /// Whether the request is started, late, or behind a full window.
     fn is_held_back(&self, full: bool) -> bool
         ensures { result ≡ is_held_back full self.now }
     {
@@ -223,7 +223,7 @@ impl Machine {
         self.sending_undone(rules)
     }
 
-    /// The first that is left undone.
+    /// The first thing that is left undone.
     pub(crate) fn left(&self, rules: &MachineRules) -> Option<Undone>
         ensures { result ≡ undone (rules_of rules.now) self.now }
     {

@@ -14,7 +14,7 @@ pub enum Undone {
     Cancelled { number: u64 },
     #[error("the device is being removed, and request {number} not answered, with nothing at the adapter")]
     Removing { number: u64 },
-    /// Each place is done or failed.
+    /// Each place of the request is done or failed, so nothing is left to wait for.
     #[error("each sector of request {number} has come back, and it is not answered")]
     Ended { number: u64 },
     #[error("nothing is at the adapter, and request {number} waits, which no pause holds")]
