@@ -2,9 +2,9 @@
 use Rattle.std.proofs.Common.{◌≡◌, ◌<◌, ◌≤◌, ◌⊎◌, inl, inr, ℕ, ◌+◌, Bool, true, false, List, [], ◌∷◌, ◌++◌, Some, None, refl, sym, subst, ap, ◌∙◌, arith, map, length, get_or}
 use Rattle.std.specs.Prelude.{All, Any, IsPermutation, MatchBool, slice_set, remove}
 use Rattle.std.specs.List.{concat}
-use Rattle.std.proofs.lemmas.List.{length-append, length-set, map-append, get_or-set_same, get_or_default}
+use Rattle.std.proofs.lemmas.List.{length-set, get_or-set_same, get_or_default}
 use Rattle.std.proofs.lemmas.Bool.{cases_lt}
-use Rattle.std.proofs.lemmas.List.Elements.{All-cons, All-push, All-head, All-tail}
+use Rattle.std.proofs.lemmas.List.Elements.{All-cons, All-head, All-tail}
 use Rattle.std.proofs.lemmas.List.Sorted.{IsPermutation-refl, IsPermutation-sym, IsPermutation-trans, IsPermutation-map, IsPermutation-append_left, IsPermutation-append_right, IsPermutation-middle, IsPermutation-remove, All-permutation, length_permutation}
 use Rattle.srb.specs.declared.Class.TheVariants.{Good, Busy, Bad}
 use Rattle.adapter.specs.View.{AdapterView, TagInUse, IsOn, HasTag, HasNotTag}
@@ -28,7 +28,7 @@ use Rattle.port.specs.inside.Cancelling.{CancelsAt, CancelsNotAt, CancelsNoStart
 use Rattle.port.specs.Shown.{rules_of, waiting_open, done_open, out_open, out_piece, open_on, entry_on, entry_or_nobody, packet as packet_as, of_packets, of_waiting, of_tag, of_done, state_of, view_of, requests_of}
 use Rattle.port.specs.inside.Invariant.{asked, PortKept, IsInHand, IsRoom, IsEmptyIfFlush, IsAtWork, IsDoing, HasEnded, HasOutcome, IsTaken}
 use Rattle.port.proofs.Places.{distinct_same}
-use Rattle.port.proofs.Lists.{second_front, last_front}
+use Rattle.port.proofs.Lists.{second_front}
 use Rattle.port.proofs.Tags.{others_same, others_apart}
 use Rattle.port.proofs.Starting.{work_beside}
 use Rattle.port.proofs.Returning.{tags_on, on_tag_work, done_is}
@@ -146,8 +146,8 @@ cancelled_out b b' v rooms number tag k here h =
 
 -- AFTER IT ENDED
 
-abbrev books_ended : TableView → List Ended → Ended → TableView
-books_ended b done marked = record b { done = done ++ marked ∷ [] }
+abbrev books_ended : TableView → List Ended → TableView
+books_ended b done = record b { done = done }
 
 module _ (b : TableView) (v : AdapterView) (number : ℕ) (before : List Ended) (ended : Ended) (behind : List Ended) (marked : Ended)
     (is_done : b.done ≡ before ++ ended ∷ behind) (can : is_cancellable number (ended_entry ended) ≡ true) (same_entry : ended_entry marked ≡ cancelled (ended_entry ended))
@@ -155,15 +155,20 @@ module _ (b : TableView) (v : AdapterView) (number : ℕ) (before : List Ended) 
   front : IsPermutation b.done (ended ∷ (before ++ behind))
   front = subst (λ ds. IsPermutation ds (ended ∷ (before ++ behind))) (sym is_done) (IsPermutation-middle before ended behind)
 
+  back : IsPermutation (before ++ marked ∷ behind) (marked ∷ (before ++ behind))
+  back = IsPermutation-middle before marked behind
+
+  shown : {Y : Type 0} (first second : List Y) (f : Ended → Y) (all : List Ended) (e : Ended) → IsPermutation all (e ∷ (before ++ behind))
+      → IsPermutation (first ++ (second ++ map f all)) (f e ∷ (first ++ (second ++ map f (before ++ behind))))
+  shown first second f all e p = IsPermutation-trans _ _ _ (IsPermutation-append_right first _ _ (IsPermutation-append_right second _ _ (IsPermutation-map f _ _ p))) (third_front first second (map f (before ++ behind)) (f e))
+
   shown_front : {Y : Type 0} (first second : List Y) (f : Ended → Y) → IsPermutation (first ++ (second ++ map f b.done)) (f ended ∷ (first ++ (second ++ map f (before ++ behind))))
-  shown_front first second f = IsPermutation-trans _ _ _ (IsPermutation-append_right first _ _ (IsPermutation-append_right second _ _ (IsPermutation-map f _ _ front))) (third_front first second (map f (before ++ behind)) (f ended))
+  shown_front first second f = shown first second f b.done ended front
 
-  shown_last : {Y : Type 0} (first second : List Y) (f : Ended → Y) → IsPermutation (first ++ (second ++ map f ((before ++ behind) ++ marked ∷ []))) (f marked ∷ (first ++ (second ++ map f (before ++ behind))))
-  shown_last first second f =
-      let more : map f ((before ++ behind) ++ marked ∷ []) ≡ map f (before ++ behind) ++ f marked ∷ [] = map-append f (before ++ behind) (marked ∷ []) in
-      rw more (last_front first second (map f (before ++ behind)) (f marked))
+  shown_last : {Y : Type 0} (first second : List Y) (f : Ended → Y) → IsPermutation (first ++ (second ++ map f (before ++ marked ∷ behind))) (f marked ∷ (first ++ (second ++ map f (before ++ behind))))
+  shown_last first second f = shown first second f (before ++ marked ∷ behind) marked back
 
-  end_cancels : Cancels (state_of b v) number (state_of (books_ended b (before ++ behind) marked) v)
+  end_cancels : Cancels (state_of b v) number (state_of (books_ended b (before ++ marked ∷ behind)) v)
   end_cancels =
       let rules : Rules = rules_of b.sizes in
       let is : done_open rules marked ≡ as_cancelled (done_open rules ended) = done_is rules marked (cancelled (ended_entry ended)) ended.irp.value.payload ended.outcome same_entry carries ends in
@@ -178,7 +183,7 @@ module _ (b : TableView) (v : AdapterView) (number : ℕ) (before : List Ended) 
           arrays = refl;
           next_request = refl;
           next_piece = refl;
-          requests = subst (λ (x : OpenRequest). IsPermutation (requests_of (books_ended b (before ++ behind) marked) v) (x ∷ rest)) is (shown_last (map (waiting_open rules) b.waiting) (map (open_on rules b.started) v.tags) (done_open rules));
+          requests = subst (λ (x : OpenRequest). IsPermutation (requests_of (books_ended b (before ++ marked ∷ behind)) v) (x ∷ rest)) is (shown_last (map (waiting_open rules) b.waiting) (map (open_on rules b.started) v.tags) (done_open rules));
           pieces = IsPermutation-refl _;
           owed = refl;
           paused = refl;
@@ -187,11 +192,11 @@ module _ (b : TableView) (v : AdapterView) (number : ℕ) (before : List Ended) 
         };
       }
 
-  packets_ended : {Y : Type 0} (f : PacketEntry → Y) → ((e : PacketEntry) → f (cancelled e) ≡ f e) → IsPermutation (of_packets f (books_ended b (before ++ behind) marked) v) (of_packets f b v)
+  packets_ended : {Y : Type 0} (f : PacketEntry → Y) → ((e : PacketEntry) → f (cancelled e) ≡ f e) → IsPermutation (of_packets f (books_ended b (before ++ marked ∷ behind)) v) (of_packets f b v)
   packets_ended {Y} f keeps =
       let is : of_done f marked ≡ of_done f ended = ap f same_entry ∙ keeps (ended_entry ended) in
       let rest : List Y = map (of_waiting f) b.waiting ++ (map (of_tag f b.started) v.tags ++ map (of_done f) (before ++ behind)) in
-      IsPermutation-trans _ _ _ (subst (λ y. IsPermutation (of_packets f (books_ended b (before ++ behind) marked) v) (y ∷ rest)) is (shown_last (map (of_waiting f) b.waiting) (map (of_tag f b.started) v.tags) (of_done f)))
+      IsPermutation-trans _ _ _ (subst (λ y. IsPermutation (of_packets f (books_ended b (before ++ marked ∷ behind)) v) (y ∷ rest)) is (shown_last (map (of_waiting f) b.waiting) (map (of_tag f b.started) v.tags) (of_done f)))
       (IsPermutation-sym _ _ (shown_front (map (of_waiting f) b.waiting) (map (of_tag f b.started) v.tags) (of_done f)))
 
   why_marked : (rules : Rules) (removing : Bool) (outcome : Outcome) → HasOutcome rules removing ended outcome → HasOutcome rules removing marked outcome
@@ -210,13 +215,13 @@ module _ (b : TableView) (v : AdapterView) (number : ℕ) (before : List Ended) 
       by_outcome Withdrawn h = ap (λ (e : PacketEntry). e.cancelled) same_entry
       by_outcome Gone h = h
 
-  kept_ended : (rooms : List Request) → PortKept b v rooms → PortKept (books_ended b (before ++ behind) marked) v rooms
+  kept_ended : (rooms : List Request) → PortKept b v rooms → PortKept (books_ended b (before ++ marked ∷ behind)) v rooms
   kept_ended rooms k =
       let rules : Rules = rules_of b.sizes in
       let all : All (HasEnded rules b.removing) (ended ∷ (before ++ behind)) = All-permutation (HasEnded rules b.removing) _ _ front k.ended in
       let e : HasEnded rules b.removing ended = All-head (HasEnded rules b.removing) ended (before ++ behind) all in
       let l = length_permutation _ _ front in
-      let m = length-append (before ++ behind) (marked ∷ []) in
+      let m = length_permutation _ _ back in
       record {
         adapter = k.adapter;
         sizes = k.sizes;
@@ -224,12 +229,12 @@ module _ (b : TableView) (v : AdapterView) (number : ℕ) (before : List Ended) 
         waiting = k.waiting;
         in_turn = k.in_turn;
         at_work = k.at_work;
-        ended = All-push (HasEnded rules b.removing) (before ++ behind) marked (All-tail (HasEnded rules b.removing) ended (before ++ behind) all) (record {
+        ended = All-permutation (HasEnded rules b.removing) _ _ (IsPermutation-sym _ _ back) (All-cons (HasEnded rules b.removing) marked (before ++ behind) (record {
           bounded = subst (λ (x : PacketEntry). IsBounded rules x.request) (sym same_entry) e.bounded;
           why = subst (HasOutcome rules b.removing marked) (sym ends) (why_marked rules b.removing ended.outcome e.why);
           empty = subst (λ (p : Payload). IsEmptyIfFlush marked.request (payload_bytes p)) (sym carries)
               (subst (λ (x : PacketEntry). IsEmptyIfFlush x.request (payload_bytes ended.irp.value.payload)) (sym same_entry) e.empty);
-        });
+        }) (All-tail (HasEnded rules b.removing) ended (before ++ behind) all));
         reserved = All-permutation (IsRoom rules v) _ _ (IsPermutation-sym _ _ (packets_ended asked (λ e. refl))) k.reserved;
         spots = distinct_same _ _ (IsPermutation-sym _ _ (packets_ended spot_in (λ e. refl))) k.spots;
         taken = All-permutation (IsTaken b.rooms) _ _ (IsPermutation-sym _ _ (packets_ended spot_in (λ e. refl))) k.taken;
@@ -243,9 +248,9 @@ module _ (b : TableView) (v : AdapterView) (number : ℕ) (before : List Ended) 
         labels = k.labels;
       }
 
-  ended_fields : IsCancelled b v number (books_ended b (before ++ behind) marked)
+  ended_fields : IsCancelled b v number (books_ended b (before ++ marked ∷ behind))
   ended_fields = record {
-    rooms = λ rooms i. in_hand (books_ended b (before ++ behind) marked) v rooms (kept_ended rooms i.kept) i.busy;
+    rooms = λ rooms i. in_hand (books_ended b (before ++ marked ∷ behind)) v rooms (kept_ended rooms i.kept) i.busy;
     cancels = record { one_of = inl (end_cancels, record { same_rules = refl; same_packets = packets_ended packet_as (λ e. refl); same_rooms = λ _. refl; same_submitted = refl; same_most = refl; same_adapter = refl }) };
   }
 

@@ -1,6 +1,6 @@
 -- Packets that are cancelled, or that wait at a removal: the queues.
-use Rattle.std.proofs.Common.{◌≡◌, ◌<◌, ℕ, suc, ◌+◌, Bool, true, false, List, [], ◌∷◌, ◌++◌, Some, None, refl, sym, ap, ◌∙◌, arith, map, length, get_or, take, drop}
-use Rattle.std.specs.Prelude.{All, position, remove}
+use Rattle.std.proofs.Common.{◌≡◌, ◌<◌, ℕ, zero, suc, ◌+◌, Bool, true, false, List, [], ◌∷◌, ◌++◌, Some, None, refl, sym, ap, ◌∙◌, arith, map, length, get_or, take, drop}
+use Rattle.std.specs.Prelude.{All, position, remove, slice_set}
 use Rattle.std.specs.List.{position_from}
 use Rattle.std.proofs.lemmas.List.{append-nil, nil_from_length, take-append-drop, drop_more}
 use Rattle.std.proofs.lemmas.List.Elements.{All-nil, All-cons}
@@ -60,10 +60,15 @@ withdraws b b' number index held withdrawn waiting' done' found is left entry ca
       after = after ∙ ap (λ (hs : List PortPacket). record b { waiting = hs; done = done' }) left ∙ ap (λ (ds : List Ended). record b { waiting = remove b.waiting index; done = ds }) more;
     }
 
-pub cancels_ended : (b b' : TableView) (number index : ℕ) (ended marked : Ended) (done' done'' : List Ended) → Some index ≡ position (can_cancel_ended number) b.done → ended ≡ get_or b.done index ended
-    → done' ≡ remove b.done index → ended_entry marked ≡ cancelled (ended_entry ended) → marked.irp.value.payload ≡ ended.irp.value.payload → marked.outcome ≡ ended.outcome → done'' ≡ done' ++ marked ∷ []
-    → b' ≡ record b { done = done'' } → CancelsEnded b number b'
-cancels_ended b b' number index ended marked done' done'' found is left entry carries ends more after =
+set_between : {X : Type 0} (xs : List X) (k : ℕ) (x : X) → k < length xs → slice_set xs k x ≡ take k xs ++ (x ∷ drop (suc k) xs)
+set_between [] k x low = absurd (omega arith)
+set_between (y ∷ xs) zero x low = refl
+set_between (y ∷ xs) (suc k) x low = ap (λ zs. y ∷ zs) (set_between xs k x (omega arith))
+
+pub cancels_ended : (b b' : TableView) (number index : ℕ) (ended marked : Ended) (done' : List Ended) → Some index ≡ position (can_cancel_ended number) b.done → ended ≡ get_or b.done index ended
+    → ended_entry marked ≡ cancelled (ended_entry ended) → marked.irp.value.payload ≡ ended.irp.value.payload → marked.outcome ≡ ended.outcome → done' ≡ slice_set b.done index marked
+    → b' ≡ record b { done = done' } → CancelsEnded b number b'
+cancels_ended b b' number index ended marked done' found is entry carries ends set after =
     let at = position-Some (can_cancel_ended number) b.done index ended (sym found) in
     record {
       before = take index b.done;
@@ -75,7 +80,7 @@ cancels_ended b b' number index ended marked done' done'' found is left entry ca
       same_entry = entry;
       carries = carries;
       ends = ends;
-      after = after ∙ ap (λ (ds : List Ended). record b { done = ds }) (more ∙ ap (λ (ds : List Ended). ds ++ marked ∷ []) left);
+      after = after ∙ ap (λ (ds : List Ended). record b { done = ds }) (set ∙ set_between b.done index marked at.0);
     }
 
 pub cancels_no_ended : (b : TableView) (number : ℕ) → None ≡ position (can_cancel_ended number) b.done → CancelsNoEnded b number b

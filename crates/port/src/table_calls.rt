@@ -322,18 +322,16 @@ impl Queues {
 
     /// The packet of this number is cancelled, where it has ended and is not cancelled yet.
     pub fn cancel_done(&mut self, number: u128) -> bool
-        requires { length (books_of self.old).done ≤ (books_of self.old).places }
         ensures { MatchBool result (CancelsEnded (books_of self.old) number (books_of self.new))
             (CancelsNoEnded (books_of self.old) number (books_of self.new)) }
     {
         let Some(index) = self.find_done(number) else {
             return false;
         };
-        let Some(mut ended) = self.done.remove(index) else {
+        let Some(ended) = self.done.get_mut(index) else {
             unreachable!()
         };
         mark_cancelled(&mut ended.irp);
-        self.done.push_back_reserved(ended);
         true
     }
 }

@@ -239,7 +239,7 @@ pub record CancelsEnded (old : TableView) (number : ℕ) (new : TableView) : Typ
   pub same_entry : ended_entry marked ≡ cancelled (ended_entry ended)
   pub carries : marked.irp.value.payload ≡ ended.irp.value.payload
   pub ends : marked.outcome ≡ ended.outcome
-  pub after : new ≡ record old { done = (before ++ behind) ++ marked ∷ [] }
+  pub after : new ≡ record old { done = before ++ marked ∷ behind }
 
 -- the number cancels no packet that has ended
 pub record CancelsNoEnded (old : TableView) (number : ℕ) (new : TableView) : Type 0 where

@@ -7,4 +7,4 @@ pub returns-in_default : goal.returns-in_default
 returns-in_default c = cancels_no_ended (books_of c.args.self.now) _ c.in_default.ensures
 
 pub returns : goal.returns
-returns c = cancels_ended (books_of c.args.self.now) _ _ _ c.in-Some-remove.ended _ _ _ c.in-Some.ensures c.in-Some-remove.ensures.value c.in-Some-remove.ensures.items (c.mark_cancelled.ensures.entry _ _) c.mark_cancelled.ensures.payload refl c.push_back_reserved.ensures.items refl
+returns c = cancels_ended (books_of c.args.self.now) _ _ _ c.in-Some-get_mut.ended.now _ _ c.in-Some.ensures c.in-Some-get_mut.ensures.value (c.mark_cancelled.ensures.entry _ _) c.mark_cancelled.ensures.payload refl refl refl
