@@ -32,7 +32,7 @@ impl From<AllocError> for ReplayFault {
     }
 }
 
-/// The bytes of sectors.
+/// Reads the bytes of sectors.
 fn read_all<M: Medium>(
     alloc: Global,
     medium: &mut M,
@@ -71,7 +71,7 @@ fn write_all<M: Medium>(medium: &mut M, extent: Extent, bytes: &[u8]) -> Result<
     }
 }
 
-/// Bytes that have to be the same.
+/// Compares bytes that have to be the same.
 fn compare(got: &[u8], wanted: &[u8]) -> Result<(), ReplayFault> {
     if got == wanted {
         return Ok(());
@@ -79,7 +79,7 @@ fn compare(got: &[u8], wanted: &[u8]) -> Result<(), ReplayFault> {
     Err(ReplayFault::Differs)
 }
 
-/// An entry on a disk as it was before: a read's bytes are read again.
+/// Replays an entry on a disk as it was before. The bytes of a read are read again and compared.
 fn replay_one<M: Medium>(alloc: Global, fresh: &mut M, entry: &Entry) -> Result<(), ReplayFault> {
     match entry.kind {
         Kind::Read => {
@@ -91,12 +91,12 @@ fn replay_one<M: Medium>(alloc: Global, fresh: &mut M, entry: &Entry) -> Result<
     }
 }
 
-/// The entries, one after the other, on a disk as it was before the first: the same bytes are read, and the same
-/// sectors stand there and in the journal's medium then.
+/// Replays the entries, one after the other, on a disk as it was before the first. Each read has to give the bytes of
+/// its entry, and in the end the sectors of `moved` have to be those of the journal's medium.
 ///
 /// # Errors
 ///
-/// [`ReplayFault::Differs`] where one is not the same, [`ReplayFault::Unfit`], [`ReplayFault::NoMemory`].
+/// [`ReplayFault::Differs`] where a read or a sector is another, [`ReplayFault::Unfit`], [`ReplayFault::NoMemory`].
 pub fn replay<M: Medium, F: Medium>(
     alloc: Global,
     entries: &[Entered],
@@ -110,7 +110,7 @@ pub fn replay<M: Medium, F: Medium>(
     compare_sectors(alloc, fresh, medium, moved)
 }
 
-/// The same sectors stand in both.
+/// Compares these sectors of both media.
 fn compare_sectors<M: Medium, F: Medium>(
     alloc: Global,
     fresh: &mut F,

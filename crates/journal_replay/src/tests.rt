@@ -13,7 +13,7 @@ use std::test::Fail;
 /// An entry of one sector: what it did, the sector, a byte, and how many of it.
 type Act = (Kind, u64, u8, usize);
 
-/// Entries, and what replaying them comes to on a disk of zeros, where 5 stands in each byte of sector 1 in the end.
+/// Entries, and what their replay on a disk of zeros comes to. The journal's medium has 5 in each byte of sector 1.
 static CASES: [(&str, &[Act], Result<(), ReplayFault>); 9] = [
     (
         "a write and a read",

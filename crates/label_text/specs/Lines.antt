@@ -33,7 +33,7 @@ kind_word Read = codes "read"
 kind_word Write = codes "write"
 kind_word Flush = codes "flush"
 
--- where a request begins and how long it is, in bytes; a flush has neither, but for one that came with some
+-- where a request begins and how long it is, in bytes; a flush tells them only where one isn't 0
 abbrev pub extent_words : Kind → ℕ → ℕ → Words
 extent_words Read offset bytes = decimal offset ∷ decimal bytes ∷ []
 extent_words Write offset bytes = decimal offset ∷ decimal bytes ∷ []
@@ -63,7 +63,7 @@ class_words Good = codes "good" ∷ []
 class_words Busy = codes "busy" ∷ []
 class_words (Bad completion) = codes "bad" ∷ hex_of completion.srb_status ∷ hex_of completion.scsi_status ∷ sense_words completion.sense
 
--- the word that a line begins with
+-- the first word of a line
 abbrev pub verb_of : Label → List ℕ
 verb_of (Call number request) = codes "call"
 verb_of (Device (Start piece tag block)) = codes "start"
@@ -78,7 +78,7 @@ verb_of Remove = codes "remove"
 verb_of Surprise = codes "surprise"
 verb_of Removed = codes "removed"
 
--- and those that follow it
+-- the other words of a line
 abbrev pub words_behind : Label → Words
 words_behind (Call number request) = decimal number ∷ request_words request
 words_behind (Device (Start piece tag block)) = decimal piece ∷ codes "tag" ∷ decimal tag ∷ block_words block

@@ -1,12 +1,12 @@
-//! The text of labels, one a line: what today's printed lines hide stands in it, so that a trace can be stored, sent and
-//! read again.
+//! The text of labels, one label a line. It tells all that a label holds, so a trace can be stored, sent and read
+//! again.
 //!
-//! It promises to the crate above, by the contract of [`write_line`] (`text`, `spelled`), that a label is written as its
-//! line and nothing else; by that of [`read_line`] (`spelled`, `only`, `again`, `fault`), that a line is read as the one label
-//! whose line it is, and refused only where it is the line of none. So what is written is read as what it was, and what is
-//! read would be written as it stood.
+//! [`write_line`] promises to the crate above, by its clauses `text` and `spelled`, that a label is written as its line
+//! and nothing else. [`read_line`] promises, by `spelled`, `only`, `again` and `fault`, that a line is read as the one
+//! label whose line it is, and refused only where no label has this line. What is written is therefore read as the
+//! label that it was, and what is read would be written as the line that it was.
 //!
-//! It does not promise that labels are a run of the machine, or that a writer takes all.
+//! The crate does not promise that labels are a run of the machine, or that a writer takes all.
 #![tactic(auto)]
 
 mod reading;
@@ -26,7 +26,7 @@ pub use writing::write_line;
 /// Why a line was not read.
 #[derive(Debug, Clone, Copy, PartialEq, Eq)]
 pub enum LineFault {
-    /// The line is that of no label. Reading stopped at the word that begins in this column, counted in bytes from 1.
+    /// No label has this line. Reading stopped at the word that begins in this column, counted in bytes from 1.
     BadWord { column: u64 },
     /// Memory was refused.
     NoMemory,

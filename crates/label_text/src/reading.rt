@@ -56,11 +56,11 @@ pub fn is_told(line: &str) -> bool
     !line.is_empty() && !line.starts_with('#')
 }
 
-/// The label that a line tells. The line has no line feed and no carriage return at its end.
+/// Reads the label that a line tells. The line has no line feed and no carriage return at its end.
 ///
 /// # Errors
 ///
-/// [`LineFault::BadWord`] where it is the line of no label; [`LineFault::NoMemory`].
+/// [`LineFault::BadWord`] where no label has this line; [`LineFault::NoMemory`].
 pub fn read_line(alloc: Global, line: &str) -> Result<Label, LineFault>
     ensures spelled { IfOk result (Spells line.now) }
     ensures only { IfOk result (λ label. (other : Label) → Spells line.now other → other ≡ label) }
@@ -91,7 +91,7 @@ fn label(alloc: Global, words: &mut Words<'_>) -> Result<Option<Label>, AllocErr
     }
 }
 
-/// The label that words behind this one tell, where it has no bytes.
+/// The label that this word and those behind it tell, where it has no bytes.
 fn short(verb: &str, words: &mut Words<'_>) -> Option<Label>
     ensures { result ≡ short_by verb.now words.old }
 {
@@ -352,7 +352,7 @@ fn completion(words: &mut Words<'_>) -> Option<Completion>
     })
 }
 
-/// The sense that goes with it, if one does.
+/// The sense that goes with a completion, if one does.
 fn sense(words: &mut Words<'_>) -> Option<Option<Sense>>
     ensures { result ≡ sense_at words.old }
 {

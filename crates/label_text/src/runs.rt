@@ -20,7 +20,7 @@ pub(crate) struct Run {
     pub count: u64,
 }
 
-/// The bytes that runs tell, where they are written as the longest ones.
+/// The bytes that runs tell, where each run is written as long as it can be.
 ///
 /// # Errors
 ///
@@ -44,7 +44,7 @@ pub(crate) fn expanded(alloc: Global, word: &str) -> Result<Option<Vec<u8>>, All
     Ok(Some(bytes))
 }
 
-/// Whether a run may stand behind one of this byte: it has bytes, and other ones.
+/// Whether a run may stand behind a run of the byte `last`: it has bytes, and they are others.
 fn may_follow(last: Option<u8>, run: Run) -> bool
     ensures { result ≡ may_follow last (run_told run) }
 {
@@ -71,7 +71,7 @@ fn run_in(part: &str) -> Option<Run>
     words.are_over().then_some(Run { byte, count })
 }
 
-/// The number of bytes at the front that equal this one.
+/// How many bytes at the front equal this one.
 fn equal_bytes(bytes: &[u8], byte: u8) -> usize
     ensures within { result ≤ length bytes.now }
     ensures equal { All (λ b. b ≡ byte) (take result bytes.now) }

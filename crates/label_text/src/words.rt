@@ -11,11 +11,11 @@ use std::marker::Model;
 #[derive(Drop)]
 pub(crate) struct Words<'a> {
     separator: u8,
-    /// None behind the last part.
+    /// What is not taken yet; nothing behind the last part.
     rest: Option<&'a str>,
     /// Where the part that was taken last begins, in bytes from 1.
     column: u64,
-    /// Where the next one does.
+    /// Where the next part begins.
     next: u64,
 }
 
@@ -28,7 +28,7 @@ impl<'a> Model for Words<'a> {
 }
 
 impl<'a> Words<'a> {
-    /// All parts of a text.
+    /// The parts of a text, none of which was taken.
     pub fn new(separator: u8, text: &'a str) -> Words<'a>
         requires { separator < 128 }
         ensures { result ≡ parted separator text.entry.now }
@@ -46,7 +46,7 @@ impl<'a> Words<'a> {
         self.column
     }
 
-    /// The next part.
+    /// Takes the next part, if one is left.
     pub fn word(&mut self) -> Option<&'a str>
         ensures first { option_copied result ≡ slice_get self.old 0 }
         ensures rest { self.new ≡ drop 1 self.old }
@@ -58,14 +58,14 @@ impl<'a> Words<'a> {
         Some(word)
     }
 
-    /// Whether no part was left. One that is left is taken.
+    /// Whether no part is left. If one is left, it is taken.
     pub fn are_over(&mut self) -> bool
         ensures { result ≡ is_end self.old }
     {
         self.word().is_none()
     }
 
-    /// Takes the next part where it is this one, and says whether it was.
+    /// Takes the next part where it is this word, and says whether it was.
     pub fn takes(&mut self, word: &str) -> bool
         ensures was { result ≡ is_next word.now self.old }
         ensures rest { self.new ≡ behind word.now self.old }
@@ -107,7 +107,7 @@ fn behind_of(column: u64, part: &str) -> u64 {
 }
 
 impl<'a> Words<'a> {
-    /// The next part, where it is a number below 2^64.
+    /// Takes the next part, and returns it where it is a number below 2^64.
     pub fn number(&mut self) -> Option<u64>
         ensures value { result ≡ number_at 64 self.old }
         ensures rest { self.new ≡ drop 1 self.old }
@@ -115,7 +115,7 @@ impl<'a> Words<'a> {
         number(self.word()?)
     }
 
-    /// The next part, where it is a number below 2^128.
+    /// Takes the next part, and returns it where it is a number below 2^128.
     pub fn piece(&mut self) -> Option<u128>
         ensures value { result ≡ number_at 128 self.old }
         ensures rest { self.new ≡ drop 1 self.old }
@@ -123,7 +123,7 @@ impl<'a> Words<'a> {
         piece(self.word()?)
     }
 
-    /// The next part, where it is a number below 2^8.
+    /// Takes the next part, and returns it where it is a number below 2^8.
     pub fn tag(&mut self) -> Option<u8>
         ensures value { result ≡ number_at 8 self.old }
         ensures rest { self.new ≡ drop 1 self.old }
@@ -131,7 +131,7 @@ impl<'a> Words<'a> {
         small(self.word()?)
     }
 
-    /// The next part, where it is a byte.
+    /// Takes the next part, and returns it where it is a byte.
     pub fn byte(&mut self) -> Option<u8>
         ensures value { result ≡ byte_at self.old }
         ensures rest { self.new ≡ drop 1 self.old }
@@ -140,7 +140,7 @@ impl<'a> Words<'a> {
     }
 }
 
-/// A number below 2^64 in decimal digits, as it is written.
+/// Reads a number below 2^64 in decimal digits, spelled as it is written.
 fn number(word: &str) -> Option<u64>
     ensures { result ≡ number_in 64 word.now }
 {
@@ -150,7 +150,7 @@ fn number(word: &str) -> Option<u64>
     }
 }
 
-/// A number below 2^128 in decimal digits, as it is written.
+/// Reads a number below 2^128 in decimal digits, spelled as it is written.
 fn piece(word: &str) -> Option<u128>
     ensures { result ≡ number_in 128 word.now }
 {
@@ -160,7 +160,7 @@ fn piece(word: &str) -> Option<u128>
     }
 }
 
-/// A number below 2^8 in decimal digits, as it is written.
+/// Reads a number below 2^8 in decimal digits, spelled as it is written.
 pub(crate) fn small(word: &str) -> Option<u8>
     ensures { result ≡ number_in 8 word.now }
 {
@@ -170,14 +170,14 @@ pub(crate) fn small(word: &str) -> Option<u8>
     }
 }
 
-/// Whether a word is a number as it is written: without a sign, and without zeros before it.
+/// Whether a word spells the number as it is written: without a sign, and without zeros before it.
 fn is_written<N: Integer>(word: &str, number: N) -> bool
     ensures { result ≡ bytes_eq (N.text number) word.now }
 {
     Buffer::new().format(number) == word
 }
 
-/// A byte of two hexadecimal digits.
+/// Reads a byte of two hexadecimal digits.
 pub(crate) fn byte(word: &str) -> Option<u8>
     ensures { result ≡ byte_in word.now }
 {

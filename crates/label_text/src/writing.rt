@@ -27,7 +27,7 @@ pub fn write_line<W: Write>(out: &mut W, label: &Label) -> io::Result<()>
     write_words(out, label)
 }
 
-/// Spells it word by word.
+/// Writes a label word by word.
 fn write_words<W: Write>(out: &mut W, label: &Label) -> io::Result<()>
     ensures { OnOk result (Appends (W.contents out.old) (W.contents out.new) (verb_of label.now ++ spaced (words_behind label.now))) }
 {

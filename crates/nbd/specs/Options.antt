@@ -24,7 +24,8 @@ wants_no_zeroes flags = not (bit_and flags NBD_FLAG_C_NO_ZEROES == 0)
 
 -- WHAT AN OPTION ASKS FOR
 
--- NBD_OPT_INFO and NBD_OPT_GO: the length of the export's name in four bytes, the name, a number in two and as many numbers of two bytes
+-- NBD_OPT_INFO and NBD_OPT_GO: the length of the export's name in four bytes, the name, a number in two and as many
+-- numbers of two bytes
 abbrev pub info_in : Wish → List ℕ → Wish
 info_in wish bytes =
     if nat_lt (length bytes) 6 || nat_lt (length bytes) (6 + big_from 0 4 bytes) then Refuse Invalid

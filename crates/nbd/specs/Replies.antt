@@ -20,11 +20,11 @@ error_number Einval = NBD_EINVAL
 error_number Enospc = NBD_ENOSPC
 error_number Eshutdown = NBD_ESHUTDOWN
 
--- it succeeded
+-- how a request ends that succeeded and brought these bytes
 abbrev pub success : List ℕ → Outcome
 success bytes = record { error = 0; content = bytes }
 
--- it failed
+-- how a request ends that failed with this error
 abbrev pub failure : ReplyError → Outcome
 failure e = record { error = error_number e; content = [] }
 
@@ -37,6 +37,6 @@ outcome_of (Refused e) = failure e
 abbrev pub simple_bytes : ℕ → ℕ → List ℕ
 simple_bytes cookie error = big_bytes 4 NBD_SIMPLE_REPLY_MAGIC ++ (big_bytes 4 error ++ big_bytes 8 cookie)
 
--- then what the request brought
+-- the bytes of a reply: those sixteen, and then what the request brought
 abbrev pub reply_bytes : ℕ → Outcome → List ℕ
 reply_bytes cookie o = simple_bytes cookie o.error ++ o.content

@@ -14,10 +14,10 @@ pub trait Backing {
     ghost use Rattle.nbd.specs.Replies.{Outcome, outcome_of};
     ghost use Rattle.nbd.specs.Requests.{IsWithin, payload_of};
 
-    /// The sizes.
+    /// The sizes of the storage.
     ghost shape: { Self → Sizes };
 
-    /// A command, with the bytes that came behind its request, from one state to another.
+    /// A command with the bytes that came behind its request leads from one state to another.
     ghost Carries: { Command → List ℕ → Self → Outcome → Self → Type 0 };
 
     /// The sizes, which never change.
@@ -32,7 +32,7 @@ pub trait Backing {
         ensures carried { Carries command payload.items self.old (outcome_of result) self.new }
         ensures same { shape self.new ≡ shape self.old };
 
-    /// Memory that was kept, with whatever bytes it has.
+    /// Hands out the memory that was kept, with whatever bytes it has.
     fn lend(&mut self, alloc: Global) -> Vec<u8>
         ensures same { self.new ≡ self.old };
 

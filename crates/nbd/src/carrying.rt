@@ -16,7 +16,7 @@ use crate::streams::{skip, take_all, zeros};
 use std::alloc::Global;
 use std::io::Read;
 
-/// Bytes of zeros that are written at once: whole blocks of any size.
+/// How many zeros are written at once: whole blocks of either size.
 const PIECE: u32 = 1_048_576;
 
 /// Does what a request asks for, if it may be done. The bytes behind it are taken in each case.

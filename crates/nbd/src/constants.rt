@@ -6,13 +6,13 @@ pub(crate) const NBDMAGIC: u64 = 0x4E42_444D_4147_4943;
 /// "IHAVEOPT", which follows it, and begins each option.
 pub(crate) const IHAVEOPT: u64 = 0x4948_4156_454F_5054;
 
-/// It begins each reply to an option.
+/// The number that begins each reply to an option.
 pub(crate) const NBD_REP_MAGIC: u64 = 0x0003_E889_0455_65A9;
 
-/// It begins each request.
+/// The number that begins each request.
 pub(crate) const NBD_REQUEST_MAGIC: u32 = 0x2560_9513;
 
-/// It begins each simple reply.
+/// The number that begins each simple reply.
 pub(crate) const NBD_SIMPLE_REPLY_MAGIC: u32 = 0x6744_6698;
 
 // Handshake flags.

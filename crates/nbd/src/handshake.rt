@@ -103,7 +103,7 @@ fn haggle<R: Read, W: Write>(
     Err(End::Input)
 }
 
-/// Answers an option: what comes then.
+/// Answers an option, and returns what comes then.
 ///
 /// # Errors
 ///

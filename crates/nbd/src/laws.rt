@@ -8,8 +8,8 @@ pub fn one_spelling()
     ensures { HasOneSpelling }
 {}
 
-/// What is written in an array changes nothing outside: so an array that failed in the middle of a write may have
-/// written other bytes.
+/// What is written in an array changes nothing outside the written bytes. An array that failed in the middle of a write
+/// may have written other bytes inside.
 #[tactic(auto, using(crate::proofs::Clearing::written_inside))]
 pub fn written_inside()
     ensures { WritesInside }

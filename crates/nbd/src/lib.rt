@@ -1,20 +1,21 @@
 //! The NBD protocol of a server: the fixed newstyle handshake, and requests with simple replies, over any [`Array`].
 //!
-//! It promises to the crate above, by the contract of [`serve`] (`IsSession` of `specs/Handshake`): the client's stream began
-//! with the bytes of its flags, of some options and of some requests; what was written is the greeting and then just their
-//! replies, in order; the array moved by just these requests, one after the other, each by its command or not at all; and
-//! none was served but behind an option that leads to requests. A request is a whole one: its 28 bytes, and those of a
-//! write behind it, also where it is refused. How the session ended has its bytes too.
+//! It promises to the crate above, by the contract of [`serve`] (`IsSession` of `specs/Handshake`): the client's stream
+//! began with the bytes of its flags, of some options and of some requests. What was written is the greeting and then
+//! just their replies, in order. The array moved by just these requests, one after the other, each by its command or
+//! not at all. No request was served but behind an option that leads to requests. A request is a whole one: its 28
+//! bytes, and the bytes of a write behind it, also where it is refused. The stream also has the bytes that ended the
+//! session.
 //!
-//! By [`parse_request`], [`command_of`], [`parse_option`], [`write_reply`] and [`write_replies`], what the bytes of requests and
-//! options mean, and what the bytes of replies are; by [`one_spelling`], that a request has one spelling.
+//! [`parse_request`], [`command_of`], [`parse_option`], [`write_reply`] and [`write_replies`] promise what the bytes of
+//! requests and options mean, and what the bytes of replies are. [`one_spelling`] says that a request has one spelling.
 //!
-//! How an array may fail is a relation of its own (`fails` of [`Array`]). A failure is told only where a call of it failed,
-//! by the error of that fault; or as ENOMEM where memory was refused in front of it, and then nothing was done (`Fails` of
-//! `specs/Carrying`).
+//! How an array may fail is a relation of its own (`fails` of [`Array`]). A failure is told only where a call of the
+//! array failed, by the error of that fault; or as ENOMEM where memory was refused before the call, and then nothing
+//! was done (`Fails` of `specs/Carrying`).
 //!
-//! Where a reader or a writer doesn't tell its bytes, only what became of the array is promised. Not promised, and
-//! tested: that a flush and a write past caches reach the array as such.
+//! Where a reader or a writer doesn't tell its bytes, only what became of the array is promised. The crate doesn't
+//! promise that a flush and a write past caches reach the array as such; tests show that.
 #![tactic(auto)]
 
 mod arrays;
@@ -48,7 +49,7 @@ pub enum End {
     Left,
     /// What came is not the protocol, or asks for an export that isn't there.
     Malformed,
-    /// No more came, or reading failed.
+    /// No more bytes came, or reading failed.
     Input,
     /// Writing failed.
     Output,

@@ -38,9 +38,9 @@ pub enum Wish {
     Exports,
     /// NBD_OPT_INFO: what the export is.
     Info,
-    /// NBD_OPT_GO: that, and to go on to requests.
+    /// NBD_OPT_GO: what the export is, and to go on to requests.
     Go,
-    /// Something that isn't done.
+    /// An option that isn't done, for this reason.
     Refuse(OptionError),
     /// NBD_OPT_EXPORT_NAME of an export that isn't there, to which there is no reply.
     Close,
@@ -49,13 +49,13 @@ pub enum Wish {
 /// Why an option isn't done.
 #[derive(Debug, Clone, Copy, PartialEq, Eq)]
 pub enum OptionError {
-    /// It isn't known.
+    /// The option isn't known.
     Unsupported,
-    /// Its data are none of its own.
+    /// The data aren't such as the option has.
     Invalid,
     /// The export isn't there.
     Unknown,
-    /// It has more data than are looked at.
+    /// The option has more data than are looked at.
     TooBig,
 }
 
@@ -68,7 +68,7 @@ pub enum Next {
 }
 
 impl Wish {
-    /// Returns what comes after it.
+    /// Returns what comes after the option.
     pub fn next(self) -> Next
         ensures { result ≡ next_of self }
     {
@@ -82,7 +82,7 @@ impl Wish {
 }
 
 impl OptionError {
-    /// Its number in a reply.
+    /// The number of the error in a reply.
     pub fn number(self) -> u32
         ensures { result ≡ option_error_number self }
     {
@@ -133,7 +133,7 @@ fn parse_info(wish: Wish, bytes: &[u8]) -> Wish
     wish
 }
 
-/// The next option: its code, and what it asks for. The buffer takes its data.
+/// Takes the next option, and returns its code and what it asks for. The buffer takes its data.
 ///
 /// # Errors
 ///
@@ -153,7 +153,7 @@ pub(crate) fn next_option<R: Read>(input: &mut R, buffer: &mut [u8]) -> Result<(
     Ok((code, parse_option(code, data)))
 }
 
-/// The code of the next option, and how many bytes come behind it.
+/// Takes the header of the next option, and returns its code and how many bytes come behind it.
 ///
 /// # Errors
 ///

@@ -14,7 +14,7 @@ use std::io::Write;
 #[derive(Debug, Drop)]
 pub enum Answer {
     Done,
-    /// With the bytes that it read.
+    /// The request read these bytes.
     Data(Vec<u8>),
     Refused(ReplyError),
 }

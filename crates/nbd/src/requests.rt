@@ -22,28 +22,29 @@ pub struct Request {
     pub kind: u16,
     /// The client's name for the request, which the reply repeats.
     pub cookie: u64,
-    /// The first byte.
+    /// The first byte that it names.
     pub offset: u64,
-    /// Bytes.
+    /// How many bytes it names.
     pub count: u32,
 }
 
 /// What a request asks an array for, in its bounds.
 #[derive(Debug, Clone, Copy, PartialEq, Eq)]
 pub enum Command {
-    /// `count` bytes from byte `offset` on, [`LONGEST`] at most.
+    /// A read of `count` bytes from byte `offset` on, [`LONGEST`] at most.
     Read {
         offset: u64,
         count: u32,
     },
-    /// Likewise, with this many bytes behind the request; with `through`, past volatile caches.
+    /// A write of the `count` bytes behind the request, from byte `offset` on, [`LONGEST`] at most; with `through`,
+    /// past volatile caches.
     Write {
         offset: u64,
         count: u32,
         through: bool,
     },
     Flush,
-    /// Zeros for `count` bytes from byte `offset` on, however many.
+    /// A write of `count` zeros from byte `offset` on, however many; with `through`, past volatile caches.
     WriteZeroes {
         offset: u64,
         count: u32,
@@ -60,17 +61,17 @@ pub enum ReplyError {
     Eio,
     /// Memory was refused.
     Enomem,
-    /// The request is none that is served: unknown, with unknown flags, without bytes, too long, not in whole blocks,
-    /// or a read past the end.
+    /// The request is not served: it is unknown, has unknown flags or no bytes, is too long or not in whole blocks, or
+    /// reads past the end.
     Einval,
-    /// It writes past the end.
+    /// The request writes past the end.
     Enospc,
     /// The array isn't there any more.
     Eshutdown,
 }
 
 impl ReplyError {
-    /// Its number in a reply.
+    /// The number of the error in a reply.
     pub fn number(self) -> u32
         ensures { result ≡ error_number self }
     {

@@ -9,11 +9,11 @@ use Rattle.volume.specs.declared.Error.{Error}
 use Rattle.volume.specs.declared.Error.TheVariants.{Refused, Failed}
 use Rattle.volume.specs.Shown.{Content, VolumeView}
 
--- sectors of the longest request
+-- how many sectors the longest request has
 abbrev pub longest : ℕ
 longest = 65536
 
--- so many bytes from this one on are whole sectors of the partition, and no more than the longest request
+-- this many bytes from this one on are whole sectors of the partition, and no more than the longest request has
 pub record AreInBounds (c : Content) (offset count : ℕ) : Type 0 where
   pub begins : offset % c.sector_size ≡ 0
   pub ends : count % c.sector_size ≡ 0
@@ -27,32 +27,32 @@ IsRefusal v InBounds DeviceBusy = number_limit ≤ v.next_request
 IsRefusal v InBounds InsufficientResources = InBounds
 IsRefusal v InBounds _ = ⊥
 
--- the same disk, after at most one request more
+-- the disk is as it was, after at most one request more
 pub record IsSameDisk (old new : VolumeView) : Type 0 where
   pub content : new.content ≡ old.content
   pub partition : new.partition ≡ old.partition
   pub asked : new.next_request ≤ old.next_request + 1
 
--- a request that was refused was not sent; one that failed was
+-- a request that was refused was not sent; one that failed was sent
 abbrev pub WasSent : VolumeView → VolumeView → Error → Type 0
 WasSent old new (Refused reason) = new.next_command ≡ old.next_command
 WasSent old new (Failed status) = old.next_command < new.next_command
 
 -- READ AND FLUSH
 
--- those bytes of the partition
+-- a read gives just these bytes of the partition
 pub record Reads (c : Content) (offset count : ℕ) (bytes : List ℕ) : Type 0 where
   pub in_bounds : AreInBounds c offset count
   pub bytes_are : bytes ≡ slice_range c.bytes offset (offset + count)
 
--- a request that was refused, or sent and ended with another status than SUCCESS
+-- why a request did not succeed: it was refused, or it was sent and ended with another status than SUCCESS
 abbrev pub IsFault : VolumeView → Type 0 → Error → Type 0
 IsFault v InBounds (Refused reason) = IsRefusal v InBounds reason
 IsFault v InBounds (Failed status) = InBounds × (status ≢ Success)
 
 -- WRITE
 
--- the same disk with these bytes in the partition from this one on, after at most one request more
+-- the disk has these bytes in the partition from this one on and is else as it was, after at most one request more
 pub record Writes (old : VolumeView) (offset : ℕ) (bytes : List ℕ) (new : VolumeView) : Type 0 where
   pub content : new.content ≡ record old.content { bytes = splice old.content.bytes offset bytes }
   pub partition : new.partition ≡ old.partition
@@ -62,7 +62,7 @@ pub record Writes (old : VolumeView) (offset : ℕ) (bytes : List ℕ) (new : Vo
 abbrev pub sector_of : ℕ → ℕ → List ℕ → List ℕ
 sector_of size k bytes = slice_range bytes (k * size) ((k + 1) * size)
 
--- sector by sector those of one list or those of the other
+-- each sector has the bytes of one list or those of the other
 pub record AreMixed (size : ℕ) (xs ys mixed : List ℕ) : Type 0 where
   pub long : length mixed ≡ length ys
   pub each : (k : ℕ) → (sector_of size k mixed ≡ sector_of size k xs) ⊎ (sector_of size k mixed ≡ sector_of size k ys)

@@ -35,7 +35,7 @@ pub record ShowsDisk (disk : AdapterView) (p : ℕ) (shown : Content) : Type 0 w
   pub told : HasPartitions disk partitions
   pub content : shown ≡ parted_at disk.sector_size disk.sectors (extent_at partitions p)
 
--- a partition that a disk doesn't have
+-- the disk has no partition of this number
 abbrev pub IsRefusedOf : AdapterView → ℕ → Refusal → Type 0
 IsRefusedOf disk p InvalidParameter = (partitions : List Extent) × HasPartitions disk partitions × (length partitions ≤ p)
 IsRefusedOf disk p _ = ⊥

@@ -12,7 +12,8 @@ use Rattle.io_manager.specs.Calls.{partition_of}
 use Rattle.io_manager.specs.declared.Handle.{Handle}
 use Rattle.volume.specs.declared.Sizes.{Sizes}
 
--- rules of a stack over whose partitions a volume can be opened: its acts read and write the sectors that it shows, and it takes a request
+-- rules of a stack over whose partitions a volume can be opened: its acts read and write the sectors that it shows, and
+-- it takes a request
 pub record AreUsable (rules : Rules) : Type 0 where
   pub sector_size : (rules.sector_size ≡ 512) ⊎ (rules.sector_size ≡ 4096)
   pub few : rules.disk_sectors ≤ 2 ^ 40
@@ -29,7 +30,7 @@ pub record IsIdle (s : State) : Type 0 where
   pub not_paused : IsFalse s.paused
   pub not_removing : IsFalse s.removing
 
--- such a stack, all of whose labels and answers were taken, with whole sectors
+-- a usable stack is idle, has whole sectors, and all of its labels and answers were taken
 pub record IsReady (v : ManagerView) : Type 0 where
   pub usable : AreUsable v.rules
   pub idle : IsIdle v.state

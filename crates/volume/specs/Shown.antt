@@ -1,4 +1,4 @@
--- What a volume shows: the bytes of one partition, and those of the disk around it.
+-- What a volume shows: the bytes of one partition, and the bytes of the disk around it.
 use Rattle.std.specs.Prelude.{ℕ, ◌+◌, List, take, drop, get_or, slice_range}
 use Rattle.std.specs.List.{concat}
 use Rattle.sector.specs.declared.Extent.{Extent}
@@ -8,16 +8,16 @@ use Rattle.io_manager.specs.Shown.{ManagerView}
 pub record Content : Type 0 where
   -- bytes of a sector
   pub sector_size : ℕ
-  -- of the disk in front of the partition
+  -- the bytes of the disk in front of the partition
   pub before : List ℕ
-  -- of the partition
+  -- the bytes of the partition
   pub bytes : List ℕ
-  -- of the disk behind it
+  -- the bytes of the disk behind the partition
   pub behind : List ℕ
 
 pub record VolumeView : Type 0 where
   pub content : Content
-  -- counted from 0
+  -- the number of the partition, counted from 0
   pub partition : ℕ
   -- the number of the stack's next request; there are 2^62 - 1
   pub next_request : ℕ

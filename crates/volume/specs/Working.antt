@@ -29,7 +29,8 @@ use Rattle.volume.specs.Ready.{IsReady}
 
 -- LABELS
 
--- a label that comes with no call, no cancel, and no change of the device's state: its pieces', an answer, the end of a removal
+-- a label of the adapter, an answer, or the end of a removal; no call, no cancel, and no other change of the device's
+-- state
 abbrev pub IsQuiet : Label → Type 0
 IsQuiet (Device label) = Unit {0}
 IsQuiet (Answer number status informed bytes) = Unit {0}
@@ -54,14 +55,15 @@ pub record IsBetween (v : ManagerView) : Type 0 where
 abbrev pub tags_out : State → List ℕ
 tags_out s = map piece_tag s.pieces
 
--- places of open requests that wait to be sent, and pieces out: each return uses some of that up
+-- how many places of an open request wait to be sent
 abbrev pub unsent_places : OpenRequest → ℕ
 unsent_places o = count_by is_unsent o.marks
 
+-- a measure of the work that is left, of which each return uses some up: places that wait to be sent, and pieces out
 abbrev pub work : State → ℕ
 work s = 2 * sum_by unsent_places s.requests + length s.pieces
 
--- pieces that did nothing yet
+-- how many pieces did nothing yet
 abbrev pub fresh_count : State → ℕ
 fresh_count s = count_by is_fresh_piece s.pieces
 
@@ -117,7 +119,7 @@ pub record IsPlaceOf (rules : Rules) (q : ClientRequest) (p i : ℕ) : Type 0 wh
 abbrev pub disk_first : Rules → ClientRequest → ℕ
 disk_first rules q = (extent_at rules.partitions (partition_number q)).first + first_sector rules q
 
--- its sectors among those of the disk
+-- the sectors of a request among the disk's
 abbrev pub sectors_on : Rules → ClientRequest → List (List ℕ) → List (List ℕ)
 sectors_on rules q sectors = slice_range sectors (disk_first rules q) (disk_first rules q + place_count rules q)
 
@@ -138,14 +140,14 @@ pub record Ends (old : ManagerView) (q : ClientRequest) (answer : AnswerOf) (new
   -- a command was sent for it, unless it succeeded and has no place
   pub sent : (answer.status ≡ Success → 0 < place_count old.rules q) → old.state.next_piece < new.state.next_piece
 
--- why one was refused
+-- why a request was refused
 abbrev pub HasReason : ManagerView → ClientRequest → Refusal → Type 0
 HasReason old q InvalidParameter = IsTrue (is_transfer q.kind) × IsFalse (is_in_bounds old.rules q)
 HasReason old q DeviceBusy = number_limit ≤ old.state.next_request
 HasReason old q InsufficientResources = IsTrue (is_transfer q.kind) → IsTrue (is_in_bounds old.rules q)
 HasReason old q _ = ⊥
 
--- a request that was refused: nothing changed
+-- a request was refused, and nothing changed
 pub record Turns (old : ManagerView) (q : ClientRequest) (reason : Refusal) (new : ManagerView) : Type 0 where
   pub leaves : Leaves old new
   pub why : HasReason old q reason

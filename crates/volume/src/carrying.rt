@@ -17,7 +17,7 @@ use adapter::Adapter;
 use compose::{Answer, Event, Refusal, Reply, Stack};
 use std::alloc::Global;
 
-/// Carries one event out. Nobody reads its labels.
+/// Carries one event out, whose labels nobody reads.
 pub(crate) fn step<A: Adapter>(stack: &mut Stack<A>, alloc: Global, event: Event) -> Reply
     requires taken { stack.old.labels ≡ [] }
     ensures steps { StepsUntraced stack.old event result stack.new }
@@ -28,7 +28,7 @@ pub(crate) fn step<A: Adapter>(stack: &mut Stack<A>, alloc: Global, event: Event
     reply
 }
 
-/// Carries a request from its call to its answer.
+/// Carries a request from its call to its answer, and returns the answer.
 ///
 /// # Errors
 ///
@@ -69,7 +69,7 @@ fn await_answer<A: Adapter>(stack: &mut Stack<A>, alloc: Global) -> Answer
     }
 }
 
-/// Shows the caller the laws of a request that no other meets.
+/// Gives its caller the laws of a request that meets no other.
 fn laws_of_a_request()
     ensures reads { SoloReadsHold }
     ensures writes { SoloWritesHold }
@@ -84,7 +84,7 @@ fn laws_of_a_request()
     machine_laws::numbers_rise();
 }
 
-/// Lets a piece that is out act, and come back: that on the lowest tag.
+/// Lets the piece on the lowest tag act, and come back.
 fn finish_one<A: Adapter>(stack: &mut Stack<A>, alloc: Global)
     requires between { IsBetween stack.old }
     requires some_out { stack.old.state.pieces ≢ [] }
@@ -102,7 +102,7 @@ fn finish_one<A: Adapter>(stack: &mut Stack<A>, alloc: Global)
     unreachable!()
 }
 
-/// Lets the piece on a tag act, if there is one that could.
+/// Lets the piece on a tag act, if there is one that may.
 fn act<A: Adapter>(stack: &mut Stack<A>, alloc: Global, tag: u8)
     requires between { IsBetween stack.old }
     ensures quietly { Quietly stack.old stack.new }
@@ -114,7 +114,7 @@ fn act<A: Adapter>(stack: &mut Stack<A>, alloc: Global, tag: u8)
     'acting: while acts(stack, alloc, tag) {}
 }
 
-/// Whether a piece on the tag acted, or failed.
+/// Lets a piece on the tag act or fail, and says whether one did.
 fn acts<A: Adapter>(stack: &mut Stack<A>, alloc: Global, tag: u8) -> bool
     requires between { IsBetween stack.old }
     ensures quietly { Quietly stack.old stack.new }
@@ -127,7 +127,7 @@ fn acts<A: Adapter>(stack: &mut Stack<A>, alloc: Global, tag: u8) -> bool
     is_done(reply)
 }
 
-/// Whether a piece came back from the tag. A piece on it has acted, or failed.
+/// Lets a piece come back from the tag, and says whether one did. A piece on it has acted, or failed.
 fn finishes<A: Adapter>(stack: &mut Stack<A>, alloc: Global, tag: u8) -> bool
     requires between { IsBetween stack.old }
     requires none_fresh { HasNoneFresh stack.old tag }

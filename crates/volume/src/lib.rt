@@ -1,13 +1,14 @@
 //! One partition of a stack as an array of bytes. Each call carries its request from its call to its answer.
 //!
-//! A [`Volume`] owns a stack on which nothing else is open, and a handle on one partition of it. It promises to its user:
-//! a read that succeeds gives just the bytes of the partition ([`Volume::read`], clause `reads`); a write that succeeds
-//! has replaced just its bytes, and nothing else of the disk ([`Volume::write`], `writes`); a flush and a read change
-//! nothing (`same`). A failure names its status, and says what may have changed: nothing at all where it was refused, and
-//! after a write that failed sectors of its own extent, each as it was or as it was to be. Of a request that was refused no
-//! command was sent; of one that failed there was one, and of a flush that succeeded (`sent`).
+//! A [`Volume`] owns a stack on which nothing else is open, and a handle on one partition of it. It promises to its
+//! user: a read that succeeds gives just the bytes of the partition ([`Volume::read`], clause `reads`); a write that
+//! succeeds has replaced just its bytes, and nothing else of the disk ([`Volume::write`], `writes`); a flush and a read
+//! change nothing (`same`). A failure names its status, and says what may have changed. A request that was refused
+//! changed nothing. After a write that failed, each sector of its extent is as it was or as it was to be, and nothing
+//! else changed. No command was sent for a request that was refused; one at least was sent for a request that failed,
+//! and for a flush that succeeded (`sent`).
 //!
-//! It promises nothing of power loss, not that a call succeeds, and not that a write past caches goes as such. Its stack
+//! It promises nothing of power loss, nor that a call succeeds, nor that a write past caches goes as such. Its stack
 //! stands on an adapter whose acts read and write the sectors that it shows.
 #![tactic(auto)]
 
@@ -26,24 +27,24 @@ pub use volume::Volume;
 pub struct Sizes {
     /// Bytes of a sector, 512 or 4096.
     pub sector_size: u64,
-    /// From 1 to 2^40.
+    /// The number of sectors, from 1 to 2^40.
     pub sectors: u64,
 }
 
 /// Why a request did not succeed.
 #[derive(Debug, Clone, Copy, PartialEq, Eq, thiserror::Error)]
 pub enum Error {
-    /// It was not sent, and nothing changed. [`Refusal::InvalidParameter`] just where its bytes are no whole sectors of
-    /// the partition, or more than 65,536 sectors; [`Refusal::InsufficientResources`] where memory was refused;
-    /// [`Refusal::DeviceBusy`] once 2^62 - 1 requests were made.
+    /// The request was not sent, and nothing changed. [`Refusal::InvalidParameter`] just where its bytes are no whole
+    /// sectors of the partition, or more than 65,536 sectors; [`Refusal::InsufficientResources`] where memory was
+    /// refused; [`Refusal::DeviceBusy`] once 2^62 - 1 requests were made.
     #[error("the request was refused: {0:?}")]
     Refused(Refusal),
-    /// It was sent, and ended with this status.
+    /// The request was sent, and ended with this status.
     #[error("the request failed: {0}")]
     Failed(NtStatus),
 }
 
-/// Why no volume could be opened over an adapter; it is spent.
+/// Why no volume could be opened over an adapter, which is spent.
 #[derive(Debug, Clone, Copy, PartialEq, Eq, thiserror::Error)]
 pub enum OpenFault {
     /// No stack could be started.

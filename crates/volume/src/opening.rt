@@ -13,7 +13,7 @@ use compose::{Event, Handle, Refusal, Reply, Settings, Stack};
 use std::alloc::Global;
 
 impl<A: Adapter> Volume<A> {
-    /// A volume of a partition, counted from 0, over an adapter that has accepted nothing and whose acts read and write the
+    /// Opens a partition, counted from 0, over an adapter that has accepted nothing and whose acts read and write the
     /// sectors that it shows.
     ///
     /// # Errors
@@ -33,7 +33,7 @@ impl<A: Adapter> Volume<A> {
         ensures partition { IfOk result (λ volume. volume.partition ≡ partition) }
         ensures fault { IfErr result (λ fault. IsOpenFault (A.view adapter) settings partition fault) }
     {
-        // What is known of every adapter's sizes is known by asking one.
+        // An adapter's own promise about its sizes is known once one is asked.
         let _size = adapter.sector_size();
         let stack = match Stack::start(alloc, adapter, settings) {
             Ok(stack) => stack,
@@ -45,12 +45,12 @@ impl<A: Adapter> Volume<A> {
         }
     }
 
-    /// A volume of a partition, counted from 0, over a stack on which nothing is open. It takes no memory.
+    /// Opens a partition, counted from 0, of a stack on which nothing is open. It takes no memory.
     ///
     /// # Errors
     ///
-    /// The stack is spent. [`Refusal::InvalidParameter`] just where there is no such partition; [`Refusal::DeviceBusy`] just
-    /// with 64 handles open, or once handle numbers are used up.
+    /// The stack is spent. [`Refusal::InvalidParameter`] just where there is no such partition; [`Refusal::DeviceBusy`]
+    /// just with 64 handles open, or once handle numbers are used up.
     pub fn open(alloc: Global, stack: Stack<A>, partition: u8) -> Result<Volume<A>, Refusal>
         requires ready { IsReady stack }
         ensures content { IfOk result (λ volume. volume.content ≡ content_of stack partition) }
@@ -75,7 +75,7 @@ impl<A: Adapter> Volume<A> {
     }
 }
 
-/// A handle on a partition.
+/// Opens a handle on a partition.
 ///
 /// # Errors
 ///

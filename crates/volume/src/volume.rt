@@ -22,7 +22,7 @@ pub struct Volume<A: Adapter> {
     pub(crate) sizes: Sizes,
 }
 
-// By hand, so that no crate above proves it again, as it would a derived one.
+// Written by hand: each crate above would prove a derived one again.
 impl<A: Adapter> Drop for Volume<A> {
     fn drop(self) {
         let Volume {
@@ -46,7 +46,7 @@ impl<A: Adapter> Model for Volume<A> {
 }
 
 impl<A: Adapter> Volume<A> {
-    /// The bytes of a sector, and the sectors of the partition.
+    /// Returns the bytes of a sector, and the number of sectors of the partition.
     pub fn sizes(&self) -> Sizes
         ensures sector_size { result.sector_size ≡ self.now.content.sector_size }
         ensures sectors { result.sectors * result.sector_size ≡ length self.now.content.bytes }
@@ -86,8 +86,8 @@ impl<A: Adapter> Volume<A> {
     ///
     /// # Errors
     ///
-    /// As [`Error`] says. Where it was refused nothing has changed; where it failed, each sector of the write is as it
-    /// was or was written, and nothing else has changed.
+    /// As [`Error`] says. A write that was refused has changed nothing. After one that failed, each sector of the write
+    /// is as it was or was written, and nothing else has changed.
     pub fn write(
         &mut self,
         alloc: Global,

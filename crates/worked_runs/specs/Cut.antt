@@ -9,10 +9,11 @@ use Rattle.machine.specs.Step.{Run}
 use Rattle.worked_runs.specs.Small.{small, zeros, full_of, idle, write, write_block, opened, piece_of}
 use Rattle.worked_runs.specs.Impossible.{worn_out}
 
--- pieces of two sectors at most, and the same where any cut will do
+-- pieces have two sectors at most
 abbrev pub wide : Rules
 wide = record small { max_transfer = 2 }
 
+-- pieces have two sectors at most, and any cut will do
 abbrev pub anywhere : Rules
 anywhere = record wide { any_cut = true }
 
@@ -26,7 +27,7 @@ three_wait = record (idle zeros 2 1) { requests = opened 1 (write 0 6 three) (Un
 abbrev pub ReachesThreeWait : Type 0
 ReachesThreeWait = Run wide (opening zeros) (Call 1 (write 0 6 three) ∷ []) three_wait
 
--- its last two are at the adapter, as one piece
+-- its last two sectors are at the adapter, as one piece
 abbrev pub two_out : State
 two_out = record (idle zeros 2 2) {
   requests = opened 1 (write 0 6 three) (Untouched ∷ Out ∷ Out ∷ []) ∷ [];

@@ -16,7 +16,7 @@ cancelled_in_three =
     ∷ Device (Act 1 (full_of 165)) ∷ Device (Return 1 Good)
     ∷ []
 
--- in the end it has written two sectors
+-- in the end the write has written two sectors
 abbrev pub IsCutShort : Type 0
 IsCutShort = Run small (opening zeros) (cancelled_in_three ++ Device (Act 2 (full_of 165)) ∷ Device (Return 2 Good) ∷ Answer 1 Cancelled 0 [] ∷ []) (idle (sectors 165 165 0) 2 3)
 

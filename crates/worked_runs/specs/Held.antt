@@ -15,7 +15,8 @@ HoldsThenResumes = Run small (opening (sectors 17 34 51)) (
     ∷ Resume ∷ Device (Start 2 0 (read_block 3 1)) ∷ Device (Act 2 (full_of 34)) ∷ Device (Return 2 Good) ∷ Answer 2 Success 2 (full_of 34)
     ∷ []) (idle (sectors 17 34 51) 3 3)
 
--- a removal meets a write with one piece unsent, and a read that was held: the read never began, the write lost its device
+-- a removal meets a write with one piece unsent, and a read that was held: the read never began, the write lost its
+-- device
 abbrev pub RemovesAll : Type 0
 RemovesAll = Run small (opening zeros) (
     Call 1 (write 0 6 (full_of 165 ++ full_of 165 ++ full_of 165)) ∷ Device (Start 1 0 (write_block 2 1)) ∷ Device (Start 2 1 (write_block 3 1))

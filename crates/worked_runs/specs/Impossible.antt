@@ -23,7 +23,7 @@ Never rules s label = (s' : State) → Step rules s label s' → ⊥
 abbrev pub NeverAnswers : Rules → State → ℕ → Type 0
 NeverAnswers rules s request = (status : NtStatus) (informed : ℕ) (bytes : List ℕ) → Never rules s (Answer request status informed bytes)
 
--- it has none of this status
+-- the request has no answer of this status
 abbrev pub NeverAnswersAs : Rules → State → ℕ → NtStatus → Type 0
 NeverAnswersAs rules s request status = (informed : ℕ) (bytes : List ℕ) → Never rules s (Answer request status informed bytes)
 
@@ -56,7 +56,7 @@ ReachesOneFailed = Run small (opening zeros) (
     Call 1 (read 0 6) ∷ Device (Start 1 0 (read_block 2 1)) ∷ Device (Start 2 1 (read_block 3 1)) ∷ Device (Fault 1) ∷ Device (Return 1 (Bad (error_of_key 3)))
     ∷ []) one_failed
 
--- the second came back good, and the third still waits
+-- the second piece came back good, and the third still waits
 abbrev pub one_waits : State
 one_waits = record (idle zeros 2 3) { requests = opened 1 (read 0 6) (Failed DeviceDataError ∷ Done (full_of 0) ∷ Untouched ∷ []) ∷ [] }
 
@@ -122,7 +122,7 @@ ReachesFirstBad = Run small (opening zeros) (
     Call 1 (write 0 4 (full_of 165 ++ full_of 165)) ∷ Device (Start 1 0 (write_block 2 1)) ∷ Device (Fault 1) ∷ Device (Return 1 (Bad (error_of_key 3)))
     ∷ []) first_bad
 
--- the second is still sent, and the answer is the failure of the first
+-- the second piece is still sent, and the answer is the failure of the first
 abbrev pub SendsTheOther : Type 0
 SendsTheOther = Run small first_bad (
     Device (Start 2 0 (write_block 3 1)) ∷ Device (Act 2 (full_of 165)) ∷ Device (Return 2 Good) ∷ Answer 1 DeviceDataError 0 []
@@ -151,11 +151,11 @@ behind held = record (idle zeros 3 2) {
 abbrev pub two_reads : List Label
 two_reads = Call 1 (read 0 2) ∷ Device (Start 1 0 (read_block 2 1)) ∷ Call 2 (read 2 2) ∷ []
 
--- that state with the first request answered
+-- the state in which the first request has been answered
 abbrev pub alone : Bool → State
 alone held = record (idle zeros 3 2) { requests = record (opened 2 (read 2 2) (Untouched ∷ [])) { late = held } ∷ []; paused = held }
 
--- the first is carried out and answered
+-- the first read is carried out and answered
 abbrev pub first_answered : List Label
 first_answered = Device (Act 1 (full_of 0)) ∷ Device (Return 1 Good) ∷ Answer 1 Success 2 (full_of 0) ∷ []
 
@@ -166,7 +166,7 @@ held_behind = behind true
 abbrev pub ReachesHeldBehind : Type 0
 ReachesHeldBehind = Run one_below (opening zeros) (two_reads ++ Pause ∷ []) held_behind
 
--- the first has been answered, and the pause goes on
+-- the first read has been answered, and the pause goes on
 abbrev pub held_alone : State
 held_alone = alone true
 

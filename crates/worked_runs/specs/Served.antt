@@ -20,7 +20,8 @@ WritesThenReads = Run small (opening zeros) (
 abbrev pub pairs : Rules
 pairs = record small { max_transfer = 2 }
 
--- a piece of two sectors and a short last one come back in the other order, and the bytes stand in the order of their places
+-- a piece of two sectors and a short last one come back in the other order, and the bytes stand in the order of their
+-- places
 abbrev pub JoinsInOrder : Type 0
 JoinsInOrder = Run pairs (opening (sectors 17 34 51)) (
     Call 1 (read 0 6) ∷ Device (Start 1 0 (read_block 2 2)) ∷ Device (Start 2 1 (read_block 4 1))

@@ -23,7 +23,7 @@ pub fn cancel_answers_at_adapter()
     ensures never { NeverAnswers small cancelled_out 1 }
 {}
 
-/// SUCCESS for a write that was never sent: before a cancel it has no answer at all, and after one not this.
+/// A write that was never sent is answered SUCCESS. Before a cancel it has no answer at all, and after one not this.
 pub fn success_never_sent()
     ensures reached { ReachesUnsent }
     ensures unanswered { NeverAnswers small unsent 1 }
@@ -31,7 +31,7 @@ pub fn success_never_sent()
     ensures never { NeverAnswersAs small unsent_cancelled 1 Success }
 {}
 
-/// The status of the piece that failed first and not of the lowest.
+/// An answer has the status of the piece that failed first, and not of the lowest.
 pub fn status_of_first_failure()
     ensures reached { ReachesBothFailed }
     ensures never { NeverAnswersAs small both_failed 1 DeviceNotReady }
@@ -88,7 +88,7 @@ pub fn held_completed_twice()
     ensures not_again { NeverAnswers small (idle zeros 2 1) 1 }
 {}
 
-/// A request that waited is left behind with nothing at the adapter: no step ends so.
+/// A request that waited is left behind with nothing at the adapter. No step of the stack ends like this.
 pub fn held_request_lost()
     ensures reached { ReachesWaitsBehind }
     ensures settled { Settled one_below waits_behind }
@@ -96,7 +96,7 @@ pub fn held_request_lost()
     ensures unsettled { Settled one_below left_behind → ⊥ }
 {}
 
-/// SUCCESS for a read of which the short last piece was not sent.
+/// A read is answered SUCCESS whose short last piece was not sent.
 pub fn short_last_piece_dropped()
     ensures reached { ReachesLastUnsent }
     ensures never { NeverAnswersAs pairs last_unsent 1 Success }

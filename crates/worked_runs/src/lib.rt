@@ -5,8 +5,8 @@
 //! `impossible` has what wrong bodies would do. A run there leads to a state, and from that state no step of the wrong
 //! kind leads anywhere.
 //!
-//! The runs are examples: they say nothing of other sizes or orders, which is what the laws of `machine_laws` are for. No crate
-//! stands on this one.
+//! The runs are examples: they say nothing of other sizes or orders, which is what the laws of `machine_laws` are for.
+//! No crate stands on this one.
 #![tactic(auto)]
 
 pub mod impossible;
@@ -44,8 +44,8 @@ pub fn send_again()
     ensures { SendsAgain }
 {}
 
-/// Pieces begin at multiples of the longest alone. Where any cut will do they begin at any place that waits, and what came
-/// back busy starts again without end.
+/// Pieces begin at multiples of the longest alone. Where any cut will do they begin at any place that waits, and what
+/// came back busy starts again without end.
 #[tactic(auto, using(crate::proofs::Cutting::reaches_three_wait, crate::proofs::Cutting::starts_anywhere, crate::proofs::Cutting::starts_again))]
 pub fn cut_anywhere()
     ensures reached { ReachesThreeWait }
@@ -103,8 +103,8 @@ pub fn remove_by_surprise()
     ensures { SurprisesAll }
 {}
 
-/// A command has the form of sixteen bytes where ten have no room for its address, and a flush where they have none for the
-/// number of sectors.
+/// A command has the form of sixteen bytes where ten have no room for its address, and a flush where they have none for
+/// the number of sectors.
 #[tactic(auto, using(crate::proofs::Long::starts_in_each_form, crate::proofs::Long::flushes_far))]
 pub fn start_in_each_form()
     ensures transfer { StartsInEachForm }

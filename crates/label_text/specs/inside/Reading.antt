@@ -1,4 +1,4 @@
--- What is read of words, one after the other. That this is what labels are written as is proved of it.
+-- What is read of words, one after the other. It is proved that a label is written as what is read as this label.
 use denote.Ref.{Bor}
 use Rattle.std.specs.Prelude.{◌≡◌, ℕ, ◌+◌, ◌-◌, ◌*◌, ◌^◌, ◌==◌, ◌&&◌, not, nat_lt, nat_le, Bool, false, List, [], ◌∷◌, ◌++◌, Option, Some, None, codes, drop, length, replicate, slice_get, is_none, if◌then◌else◌}
 use Rattle.std.specs.Fmt.{decimal}
@@ -37,7 +37,7 @@ parts_left separator (Some text) = parted separator text
 abbrev pub SplitsFirst : ℕ → List ℕ → Bor (List ℕ) × Option (Bor (List ℕ)) → Type 0
 SplitsFirst separator text x = parted separator text ≡ x.0.now ∷ parts_left separator (option_copied x.1)
 
--- the same of what is left of one
+-- the first part of what is left of a text, and what is left behind it
 abbrev pub TakesFirst : ℕ → Option (Bor (List ℕ)) → Option (Bor (List ℕ) × Option (Bor (List ℕ))) → Type 0
 TakesFirst separator rest None = parts_left separator (option_copied rest) ≡ []
 TakesFirst separator rest (Some x) = parts_left separator (option_copied rest) ≡ x.0.now ∷ parts_left separator (option_copied x.1)
@@ -53,7 +53,7 @@ number_in bits word =
 abbrev pub digit_in : ℕ → Option ℕ
 digit_in c = if nat_le 48 c && nat_le c 57 then Some (c - 48) else (if nat_le 97 c && nat_le c 102 then Some (c - 97 + 10) else None)
 
--- the byte of two of them
+-- the byte of two hexadecimal digits
 abbrev pub byte_of : ℕ → ℕ → Option ℕ
 byte_of high low = option_and_then (λ h. option_map (λ l. h * 16 + l) (digit_in low)) (digit_in high)
 
@@ -78,11 +78,11 @@ number_at bits words = option_and_then (number_in bits) (word_at words)
 abbrev pub byte_at : Words → Option ℕ
 byte_at words = option_and_then byte_in (word_at words)
 
--- it is this one
+-- the next word is this one
 abbrev pub is_next : List ℕ → Words → Bool
 is_next word words = elim (word_at words) [ Some first ↦ bytes_eq first word | None ↦ false ]
 
--- what follows it, where it is this one
+-- the words behind this one, where it is the next
 abbrev pub behind : List ℕ → Words → Words
 behind word words = if is_next word words then drop 1 words else words
 
@@ -96,7 +96,7 @@ at_end words found = if is_end words then found else None
 
 -- THE RUNS OF BYTES
 
--- a run as the definitions have it
+-- a run in the words of the definitions
 abbrev pub run_told : TakenRun → Run
 run_told run = record { byte = run.byte; count = run.count }
 
@@ -142,7 +142,7 @@ kind_in word = if bytes_eq word (codes "read") then Some Read
 abbrev pub two_at : Words → Option (ℕ × ℕ)
 two_at words = option_and_then (λ offset. option_map (λ bytes. (offset, bytes)) (number_at 64 (drop 1 words))) (number_at 64 words)
 
--- those of a flush that has some: one of them isn't 0
+-- a flush tells where it begins and how long it is: one of them isn't 0
 abbrev pub is_some_extent : ℕ × ℕ → Bool
 is_some_extent extent = not ((extent.0 == 0) && (extent.1 == 0))
 
@@ -183,14 +183,14 @@ placed_at kind words = option_and_then
 abbrev pub behind_placed : Kind → Words → Words
 behind_placed kind words = drop 1 (drop 1 (behind (codes "through") (behind_extent kind words)))
 
--- a request without its bytes
+-- the head of a request: all of it but its bytes
 abbrev pub head_at : Words → Option Head
 head_at words = option_and_then (λ kind. placed_at kind (drop 1 words)) (option_and_then kind_in (word_at words))
 
 abbrev pub behind_head : Words → Words
 behind_head words = elim (option_and_then kind_in (word_at words)) [ Some kind ↦ behind_placed kind (drop 1 words) | None ↦ [] ]
 
--- one with its bytes
+-- a request, by its head and its bytes
 abbrev pub with_bytes : Head → List ℕ → ClientRequest
 with_bytes h bytes = record { partition = h.partition; kind = h.kind; offset = h.offset; length = h.length; through = h.through; bytes = bytes }
 

@@ -1,4 +1,4 @@
--- The same over a backing whose states are related.
+-- What one request of a session takes and leaves, over a backing whose states are related.
 use Rattle.std.specs.Prelude.{◌≡◌, ℕ, List, ◌++◌, length, Option}
 use Rattle.std.specs.Io.KnownBytes.{Appends, Consumes}
 use Rattle.nbd.specs.declared.End.{End}
