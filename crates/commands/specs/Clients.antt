@@ -1,4 +1,4 @@
--- What is printed of clients, and whether they all succeeded; and why nothing is.
+-- What is printed of clients, whether they all succeeded, and why nothing is printed.
 use Rattle.std.specs.Prelude.{◌≡◌, ◌≤◌, ◌⊎◌, ℕ, ◌*◌, ◌==◌, ◌&&◌, ◌++◌, ◌∷◌, [], IsSomeAnd, List, Option, codes, if◌then◌else◌, slice_get}
 use Rattle.std.specs.Fmt.{decimal}
 use Rattle.std.specs.Io.KnownBytes.{Appends}
@@ -23,14 +23,14 @@ tally_line threads rounds t =
 abbrev pub verdict_on : ℕ → ℕ → Tally → Verdict
 verdict_on threads rounds t = if (t.differing == 0) && (t.answered == 2 * threads * rounds) then Passed else Failed
 
--- the line of some tally was printed, which this is the verdict on: no more calls succeeded than two a round of each client
+-- the line of a tally was printed, and this is the verdict on it: at most two calls a round of each client succeeded
 pub record PrintsTally (threads rounds : ℕ) (old new : Option (List ℕ)) (verdict : Verdict) : Type 0 where
   pub tally : Tally
   pub most : tally.answered ≤ 2 * (threads * rounds)
   pub appends : Appends old new (tally_line threads rounds tally)
   pub verdict_is : verdict ≡ verdict_on threads rounds tally
 
--- each of so many clients has a sector of partition 0, and may have a request open
+-- each client, of this many, has a sector of partition 0, and may have a request open
 pub record HasRoom (c : Config) (threads : ℕ) : Type 0 where
   pub sectors : IsSomeAnd (slice_get c.partitions.items 0) (λ p. threads ≤ p.count)
   pub requests : threads ≤ c.open_requests
@@ -39,7 +39,8 @@ pub record HasRoom (c : Config) (threads : ℕ) : Type 0 where
 abbrev pub IsOutputFault : Error → Type 0
 IsOutputFault fault = (fault ≡ Script OutputFailed) ⊎ (fault ≡ NoMemory)
 
--- why nothing is printed of so many clients. Settings are looked at first, then a stack is started, and then there has to be room
+-- why nothing is printed of this many clients. Settings are looked at first, then a stack is started, and then there
+-- has to be room for the clients
 abbrev pub IsClientsFault : Option (List ℕ) → ℕ → Error → Type 0
 IsClientsFault config threads Usage = ⊥
 IsClientsFault config threads (Startup (Start fault)) = (settings : Config) × AreRead config settings × IsApartFault settings fault

@@ -25,7 +25,7 @@ pub is_simple_program : is_simple program ≡ true
 unfolding clap_on_literals
 is_simple_program = refl
 
--- a word spells a number in decimal, which is from 1 to so many
+-- a word spells a number in decimal, from 1 to the most that is allowed
 pub record IsCount (most : ℕ) (word : Text) (n : ℕ) : Type 0 where
   pub digits : IsNumeral 10 word
   pub value : n ≡ digits_value 10 word
@@ -40,7 +40,7 @@ HasWords rows (Clients config threads rounds) =
     × IsSomeAnd (first_of (codes "THREADS") rows) (λ word. IsCount 32 word threads)
     × IsSomeAnd (first_of (codes "CALLS") rows) (λ word. IsCount 10000 word rounds)
 
--- the word that a command begins with
+-- the first word of a command
 abbrev pub name_of : Command → Text
 name_of (Trace config script) = codes "trace"
 name_of (Clients config threads rounds) = codes "clients"

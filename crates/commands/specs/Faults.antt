@@ -13,7 +13,7 @@ line_of ScriptUnreadable = codes "stackrun: cannot read SCRIPT"
 line_of (Script fault) = codes "stackrun: " ++ script_text fault
 line_of NoMemory = codes "stackrun: no memory"
 
--- nothing was run, since the words of the command line ask for nothing that there is
+-- nothing was run, since the words of the command line ask for no command
 abbrev pub is_usage : Error → Bool
 is_usage Usage = true
 is_usage _ = false

@@ -22,14 +22,15 @@ use std::sync::Wait;
 use std::thread::Threads;
 use traced::StackSizes;
 
-/// Sectors of the longest request of a stack.
+/// How many sectors the longest request of a stack has.
 const LONGEST: u32 = 65_536;
 
-/// Busy returns that end a request of a stack.
+/// How many busy returns end a request of a stack.
 const BUSY_LIMIT: u32 = 17;
 
-/// Runs so many clients on partition 0 of a stack over a disk in memory, each for so many rounds, and writes what came of
-/// them: how many calls succeeded, and how many reads gave other bytes than were written.
+/// Runs clients on partition 0 of a stack over a disk in memory, as many as are asked for, each for the rounds that are
+/// asked for. Writes what came of them: how many calls succeeded, and how many reads gave other bytes than were
+/// written.
 ///
 /// # Errors
 ///
@@ -74,14 +75,14 @@ pub fn clients<C: Read + Drop, O: Write, R: Threads + Wait + Sync>(
     }
 }
 
-/// The fault of settings that have no room for the clients.
+/// Returns the fault of settings that have no room for the clients.
 fn out_of_range() -> Error
     ensures { result ≡ Startup (Settings OutOfRange) }
 {
     Error::Startup(startup::Error::Settings(ConfigFault::OutOfRange))
 }
 
-/// The fault of a line that could not be written.
+/// Returns the fault of a line that could not be written.
 fn output_fault(error: &io::Error) -> Error
     ensures { IsOutputFault result }
 {

@@ -14,13 +14,13 @@ use std::fmt;
 /// Why the program ends early. Its text is the line that is said, without its end.
 #[derive(Debug, Clone, Copy, PartialEq, Eq)]
 pub enum Error {
-    /// The words of the command line ask for nothing that there is, or for help.
+    /// The words of the command line ask for no command, or for help.
     Usage,
     /// There is no stack of the settings.
     Startup(startup::Error),
-    /// The script can't be opened, or not be read to its end.
+    /// The script can't be opened, or can't be read to its end.
     ScriptUnreadable,
-    /// The script has a bad line, or not all could be printed.
+    /// The script has a bad line, or its text could not be printed whole.
     Script(ScriptFault),
     /// Memory was refused, or a thread could not be started.
     NoMemory,

@@ -10,7 +10,7 @@ use sector::Bytes;
 use std::alloc::{AllocError, Global};
 use std::sync::Wait;
 
-/// A client after its rounds, and what came of them. Where memory was refused the rounds ended early.
+/// A client after its rounds, with their tally. Where memory was refused the rounds ended early.
 #[derive(Drop)]
 pub(crate) struct Served<N: Naming> {
     pub client: Client<N>,
@@ -25,7 +25,7 @@ fn sector_of(alloc: Global, size: u32, byte: u8) -> Result<Bytes, AllocError> {
     Ok(Bytes::new(bytes))
 }
 
-/// Issues a call and waits for its answer, which is given where it is a success.
+/// Issues a call, waits for its answer, and returns the answer where it is a success.
 fn answer_to<M: Medium, N: Naming, R: Wait>(
     rt: &R,
     host: &Host<M, N>,
@@ -85,7 +85,7 @@ fn round<M: Medium, N: Naming, R: Wait>(
     Ok(())
 }
 
-/// All rounds of a client.
+/// Does all rounds of a client.
 pub(crate) fn serve_client<M: Medium, N: Naming, R: Wait>(
     rt: &R,
     alloc: Global,

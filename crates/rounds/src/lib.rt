@@ -1,11 +1,11 @@
-//! Clients of one stack, each in a thread of its own, which write, read and compare for so many rounds, over lanes and a
-//! completion worker. Who has clients of his own starts the lanes by [`start_lanes`], and ends them by [`remove`].
+//! Clients of one stack, each in a thread of its own, which write, read and compare in rounds, over lanes and a
+//! completion worker. A program with clients of its own starts the lanes by [`start_lanes`], and ends them by
+//! [`remove`].
 //!
-//! It promises to the crate above, by the contract of [`run`], that no more calls have succeeded than were made (`most`),
-//! that the entries of the journal give the sectors (`replays`), and that a partition is missed only where the stack has
-//! none (`fault`).
-//! That what a client reads is what it wrote is compared at run time: a [`Tally`] counts what differed. It promises nothing
-//! of progress.
+//! It promises to the crate above, by the contract of [`run`], that no more calls have succeeded than were made
+//! (`most`), that the entries of the journal give the sectors (`replays`), and that a partition is missed only where
+//! the stack has none (`fault`). Each client compares at run time what it reads with what it wrote, and a [`Tally`]
+//! counts what differed. The crate promises nothing of progress.
 #![tactic(auto)]
 
 mod client;
@@ -36,28 +36,28 @@ use traced::StackSizes;
 /// What the clients do.
 #[derive(Debug, Clone, Copy, PartialEq, Eq, Drop)]
 pub struct Plan {
-    /// So many clients, 1 to 32.
+    /// How many clients there are, 1 to 32.
     pub clients: u16,
-    /// So many rounds of each, of two calls.
+    /// How many rounds each client does, of two calls.
     pub rounds: u16,
-    /// Bytes of a sector.
+    /// The bytes of a sector.
     pub sector_size: u32,
-    /// So many lanes: the tags of the adapter, 1 to 32.
+    /// How many lanes there are, one for each tag of the adapter, 1 to 32.
     pub depth: u8,
-    /// Whether the disk takes no write.
+    /// Whether the disk fails each write as WRITE PROTECTED.
     pub write_protected: bool,
 }
 
 /// What came of the rounds.
 #[derive(Debug, Clone, Copy, PartialEq, Eq, Drop)]
 pub struct Tally {
-    /// Calls that were answered with success.
+    /// How many calls were answered with success.
     pub answered: u64,
-    /// Reads that succeeded with other bytes than their client had written.
+    /// How many reads succeeded with other bytes than their client had written.
     pub differing: u64,
 }
 
-/// What is left of the rounds: beside their tally what acts did to the sectors, in order, and the medium.
+/// What is left of the rounds: their tally, what acts did to the sectors, in order, and the medium.
 #[derive(Drop)]
 pub struct Done<M: Medium> {
     pub tally: Tally,
@@ -76,9 +76,9 @@ pub enum RoundsFault {
     NoMemory,
 }
 
-/// Runs clients on partition 0 of a stack as it was started, of these sizes and so many open requests, beside a journal of
-/// a medium's sectors, and removes the device. Client c, from 0, writes in round j, from 0, its sector c full of the byte
-/// (c + j) mod 256, waits, reads it, waits and compares.
+/// Runs clients on partition 0 of a stack as it was started, beside a journal of a medium's sectors, and removes the
+/// device. `sizes` are the stack's, and `slots` is how many requests may be open. Client c writes in round j its sector
+/// c full of the byte (c + j) mod 256, waits, reads the sector, waits and compares. Clients and rounds count from 0.
 ///
 /// # Errors
 ///
@@ -116,7 +116,7 @@ pub fn run<M: Medium + Send, R: Threads + Wait + Sync>(
         },
         Err(HostFault::NoMemory) => Err(RoundsFault::NoMemory),
         Err(HostFault::NoPartition) => Err(RoundsFault::NoPartition),
-        // They are 32 at most.
+        // There are 32 clients at most.
         Err(HostFault::TooManyClients) => unreachable!(),
     }
 }

@@ -28,7 +28,7 @@ impl Turnstile for Open {
     fn pass<R: Wait>(&self, _: &R, _: u8) {}
 }
 
-/// What a client's thread gives: the client of that number, and no more successes than it made calls.
+/// What a client's thread gives: the client of this number, with no more successes than it made calls.
 #[derive(Debug, Clone, Copy, Drop)]
 struct OfClient {
     number: usize,
@@ -39,7 +39,7 @@ impl<N: Naming> Promise<Served<N>> for OfClient {
     ghost kept_by = { λ p served. (served.client.client ≡ p.number) × (served.tally.answered ≤ 2 * p.rounds) };
 }
 
-/// The pass of the highest tag that is left.
+/// Takes the pass of the highest tag that is left.
 fn last_lane(passes: &mut Vec<Pass>, completions: &Completions, tag: u8) -> Option<Pass>
     requires { passes.old.items ≡ lanes_of completions.now.id (suc tag) }
     ensures lane { IfSome result (λ pass. pass ≡ standing completions.now.id (fresh_lane tag)) }
@@ -48,8 +48,9 @@ fn last_lane(passes: &mut Vec<Pass>, completions: &Completions, tag: u8) -> Opti
     passes.pop()
 }
 
-/// Starts a lane for each tag, which passes the turnstile with each piece, and the completion worker. Each goes on until it
-/// sees that the device is removed. Where it answers false a thread could not be started: not all of them are there.
+/// Starts a lane for each tag, which passes the turnstile with each piece, and the completion worker. Each goes on
+/// until it sees that the device is removed. Returns false where a thread could not be started: then not all of them
+/// are there.
 pub fn start_lanes<
     's,
     E,
@@ -155,7 +156,7 @@ fn join_clients<N: Naming, R: Threads>(
     Ok((tally, clients))
 }
 
-/// Removes the device, by surprise where the query is refused. Whether it was removed in order.
+/// Removes the device, by surprise where the query is refused. Returns whether the query was granted.
 pub fn remove<M: Medium, N: Naming, R: Wait>(
     rt: &R,
     host: &Host<M, N>,
@@ -248,7 +249,7 @@ fn run_threads<M: Medium + Send, N: Naming + Send + Sync, R: Threads + Wait + Sy
     )
 }
 
-/// A host of a stack: its clients' rounds, and its removal.
+/// Serves a stack: its clients do their rounds, and then its device is removed.
 pub(crate) fn serve<M: Medium + Send, N: Naming + Send + Sync, R: Threads + Wait + Sync>(
     rt: &R,
     alloc: Global,

@@ -15,12 +15,12 @@ IsAll byte bytes = bytes ≡ replicate (length bytes) byte
 abbrev pub IsFull : Full → Type 0
 IsFull full = IsAll full.byte full.bytes.items
 
--- and those of all that are spared
+-- all bytes of each buffer that is kept are its byte
 pub record AreFilled (spare : Spare) : Type 0 where
   pub small : All IsFull spare.small.items
   pub large : IsFull spare.large
 
--- the bytes that a refused read or write gives back are all the one that it was filled with
+-- each byte that a refused read or write gives back is the byte that it was filled with
 abbrev pub GivesBack : Order → Reply → Type 0
 GivesBack (Read handle offset length) (Refused reason bytes) = IsAll 0 bytes
 GivesBack (Write handle offset length byte through) (Refused reason bytes) = IsAll byte bytes

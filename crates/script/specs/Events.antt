@@ -33,16 +33,16 @@ given_as requests number = elim (slice_get requests number) [ Some place ↦ pla
 abbrev pub RequestsAreNamed : Requests → Type 0
 RequestsAreNamed requests = (number : ℕ) (id : Id) → given_as requests number ≡ Some id → id.number ≡ number
 
--- both
+-- each handle and each request stands under its own number
 pub record AreNamed (given : Given) : Type 0 where
   pub handles : HandlesAreNamed given.handles
   pub requests : RequestsAreNamed given.requests.items
 
--- the handle of a number; of one that was not given out a handle that isn't open
+-- the handle of a number; where the number was not given out, a handle that isn't open
 abbrev pub handle_of : Handles → ℕ → Handle
 handle_of handles number = elim (get nat_cmp handles number) [ Some handle ↦ handle | None ↦ record { slot = 0; number = number } ]
 
--- the request of a number; of one that was not given out a request that isn't open
+-- the request of a number; where the number was not given out, a request that isn't open
 abbrev pub id_of : Requests → ℕ → Id
 id_of requests number = elim (given_as requests number) [ Some id ↦ id | None ↦ record { slot = 0; number = number } ]
 
@@ -73,11 +73,11 @@ TakesMemory (HandleReply handle) given = get nat_cmp given.handles handle.number
 TakesMemory (Requested id) given = vec_capacity given.requests ≤ id.number
 TakesMemory _ given = ⊥
 
--- the adapter has such a tag: they count from 0, and there are at most 32
+-- an adapter may have this tag: tags count from 0, and there are at most 32
 abbrev pub IsTag : ℕ → Type 0
 IsTag tag = tag < 32
 
--- the event that an order asks for; partitions past 255 are all as little there as the last
+-- the event that an order asks for; a partition past 255 is asked for as partition 255, which is as little there
 abbrev pub IsEventOf : Given → Order → Event → Type 0
 IsEventOf given (Open partition) event = event ≡ OpenEvent (if nat_lt partition 256 then partition else 255)
 IsEventOf given (Close handle) event = event ≡ CloseEvent (handle_of given.handles handle)

@@ -84,7 +84,7 @@ runs_text [] = []
 runs_text (run ∷ []) = run_text run
 runs_text (run ∷ next ∷ runs) = run_text run ++ (codes "," ++ runs_text (next ∷ runs))
 
--- the line of a call: for a read or a write the first byte and the length
+-- the line of a call; a read or a write tells its first byte and its length
 abbrev pub call_text : Kind → ClientRequest → List ℕ
 call_text Read q = codes " read " ++ (decimal q.offset ++ (codes " " ++ (decimal q.length ++ line_end)))
 call_text Write q = codes " write " ++ (decimal q.offset ++ (codes " " ++ (decimal q.length ++ ((if q.through then codes " through" else []) ++ line_end))))
@@ -93,19 +93,19 @@ call_text Flush q = codes " flush" ++ line_end
 abbrev pub call_line : ℕ → ClientRequest → List ℕ
 call_line number q = codes "call " ++ (decimal number ++ call_text q.kind q)
 
--- the line of a label of the adapter: of the piece, and of its command block or of its class
+-- the line of a label of the adapter: the piece, and its command block or its class
 abbrev pub device_line : DeviceLabel → List ℕ
 device_line (Start piece tag block) = codes "start " ++ (decimal piece ++ (codes " tag " ++ (decimal tag ++ (codes " " ++ (hex_bytes block ++ line_end)))))
 device_line (Act piece bytes) = codes "act " ++ (decimal piece ++ line_end)
 device_line (Fault piece) = codes "fault " ++ (decimal piece ++ line_end)
 device_line (Return piece class) = codes "return " ++ (decimal piece ++ (codes " " ++ (word_of class ++ line_end)))
 
--- what stands behind the number of bytes that were moved: of a read its bytes
+-- what stands behind the number of bytes that were moved: the bytes of a read
 abbrev pub bytes_text : List ℕ → List ℕ
 bytes_text [] = line_end
 bytes_text (byte ∷ bytes) = codes " " ++ (runs_text (runs_of (byte ∷ bytes)) ++ line_end)
 
--- the line of an answer: its status, how many bytes were moved, and of a read which
+-- the line of an answer: its status, how many bytes were moved, and the bytes of a read
 abbrev pub answer_line : ℕ → NtStatus → ℕ → List ℕ → List ℕ
 answer_line number status information bytes =
     codes "answer " ++ (decimal number ++ (codes " " ++ (name_of status ++ (codes " " ++ (decimal information ++ bytes_text bytes)))))

@@ -48,7 +48,7 @@ Spells word Through = word ≡ codes "through"
 abbrev pub FirstSpells : List (List ℕ) → Argument → Type 0
 FirstSpells words argument = IsSomeAnd (slice_get words 0) (λ word. Spells word argument)
 
--- the word that an order begins with
+-- the first word of an order
 abbrev pub verb_of : Order → List ℕ
 verb_of (Open partition) = codes "open"
 verb_of (Close handle) = codes "close"
@@ -75,7 +75,7 @@ abbrev pub request_of : Option ℕ → List Argument
 request_of (Some request) = Number request ∷ []
 request_of None = []
 
--- and the arguments that follow it
+-- the arguments behind the first word of an order
 abbrev pub arguments_of : Order → List Argument
 arguments_of (Open partition) = Number partition ∷ []
 arguments_of (Close handle) = Number handle ∷ []

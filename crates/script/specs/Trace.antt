@@ -37,7 +37,7 @@ pub record IsAllTaken (v : ManagerView) : Type 0 where
 
 -- A LINE
 
--- a right step of the event that an order asks for
+-- the stack makes a right step of the event that an order asks for
 pub record IsStepOf (given : Given) (order : Order) (old : ManagerView) (reply : Reply) (new : ManagerView) : Type 0 where
   pub event : Event
   pub is_event : IsEventOf given order event
@@ -47,7 +47,7 @@ pub record IsStepOf (given : Given) (order : Order) (old : ManagerView) (reply :
 abbrev pub IsCarriedOut : Given → Order → ManagerView → Reply → ManagerView → Type 0
 IsCarriedOut given order old reply new = IsStepOf given order old reply new ⊎ (IsReplyTo order reply × (new ≡ old))
 
--- between two lines: the stack, and what it gave by its numbers
+-- what is known between two lines: the stack, and the handles and requests that it gave
 pub record Between : Type 0 where
   pub stack : ManagerView
   pub given : Given

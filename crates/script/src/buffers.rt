@@ -1,5 +1,5 @@
-//! Equal bytes for reads and writes, in buffers that are used again: a refused call gives its buffer back with its bytes,
-//! and an answer brings that of its request.
+//! Equal bytes for reads and writes, in buffers that are used again. A refused call gives its buffer back with its
+//! bytes, and an answer brings the buffer of its request.
 
 ghost use Rattle.std.specs.Prelude.{◌≡◌, ◌≤◌, ◌<◌, [], IfErr, IfOk, IsOk, MatchResult, length, replicate, vec_capacity};
 ghost use Rattle.io_manager.specs.declared.Refusal.TheVariants.{InsufficientResources};
@@ -15,7 +15,7 @@ use std::mem;
 /// The longest buffer that is kept as a small one, in bytes.
 const SMALL: usize = 65_536;
 
-/// The small buffers that are kept: as many as requests may be open.
+/// How many small buffers are kept: as many as requests may be open.
 const KEPT: usize = 64;
 
 /// A buffer, and the byte that it is full of.
@@ -36,7 +36,7 @@ impl Full {
         }
     }
 
-    /// Gives this many equal bytes: in this buffer where it has room for them, else in a new one. Bytes that are right
+    /// Gives this many equal bytes, in this buffer where it has room for them, else in a new one. Bytes that are right
     /// already are not written again.
     #[tactic(auto, using(crate::proofs::Filled::filled_up))]
     fn filled(self, alloc: Global, byte: u8, length: usize) -> Result<Bytes, AllocError>
@@ -53,7 +53,7 @@ impl Full {
         Ok(Bytes::new(bytes))
     }
 
-    /// The buffer, which is full of this byte or empty.
+    /// Gives the buffer, which is full of this byte or empty.
     fn of_byte(self, byte: u8) -> Vec<u8>
         requires { IsFull self }
         ensures bytes { IsAll byte result.items }
@@ -76,7 +76,7 @@ pub struct Spare {
 }
 
 impl Spare {
-    /// Nothing came back yet, and there are no places for small buffers.
+    /// A pool to which nothing came back yet, without places for small buffers.
     pub fn new(alloc: Global) -> Spare
         ensures { AreFilled result }
     {
@@ -86,7 +86,7 @@ impl Spare {
         }
     }
 
-    /// The pool with all its places: to keep a buffer takes no memory.
+    /// A pool with all its places. To keep a buffer takes no memory then.
     ///
     /// # Errors
     ///
@@ -100,8 +100,8 @@ impl Spare {
         })
     }
 
-    /// Gives this many equal bytes, or the reply where memory for them is refused. Where the large buffer has room for as
-    /// many as no small one has, none is taken.
+    /// Gives this many equal bytes, or the reply where memory for them is refused. It takes no memory where the large
+    /// buffer has room for them and no small one can have.
     pub(crate) fn filled(&mut self, alloc: Global, byte: u8, length: u64) -> Result<Bytes, Reply>
         requires { AreFilled self.old }
         ensures filled { AreFilled self.new }
@@ -134,8 +134,8 @@ impl Spare {
         }
     }
 
-    /// Keeps a buffer that has room: a small one where there is a place, another one where it is larger than the one that
-    /// is kept.
+    /// Keeps a buffer that has room. A small one is kept where there is a place for it, another one where it is larger
+    /// than the large one that is kept.
     fn keep(&mut self, full: Full)
         requires filled { AreFilled self.old }
         requires full { IsFull full }

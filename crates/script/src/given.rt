@@ -13,12 +13,12 @@ use std::collections::BTreeMap;
 #[derive(Drop)]
 pub struct Given {
     pub handles: BTreeMap<u64, Handle>,
-    /// Each at the place of its number, which the manager counts.
+    /// Each request at the place of its number, which the manager counts.
     pub requests: Vec<Option<Id>>,
 }
 
 impl Given {
-    /// Nothing was given yet.
+    /// No handles and no requests yet.
     pub fn new(alloc: Global) -> Given
         ensures handles { IsEmpty result.handles }
         ensures requests { result.requests.items ≡ [] }
@@ -48,7 +48,7 @@ impl Given {
         }
     }
 
-    /// The handle of a number; one that isn't there, where the number was not given out.
+    /// The handle of a number. Where the number was not given out, it is a handle that isn't open.
     pub fn handle(&self, number: u64) -> Handle
         requires { AreNamed self.now }
         ensures handle { result ≡ handle_of self.now.handles number }
@@ -60,7 +60,7 @@ impl Given {
         }
     }
 
-    /// The request of a number; one that isn't there, where the number was not given out.
+    /// The request of a number. Where the number was not given out, it is a request that isn't open.
     pub fn request(&self, number: u64) -> Id
         requires { AreNamed self.now }
         ensures request { result ≡ id_of self.now.requests.items number }

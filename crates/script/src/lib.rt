@@ -1,10 +1,15 @@
 //! A script of events: its lines, what they ask a stack for, and what is printed of a stack that carries them out.
 //!
-//! It promises to the crate above, by the contract of [`lines`] (`events`, `fault`), that the lines of a script are read
-//! as the events that they ask for, or that the first bad one is named; by [`event`], which event of a stack an order
-//! is; by [`write_reply`] and [`write_labels`], the text of a reply and of the labels that a stack has not given yet; and
-//! by [`play`] (`text`, `fault`), that what it wrote is just the text of these lines, carried out one after the other by
-//! the stack that it was given. It does not promise that a writer takes all.
+//! It promises to the crate above:
+//!
+//! - [`lines`] (`events`, `fault`): the lines of a script are read as the events that they ask for, or the first bad
+//!   one is named.
+//! - [`event`]: which event of a stack an order is.
+//! - [`write_reply`] and [`write_labels`]: the text of a reply, and of the labels that a stack has not given yet.
+//! - [`play`] (`text`, `fault`): what it wrote is just the text of these lines, carried out one after the other by the
+//!   stack that it was given.
+//!
+//! It does not promise that a writer takes all.
 #![tactic(auto)]
 
 ghost use Rattle.script.specs.Faults.{IsOfWrite};
@@ -26,7 +31,8 @@ use std::error::Error;
 use std::io::ErrorKind;
 use std::{fmt, io};
 
-/// What a line asks for. Handles, requests, partitions and tags are numbers as they were written, there or not.
+/// What a line asks for. Handles, requests, partitions and tags are numbers as they were written; they need not be
+/// there.
 #[derive(Debug, Clone, Copy, PartialEq, Eq)]
 pub enum Order {
     Open {
@@ -35,13 +41,13 @@ pub enum Order {
     Close {
         handle: u64,
     },
-    /// Offset and length are in bytes.
+    /// A read. Offset and length are in bytes.
     Read {
         handle: u64,
         offset: u64,
         length: u64,
     },
-    /// A write of `length` equal bytes, past volatile caches if `through`.
+    /// A write of `length` equal bytes, past volatile caches with `through`.
     Write {
         handle: u64,
         offset: u64,
@@ -52,7 +58,7 @@ pub enum Order {
     Flush {
         handle: u64,
     },
-    /// Cancels all that is open on the handle, or the one request.
+    /// Cancels all requests that are open on the handle, or the one that is named.
     Cancel {
         handle: u64,
         request: Option<u64>,
@@ -130,7 +136,7 @@ impl<T: Drop> From<AllocFailed<T>> for ScriptFault {
     }
 }
 
-/// What a failed write means: a writer that holds what it is given may want memory.
+/// What a failed write means. A writer that keeps what it is given may want memory.
 impl From<io::Error> for ScriptFault {
     ghost use Rattle.std.specs.IoError.{error_kind};
     ghost use Rattle.script.specs.Faults.{IsOfWrite};

@@ -12,12 +12,12 @@ use crate::orders::words::Words;
 use crate::{Line, Order, ScriptFault};
 use std::alloc::Global;
 
-/// The lines of a script that ask for an event, in order.
+/// Reads the lines of a script that ask for an event, in order.
 ///
 /// # Errors
 ///
-/// [`ScriptFault::BadLine`] with the number of the first line, from 1, that is neither empty, nor a remark, nor an event;
-/// [`ScriptFault::NoMemory`].
+/// [`ScriptFault::BadLine`] with the number of the first line, from 1, that is neither empty, nor a remark, nor an
+/// event; [`ScriptFault::NoMemory`].
 pub fn lines(alloc: Global, text: &str) -> Result<Vec<Line<'_>>, ScriptFault>
     ensures events { IfOk result (λ lines. AreEvents (lines_of text.now) lines.items) }
     ensures fault { IfErr result (IsFaultOf text.now) }
@@ -133,7 +133,7 @@ fn write(mut words: Words<'_>) -> Option<Order>
     })
 }
 
-/// Whether `through` is the one word left; it is not where none is left.
+/// Whether a write goes through: `through` is the one word left, or no word is left.
 fn through(mut words: Words<'_>) -> Option<bool>
     ensures { Finds (λ through. AllZip Spells words.entry (through_of through)) result }
 {
@@ -154,7 +154,7 @@ fn cancel(mut words: Words<'_>) -> Option<Order>
     })
 }
 
-/// The number of a request that is the one word left, or that there is none.
+/// The request whose number is the one word left, or no request where no word is left.
 fn last_request(words: Words<'_>) -> Option<Option<u64>>
     ensures { Finds (λ request. AllZip Spells words.entry (request_of request)) result }
 {

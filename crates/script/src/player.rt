@@ -19,21 +19,21 @@ use std::alloc::{AllocError, Global};
 use std::io;
 use std::io::Write;
 
-/// Tags that an adapter can have.
+/// How many tags an adapter can have.
 const TAGS: u64 = 32;
 
-/// Bytes of text that are written at once.
+/// How many bytes of text are written at once.
 const BLOCK: usize = 65_536;
 
-/// Bytes of the longest text of one answer: of 65,536 sectors, each of another byte than the one before.
+/// The bytes of the longest text of one answer, which has 65,536 sectors, each of another byte than the one before.
 const LONGEST: usize = 65_536 * 9;
 
 /// Carries the lines of a script out, one after the other, and writes each line, its reply and the labels of its step,
 /// in blocks. What is left of the text is written behind the last line, also where a line ends in want of memory, and
 /// then the writer is flushed.
 ///
-/// All labels and answers of the stack have to be taken. It knows the handles and the requests that these lines open,
-/// and no others.
+/// All labels and answers of the stack have to be taken. The lines can name the handles and the requests that they
+/// open, and no others.
 ///
 /// # Errors
 ///
@@ -72,7 +72,7 @@ fn write_out<W: Write>(text: &mut Vec<u8>, out: &mut W) -> io::Result<()>
     written
 }
 
-/// Writes it once a block of it is full.
+/// Gives a text that waited to the writer once it fills a block.
 fn write_block<W: Write>(text: &mut Vec<u8>, out: &mut W) -> io::Result<()>
     ensures { OnOk result (Keeps (append_known (W.contents out.old) text.old.items) (append_known (W.contents out.new) text.new.items)) }
 {
@@ -82,7 +82,7 @@ fn write_block<W: Write>(text: &mut Vec<u8>, out: &mut W) -> io::Result<()>
     write_out(text, out)
 }
 
-/// Carries the lines out. What the writer has not got yet is the text.
+/// Carries the lines out. What the writer has not got yet stands in the text.
 fn play_lines<A: Adapter, W: Write>(
     alloc: Global,
     stack: &mut Stack<A>,
@@ -195,8 +195,8 @@ fn take_answer_of<A: Adapter>(stack: &mut Stack<A>, label: Label, spare: &mut Sp
     }
 }
 
-/// The event that an order asks for, on the handles and the requests that were given out; one of another number is one
-/// that isn't open.
+/// The event that an order asks for, on the handles and the requests that were given out. A number that was not given
+/// out is a handle or a request that isn't open.
 ///
 /// # Errors
 ///
@@ -208,11 +208,11 @@ pub fn event(alloc: Global, order: Order, given: &Given) -> Result<Event, Reply>
     event_from(alloc, order, given, &mut Spare::new(alloc))
 }
 
-/// The event that an order asks for, as [`event`] says, in the buffers that were spared.
+/// Does what [`event`] says, in the buffers that were kept.
 ///
 /// # Errors
 ///
-/// Those of [`event`].
+/// The errors of [`event`].
 fn event_from(alloc: Global, order: Order, given: &Given, spare: &mut Spare) -> Result<Event, Reply>
     requires named { AreNamed given.now }
     requires filled { AreFilled spare.old }

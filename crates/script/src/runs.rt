@@ -6,10 +6,10 @@ ghost use Rattle.script.specs.Printing.{comma, run_text, runs_of, runs_text};
 use crate::printing::{write_byte, write_number};
 use std::alloc::AllocError;
 
-/// Bytes that are compared at once.
+/// How many bytes are compared at once.
 const BLOCK: usize = 128;
 
-/// The number of bytes at the front that equal the first one.
+/// How many bytes at the front equal the first one.
 fn first_run(bytes: &[u8]) -> usize
     requires { 0 < length bytes.now }
     ensures within { result ≤ length bytes.now }
@@ -20,7 +20,7 @@ fn first_run(bytes: &[u8]) -> usize
     run_of(bytes, bytes[0])
 }
 
-/// The number of bytes at the front that equal this one, found block by block.
+/// How many bytes at the front equal this one, found block by block.
 fn run_of(bytes: &[u8], byte: u8) -> usize
     ensures within { result ≤ length bytes.now }
     ensures equal { All (λ b. b ≡ byte) (take result bytes.now) }
@@ -37,7 +37,7 @@ fn run_of(bytes: &[u8], byte: u8) -> usize
     bytes.len() - rest.len() + equal_bytes(rest, byte)
 }
 
-/// The run, found byte by byte.
+/// How many bytes at the front equal this one, found byte by byte.
 fn equal_bytes(bytes: &[u8], byte: u8) -> usize
     ensures within { result ≤ length bytes.now }
     ensures equal { All (λ b. b ≡ byte) (take result bytes.now) }

@@ -3,12 +3,12 @@
 /// What the program is asked to do.
 #[derive(Debug, Clone, Copy, PartialEq, Eq)]
 pub enum Command<'a> {
-    /// Run a script, given the paths of the settings and of the script.
+    /// Runs a script, given the paths of the settings and of the script.
     Trace {
         config: &'a str,
         script: &'a str,
     },
-    /// Run so many clients in threads of their own, 1 to 32, each for so many rounds, 1 to 10,000, given the path of the
+    /// Runs clients in threads of their own, 1 to 32 of them, each for 1 to 10,000 rounds, given the path of the
     /// settings.
     Clients {
         config: &'a str,

@@ -1,4 +1,4 @@
-//! A text is cut into lines and words, byte by byte.
+//! How a text is cut into lines and words, byte by byte.
 
 ghost use Rattle.std.specs.Prelude.{◌≡◌, ◌<◌, ◌==◌, ◌∷◌, length};
 ghost use Rattle.std.specs.List.{position};

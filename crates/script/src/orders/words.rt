@@ -10,7 +10,7 @@ use std::marker::Model;
 /// The longest request that a script may ask for, in bytes: 65,537 sectors of 4,096.
 const LONGEST: u64 = 268_439_552;
 
-/// The most digits of a number: those of 2^64 - 1.
+/// The most digits of a number: 2^64 - 1 has as many.
 const MOST_DIGITS: usize = 20;
 
 /// What is left of a line. Contracts see the words in it.
@@ -32,7 +32,7 @@ impl<'a> Words<'a> {
         Words { rest: line }
     }
 
-    /// The next word.
+    /// Takes the next word, if one is left.
     pub fn word(&mut self) -> Option<&'a str>
         ensures first { option_copied result ≡ slice_get self.old 0 }
         ensures rest { self.new ≡ drop 1 self.old }
@@ -54,7 +54,7 @@ impl<'a> Words<'a> {
         }
     }
 
-    /// The next word, where it is a number.
+    /// Takes the next word, and returns it where it is a number.
     pub fn number(&mut self) -> Option<u64>
         ensures value { Finds (λ n. FirstSpells self.old (Number n)) result }
         ensures rest { self.new ≡ drop 1 self.old }
@@ -62,7 +62,7 @@ impl<'a> Words<'a> {
         number(self.word()?)
     }
 
-    /// The next word, where it is the length of a request, in bytes.
+    /// Takes the next word, and returns it where it is the length of a request, in bytes.
     pub fn length(&mut self) -> Option<u64>
         ensures value { Finds (λ n. FirstSpells self.old (Length n)) result }
         ensures rest { self.new ≡ drop 1 self.old }
@@ -75,7 +75,7 @@ impl<'a> Words<'a> {
         }
     }
 
-    /// The next word, where it is a byte.
+    /// Takes the next word, and returns it where it is a byte.
     pub fn byte(&mut self) -> Option<u8>
         ensures value { Finds (λ n. FirstSpells self.old (Byte n)) result }
         ensures rest { self.new ≡ drop 1 self.old }
