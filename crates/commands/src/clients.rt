@@ -11,6 +11,7 @@ ghost use Rattle.startup.specs.declared.faults.Error.TheVariants.{Settings};
 ghost use Rattle.startup.specs.Started.{rules_over};
 
 use crate::faults::Error;
+use compose::{LAST_BUSY_RETURN, LONGEST_REQUEST};
 use rounds::{Plan, RoundsFault, Tally, run};
 use script::ScriptFault;
 use settings::{Config, ConfigFault};
@@ -21,12 +22,6 @@ use std::io::{Read, Write};
 use std::sync::Wait;
 use std::thread::Threads;
 use traced::StackSizes;
-
-/// How many sectors the longest request of a stack has.
-const LONGEST: u32 = 65_536;
-
-/// How many busy returns end a request of a stack.
-const BUSY_LIMIT: u32 = 17;
 
 /// Runs clients on partition 0 of a stack over a disk in memory, as many as are asked for, each for the rounds that are
 /// asked for. Writes what came of them: how many calls succeeded, and how many reads gave other bytes than were
@@ -110,9 +105,9 @@ fn sizes_for(config: &Config) -> StackSizes
     StackSizes {
         sector_size: config.sector_size,
         sectors: config.sectors,
-        longest: LONGEST,
+        longest: LONGEST_REQUEST,
         max_transfer: config.max_transfer,
-        busy_limit: BUSY_LIMIT,
+        busy_limit: LAST_BUSY_RETURN,
     }
 }
 

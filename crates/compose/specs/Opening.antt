@@ -1,5 +1,5 @@
 -- A stack before its first event, and why one could not be started.
-use Rattle.std.specs.Prelude.{◌≡◌, ◌⊎◌, ◌≤◌, false, List, [], Some, Err, map, length}
+use Rattle.std.specs.Prelude.{◌≡◌, ◌⊎◌, ◌≤◌, ℕ, false, List, [], Some, Err, map, length}
 use Rattle.sector.specs.declared.Extent.{Extent}
 use Rattle.adapter.specs.View.{AdapterView}
 use Rattle.sector.specs.Extents.{sectors_in}
@@ -21,20 +21,27 @@ pub record AreInRange (settings : Settings) : Type 0 where
   pub window : (1 ≤ settings.window) × (settings.window ≤ 64)
   pub open_requests : (1 ≤ settings.open_requests) × (settings.open_requests ≤ 64)
 
--- the rules of a stack over this disk: requests of up to 65,536 sectors, in pieces as long as a transfer; the
--- seventeenth busy return ends a request
+-- how many sectors the longest request has
+abbrev pub longest_request : ℕ
+longest_request = 65536
+
+-- which busy return of a request ends it
+abbrev pub last_busy_return : ℕ
+last_busy_return = 17
+
+-- the rules of a stack over this disk: the pieces of a request are as long as a transfer
 abbrev pub first_rules : AdapterView → Settings → List Extent → Rules
 first_rules disk settings partitions = record {
   sector_size = disk.sector_size;
   disk_sectors = length disk.sectors;
   partitions = partitions;
-  longest = 65536;
+  longest = longest_request;
   max_transfer = disk.max_transfer;
   depth = disk.depth;
   open_requests = Some settings.open_requests;
   window = Some settings.window;
   one_piece = false;
-  busy_limit = 17;
+  busy_limit = last_busy_return;
   any_cut = false;
   faithful = disk.faithful;
 }

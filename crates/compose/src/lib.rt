@@ -28,6 +28,12 @@ use sector::Bytes;
 pub use stack::Stack;
 use thiserror::Error;
 
+/// How many sectors the longest request of a stack has.
+pub const LONGEST_REQUEST: u32 = 65_536;
+
+/// Which busy return of a request ends it.
+pub const LAST_BUSY_RETURN: u32 = 17;
+
 /// Limits that the user of a stack chooses.
 #[derive(Debug, Clone, Copy, PartialEq, Eq)]
 pub struct Settings {

@@ -3,17 +3,12 @@
 use crate::fault::HostileFault;
 use crate::layout::{Layout, SECTOR};
 use crate::playing::Told;
+use compose::{LAST_BUSY_RETURN, LONGEST_REQUEST};
 use judge::{Machine, MachineRules, Sectors, Verdict, judge};
 use machine::Label;
 use sector::{Bytes, Extent};
 use std::alloc::{AllocError, Global};
 use std::fmt;
-
-/// Sectors of the longest request.
-const LONGEST: u64 = 65_536;
-
-/// This many busy returns end a request.
-const BUSY_LIMIT: u64 = 17;
 
 /// What is wrong with a run.
 #[derive(Debug, Clone, Copy, PartialEq, Eq)]
@@ -113,13 +108,13 @@ pub fn rules_of(alloc: Global, layout: &Layout) -> Result<MachineRules, AllocErr
         sector_size: SECTOR,
         disk_sectors: layout.sectors as u64,
         partitions,
-        longest: LONGEST,
+        longest: LONGEST_REQUEST as u64,
         max_transfer: layout.max_transfer as u64,
         depth: layout.depth as u32,
         open_requests: Some(layout.open_requests as u64),
         window: Some(layout.window as u64),
         one_piece: false,
-        busy_limit: BUSY_LIMIT,
+        busy_limit: LAST_BUSY_RETURN as u64,
         any_cut: false,
         faithful: true,
     })

@@ -5,16 +5,11 @@ ghost use Rattle.judge.specs.Views.{rules_of};
 ghost use Rattle.settings.specs.Medium.{extent_of, extents_of, zeros};
 ghost use Rattle.judging.specs.Checked.{arrays_of, rules_by};
 
+use compose::{LAST_BUSY_RETURN, LONGEST_REQUEST};
 use judge::{MachineRules, Sectors};
 use sector::{Bytes, Extent};
 use settings::{Config, Partition};
 use std::alloc::{AllocError, Global};
-
-/// Sectors of the longest request.
-const LONGEST: u64 = 65_536;
-
-/// The busy returns that end a request.
-const BUSY_LIMIT: u64 = 17;
 
 /// What a trace is judged by.
 #[derive(Debug, Drop)]
@@ -34,13 +29,13 @@ pub(crate) fn rules_of(alloc: Global, standard: &Standard) -> Result<MachineRule
         sector_size: config.sector_size,
         disk_sectors: config.sectors,
         partitions: extents(alloc, config.partitions.as_slice())?,
-        longest: LONGEST,
+        longest: LONGEST_REQUEST as u64,
         max_transfer: config.max_transfer as u64,
         depth: config.depth as u32,
         open_requests: Some(config.open_requests as u64),
         window: Some(config.window as u64),
         one_piece: false,
-        busy_limit: BUSY_LIMIT,
+        busy_limit: LAST_BUSY_RETURN as u64,
         any_cut: standard.any_cut,
         faithful: true,
     })

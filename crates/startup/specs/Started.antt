@@ -18,7 +18,7 @@ use Rattle.io_manager.specs.declared.Refusal.TheVariants.{InvalidParameter}
 use Rattle.compose.specs.declared.Settings.{Settings}
 use Rattle.compose.specs.declared.StartFault.{StartFault}
 use Rattle.compose.specs.declared.StartFault.TheVariants.{Settings as WrongSettings, Device as FailedCommand, Mbr as WrongTable, NoMemory as WantOfMemory}
-use Rattle.compose.specs.Opening.{IsFirstView}
+use Rattle.compose.specs.Opening.{longest_request, last_busy_return, IsFirstView}
 use Rattle.settings.specs.declared.Config.{Config}
 use Rattle.settings.specs.Medium.{disk_of, entries_of, extents_of, table_sector, zeros, HasBlankPartitions, IsNewAdapter}
 use Rattle.volume.specs.declared.OpenFault.{OpenFault}
@@ -29,20 +29,20 @@ use Rattle.volume.specs.Shown.{VolumeView, extent_at, parted_at}
 abbrev pub limits_of : Config → Settings
 limits_of c = record { window = c.window; open_requests = c.open_requests }
 
--- the rules of the stack: requests of up to 65,536 sectors, in pieces as long as a transfer; the seventeenth busy return of a
--- request ends it. The adapter may be faithful to the sectors that it shows, or may not
+-- the rules of the stack: the pieces of a request are as long as a transfer. The adapter may be faithful to the sectors that it
+-- shows, or may not
 abbrev pub rules_over : Bool → Config → Rules
 rules_over is_faithful c = record {
   sector_size = c.sector_size;
   disk_sectors = c.sectors;
   partitions = extents_of c;
-  longest = 65536;
+  longest = longest_request;
   max_transfer = c.max_transfer;
   depth = c.depth;
   open_requests = Some c.open_requests;
   window = Some c.window;
   one_piece = false;
-  busy_limit = 17;
+  busy_limit = last_busy_return;
   any_cut = false;
   faithful = is_faithful;
 }

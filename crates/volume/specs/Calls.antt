@@ -5,20 +5,17 @@ use Rattle.sector.specs.Splice.{splice}
 use Rattle.io_manager.specs.declared.Refusal.{Refusal}
 use Rattle.io_manager.specs.declared.Refusal.TheVariants.{InvalidParameter, DeviceBusy, InsufficientResources}
 use Rattle.io_manager.specs.Calls.{number_limit}
+use Rattle.compose.specs.Opening.{longest_request}
 use Rattle.volume.specs.declared.Error.{Error}
 use Rattle.volume.specs.declared.Error.TheVariants.{Refused, Failed}
 use Rattle.volume.specs.Shown.{Content, VolumeView}
-
--- how many sectors the longest request has
-abbrev pub longest : ℕ
-longest = 65536
 
 -- this many bytes from this one on are whole sectors of the partition, and no more than the longest request has
 pub record AreInBounds (c : Content) (offset count : ℕ) : Type 0 where
   pub begins : offset % c.sector_size ≡ 0
   pub ends : count % c.sector_size ≡ 0
   pub inside : offset + count ≤ length c.bytes
-  pub short : count ≤ longest * c.sector_size
+  pub short : count ≤ longest_request * c.sector_size
 
 -- why a request was refused: its bytes are not in bounds, numbers are used up, or memory was refused
 abbrev pub IsRefusal : VolumeView → Type 0 → Refusal → Type 0

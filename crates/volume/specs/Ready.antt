@@ -10,6 +10,7 @@ use Rattle.device.specs.View.{IsRead}
 use Rattle.io_manager.specs.Shown.{ManagerView}
 use Rattle.io_manager.specs.Calls.{partition_of}
 use Rattle.io_manager.specs.declared.Handle.{Handle}
+use Rattle.compose.specs.Opening.{longest_request}
 use Rattle.volume.specs.declared.Sizes.{Sizes}
 
 -- rules of a stack over whose partitions a volume can be opened: its acts read and write the sectors that it shows, and
@@ -18,7 +19,7 @@ pub record AreUsable (rules : Rules) : Type 0 where
   pub sector_size : (rules.sector_size ≡ 512) ⊎ (rules.sector_size ≡ 4096)
   pub few : rules.disk_sectors ≤ 2 ^ 40
   pub partitions : All (IsPartition rules.disk_sectors) rules.partitions
-  pub longest : rules.longest ≡ 65536
+  pub longest : rules.longest ≡ longest_request
   pub takes_one : IsFalse (is_full rules.open_requests 0)
   pub faithful : IsTrue rules.faithful
 
