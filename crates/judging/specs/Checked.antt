@@ -1,4 +1,4 @@
--- What is said of a trace, and why nothing is.
+-- What is said of a trace, and why nothing is said.
 use Rattle.std.specs.Prelude.{◌≡◌, ◌⊎◌, ℕ, Bool, true, false, List, [], ◌∷◌, ◌++◌, Option, Some, codes, count_by, length, map, slice_get, take}
 use Rattle.std.specs.Fmt.{decimal}
 use Rattle.std.specs.Io.KnownBytes.{Appends}
@@ -28,7 +28,7 @@ use Rattle.judging.specs.declared.faults.Error.TheVariants.{Usage, Startup, Trac
 abbrev pub arrays_of : Config → List (List (List ℕ))
 arrays_of c = map (λ extent. zeros c extent.count) (extents_of c)
 
--- the rules that a trace is judged by: those of the settings, with any cut where that is asked for
+-- the rules that a trace is judged by: the rules of the settings, with any cut where that is asked for
 abbrev pub rules_by : Standard → Rules
 rules_by standard = record (rules_of standard.config) { any_cut = standard.any_cut }
 
@@ -51,11 +51,12 @@ legal_line labels =
     codes "legal: " ++ (decimal (length labels) ++ (codes " labels, " ++ (decimal (count_by is_call labels)
     ++ (codes " requests, " ++ (decimal (count_by is_start labels) ++ (codes " pieces" ++ 10 ∷ []))))))
 
--- and that of the first line that no step allows, with the rule in words
+-- the line that is said of the first line that no step allows, with the rule in words
 abbrev pub refused_line : ℕ → List ℕ → List ℕ
 refused_line number sentence = codes "line " ++ (decimal number ++ (codes ": " ++ (sentence ++ 10 ∷ [])))
 
--- no step allows the label of this place, after those before it, and at a state that those lead to it breaks the rule
+-- no step allows the label of this place after the labels before it, and it breaks the rule at a state to which they
+-- lead
 pub record IsFirstBroken (rules : Rules) (arrays : List (List (List ℕ))) (labels : List Label) (at : ℕ) (rule : Rule) : Type 0 where
   pub stops : StopsAt rules (opening arrays) labels at
   pub label : Label
@@ -64,14 +65,15 @@ pub record IsFirstBroken (rules : Rules) (arrays : List (List (List ℕ))) (labe
   pub reached : Run rules (opening arrays) (take at labels) state
   pub broken : Breaks rules state label rule
 
--- a line that says what the labels of a trace are, which stand in lines with these numbers: a run of the settings' machine, or none from this line on
+-- the line that is said of the labels of a trace: they are a run of the settings' machine, or the label of this line is
+-- the first that breaks a rule
 abbrev pub Says : Standard → List Label → List ℕ → Verdict → List ℕ → Type 0
 Says standard labels numbers Passed line = IsRun (rules_by standard) (opening_of standard.config) labels × (line ≡ legal_line labels)
 Says standard labels numbers Failed line =
     (at : ℕ) × (rule : Rule) × IsFirstBroken (rules_by standard) (arrays_of standard.config) labels at rule
     × ((number : ℕ) × (slice_get numbers at ≡ Some number) × ((sentence : List ℕ) × (line ≡ refused_line number sentence)))
 
--- the verdict on the trace that an input gives, over the settings that another gives, was printed; for any cut or not
+-- the verdict on the trace of one input, by the settings of another, was printed; for any cut or not
 pub record PrintsVerdict (any_cut : Bool) (config trace : Option (List ℕ)) (old new : Option (List ℕ)) (verdict : Verdict) : Type 0 where
   pub settings : Config
   pub are_read : AreRead config settings

@@ -39,7 +39,7 @@ HasWords rows (Check config trace any_cut progress) = (first_of (codes "CONFIG")
 HasWords rows (Record config script) = (first_of (codes "CONFIG") rows ≡ Some config.now) × (first_of (codes "SCRIPT") rows ≡ Some script.now)
 HasWords rows (Picture trace events) = (first_of (codes "TRACE") rows ≡ Some trace.now) × IsFlag (one_of (codes "events") rows) events
 
--- the word that a command begins with
+-- the first word of a command
 abbrev pub name_of : Command → Text
 name_of (Check config trace any_cut progress) = codes "check"
 name_of (Record config script) = codes "record"

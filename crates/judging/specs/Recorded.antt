@@ -28,7 +28,7 @@ whole_line label = line_of label ++ line_end
 abbrev pub lines_text : List Label → List ℕ
 lines_text labels = concat (map whole_line labels)
 
--- a line of a script is carried out, this is written of its labels, and then all labels and answers are taken
+-- a line of a script is carried out, its labels are written as this text, and then all labels and answers are taken
 pub record IsLineRecorded (old : Between) (line : Line) (text : List ℕ) (new : Between) : Type 0 where
   pub reply : Reply
   pub stepped : ManagerView
@@ -37,13 +37,13 @@ pub record IsLineRecorded (old : Between) (line : Line) (text : List ℕ) (new :
   pub taken : new.stack ≡ record stepped { labels = []; answers = [] }
   pub keeps : Keeps reply old.given new.given
 
--- lines are carried out in order, and this is written of them
+-- lines are carried out in order, and this text is written of them
 abbrev pub AreRecorded : Between → List Line → List ℕ → Between → Type 0
 AreRecorded old [] text new = (text ≡ []) × (new ≡ old)
 AreRecorded old (line ∷ lines) text new =
     (first : List ℕ) × (rest : List ℕ) × (mid : Between) × IsLineRecorded old line first mid × AreRecorded mid lines rest new × (text ≡ first ++ rest)
 
--- lines are run through a stack that has given nothing, and this is written of them
+-- lines are run through a stack that has given nothing, and this text is written of them
 pub record IsRecordTo (stack : ManagerView) (lines : List Line) (text : List ℕ) (end : Between) : Type 0 where
   pub given : Given
   pub no_handle : IsEmpty given.handles
@@ -63,7 +63,7 @@ pub record AreGiven (config script : Option (List ℕ)) (settings : Config) (lin
   pub all : IsAllOf script script_text
   pub events : AreEvents (lines_of script_text) lines
 
--- what is written of a script: the labels of its lines' steps, from the stack that its settings start
+-- what is written of a script: the labels of the steps of its lines, from the stack that its settings start
 pub record IsRecordOf (config script : Option (List ℕ)) (text : List ℕ) : Type 0 where
   pub settings : Config
   pub lines : List Line

@@ -4,12 +4,12 @@ use Rattle.std.specs.List.{AllZip}
 use Rattle.machine.specs.declared.Label.{Label}
 use Rattle.label_text.specs.Lines.{Spells, is_told}
 
--- the numbers of the lines that tell a label, the first of these lines having this number
+-- the numbers of the lines that tell a label, where the first line has this number
 abbrev pub numbers_from : ℕ → List (List ℕ) → List ℕ
 numbers_from n [] = []
 numbers_from n (line ∷ lines) = (if is_told line then n ∷ [] else []) ++ numbers_from (n + 1) lines
 
--- the labels of a trace's lines, and the number of each one's line, from 1
+-- the labels of a trace's lines, and the number of the line of each label, from 1
 pub record AreTold (lines : List (List ℕ)) (labels : List Label) (numbers : List ℕ) : Type 0 where
   pub spelled : AllZip Spells (filter is_told lines) labels
   pub counted : numbers ≡ numbers_from 1 lines

@@ -17,12 +17,12 @@ use std::alloc::Global;
 use std::io;
 use std::io::{BufRead, BufReader, Read, Write};
 
-/// Bytes that are read at once.
+/// How many bytes are read at once.
 const BUFFER: usize = 65_536;
 
 /// Judges a trace by the machine of some settings, and writes what it is: `legal` with its numbers, or the number of
 /// the first line that no step of the machine allows, a rule that it breaks, and what was open and at the adapter
-/// there. How far it came is said to `progress` meanwhile, of which `out` has nothing.
+/// there. Meanwhile `progress` is told how far the check came, of which `out` has nothing.
 ///
 /// # Errors
 ///
@@ -46,8 +46,8 @@ pub fn check<C: Read + Drop, T: Read + Drop, O: Write, W: Write>(
     check_by(alloc, &standard, trace, out, progress)
 }
 
-/// The same as `check`, for a stack that cuts a request anywhere: a piece may begin at any place of it, and start again
-/// without end.
+/// Judges a trace as [`check`] does, for a stack that cuts a request anywhere. A piece may begin at any place of its
+/// request, and start again without end.
 ///
 /// # Errors
 ///
@@ -87,8 +87,8 @@ fn check_by<T: Read + Drop, O: Write, W: Write>(
     say_verdict(&course, out)
 }
 
-/// What the lines of an input are, of which one at a time is held. All are read: of a bad line it is told first,
-/// wherever it stands.
+/// Returns what the lines of an input come to. One line at a time is held. All lines are read, since a bad one is told
+/// before all else, wherever it stands.
 fn course_of<B: BufRead, W: Write>(
     alloc: Global,
     standard: &Standard,

@@ -1,4 +1,4 @@
-//! What the lines of a trace are, as far as it was read.
+//! What the lines of a trace come to, as far as it was read.
 
 ghost use Rattle.std.specs.Prelude.{◌≡◌, [], IfErr, IfOk};
 ghost use Rattle.judging.specs.Checked.{is_call, is_start};
@@ -16,26 +16,26 @@ use srb::DeviceLabel;
 use std::alloc::{AllocError, Global};
 use std::io::Write;
 
-/// What the lines of a trace are, as far as it was read.
+/// What the lines of a trace come to, as far as it was read.
 #[derive(Debug, Drop)]
 pub(crate) enum Course {
-    /// Their labels are a run.
+    /// The labels of the lines are a run.
     Legal(Trial),
-    /// No step of the machine allows one of their labels.
+    /// No step of the machine allows one of the labels.
     Broken(Stop),
-    /// The first bad one, which is to tell a label and is the line of none, has this number; reading it stopped at the
-    /// word that begins in this column.
+    /// The first bad line, which is to tell a label and tells none, has this number. Reading it stopped at the word
+    /// that begins in this column.
     Bad { line: u64, column: u64 },
-    /// One is not UTF-8.
+    /// A line is not UTF-8.
     NotText,
 }
 
-/// Labels that are a run.
+/// The labels of lines that are a run.
 #[derive(Debug, Drop)]
 pub(crate) struct Trial {
-    /// What has taken them.
+    /// The judge that has taken them.
     pub judge: Judge,
-    /// How many they are.
+    /// The counts of these labels.
     pub tally: Tally,
 }
 
@@ -46,7 +46,7 @@ pub(crate) struct Stop {
     pub line: u64,
     /// A rule that it breaks.
     pub rule: Rule,
-    /// The rule in words, and what was open and out there.
+    /// The rule in words, with what was open and out there.
     pub sentence: String,
 }
 
@@ -59,7 +59,7 @@ pub(crate) struct Tally {
 }
 
 impl Tally {
-    /// With one label more.
+    /// The tally with one label more.
     fn with(self, label: &Label) -> Tally
         ensures { Tallies self label.now result }
     {
@@ -86,7 +86,7 @@ fn is_start(label: &Label) -> bool
 }
 
 impl Trial {
-    /// No label yet.
+    /// A trial that has taken no label.
     fn opening(alloc: Global, standard: &Standard) -> Result<Trial, Error>
         ensures none { IfOk result (HasTried standard.now []) }
         ensures fault { IfErr result (λ fault. fault ≡ NoMemory) }
@@ -132,7 +132,7 @@ impl Trial {
 }
 
 impl Course {
-    /// No line was read.
+    /// The course before any line was read.
     pub fn opening(alloc: Global, standard: &Standard) -> Result<Course, Error>
         ensures none { IfOk result (IsOpening standard.now) }
         ensures fault { IfErr result (λ fault. fault ≡ NoMemory) }
@@ -148,7 +148,7 @@ impl Course {
         }
     }
 
-    /// What the lines are with one more, of this number, which tells this.
+    /// The course with one line more, which has this number and tells this.
     pub fn after(self, alloc: Global, told: Told, line: u64) -> Result<Course, Error>
         ensures goes { IfOk result (GoesOn self told line) }
         ensures fault { IfErr result (λ fault. fault ≡ NoMemory) }
@@ -161,7 +161,7 @@ impl Course {
         }
     }
 
-    /// With a line that tells a label.
+    /// The course with a line that tells a label.
     fn with(self, alloc: Global, label: &Label, line: u64) -> Result<Course, Error>
         ensures goes { IfOk result (GoesByLabel self label.now line) }
         ensures fault { IfErr result (λ fault. fault ≡ NoMemory) }
@@ -172,7 +172,7 @@ impl Course {
         }
     }
 
-    /// With a bad line.
+    /// The course with a bad line.
     fn blaming(self, line: u64, column: u64) -> Course
         ensures { result ≡ with_bad self line column }
     {
@@ -184,7 +184,7 @@ impl Course {
     }
 }
 
-/// A rule in words, and what is open and out.
+/// A rule in words, with the requests that are open and the pieces that are out.
 fn sentence_of(alloc: Global, judge: &Judge, rule: Rule) -> Result<String, AllocError> {
     let mut sentence = format!(in alloc; "{rule}")?;
     if let Some(machine) = judge.machines().first() {
@@ -193,7 +193,7 @@ fn sentence_of(alloc: Global, judge: &Judge, rule: Rule) -> Result<String, Alloc
     Ok(sentence)
 }
 
-/// Adds what is open and out, a line each.
+/// Adds a line for each request that is open, and for each piece that is out.
 fn tell_open(alloc: Global, machine: &Machine, sentence: &mut String) -> Result<(), AllocError> {
     for request in machine.requests() {
         let number = request.number();

@@ -8,7 +8,7 @@ use std::alloc::Global;
 use std::io::{BufRead, BufReader, Read, Write};
 use trace_picture::Picture;
 
-/// Bytes that are read at once.
+/// How many bytes are read at once.
 const BUFFER: usize = 65_536;
 
 /// Writes the picture of a trace, legal or not: an SVG, or Trace Event JSON where `events` are asked for. The writer is
@@ -37,7 +37,7 @@ pub fn draw<T: Read + Drop, O: Write>(
     Ok(Verdict::Passed)
 }
 
-/// The picture of the labels that the lines of an input tell, unless one of these is bad.
+/// The picture of the labels that the lines of an input tell, unless a line is bad.
 fn taken<B: BufRead>(alloc: Global, input: &mut B) -> Result<Picture, Error> {
     let mut picture = Picture::new(alloc);
     let mut bad = None;

@@ -15,18 +15,17 @@ use std::{fmt, io};
 /// Why the program ends early. Its text is the line that is said, without its end.
 #[derive(Debug, Clone, Copy, PartialEq, Eq)]
 pub enum Error {
-    /// The words of the command line ask for nothing that there is, or for help.
+    /// The words of the command line ask for no command, or for help.
     Usage,
     /// There are no settings, or no stack of them.
     Startup(startup::Error),
-    /// The trace can't be opened, or not be read to its end.
+    /// The trace can't be opened, or can't be read to its end.
     TraceUnreadable,
-    /// The script can't be opened, or not be read to its end.
+    /// The script can't be opened, or can't be read to its end.
     ScriptUnreadable,
-    /// The line of a trace, counted from 1, is that of no label: reading stopped at the word that begins in this
-    /// column.
+    /// The line of a trace, counted from 1, tells no label: reading stopped at the word that begins in this column.
     BadLine { line: u64, column: u64 },
-    /// The script has a bad line, or not all could be printed.
+    /// The script has a bad line, or its text could not be printed whole.
     Script(ScriptFault),
     /// The writer failed.
     OutputFailed,
@@ -113,7 +112,7 @@ impl From<ScriptFault> for Error {
     }
 }
 
-/// What a failed write means: a writer that holds what it is given may want memory.
+/// What a failed write means. A writer that keeps what it is given may want memory.
 impl From<io::Error> for Error {
     ghost use Rattle.std.specs.IoError.{error_kind};
     ghost use Rattle.judging.specs.inside.Faults.{IsOfWrite};

@@ -16,7 +16,7 @@ use std::alloc::{AllocError, Global};
 pub struct Standard {
     /// The settings of a machine.
     pub config: Config,
-    /// Whether a piece may begin at any place of its request, and start again without end.
+    /// Whether any cut will do: a piece may begin at any place of its request, and start again without end.
     pub any_cut: bool,
 }
 

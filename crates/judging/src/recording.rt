@@ -38,7 +38,7 @@ pub(crate) fn record_lines<A: Adapter, W: Write>(
     Ok(())
 }
 
-/// Records as before, but for what the writer holds back.
+/// Does what [`record_lines`] does, and does not flush the writer.
 fn record_each<A: Adapter, W: Write>(
     alloc: Global,
     stack: &mut Stack<A>,

@@ -19,8 +19,8 @@ use std::io::{Read, Write};
 /// # Errors
 ///
 /// The first of these that fits: the settings can't be read, or are refused; the script can't be read, or has a bad
-/// line; no stack of the settings could be started; `out` failed, after a beginning of the text. [`Error::NoMemory`],
-/// or that of the step, in place of any of them, where memory was refused.
+/// line; no stack of the settings could be started; `out` failed, after a beginning of the text. Where memory was
+/// refused, [`Error::NoMemory`] or the step's own error for it stands in place of any of them.
 pub fn record_script<C: Read + Drop, S: Read + Drop, O: Write>(
     alloc: Global,
     config: C,
@@ -61,7 +61,7 @@ fn play_lines<O: Write>(
     }
 }
 
-/// All bytes of a script.
+/// Reads all bytes of a script.
 fn bytes_of<R: Read + Drop>(alloc: Global, script: R) -> Result<Vec<u8>, Error>
     ensures all { IfOk result (λ bytes. IsAllOf (R.remaining script) bytes.items) }
     ensures fault { IfErr result IsUnreadScript }

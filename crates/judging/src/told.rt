@@ -14,15 +14,15 @@ use std::alloc::Global;
 pub(crate) enum Told {
     /// A label.
     Label(Label),
-    /// Nothing: it is empty, or begins with #.
+    /// The line tells nothing: it is empty, or begins with #.
     Nothing,
-    /// It is to tell a label and is the line of none: reading stopped at the word that begins in this column.
+    /// The line is to tell a label and tells none: reading stopped at the word that begins in this column.
     BadWord { column: u64 },
-    /// It is not UTF-8.
+    /// The line is not UTF-8.
     NotUtf8,
 }
 
-/// What a line tells, which has no end.
+/// What a line tells. It is given without its end.
 ///
 /// # Errors
 ///
@@ -37,7 +37,7 @@ pub(crate) fn told_by(alloc: Global, line: &[u8]) -> Result<Told, Error>
     }
 }
 
-/// The same of a line that is a text.
+/// What a line tells that is UTF-8.
 fn told_by_text(alloc: Global, line: &str) -> Result<Told, Error>
     ensures told { IfOk result (Tells line.now) }
     ensures fault { IfErr result (λ fault. fault ≡ NoMemory) }

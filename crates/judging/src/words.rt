@@ -20,7 +20,7 @@ use std::convert::AsStr;
 ///
 /// # Errors
 ///
-/// [`Error::NoMemory`] where memory was refused, else [`Error::Usage`] where the words ask for nothing.
+/// [`Error::NoMemory`] where memory was refused, else [`Error::Usage`] where the words ask for no command.
 pub fn command<'a, S: AsStr>(alloc: Global, words: &'a [S]) -> Result<Command<'a>, Error>
     ensures asked { IfOk result (IsAsked (map S.text words.now)) }
     ensures fault { IfErr result (λ fault. (fault ≡ NoMemory) ⊎ ((fault ≡ Usage) × AsksForNothing (map S.text words.now))) }

@@ -27,14 +27,14 @@ pub record CarriedView : Type 0 where
   pub stack : ManagerView
   pub disk : DiskView
 
--- the stack, none of whose labels is kept
+-- a stack that keeps none of its labels
 abbrev pub quiet : ManagerView → ManagerView
 quiet stack = record stack { keeps = false }
 
 abbrev pub over : ManagerView → DiskView → CarriedView
 over stack disk = record { stack = stack; disk = disk }
 
--- the stack's adapter moves no sectors, and the storage has as many sectors, as long as its
+-- the stack's adapter moves no sectors, and the storage has as many sectors as the stack, of the same size
 pub record StandsIn (stack : ManagerView) (disk : DiskView) : Type 0 where
   pub apart : IsFalse stack.adapter.faithful
   pub sector_size : disk.sector_size ≡ stack.rules.sector_size
@@ -58,7 +58,7 @@ abbrev pub entry_in : Result Entry Completion → List Entry
 entry_in (Ok entry) = entry ∷ []
 entry_in (Err completion) = []
 
--- what those did that did not fail
+-- the entries of the pieces that did not fail
 abbrev pub entries_of : List Deed → List Entry
 entries_of [] = []
 entries_of (deed ∷ deeds) = entry_in deed.what ++ entries_of deeds
@@ -74,7 +74,7 @@ pub record HasBooked (old : ManagerView) (before : DiskView) (tag : ℕ) (new : 
   pub of_piece : IsOfPiece tag piece what
   pub books : BooksPiece old tag piece what new
 
--- there is none that could act, and nothing changes
+-- no piece of the tag could act, and nothing changes
 pub record HasNoneToBook (old : ManagerView) (before : DiskView) (tag : ℕ) (new : ManagerView) (after : DiskView) : Type 0 where
   pub none : HasNoneFresh old.adapter tag
   pub same_stack : new ≡ old
@@ -113,7 +113,7 @@ pub record Goes (old new : CarriedView) : Type 0 where
 pub record IsAnsweredBy (old : CarriedView) (event : Event) (answer : Answer) (labels : List Label) : Type 0 where
   pub request : ClientRequest
   pub asks : Asks old.stack event request
-  -- one of no bytes is answered at once, and its label has no bytes
+  -- a request of no bytes is answered at once, and the label of its call has no bytes
   pub called : Contains labels (Call answer.number request) ⊎ Contains labels (Call answer.number (without_bytes request))
   pub answered : Contains labels (as_answer answer)
 
@@ -130,7 +130,7 @@ abbrev pub IsNoAnswerTo : ℕ → Label → Type 0
 IsNoAnswerTo number (AnswerLabel n status informed bytes) = n ≢ number
 IsNoAnswerTo number _ = Unit {0}
 
--- its request was called, and nothing that was told answers it
+-- the event's request was called, and nothing that was told answers it
 pub record GoesUnanswered (old : CarriedView) (event : Event) (reason : Refusal) (labels : List Label) : Type 0 where
   pub number : ℕ
   pub request : ClientRequest
@@ -142,7 +142,8 @@ pub record GoesUnanswered (old : CarriedView) (event : Event) (reason : Refusal)
 abbrev pub IsNotAnswered : CarriedView → Event → Refusal → List Label → List Deed → Type 0
 IsNotAnswered old event reason labels deeds = IsRefusedAtOnce old event reason labels deeds ⊎ GoesUnanswered old event reason labels
 
--- a request from its call to its answer, or one that was refused: the stack moved by labels alone, and the storage by what their acts were
+-- a request went from its call to its answer, or was refused. The stack moved by these labels alone, and the storage by
+-- what their acts were
 pub record Requests (old : CarriedView) (event : Event) (result : Result Answer Refusal) (new : CarriedView) : Type 0 where
   pub labels : List Label
   pub deeds : List Deed

@@ -19,13 +19,14 @@ pub is_simple_program : is_simple program ≡ true
 unfolding clap_on_literals
 is_simple_program = refl
 
--- the word is decimal digits, which spell a number below 256
+-- the word has decimal digits that spell a number below 256
 pub record SpellsPartition (word : List ℕ) (n : ℕ) : Type 0 where
   pub digits : IsNumeral 10 word
   pub value : n ≡ digits_value 10 word
   pub range : n < 256
 
--- paths and partition are what the parser found under their names; the partition is 0 where none is named, and of --create nothing is said
+-- paths and partition are what the parser found under their names. The partition is 0 where none is named. Nothing is
+-- said of --create
 pub record IsFoundIn (rows : List Row) (asked : Asked) : Type 0 where
   pub config : first_of (codes "CONFIG") rows ≡ Some asked.config.now
   pub partition : MatchOption (first_of (codes "PARTITION") rows) (asked.partition ≡ 0) (λ word. SpellsPartition word asked.partition)

@@ -27,7 +27,7 @@ line_of InputEnded = codes "nbd_disk: input ended"
 line_of OutputFailed = codes "nbd_disk: output failed"
 line_of NoMemory = codes "nbd_disk: no memory"
 
--- nothing was tried, since the words of the command line ask for nothing that there is
+-- nothing was tried, since the words of the command line ask for nothing that can be served
 abbrev pub is_usage : Error → Bool
 is_usage Usage = true
 is_usage _ = false

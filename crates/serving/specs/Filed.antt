@@ -20,13 +20,13 @@ use Rattle.serving.specs.Carried.{CarriedView, Requests, StandsIn}
 pub record FiledView : Type 0 where
   -- the stack, and the disk in the storage
   pub carried : CarriedView
-  -- on the partition
+  -- the open handle on the partition
   pub handle : Handle
   pub sizes : Sizes
 
 -- ONE REQUEST
 
--- the error that a status is told as
+-- the error by which a status is told
 abbrev pub status_error : NtStatus → ReplyError
 status_error InsufficientResources = Enomem
 status_error MediaWriteProtected = Eperm
@@ -34,19 +34,19 @@ status_error NoSuchDevice = Eshutdown
 status_error DeletePending = Eshutdown
 status_error _ = Eio
 
--- the error that a refusal is told as
+-- the error by which a refusal is told
 abbrev pub refusal_error : Refusal → ReplyError
 refusal_error NoResources = Enomem
 refusal_error _ = Eio
 
--- what a request came to: its bytes where it succeeded, or the error that it is told as
+-- what a request came to: its bytes where it succeeded, or the error by which its failure is told
 abbrev pub ComesTo : Result Answer Refusal → Result (List ℕ) ReplyError → Type 0
 ComesTo (Ok answer) (Ok bytes) = (answer.status ≡ Success) × (bytes ≡ answer.bytes)
 ComesTo (Ok answer) (Err error) = (answer.status ≢ Success) × (error ≡ status_error answer.status)
 ComesTo (Err reason) (Ok bytes) = ⊥
 ComesTo (Err reason) (Err error) = error ≡ refusal_error reason
 
--- the stack was asked for this, and answered so
+-- the stack was asked for this event, and this came of it
 pub record IsAsked (old : FiledView) (event : Event) (done : Result (List ℕ) ReplyError) (new : FiledView) : Type 0 where
   pub result : Result Answer Refusal
   pub requests : Requests old.carried event result new.carried
@@ -54,7 +54,7 @@ pub record IsAsked (old : FiledView) (event : Event) (done : Result (List ℕ) R
   pub same_handle : new.handle ≡ old.handle
   pub same_sizes : new.sizes ≡ old.sizes
 
--- the same, of a request that brings no bytes: the error, if it failed
+-- the stack was asked for an event that brings no bytes, and this is its error, if it failed
 pub record IsDone (old : FiledView) (event : Event) (failed : Option ReplyError) (new : FiledView) : Type 0 where
   pub done : Result (List ℕ) ReplyError
   pub asked : IsAsked old event done new
@@ -72,30 +72,30 @@ abbrev pub read_outcome : Result (List ℕ) ReplyError → Outcome
 read_outcome (Ok bytes) = success bytes
 read_outcome (Err error) = failure error
 
--- how any other ends
+-- how any other command ends
 abbrev pub plain_outcome : Option ReplyError → Outcome
 plain_outcome None = success []
 plain_outcome (Some error) = failure error
 
--- this many bytes from this one on were asked for, in place of as many others
+-- a read asked for this many bytes from this one on, into a buffer of as many
 pub record Gets (old : FiledView) (offset count : ℕ) (done : Result (List ℕ) ReplyError) (new : FiledView) : Type 0 where
   pub buffer : List ℕ
   pub as_many : length buffer ≡ count
   pub asked : IsAsked old (ReadEvent old.handle offset buffer) done new
 
--- the same, or there was no memory for them
+-- such a read was made, or there was no memory for its buffer
 abbrev pub Reads : FiledView → ℕ → ℕ → Result (List ℕ) ReplyError → FiledView → Type 0
 Reads old offset count (Ok bytes) new = Gets old offset count (Ok bytes) new
 Reads old offset count (Err error) new = Gets old offset count (Err error) new ⊎ LacksMemory old error new
 
--- these bytes were to be written from this one on
+-- a write asked to put these bytes from this one on
 abbrev pub Writes : FiledView → ℕ → List ℕ → Bool → Option ReplyError → FiledView → Type 0
 Writes old offset bytes through failed new = IsDone old (WriteEvent old.handle offset bytes through) failed new
 
 abbrev pub Flushes : FiledView → Option ReplyError → FiledView → Type 0
 Flushes old failed new = IsDone old (FlushEvent old.handle) failed new
 
--- the sum of these
+-- the sum of these numbers
 abbrev pub total : List ℕ → ℕ
 total [] = 0
 total (count ∷ counts) = total counts + count
@@ -121,7 +121,7 @@ pub record StopsClearing (old : FiledView) (offset count : ℕ) (through : Bool)
   pub cleared : HasCleared old offset done through mid
   pub stops : Writes mid (offset + done) (replicate next 0) through (Some error) new ⊎ LacksMemory mid error new
 
--- this many zeros were to be written: writes of as many in all did it, or it failed behind fewer
+-- a command to write this many zeros: writes of as many in all did it, or a write failed behind fewer
 abbrev pub ClearsBy : FiledView → ℕ → ℕ → Bool → Option ReplyError → FiledView → Type 0
 ClearsBy old offset count through None new = HasCleared old offset count through new
 ClearsBy old offset count through (Some error) new = StopsClearing old offset count through error new

@@ -27,11 +27,11 @@ use Rattle.serving.specs.declared.faults.Error.TheVariants.{Startup, NoPartition
 abbrev pub array_of : VolumeContent → Content
 array_of c = record { block = c.sector_size; bytes = c.bytes }
 
--- how it may fail: by any fault
+-- the array may fail by any fault, and then hold any bytes
 abbrev pub may_fail : Faulting
 may_fail old new fault = ⊤
 
--- the one that a failed call of the volume is told as
+-- the fault of the array by which a failed call of the volume is told
 abbrev pub told_fault : VolumeFault → ArrayFault
 told_fault (RefusedCall InsufficientResources) = OutOfMemory
 told_fault (RefusedCall _) = FailedArray
@@ -45,20 +45,20 @@ told_fault (FailedCall _) = FailedArray
 abbrev pub new_array : Config → ℕ → Content
 new_array c p = record { block = c.sector_size; bytes = concat (zeros c (extent_at (extents_of c) p).count) }
 
--- the fault that an end of the session is told as
+-- the fault by which an end of the session is told
 abbrev pub fault_of_end : End → Option Error
 fault_of_end Left = None
 fault_of_end NoProtocol = Some Malformed
 fault_of_end Input = Some InputEnded
 fault_of_end Output = Some OutputFailed
 
--- the fault that a volume which can't be opened is told as
+-- the fault by which a volume that can't be opened is told
 abbrev pub fault_of_open : OpenFault → Error
 fault_of_open (NotStarted fault) = Startup (Start fault)
 fault_of_open (Refused InvalidParameter) = NoPartition
 fault_of_open (Refused _) = NoMemory
 
--- why there is no disk of these settings, or no such partition of it
+-- why there is no disk of these settings, or no partition of this number on it
 abbrev pub IsStartFault : Config → ℕ → Error → Type 0
 IsStartFault c p (Startup (Start fault)) = IsStackFault c fault
 IsStartFault c p NoPartition = length (extents_of c) ≤ p
@@ -82,7 +82,7 @@ pub record HasNone (config : Option (List ℕ)) (p : ℕ) (input out : Option (L
   pub unread : rest ≡ input
   pub unwritten : after ≡ out
 
--- a session, over the partition as the settings make it
+-- a session took place, over the partition as the settings make it
 pub record HasSession (config : Option (List ℕ)) (p : ℕ) (input out : Option (List ℕ)) (told : Option Error) (after : Option (List ℕ)) : Type 0 where
   pub settings : Config
   pub are_read : AreRead config settings

@@ -11,34 +11,34 @@ use std::fmt;
 /// Why the program ends early. Its text is the line that is said of it.
 #[derive(Debug, Clone, Copy, PartialEq, Eq)]
 pub enum Error {
-    /// The words of the command line ask for nothing that there is, or for help.
+    /// The words of the command line ask for nothing that can be served, or for help.
     Usage,
     /// There is no stack of the settings.
     Startup(startup::Error),
     /// The settings have no such partition.
     NoPartition,
-    /// The disk in a file is none that can be served.
+    /// The disk in a file can't be served.
     Disk(DiskFault),
     /// What came is not the protocol, or asks for an export that isn't there.
     Malformed,
     /// Input ended, or failed, and the client had not left by the protocol.
     InputEnded,
-    /// Output took not all of a reply.
+    /// Output didn't take all of a reply.
     OutputFailed,
     /// Memory was refused.
     NoMemory,
 }
 
-/// Why a disk in a file is none that can be served. Its text is that of the line.
+/// Why a disk in a file can't be served. Its text stands in the line that is said.
 #[derive(Debug, Clone, Copy, PartialEq, Eq)]
 pub enum DiskFault {
     /// The file can't be opened.
     NotOpened,
-    /// The file can't be made, or the table can't be written there; also where there is a file already.
+    /// The file can't be made, since there is one already or for another reason, or the table can't be written there.
     NotCreated,
-    /// Another process has it.
+    /// Another process has locked the file.
     InUse,
-    /// It has not as many bytes as the disk of the settings.
+    /// The file has another number of bytes than the disk of the settings.
     OtherSize,
     /// Sector 0 can't be read.
     Unreadable,
@@ -79,7 +79,7 @@ impl fmt::Display for Error {
     }
 }
 
-/// What is wrong with a disk in a file, in print.
+/// Returns what is wrong with a disk in a file, in print.
 fn words_for(fault: DiskFault) -> &'static str
     ensures { result.now ≡ disk_text fault }
 {

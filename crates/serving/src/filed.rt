@@ -28,7 +28,7 @@ pub struct Filed<S: Storage + Drop> {
     pub(crate) disk: FileDisk<S>,
     pub(crate) handle: Handle,
     pub(crate) sizes: Sizes,
-    /// Memory for the bytes of the next request.
+    /// The memory for the bytes of the next request.
     pub(crate) kept: Vec<u8>,
 }
 
@@ -44,7 +44,7 @@ impl<S: Storage + Drop> Model for Filed<S> {
 }
 
 impl<S: Storage + Drop> Filed<S> {
-    /// For who calls it: its bytes can be counted.
+    /// Says that the partition's bytes can be counted. It does nothing; its contract is for callers.
     fn shows_few(&self)
         ensures { self.now.sizes.bytes ≤ 2 ^ 63 }
     {
@@ -55,7 +55,7 @@ impl<S: Storage + Drop> Filed<S> {
     ///
     /// # Errors
     ///
-    /// The error that its status, or why it was refused, is told as.
+    /// The error by which the request's status, or the reason of its refusal, is told.
     fn ask(&mut self, alloc: Global, event: Event) -> Result<Bytes, ReplyError>
         requires { IsTransferEvent event }
         ensures asked { IsAsked self.old event result self.new }

@@ -1,17 +1,23 @@
-//! All of the program `nbd_disk` but its `main`: its command line, the session over the disk of some settings, in memory or in
-//! a storage, and the faults that end it early.
+//! All of the program `nbd_disk` but its `main`: its command line, the session over the disk of some settings, in
+//! memory or in a storage, and the faults that end it early.
 //!
-//! It promises to the crate above, by the contract of [`serve_disk`] (`served`), that what a session has read and written is
-//! a session of the NBD protocol, over the bytes of the partition of the settings' disk, which are zeros at its start, or
-//! that nothing was read or written, and why. Of a disk in a storage it promises, by [`open_file`], that nothing was asked of
-//! the storage but its sector 0, whose table gives the partitions of the settings; by [`serve_file`], that each command of the
-//! session was answered as the stack answered its request, that all labels of the stack are one run of the machine, and that
-//! the storage got just the calls of the pieces that acted there, each of which did in the run what its calls did; by
-//! [`put_table`], that the table was written and synced. By [`command`] (`asked`, `fault`), it promises that paths and
-//! partition are those that the parser of the command line found under their names, and that only words which ask for nothing
-//! are refused; by [`Error`]'s text and [`Ending`](startup::Ending), the line of each fault, and which is one of the command
-//! line. It does not promise that there is memory, what a storage does when it is called, nor, of a reader or a writer that
-//! doesn't tell its bytes, what was read or written.
+//! It promises to the crate above:
+//!
+//! - [`serve_disk`] (`served`): what was read and written is a session of the NBD protocol, over the bytes of the
+//!   partition of the settings' disk, which are zeros at its start. Or nothing was read or written, and it tells why.
+//! - [`open_file`]: nothing was asked of the storage but its sector 0, whose table gives the partitions of the
+//!   settings.
+//! - [`serve_file`]: each command of the session was answered as the stack answered its request. All labels of the
+//!   stack are one run of the machine. The storage got just the calls of the pieces that acted there, and each piece
+//!   did in the run what its calls did.
+//! - [`put_table`]: the table was written and synced.
+//! - [`command`] (`asked`, `fault`): paths and partition are those that the parser of the command line found under
+//!   their names, and only words that ask for nothing that can be served are refused.
+//! - [`Error`]'s text and [`Ending`](startup::Ending): the line of each fault, and which fault is one of the command
+//!   line.
+//!
+//! It does not promise that there is memory, nor what a storage does when it is called. Where a reader or a writer
+//! doesn't tell its bytes, nothing is promised of what was read or written.
 #![tactic(auto)]
 
 mod faults;

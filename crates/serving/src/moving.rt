@@ -15,7 +15,7 @@ use miniport::BookedAdapter;
 use srb::Booked;
 use std::alloc::Global;
 
-/// Shows the caller which steps add an entry to a trace.
+/// Says which steps add an entry to a trace. It does nothing; its contract is for callers.
 pub(crate) fn laws_of_entries()
     ensures kept { StepsKeepEntries }
     ensures idle { IdleActsKeepEntries }
@@ -56,7 +56,8 @@ pub(crate) fn carry_out<S: Storage + Drop>(
             drain(stack, disk, alloc);
             match stack.take_answer_of(id.number) {
                 Some(answer) => Ok(answer),
-                // Nothing is out any more, so that there is one: a law of the machine that isn't told here.
+                // There is an answer, since nothing is out any more. That is a law of the machine, which isn't used
+                // here.
                 None => Err(Refusal::InvalidParameter),
             }
         }
@@ -66,7 +67,7 @@ pub(crate) fn carry_out<S: Storage + Drop>(
     }
 }
 
-/// Takes all answers that wait. Between two requests none does.
+/// Takes all answers that wait. Between two requests no answer waits.
 fn forget_answers(stack: &mut Stack<BookedAdapter>)
     ensures { stack.new ≡ record stack.old { answers = [] } }
 {
@@ -85,7 +86,7 @@ fn drain<S: Storage + Drop>(stack: &mut Stack<BookedAdapter>, disk: &mut FileDis
     'finishing: while finish_one(stack, disk, alloc) {}
 }
 
-/// Lets a piece act, and come back. Whether there was one.
+/// Lets a piece act and come back, and says whether there was one.
 fn finish_one<S: Storage + Drop>(
     stack: &mut Stack<BookedAdapter>,
     disk: &mut FileDisk<S>,
@@ -107,7 +108,7 @@ fn finish_one<S: Storage + Drop>(
     false
 }
 
-/// Lets the piece on a tag act, if there is one that could.
+/// Lets the piece on a tag act, if there is one that may.
 fn act<S: Storage + Drop>(
     stack: &mut Stack<BookedAdapter>,
     disk: &mut FileDisk<S>,
@@ -124,7 +125,7 @@ fn act<S: Storage + Drop>(
     'acting: while acts(stack, disk, alloc, tag) {}
 }
 
-/// Whether a piece on the tag acted, or failed: just as the storage did.
+/// Lets a piece on the tag act, or fail where the storage failed, and says whether one did.
 fn acts<S: Storage + Drop>(
     stack: &mut Stack<BookedAdapter>,
     disk: &mut FileDisk<S>,
@@ -146,7 +147,7 @@ fn acts<S: Storage + Drop>(
     is_done(reply)
 }
 
-/// The piece of a tag is moved by the storage, if one could act, and what came of it is booked.
+/// Has the storage move the piece of a tag, if one may act, and books what came of it.
 fn book_armed<S: Storage + Drop>(stack: &mut Stack<BookedAdapter>, disk: &mut FileDisk<S>, tag: u8)
     ensures { BooksArmed (quiet stack.old) disk.old tag (quiet stack.new) disk.new }
 {
@@ -164,7 +165,7 @@ fn book_armed<S: Storage + Drop>(stack: &mut Stack<BookedAdapter>, disk: &mut Fi
     }
 }
 
-/// Whether a piece came back from the tag. A piece on it has acted, or failed.
+/// Lets a piece come back from the tag, and says whether one did. A piece on it has acted, or failed.
 fn finishes(stack: &mut Stack<BookedAdapter>, alloc: Global, tag: u8) -> bool
     requires taken { stack.old.labels ≡ [] }
     requires none_fresh { HasNoneFresh stack.old tag }

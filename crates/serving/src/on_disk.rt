@@ -183,9 +183,9 @@ fn is_that(extent: Extent, partition: Partition) -> bool
 ///
 /// # Errors
 ///
-/// [`Error::Disk`] where the partition table of the storage gives other partitions than the settings, or can't be read, and
-/// where the settings have bad sectors, since a storage has its own; [`Error::Startup`] where no stack could be started;
-/// [`Error::NoPartition`]; [`Error::NoMemory`].
+/// [`Error::Disk`] where the partition table of the storage gives other partitions than the settings, or can't be read.
+/// Also where the settings have bad sectors, since a storage has its own. [`Error::Startup`] where no stack could be
+/// started; [`Error::NoPartition`]; [`Error::NoMemory`].
 pub fn open_file<S: Storage + Drop>(
     alloc: Global,
     config: Config,
@@ -289,7 +289,7 @@ fn opened(stack: &mut Stack<BookedAdapter>, alloc: Global, partition: u8) -> Res
     handle_in(reply)
 }
 
-/// Returns the handle that an open was replied to with.
+/// Returns the handle in the reply to an open.
 ///
 /// # Errors
 ///

@@ -21,9 +21,9 @@ use volume::OpenFault;
 ///
 /// # Errors
 ///
-/// The first of these that fits, before anything is read or written: the settings can't be read, or are refused; no stack of
-/// them could be started; there is no such partition. Then how the session ended, where the client did not leave by the
-/// protocol. Want of memory in place of a fault before the session, where memory was refused.
+/// The first of these that fits, before anything is read or written: the settings can't be read, or are refused; no
+/// stack of them could be started; there is no such partition. Where memory was refused, [`Error::NoMemory`] stands in
+/// place of any of these. Behind them comes how the session ended, where the client did not leave by the protocol.
 pub fn serve_disk<C: Read + Drop, R: Read, W: Write>(
     alloc: Global,
     config: C,
@@ -38,7 +38,7 @@ pub fn serve_disk<C: Read + Drop, R: Read, W: Write>(
     outcome(serve(alloc, &mut disk, input, out))
 }
 
-/// Returns how the program ends for a session that ended so.
+/// Returns the fault by which the program ends after a session with this end.
 pub(crate) fn outcome(end: End) -> Result<(), Error>
     ensures { result_err result ≡ fault_of_end end }
 {
@@ -50,7 +50,7 @@ pub(crate) fn outcome(end: End) -> Result<(), Error>
     }
 }
 
-/// A partition of the disk of the settings, as it is before anything was written.
+/// Opens a partition of the disk of the settings, as it is before anything was written.
 fn start(
     alloc: Global,
     config: Config,
@@ -66,7 +66,7 @@ fn start(
     }
 }
 
-/// The fault of a volume that can't be opened.
+/// Returns the fault of a volume that can't be opened.
 fn open_fault(fault: OpenFault) -> Error
     ensures { result ≡ fault_of_open fault }
 {

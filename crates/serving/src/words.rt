@@ -17,7 +17,8 @@ use std::convert::AsStr;
 ///
 /// # Errors
 ///
-/// [`Error::NoMemory`] where memory was refused, else [`Error::Usage`] where the words ask for nothing.
+/// [`Error::NoMemory`] where memory was refused, else [`Error::Usage`] where the words ask for nothing that can be
+/// served.
 pub fn command<'a, S: AsStr>(alloc: Global, words: &'a [S]) -> Result<Asked<'a>, Error>
     ensures asked { IfOk result (IsAsked (map S.text words.now)) }
     ensures fault { IfErr result (λ fault. (fault ≡ NoMemory) ⊎ ((fault ≡ Usage) × AsksForNothing (map S.text words.now))) }
@@ -64,7 +65,7 @@ impl<'a> Parser<'a> for Asked<'a> {
     ghost simple = { is_simple_program };
 }
 
-/// The partition that a word spells; the first one where there is no word.
+/// The partition that a word spells, or the first one where there is no word.
 fn partition_of(word: Option<&str>) -> Option<u8>
     ensures { MatchOption result ((n : ℕ) → ¬ (MatchOption (option_map (λ w. w.now) word.entry) (n ≡ 0) (λ text. SpellsPartition text n))) (λ n. MatchOption (option_map (λ w. w.now) word.entry) (n ≡ 0) (λ text. SpellsPartition text n)) }
 {

@@ -1,4 +1,4 @@
--- How a trace is judged as a whole, and how that fails.
+-- How a trace is judged as a whole, and why it can't be.
 use Rattle.std.specs.Prelude.{◌≡◌, ◌⊎◌, ◌++◌, ◌∷◌, ℕ, List, [], Option, IsUtf8, codes, string_bytes}
 use Rattle.std.specs.Fmt.{decimal}
 use Rattle.std.specs.Io.KnownBytes.{Appends}
@@ -15,19 +15,19 @@ use Rattle.judging.specs.declared.faults.Error.TheVariants.{BadLine, OutputFaile
 use Rattle.judging.specs.inside.Course.{IsCourse}
 use Rattle.judging.specs.Checked.{IsCheckFault, PrintsVerdict, refused_line}
 
--- what all lines of an input are
+-- what all lines of an input come to
 pub record IsCourseOf (standard : Standard) (trace : Option (List ℕ)) (course : Course) : Type 0 where
   pub text : List ℕ
   pub all : IsAllOf trace text
   pub is : IsCourse standard (¬ (IsUtf8 text)) (lines text) course
 
--- the line that is said of as many labels that are a run
+-- the line that is said of labels that are a run, by their counts
 abbrev pub tally_line : Tally → List ℕ
 tally_line tally =
     codes "legal: " ++ (decimal tally.labels ++ (codes " labels, " ++ (decimal tally.calls
     ++ (codes " requests, " ++ (decimal tally.starts ++ (codes " pieces" ++ 10 ∷ []))))))
 
--- a line that says what the lines of a trace are was printed
+-- the line was printed that is said of the lines of a trace
 abbrev pub SaysOf : Course → Option (List ℕ) → Option (List ℕ) → Verdict → Type 0
 SaysOf (Legal trial) old new Passed = Appends old new (tally_line trial.tally)
 SaysOf (Legal trial) old new Failed = ⊥

@@ -13,7 +13,7 @@ use Rattle.judging.specs.declared.opened.Standard.{Standard}
 use Rattle.judging.specs.declared.told.Told.{Told}
 use Rattle.judging.specs.declared.told.Told.TheVariants.{Label as TellsLabel, Nothing, BadWord, NotUtf8}
 
--- one more, where that is so, as far as a count goes
+-- a count with one more, where this is so and it isn't full
 abbrev pub one_more : ℕ → Bool → ℕ
 one_more count is_so = min (count + (if is_so then 1 else 0)) (2 ^ 64 - 1)
 
@@ -30,21 +30,21 @@ Tries old label number (Broken stop) = (stop.line ≡ number) × Refuses old.jud
 Tries old label number (Bad line column) = ⊥
 Tries old label number NotText = ⊥
 
--- one label more
+-- one label more is judged
 abbrev pub GoesByLabel : Course → Label → ℕ → Course → Type 0
 GoesByLabel (Legal trial) label number new = Tries trial label number new
 GoesByLabel (Broken stop) label number new = new ≡ Broken stop
 GoesByLabel (Bad line column) label number new = new ≡ Bad line column
 GoesByLabel NotText label number new = new ≡ NotText
 
--- one bad line more: the first is told
+-- one bad line more is read; the first bad one is told
 abbrev pub with_bad : Course → ℕ → ℕ → Course
 with_bad (Legal trial) number column = Bad number column
 with_bad (Broken stop) number column = Bad number column
 with_bad (Bad line first) number column = Bad line first
 with_bad NotText number column = NotText
 
--- one line more, of this number, which tells this
+-- one line more is judged, which has this number and tells this
 abbrev pub GoesOn : Course → Told → ℕ → Course → Type 0
 GoesOn old (TellsLabel label) number new = GoesByLabel old label number new
 GoesOn old Nothing number new = new ≡ old

@@ -19,7 +19,7 @@ line_of (Script fault) = codes "stackjudge: " ++ script_text fault
 line_of OutputFailed = codes "stackjudge: output failed"
 line_of NoMemory = codes "stackjudge: no memory"
 
--- nothing was done, since the words of the command line ask for nothing that there is
+-- nothing was done, since the words of the command line ask for no command
 abbrev pub is_usage : Error → Bool
 is_usage Usage = true
 is_usage _ = false

@@ -5,7 +5,7 @@
 pub struct Asked<'a> {
     /// The path of the settings.
     pub config: &'a str,
-    /// Counted from 0.
+    /// The number of the partition, counted from 0.
     pub partition: u8,
     /// The path of the file that has the disk; without one it is in memory.
     pub disk: Option<&'a str>,
