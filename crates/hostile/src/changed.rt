@@ -13,13 +13,13 @@ const SECTOR: u64 = 512;
 /// Where a changed label has to be refused.
 #[derive(Debug, Clone, Copy, PartialEq, Eq)]
 pub enum Due {
-    /// There: what came before leaves this field one value.
+    /// It is refused there: the labels before leave this field one value.
     There,
-    /// There, later or nowhere: it may be the label of another run.
+    /// It is refused there, later or nowhere: it may be the label of another run.
     Anywhere,
 }
 
-/// A label with the change of this number, and where that has to be refused. There is none of some numbers.
+/// A label with the change of this number, and where that has to be refused. Some numbers have no change.
 pub fn changed(
     alloc: Global,
     label: &Label,
@@ -46,7 +46,7 @@ pub fn changed(
     }
 }
 
-/// Bytes with the first one changed, without the last one, or with one more; none of no bytes, but one more.
+/// Bytes with the first one changed, without the last one, or with one more. An empty list can only get one more.
 fn other_bytes(alloc: Global, bytes: &[u8], change: usize) -> Result<Option<Bytes>, AllocError> {
     let mut other = Vec::from_slice(alloc, bytes)?;
     match change {
@@ -70,7 +70,7 @@ fn other_kind(kind: Kind, change: usize) -> Kind {
     }
 }
 
-/// A call whose bytes are changed, which are as many as it is long, or whose other fields are.
+/// A call with its bytes changed, which are as many as it is long, or with another field changed.
 fn call(
     alloc: Global,
     number: u64,
@@ -280,7 +280,7 @@ fn returned(piece: u128, class: Class, change: usize) -> Option<(DeviceLabel, Du
     Some((DeviceLabel::Return { piece, class }, due))
 }
 
-/// Another class, or the same with another field.
+/// Another class, or this one with another field.
 fn other_class(class: Class, change: usize) -> Option<Class> {
     match (change, class) {
         (1, Class::Good) | (2, Class::Busy) => None,

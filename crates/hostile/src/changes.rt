@@ -12,10 +12,10 @@ use machine::Label;
 use std::alloc::Global;
 use std::mem;
 
-/// No label has more changes.
+/// The most changes that a label has.
 const MOST_CHANGES: usize = 32;
 
-/// Each label of so many random runs, from this seed on, changed in each field.
+/// Changes each label of this many random runs, from this seed on, in each field.
 pub fn changes(alloc: Global, seed: u64, runs: u64) -> Result<Changes, HostileFault> {
     let mut tally = Changes::new();
     for n in 0..runs {
@@ -26,7 +26,7 @@ pub fn changes(alloc: Global, seed: u64, runs: u64) -> Result<Changes, HostileFa
     Ok(tally)
 }
 
-/// Each label of a run.
+/// Changes each label of a run.
 fn change_all(
     alloc: Global,
     seed: u64,
@@ -48,7 +48,7 @@ fn change_all(
     Ok(())
 }
 
-/// The label of a place, changed, if it has so many changes.
+/// The label of a place with the change of this number, if it has that.
 fn change_of(
     alloc: Global,
     labels: &[Label],
@@ -64,9 +64,9 @@ fn change_of(
 /// Where both judges stop, if they do.
 #[derive(Debug, Clone, Copy)]
 pub struct Seen {
-    /// The one that is given all labels at once.
+    /// Where the judge stops that is given all labels at once.
     pub whole: Option<usize>,
-    /// The one that takes them one by one, and names a rule.
+    /// Where the judge stops that takes them one by one, and names a rule.
     pub stepwise: Option<usize>,
 }
 

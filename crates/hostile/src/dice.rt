@@ -3,7 +3,7 @@
 use rand_core::Rng;
 use rand_pcg::Pcg32;
 
-/// A source of numbers, the same for the same seed.
+/// A source of numbers, which its seed determines.
 #[derive(Drop)]
 pub struct Dice {
     rng: Pcg32,
@@ -17,17 +17,17 @@ impl Dice {
         }
     }
 
-    /// A number below `many`, and 0 where that is 0.
+    /// A number below `many`, or 0 where `many` is 0.
     pub fn below(&mut self, many: u32) -> u32 {
         self.rng.next_u32().checked_rem(many).unwrap_or(0)
     }
 
-    /// The same of at most 256.
+    /// A byte below `many`, which is at most 256, or 0 where `many` is 0.
     pub fn byte(&mut self, many: u32) -> u8 {
         u8::try_from(self.below(many)).unwrap_or(0)
     }
 
-    /// Whether one of `many` came up.
+    /// Whether a chance of one in `many` came up.
     pub fn one_of(&mut self, many: u32) -> bool {
         self.below(many) == 0
     }

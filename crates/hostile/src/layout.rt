@@ -12,10 +12,10 @@ use std::alloc::Global;
 /// Bytes of a sector.
 pub const SECTOR: u32 = 512;
 
-/// The first sector of a partition, and the number of its sectors; 0 where there is none.
+/// The first sector of a partition, and the number of its sectors, which is 0 where there is no partition.
 pub type Partition = (u32, u32);
 
-/// No sector at all, in a list of bad ones.
+/// The number in a list of bad sectors that stands for none.
 pub const NONE_BAD: u64 = u64::MAX;
 
 /// A disk, an adapter and a stack.
@@ -48,7 +48,7 @@ impl Layout {
         bytes
     }
 
-    /// The limits of its stack.
+    /// Returns the limits of the stack.
     pub fn settings(&self) -> Settings {
         Settings {
             window: self.window,

@@ -2,16 +2,16 @@
 //! acts, finishes and resets. There are runs worked by hand, with a reset, a cancel, a close or a removal put in at
 //! every place in turn, and with each act failing in turn; and runs of random settings and steps.
 //!
-//! Of each run it is asked whether its labels are a run of the sector machine, from sectors of zeros on (`judge`);
-//! whether the machine is settled where they end; whether the answers that were taken after each step are those of
-//! its labels; and, where all that was out came back and nothing is held, whether each request was answered. Each
-//! label of a few random runs is then changed in each of its fields, and judged: it is refused where what came before
-//! leaves it no such value, and the judge of a whole list stops where the one does that takes label by label.
+//! The program asks of each run whether its labels are a run of the sector machine, from sectors of zeros on (`judge`).
+//! It asks whether the machine is settled where the labels end, and whether the answers that were taken after each step
+//! are those of its labels. Where all that was out came back and nothing is held, it asks whether each request was
+//! answered. Each label of a few random runs is then changed in each of its fields, and judged. It is refused where the
+//! labels before leave it no such value, and the judge of a whole list stops where the judge of single labels does.
 //!
-//! `hostile` takes a fixed seed, and `hostile SEED RUNS` makes as many random runs as one asks for; run n has the
-//! seed SEED + n, so a wrong one is made again by its own seed and 1. A line is printed for each sweep, and one for
-//! the first wrong run of a sweep; the exit status is 1 where a run was wrong, and 2 where there is no verdict. It
-//! promises nothing by contract: it is a test.
+//! `hostile` takes a fixed seed, and `hostile SEED RUNS` makes this many random runs. Run n has the seed SEED + n, so a
+//! wrong one is made again by its own seed and 1. A line is printed for each sweep, and one for the first wrong run of
+//! a sweep. The exit status is 1 where a run was wrong, and 2 where there is no verdict. The program promises nothing
+//! by contract: it is a test.
 #![tactic(auto)]
 
 mod changed;
@@ -43,7 +43,7 @@ const SEED: u64 = 7;
 /// The number of random runs where none is given.
 const RUNS: u64 = 5000;
 
-/// The number of random runs of which each label is changed, of as many as are asked for at most.
+/// The number of random runs of which each label is changed, where as many are asked for.
 const CHANGED_RUNS: u64 = 10;
 
 /// Returns what the command line asks for: a seed, and a number of runs.
@@ -74,7 +74,7 @@ fn is_wrong(rt: &HostRuntime, first: Option<(Case, Wrong)>) -> Result<bool, Host
     Ok(true)
 }
 
-/// Both sweeps of a row.
+/// Makes both sweeps of a row.
 fn sweep(rt: &HostRuntime, row: &Row) -> Result<bool, HostileFault> {
     let inserted = insertions(rt.alloc(), row)?;
     println!(rt;
@@ -91,7 +91,7 @@ fn sweep(rt: &HostRuntime, row: &Row) -> Result<bool, HostileFault> {
     Ok(first || second)
 }
 
-/// All sweeps, and then the random runs; whether one was wrong.
+/// Makes all sweeps and then the random runs, and returns whether one was wrong.
 fn run(rt: &HostRuntime) -> Result<bool, HostileFault> {
     let (seed, runs) = asked(rt)?;
     let mut any = false;
@@ -109,7 +109,7 @@ fn run(rt: &HostRuntime) -> Result<bool, HostileFault> {
     Ok(any || wrong || changed)
 }
 
-/// Each label of some random runs, changed; whether one was judged wrongly.
+/// Changes each label of some random runs, and returns whether one was judged wrongly.
 fn change(rt: &HostRuntime, seed: u64, runs: u64) -> Result<bool, HostileFault> {
     let tally = changes(rt.alloc(), seed, runs)?;
     let refused = tally.there.saturating_add(tally.later);

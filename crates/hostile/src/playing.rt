@@ -15,7 +15,7 @@ use std::alloc::{AllocError, Global};
 pub struct Told {
     /// Whether the stack started.
     pub is_started: bool,
-    /// Of all steps, in order.
+    /// The labels of all steps, in order.
     pub labels: Vec<Label>,
     /// Whether the answers that were taken after each step are those of its labels.
     pub fits: bool,
@@ -114,7 +114,7 @@ fn labels_of<A: Adapter>(alloc: Global, stack: &mut Stack<A>) -> Result<Vec<Labe
     Ok(labels)
 }
 
-/// Takes the waiting answers, as many as labels tell and one more, and says whether they are those.
+/// Takes the waiting answers, as many as labels tell and one more, and says whether they are the answers of the labels.
 fn fits<A: Adapter>(stack: &mut Stack<A>, labels: &[Label]) -> bool
     requires { stack.old.labels ≡ [] }
     ensures { stack.new.labels ≡ [] }
@@ -128,7 +128,7 @@ fn fits<A: Adapter>(stack: &mut Stack<A>, labels: &[Label]) -> bool
     fits && more.is_none()
 }
 
-/// Takes the answer that a label tells, if it tells one, and says whether it is that.
+/// Takes the waiting answer where a label tells one, and says whether it is the one that the label tells.
 fn fits_label<A: Adapter>(stack: &mut Stack<A>, label: &Label) -> bool
     requires { stack.old.labels ≡ [] }
     ensures { stack.new.labels ≡ [] }

@@ -11,7 +11,7 @@ use crate::verdicts::{Goes, wrong_of};
 use compose::{Handle, Id};
 use std::alloc::{AllocError, Global};
 
-/// This many runs, from this seed on.
+/// Makes this many runs, from this seed on.
 pub fn random_runs(alloc: Global, seed: u64, runs: u64) -> Result<Tally, HostileFault> {
     let mut tally = Tally::new();
     for n in 0..runs {
@@ -146,7 +146,7 @@ fn steps(
     Ok(steps)
 }
 
-/// Any step; a finish mostly has an act in front.
+/// A step of any kind. A finish mostly has an act in front.
 fn push_any(steps: &mut Vec<Step>, dice: &mut Dice, layout: &Layout) -> Result<(), AllocError> {
     if !dice.one_of(3) {
         steps.push(step(dice, layout))?;
@@ -160,8 +160,8 @@ fn push_any(steps: &mut Vec<Step>, dice: &mut Dice, layout: &Layout) -> Result<(
     Ok(())
 }
 
-/// Whether a piece acts before it is finished: else it comes back busy. Of one request alone pieces may come back
-/// busy often.
+/// Whether a piece acts before it is finished; else it comes back busy. Pieces come back busy often only where one
+/// request is alone.
 fn acts_first(dice: &mut Dice, layout: &Layout) -> bool {
     if layout.open_requests == 1 {
         dice.one_of(30)
@@ -183,7 +183,7 @@ fn push_end(steps: &mut Vec<Step>, layout: &Layout) -> Result<(), AllocError> {
     Ok(())
 }
 
-/// Any step.
+/// A step of any kind.
 fn step(dice: &mut Dice, layout: &Layout) -> Step {
     match dice.below(1000) {
         0..260 if layout.open_requests > 1 => Step::Act(tag(dice, layout)),
@@ -260,7 +260,7 @@ fn offset(dice: &mut Dice, layout: &Layout) -> u64 {
         .saturating_add(within as u64)
 }
 
-/// Bytes of no sector up to those of several pieces, seldom not of whole ones.
+/// A number of bytes, from no sector up to several pieces, seldom not of whole sectors.
 fn length(dice: &mut Dice, layout: &Layout) -> u32 {
     let most = layout.max_transfer.saturating_mul(3).saturating_add(2);
     let most = if dice.one_of(3) { most } else { 4 };

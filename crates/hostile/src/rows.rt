@@ -117,7 +117,7 @@ const REMOVED: [Step; 9] = [
     Step::Read(FIRST, 0, 512),
 ];
 
-/// All of them.
+/// All rows.
 pub const ROWS: [Row; 5] = [
     Row {
         name: "four pieces, cancelled",

@@ -7,20 +7,20 @@ use std::alloc::{AllocError, Global};
 /// The handle of a step.
 #[derive(Debug, Clone, Copy)]
 pub enum On {
-    /// This one, open or not.
+    /// This handle, open or not.
     Made(Handle),
-    /// One of those that the stack gave, counted from the last back, and round.
+    /// A handle that the stack gave, counted from the last back, and round.
     Given(u32),
 }
 
 /// The request of a cancel.
 #[derive(Debug, Clone, Copy)]
 pub enum Target {
-    /// All on the handle.
+    /// All requests on the handle.
     All,
-    /// This one, open or not.
+    /// This request, open or not.
     Made(Id),
-    /// As for [`On`].
+    /// A request that the stack gave, counted from the last back, and round.
     Given(u32),
 }
 

@@ -38,13 +38,13 @@ const INSERTIONS: [Insertion; 4] = [
     },
 ];
 
-/// After a row each tag acts and is finished this many times: no row has more pieces.
+/// How many times each tag acts and is finished after a row. No row has more pieces.
 const ROUNDS: usize = 8;
 
 /// One more than the acts of the longest row.
 const MOST_ACTS: u64 = 64;
 
-/// A row with each insertion before each of its steps and at its end.
+/// Plays a row with each insertion before each of its steps and at its end.
 pub fn insertions(alloc: Global, row: &Row) -> Result<Tally, HostileFault> {
     let mut tally = Tally::new();
     for insertion in &INSERTIONS {
@@ -89,7 +89,7 @@ fn insert(
     Ok(())
 }
 
-/// A row with each of its acts failing in turn, those of the start too.
+/// Plays a row with each of its acts failing in turn, the acts of the start too.
 pub fn failures(alloc: Global, row: &Row) -> Result<Tally, HostileFault> {
     let mut tally = Tally::new();
     for act in 0..MOST_ACTS {
@@ -100,7 +100,7 @@ pub fn failures(alloc: Global, row: &Row) -> Result<Tally, HostileFault> {
     Ok(tally)
 }
 
-/// A row with one act failing; whether that act came.
+/// Plays a row with one act failing, and returns whether that act came.
 fn fail(alloc: Global, row: &Row, act: u64, tally: &mut Tally) -> Result<bool, HostileFault> {
     let steps = steps_of(alloc, row, &[row.steps])?;
     let layout = row.layout();
@@ -123,7 +123,7 @@ fn acts(told: &Told) -> u64 {
     acts
 }
 
-/// Steps one after the other, and then all that is out acts and is finished.
+/// Plays steps one after the other, and then all that is out acts and is finished.
 fn steps_of(alloc: Global, row: &Row, parts: &[&[Step]]) -> Result<Vec<Step>, AllocError> {
     let mut steps = Vec::new(alloc);
     for part in parts {

@@ -8,13 +8,13 @@ use std::fmt;
 /// A run of a sweep.
 #[derive(Debug, Clone, Copy)]
 pub enum Case {
-    /// With this put in before the step of this place, counted from 0, or behind the last.
+    /// The run with this put in before the step of this place, counted from 0, or behind the last.
     Inserted { what: &'static str, before: usize },
-    /// With the act of this number failing, counted from 0.
+    /// The run in which the act of this number fails, counted from 0.
     Failing { act: u64 },
     /// The random run of this seed.
     Seeded { seed: u64 },
-    /// The same, with the label of this place changed, both counted from 0.
+    /// The random run of this seed, with this change of the label of this place. Both count from 0.
     Changed { seed: u64, at: usize, change: usize },
 }
 
@@ -35,7 +35,7 @@ impl fmt::Display for Case {
 #[derive(Debug, Clone, Copy)]
 pub struct Tally {
     pub runs: u64,
-    /// Those whose stack started.
+    /// How many runs had a stack that started.
     pub started: u64,
     pub labels: u64,
     pub wrong: u64,
@@ -44,7 +44,7 @@ pub struct Tally {
 }
 
 impl Tally {
-    /// No runs yet.
+    /// The tally of no runs.
     pub fn new() -> Tally {
         Tally {
             runs: 0,
@@ -55,7 +55,7 @@ impl Tally {
         }
     }
 
-    /// One run more.
+    /// Counts one run more.
     pub fn add(&mut self, case: Case, told: &Told, wrong: Option<Wrong>) {
         self.runs = self.runs.saturating_add(1);
         self.started = self.started.saturating_add(told.is_started as u64);
@@ -75,9 +75,9 @@ impl Tally {
 pub struct Changes {
     pub labels: u64,
     pub changes: u64,
-    /// Those whose label is refused itself.
+    /// How many changes had the changed label refused.
     pub there: u64,
-    /// Those of which a later label is refused.
+    /// How many changes had a later label refused.
     pub later: u64,
     pub wrong: u64,
     /// The first wrong change.
@@ -85,7 +85,7 @@ pub struct Changes {
 }
 
 impl Changes {
-    /// No changes yet.
+    /// The tally of no changes.
     pub fn new() -> Changes {
         Changes {
             labels: 0,
@@ -97,7 +97,7 @@ impl Changes {
         }
     }
 
-    /// One change more, of the label of this place.
+    /// Counts one change more, of the label of this place.
     pub fn add(&mut self, case: Case, at: usize, seen: Seen, wrong: Option<Wrong>) {
         self.changes = self.changes.saturating_add(1);
         match seen.whole {

@@ -21,11 +21,12 @@ pub enum Wrong {
     Unsettled,
     /// All pieces came back, and a request is still open.
     Unanswered,
-    /// Of a changed run: the judge of a list and the one that takes label by label stop at different places.
+    /// The two judges of a changed run stop at different places: the judge of a list, and the one that takes single
+    /// labels.
     Judges,
     /// A label before the one that was changed was refused.
     Before,
-    /// What came before the changed label leaves it no such value, and it was taken.
+    /// The labels before the changed one leave it no such value, and it was taken.
     Taken,
 }
 

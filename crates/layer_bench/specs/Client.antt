@@ -16,7 +16,7 @@ sizes = record { sector_size = 512; sectors = 8; max_transfer = 2; depth = 2; fa
 abbrev pub port_rules : Rules
 port_rules = rules_of sizes
 
--- those of the layer: the port, where packets bring an SRB, or the class driver over it
+-- the rules of the layer: the port, where packets bring an SRB, or the class driver over it
 abbrev pub rules_for : Bool → Rules
 rules_for true = port_rules
 rules_for false = class_rules port_rules
@@ -36,7 +36,7 @@ pub record Brings (takes_srb : Bool) (number : ℕ) (r : Request) (irp : Irp) : 
   pub asks : AsksInLocation takes_srb r irp
   pub carries : Carries takes_srb (rules_for takes_srb) r irp.payload
 
--- the layer stays, and numbers from this one on were not given
+-- the layer is not being removed, and numbers from this one on were not given
 pub record IsServed (takes_srb : Bool) (v : DeviceView) (next : ℕ) : Type 0 where
   pub rules_are : v.rules ≡ rules_for takes_srb
   pub many : 2 ^ 63 ≤ v.most
@@ -44,7 +44,7 @@ pub record IsServed (takes_srb : Bool) (v : DeviceView) (next : ℕ) : Type 0 wh
   pub submitted : v.submitted < next
   pub staying : IsFalse v.state.removing
 
--- what a client knows stays as it is
+-- what a client knows has not changed
 pub record Keeps (old new : DeviceView) : Type 0 where
   pub rules : new.rules ≡ old.rules
   pub most : new.most ≡ old.most
@@ -52,6 +52,6 @@ pub record Keeps (old new : DeviceView) : Type 0 where
   pub submitted : new.submitted ≡ old.submitted
   pub removing : new.state.removing ≡ old.state.removing
 
--- with no label left to take
+-- the layer with no label left to take
 abbrev pub unlabelled : DeviceView → DeviceView
 unlabelled v = record v { adapter = record v.adapter { labels = [] } }

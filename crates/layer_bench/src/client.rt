@@ -15,11 +15,12 @@ use std::alloc::{AllocError, Global};
 /// Bytes of a sector.
 const SECTOR_SIZE: usize = 512;
 
-/// Carries this many requests of one sector through a layer, each to its end before the next; how many succeeded.
+/// Carries this many requests of one sector through a layer, each to its end before the next, and returns how many
+/// succeeded.
 ///
 /// # Errors
 ///
-/// [`AllocError`] where memory for one was refused.
+/// [`AllocError`] where memory for a request was refused.
 pub fn carry<D: Device>(alloc: Global, device: &mut D, count: u32) -> Result<u32, AllocError>
     requires locations { D.stack_size ≤ 4 }
     requires served { IsServed D.takes_srb (D.view device.old) 1 }
@@ -34,7 +35,7 @@ pub fn carry<D: Device>(alloc: Global, device: &mut D, count: u32) -> Result<u32
     Ok(succeeded)
 }
 
-/// Carries the request of a number to its end; true where it succeeded.
+/// Carries the request of a number to its end, and returns whether it succeeded.
 fn carry_one<D: Device>(alloc: Global, device: &mut D, number: u64) -> Result<bool, AllocError>
     requires locations { D.stack_size ≤ 4 }
     requires few { number < 2 ^ 63 }
@@ -79,7 +80,7 @@ fn take_labels<D: Device>(device: &mut D)
     while device.take_label().is_some() {}
 }
 
-/// Takes the request that has ended; true where there is one and it succeeded.
+/// Takes the request that has ended, and returns whether there is one and it succeeded.
 fn take_up<D: Device>(device: &mut D) -> bool
     ensures keeps { Keeps (D.view device.old) (D.view device.new) }
 {
@@ -97,7 +98,7 @@ fn is_success(climb: &Climb) -> bool {
     }
 }
 
-/// The request of a number: a write of a sector, or then its read.
+/// The request of a number: the write of a sector where the number is odd, else the read of a sector.
 fn request_of(number: u64) -> Request
     ensures { IsOneSector result }
 {

@@ -1,8 +1,9 @@
-//! What a layer costs: this program carries requests of one sector through the port alone, or through the class driver over
-//! it, each to its end before the next, and prints how many succeeded. Who runs it takes the time (`bench/run`).
+//! What a layer costs. This program carries requests of one sector through the port alone, or through the class driver
+//! over the port, each to its end before the next, and prints how many succeeded. `bench/run` runs it and takes the
+//! time.
 //!
-//! It promises, by the contract of [`client::carry`], that no more succeed than were asked for, and of times nothing. That
-//! all succeed is tested by what it prints.
+//! It promises, by the contract of [`client::carry`], that no more requests succeed than were asked for. It promises
+//! nothing of times. That all succeed is tested by what it prints.
 #![tactic(auto)]
 
 mod client;

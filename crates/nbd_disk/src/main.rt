@@ -1,16 +1,18 @@
-//! The program: serves a partition of a disk to one NBD client, on standard input and output. The disk is in memory, or in a
-//! file.
+//! This program serves a partition of a disk to one NBD client, on standard input and output. The disk is in memory, or
+//! in a file.
 //!
-//! A relay that starts a program for each connection makes it a server (`socat UNIX-LISTEN:disk.sock EXEC:"nbd_disk CONFIG"`).
+//! A relay that starts a program for each connection makes it a server (`socat UNIX-LISTEN:disk.sock EXEC:"nbd_disk
+//! CONFIG"`).
 //!
-//! It promises, by the contract of [`serving::serve_disk`] (`served`), that what a session over a disk in memory has read and
-//! written is a session of the NBD protocol, over the bytes of the partition of the settings' disk, which are zeros at its
-//! start; by [`serving::serve_file`], the same over a file, with just the calls to the file that the pieces of the requests
-//! made; by [`serving::command`], that paths and partition are those that the parser of the command line found under their
-//! names, and that only words which ask for nothing are refused; by [`Error`]'s text and [`Ending`](startup::Ending), the line
-//! and the exit status of each fault, as [`startup::say`] and [`startup::ended`] give them. The bytes of standard input and
-//! output themselves, and what a file does, are told by no contract: what is promised is promised of readers and writers that
-//! tell theirs. Each client has a disk in memory of its own; a file is locked for one.
+//! It promises, by the contract of [`serving::serve_disk`] (`served`), that what a session over a disk in memory has
+//! read and written is a session of the NBD protocol, over the bytes of the partition of the settings' disk, which are
+//! zeros at its start; by [`serving::serve_file`], the same over a file, with just the calls to the file that the
+//! pieces of the requests made; by [`serving::command`], that paths and partition are those that the parser of the
+//! command line found under their names, and that only words which ask for nothing are refused; by [`Error`]'s text and
+//! [`Ending`](startup::Ending), the line and the exit status of each fault, as [`startup::say`] and [`startup::ended`]
+//! give them. The bytes of standard input and output themselves, and what a file does, are told by no contract: what is
+//! promised is promised of readers and writers that tell theirs. Each client has a disk in memory of its own; a file is
+//! locked for one.
 #![tactic(auto)]
 
 ghost use Rattle.settings.specs.InRange.{AreInRange};
@@ -27,16 +29,16 @@ use std::io::{BufReader, BufWriter, ErrorKind, Read, Write};
 use std::process::ExitCode;
 use std::{env, io};
 
-/// Bytes of output that are written at once. The bytes of a longer read go past the buffer, as those of a long write go past
-/// the reader's.
+/// How many bytes of output are written at once. The bytes of a longer read go past this buffer, and the bytes of a
+/// long write go past the reader's.
 const BUFFER: usize = 65_536;
 
-/// Bytes of input that are read at once, of several short writes.
+/// How many bytes of input are read at once, of several short writes.
 const INPUT_BUFFER: usize = 32_768;
 
-/// Bytes of a block that is taken at the start and given back at once, nearly the most that counts there: the C library keeps
-/// freed memory of twice as many bytes from then on, so that the buffers of a long request are not taken from the system anew
-/// each time (mallopt(3), `M_MMAP_THRESHOLD`).
+/// The bytes of a block that is taken at the start and given back at once, nearly the most that counts there. The C
+/// library keeps freed memory of twice as many bytes from then on, and the buffers of a long request are not taken from
+/// the system anew each time (mallopt(3), `M_MMAP_THRESHOLD`).
 const KEPT: usize = 33_538_048;
 
 /// A disk that is in a file.
@@ -85,13 +87,13 @@ fn run(rt: &HostRuntime) -> Result<Verdict, Error> {
     Ok(Verdict::Passed)
 }
 
-/// Has freed memory kept from here on.
+/// Makes the C library keep freed memory from here on.
 fn keep_freed(alloc: Global) {
     let block: Result<Vec<u8>, AllocError> = Vec::with_capacity(alloc, KEPT);
     drop(block);
 }
 
-/// The fault of settings that can't be opened.
+/// Returns the fault of settings that can't be opened.
 fn unopened(error: &io::Error) -> Error {
     Error::Startup(fault_of(error, startup::Error::ConfigUnreadable))
 }
@@ -127,7 +129,7 @@ fn created(rt: &HostRuntime, path: &str, config: &Config) -> Result<DiskFile, Er
     Ok(storage)
 }
 
-/// The open file: for reading alone where it can't be written, or isn't to be.
+/// Opens the file, for reading alone where it can't be written or isn't to be.
 fn opened(rt: &HostRuntime, path: &str, protected: bool) -> Result<File, Error> {
     let both = OpenOptions::new()
         .read(true)
@@ -143,7 +145,7 @@ fn opened(rt: &HostRuntime, path: &str, protected: bool) -> Result<File, Error> 
     }
 }
 
-/// Whether it may be that only writing was refused.
+/// Whether perhaps only writing was refused.
 fn is_refused(error: &io::Error) -> bool {
     matches!(
         error.kind(),
@@ -151,7 +153,7 @@ fn is_refused(error: &io::Error) -> bool {
     )
 }
 
-/// The file, for this process alone.
+/// Locks the file for this process alone.
 fn locked(file: File) -> Result<File, Error> {
     match file.try_lock() {
         Ok(()) => Ok(file),

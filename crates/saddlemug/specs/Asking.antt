@@ -11,11 +11,11 @@ use Rattle.saddlemug.specs.declared.asked.StackAsked.{StackAsked}
 use Rattle.saddlemug.specs.declared.asked.StackArmed.{StackArmed}
 use Rattle.saddlemug.specs.Stacks.{kind_number}
 
--- this many sectors of the disk from this one on
+-- what is asked for: this many sectors of the disk from this one on
 abbrev pub to_move : Kind → ℕ → ℕ → Bool → Asked
 to_move kind first count through = record { kind = kind; extent = record { first = first; count = count }; through = through }
 
--- what a command asks to move; nothing, of a read capacity
+-- what a command asks to move; a READ CAPACITY asks to move nothing
 abbrev pub asked_by : Cdb → Option Asked
 asked_by (Read10 lba count fua) = Some (to_move Read lba count fua)
 asked_by (Write10 lba count fua) = Some (to_move Write lba count fua)
@@ -30,7 +30,7 @@ abbrev pub shown_asked : Option Asked → StackAsked
 shown_asked None = record { kind = 3; through = 0; first = 0; count = 0 }
 shown_asked (Some a) = record { kind = kind_number a.kind; through = if a.through then 1 else 0; first = a.extent.first; count = a.extent.count }
 
--- a piece with its SRB was told
+-- C was told of a piece with this SRB
 pub record IsToldOf (piece : ℕ) (srb : Srb) (told : StackArmed) : Type 0 where
   pub low : told.piece_low ≡ piece % 2 ^ 64
   pub high : told.piece_high ≡ piece / 2 ^ 64

@@ -8,7 +8,7 @@ use Rattle.volume.specs.Calls.{AreInBounds, IsFault, IsSameDisk, IsWriteFault as
 use Rattle.volume.specs.Shown.{VolumeView}
 use Rattle.saddlemug.specs.Statuses.{fault_status}
 
--- the number of the status of a fault of this kind
+-- this is the number of the status of a fault of this kind
 pub record IsNumberOf (IsWhy : Error → Type 0) (number : ℕ) : Type 0 where
   pub fault : Error
   pub why : IsWhy fault
@@ -18,6 +18,7 @@ pub record IsNumberOf (IsWhy : Error → Type 0) (number : ℕ) : Type 0 where
 abbrev pub IsReadFault : VolumeView → ℕ → ℕ → Error → Type 0
 IsReadFault v offset count fault = (fault ≡ Refused InsufficientResources) ⊎ IsFault v (AreInBounds v.content offset count) fault
 
--- so was a write, and it left what a volume's write leaves; for want of that memory it changed nothing
+-- a write was refused or failed, and left what a volume's write leaves; or memory for its bytes was refused, and
+-- nothing changed
 abbrev pub IsWriteFault : VolumeView → ℕ → List ℕ → Error → VolumeView → Type 0
 IsWriteFault old offset bytes fault new = ((fault ≡ Refused InsufficientResources) × IsSameDisk old new) ⊎ IsVolumeWriteFault old offset bytes fault new

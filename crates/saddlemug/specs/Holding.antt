@@ -7,7 +7,7 @@ use Rattle.io_manager.specs.Shown.{ManagerView}
 use Rattle.volume.specs.Shown.{VolumeView}
 use Rattle.saddlemug.specs.Over.{OverView}
 
--- a volume of which this is true
+-- an instance is a volume of which this is true
 abbrev pub IsVolume : (VolumeView → Type 0) → Instance → Type 0
 IsVolume P (Volume v) = P v
 IsVolume P (Stack v) = ⊥
@@ -24,7 +24,7 @@ HoldsVolume P (Some held) = IsVolume P held
 abbrev pub HoldsAnyVolume : Option Instance → Type 0
 HoldsAnyVolume = HoldsVolume (λ v. ⊤)
 
--- a stack of which this is true, whoever keeps its sectors
+-- an instance is a stack of which this is true, whoever keeps its sectors
 abbrev pub IsStack : (ManagerView → Type 0) → Instance → Type 0
 IsStack P (Volume v) = ⊥
 IsStack P (Stack v) = P v
@@ -41,7 +41,7 @@ HoldsStack P (Some held) = IsStack P held
 abbrev pub HoldsAnyStack : Option Instance → Type 0
 HoldsAnyStack = HoldsStack (λ v. ⊤)
 
--- a stack whose sectors C keeps, and of which this is true
+-- an instance is a stack whose sectors C keeps, and of which this is true
 abbrev pub IsOver : (OverView → Type 0) → Instance → Type 0
 IsOver P (Volume v) = ⊥
 IsOver P (Stack v) = ⊥

@@ -12,13 +12,13 @@ use Rattle.volume.specs.declared.OpenFault.{OpenFault}
 use Rattle.volume.specs.Shown.{VolumeView}
 use Rattle.saddlemug.specs.Statuses.{open_status, start_status}
 
--- a partition of the disk of a text's settings
+-- a volume is a partition of the disk of a text's settings
 pub record IsNewVolume (text : List ℕ) (partition : ℕ) (v : VolumeView) : Type 0 where
   pub config : Config
   pub settings : AreSettingsOf text config
   pub new : IsVolumeOf config partition v
 
--- a stack over the disk of a text's settings, before its first event
+-- a stack stands over the disk of a text's settings, before its first event
 pub record IsNewStack (text : List ℕ) (v : ManagerView) : Type 0 where
   pub config : Config
   pub settings : AreSettingsOf text config
@@ -26,7 +26,7 @@ pub record IsNewStack (text : List ℕ) (v : ManagerView) : Type 0 where
 
 -- WHY NOTHING WAS OPENED
 
--- memory was refused, or the text gives no settings
+-- why there are no settings: memory was refused, or the text gives none
 abbrev pub IsConfigStatus : List ℕ → NtStatus → Type 0
 IsConfigStatus text status = (status ≡ InsufficientResources) ⊎ ((status ≡ InvalidParameter) × IsSome (settings_fault text))
 
@@ -36,16 +36,16 @@ pub record IsOpenStatus (config : Config) (partition : ℕ) (status : NtStatus) 
   pub why : IsOpenFault config partition fault
   pub is_status : status ≡ open_status fault
 
--- or no stack
+-- the status of a fault for which there is no stack of these settings
 pub record IsStartStatus (config : Config) (status : NtStatus) : Type 0 where
   pub fault : StartFault
   pub why : IsStartFault config fault
   pub is_status : status ≡ start_status fault
 
--- there are no settings, or no volume of them
+-- why no volume was opened: there are no settings, or no volume of them
 abbrev pub IsVolumeStatus : List ℕ → ℕ → NtStatus → Type 0
 IsVolumeStatus text partition status = IsConfigStatus text status ⊎ ((config : Config) × AreSettingsOf text config × IsOpenStatus config partition status)
 
--- or no stack of them
+-- why no stack was started: there are no settings, or no stack of them
 abbrev pub IsStackStatus : List ℕ → NtStatus → Type 0
 IsStackStatus text status = IsConfigStatus text status ⊎ ((config : Config) × AreSettingsOf text config × IsStartStatus config status)

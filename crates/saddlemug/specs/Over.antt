@@ -28,7 +28,7 @@ use Rattle.saddlemug.specs.Statuses.{start_status}
 
 pub record OverView : Type 0 where
   pub stack : ManagerView
-  -- by tag, the bytes of the pieces that C was told of
+  -- for each tag the bytes of its piece, if C was told of it
   pub places : List (Option PieceBytes)
 
 abbrev pub over : ManagerView → List (Option PieceBytes) → OverView
@@ -43,7 +43,7 @@ pub record OverKept (stack : ManagerView) (places : List (Option PieceBytes)) (d
 
 -- OPENING
 
--- sizes that a disk with this first sector can have
+-- a disk with this first sector can have these sizes
 pub record IsDisk (disk : StackDisk) (first : List ℕ) : Type 0 where
   pub long : (length first ≡ 512) ⊎ (length first ≡ 4096)
   pub sectors : (1 ≤ disk.sectors) × (disk.sectors ≤ 2 ^ 40)
@@ -53,7 +53,7 @@ pub record IsDisk (disk : StackDisk) (first : List ℕ) : Type 0 where
 abbrev pub limits_of : StackDisk → Settings
 limits_of disk = record { window = disk.window; open_requests = disk.open_requests }
 
--- a stack over such a disk before its first event, with nothing told of any piece
+-- a stack stands over such a disk before its first event, and C was told of no piece
 pub record IsNewOver (disk : StackDisk) (first : List ℕ) (v : OverView) : Type 0 where
   pub is_disk : IsDisk disk first
   pub adapter : MemView
@@ -61,7 +61,7 @@ pub record IsNewOver (disk : StackDisk) (first : List ℕ) (v : OverView) : Type
   pub start : IsFirstView (apart adapter.shown) (limits_of disk) v.stack
   pub none_told : v.places ≡ replicate 256 None
 
--- over such a disk no stack could be started
+-- no stack could be started over such a disk
 pub record StartsNone (disk : StackDisk) (first : List ℕ) (status : NtStatus) : Type 0 where
   pub is_disk : IsDisk disk first
   pub adapter : MemView
@@ -71,14 +71,14 @@ pub record StartsNone (disk : StackDisk) (first : List ℕ) (status : NtStatus) 
   pub why : IsSpent (apart adapter.shown) (limits_of disk) fault spent
   pub is_status : status ≡ start_status fault
 
--- memory was refused, there is no such disk, or no stack could be started over it
+-- why there is no stack: memory was refused, there is no such disk, or no stack could be started over it
 abbrev pub IsOverStatus : StackDisk → List ℕ → NtStatus → Type 0
 IsOverStatus disk first status =
     (status ≡ InsufficientResources) ⊎ (((status ≡ InvalidParameter) × (¬ IsDisk disk first)) ⊎ StartsNone disk first status)
 
 -- TELLING
 
--- the tag's fresh piece was told, and its bytes stand in the tag's place
+-- C was told of the tag's piece that may act, and its bytes stand in the tag's place
 pub record TellsArmed (old : OverView) (tag : ℕ) (told : StackArmed) (new : OverView) : Type 0 where
   pub piece : ℕ
   pub srb : Srb
@@ -88,7 +88,7 @@ pub record TellsArmed (old : OverView) (tag : ℕ) (told : StackArmed) (new : Ov
   pub stands : StandsAt (place_of old.places tag) piece srb.data told.bytes place
   pub after : new ≡ record old { places = slice_set old.places tag place }
 
--- no piece of the tag could act, or memory for its bytes was refused
+-- why C was told of no piece: none of the tag could act, or memory for its bytes was refused
 abbrev pub IsArmedStatus : OverView → ℕ → NtStatus → Type 0
 IsArmedStatus old tag status = ((status ≡ NotFound) × HasNoneFresh old.stack.adapter tag) ⊎ (status ≡ InsufficientResources)
 
@@ -104,19 +104,19 @@ completion_of c = record {
   sense = if c.has_sense then Some (record { key = c.key; asc = c.asc; ascq = c.ascq }) else None;
 }
 
--- an entry of a piece and of all bytes that stand in a place, which are this many
+-- an entry is of this piece and of all bytes that stand in a place, which are this many
 pub record IsEntryOf (tag piece count : ℕ) (own : PieceBytes) (entry : Entry) : Type 0 where
   pub is_piece : entry.piece ≡ piece
   pub is_tag : entry.tag ≡ tag
   pub bytes : entry.bytes ≡ own.bytes.items
   pub many : count ≡ length own.bytes.items
 
--- what C tells of a piece whose bytes stand in this place: that they were moved, or how it failed
+-- what C tells of a piece whose bytes stand in this place: they were moved, or the piece failed
 abbrev pub IsBookingOf : StackBooking → PieceBytes → Result Entry Completion → Type 0
 IsBookingOf b own (Ok entry) = (b.failed ≡ false) × IsEntryOf b.tag (piece_of b) b.length own entry
 IsBookingOf b own (Err completion) = (b.failed ≡ true) × (completion ≡ completion_of b.completion)
 
--- a piece that could act, and of which C was told
+-- a piece could act, and C was told of it
 pub record IsTold (v : OverView) (tag piece : ℕ) (srb : Srb) (own : PieceBytes) : Type 0 where
   pub armed : IsArmed v.stack.adapter tag piece srb
   pub there : place_of v.places tag ≡ Some own
@@ -128,11 +128,11 @@ abbrev pub IsNotArmed : OverView → ℕ → ℕ → Type 0
 IsNotArmed v tag piece =
     HasNoneFresh v.stack.adapter tag ⊎ ((other : ℕ) × (srb : Srb) × IsArmed v.stack.adapter tag other srb × ((other ≢ piece) ⊎ (piece ≡ 0)))
 
--- or C was not told of it since it was last booked
+-- that piece may not act, or C was not told of it since the tag was last booked
 abbrev pub IsNotTold : OverView → ℕ → ℕ → Type 0
 IsNotTold v tag piece = IsNotArmed v tag piece ⊎ (¬ HasPiece (place_of v.places tag) piece)
 
--- what a piece asks for that was told, and of which all bytes in its place were moved
+-- C was told of a piece, moved all bytes in its place, and they are what the piece asks for
 pub record IsSuited (v : OverView) (b : StackBooking) (a : Asked) : Type 0 where
   pub srb : Srb
   pub own : PieceBytes

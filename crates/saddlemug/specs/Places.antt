@@ -1,4 +1,4 @@
--- Where the bytes of the pieces stand that C was told of.
+-- Where the bytes of pieces stand of which C was told.
 use Rattle.std.specs.Prelude.{◌≡◌, ◌≢◌, ℕ, List, Option, Some, None, slice_index_or}
 use Rattle.std.specs.Vec.{vec_ptr}
 use denote.RawPtr.{Ptr}
@@ -12,7 +12,7 @@ place_of places tag = slice_index_or places tag None
 abbrev pub HasPiece : Option PieceBytes → ℕ → Type 0
 HasPiece place piece = (own : PieceBytes) × (place ≡ Some own) × (own.piece ≡ piece)
 
--- a piece with these bytes was put into a place, unless it stood there: then the place is left as it was
+-- a piece with these bytes was put into a place; where it stood there before, the place is as it was
 pub record StandsAt (old : Option PieceBytes) (piece : ℕ) (srb_data : List ℕ) (at : Ptr) (new : Option PieceBytes) : Type 0 where
   pub own : PieceBytes
   pub there : new ≡ Some own

@@ -89,7 +89,7 @@ shown_reply Ignored = replied 5 0 0 0
 
 -- LABELS
 
--- bytes stand at the head of a buffer, as many as it has room for
+-- bytes stand at the head of a buffer, as many as have room there
 pub record AreToldIn (before bytes after : List ℕ) : Type 0 where
   pub long : length after ≡ length before
   pub told : take (min (length bytes) (length before)) after ≡ take (min (length bytes) (length before)) bytes
@@ -164,7 +164,8 @@ shown_label RemoveLabel = label_of_kind 9
 shown_label Surprise = label_of_kind 10
 shown_label Removed = label_of_kind 11
 
--- the bytes that come with a label: those of a write that was taken in, a command block, what a piece moved, what a request read
+-- the bytes that come with a label: what a write brings that was taken in, a command block, what a piece moved, or what
+-- a request read
 abbrev pub label_bytes : Label → List ℕ
 label_bytes (Call number q) = q.bytes
 label_bytes (Device label) = device_bytes label

@@ -39,7 +39,7 @@ abbrev pub open_status : OpenFault → NtStatus
 open_status (Start fault) = start_status fault
 open_status (RefusedOpen reason) = refusal_status reason
 
--- the number of a status of this kind
+-- this is the number of a status of this kind
 pub record IsNumberOfStatus (IsWhy : NtStatus → Type 0) (number : ℕ) : Type 0 where
   pub status : NtStatus
   pub why : IsWhy status

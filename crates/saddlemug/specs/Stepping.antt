@@ -17,7 +17,7 @@ use Rattle.saddlemug.specs.declared.labels.StackAnswer.{StackAnswer}
 use Rattle.saddlemug.specs.declared.labels.StackLabel.{StackLabel}
 use Rattle.saddlemug.specs.Stacks.{AreToldIn, asked_event, kinds, label_bytes, shown_answer, shown_label, shown_reply}
 
--- the same with all labels taken
+-- a stack of which all labels were taken
 abbrev pub quiet : ManagerView → ManagerView
 quiet v = record v { labels = [] }
 
@@ -33,15 +33,15 @@ pub record Steps (old : ManagerView) (e : StackEvent) (bytes : List ℕ) (told :
 abbrev pub IsNotStepped : ManagerView → ManagerView → Type 0
 IsNotStepped old new = new ≡ old
 
--- a read or a write: memory is taken for its bytes
+-- the event is a read or a write, for whose bytes memory is taken
 abbrev pub HasBytes : StackEvent → Type 0
 HasBytes e = (slice_get kinds e.kind ≡ Some which.Read) ⊎ (slice_get kinds e.kind ≡ Some which.Write)
 
--- why: there is no such event, or memory for its bytes was refused
+-- why nothing was carried out: there is no such event, or memory for its bytes was refused
 abbrev pub IsStepStatus : StackEvent → List ℕ → NtStatus → Type 0
 IsStepStatus e bytes status = ((status ≡ InvalidParameter) × (asked_event e bytes ≡ None)) ⊎ ((status ≡ InsufficientResources) × HasBytes e)
 
--- what was told, if anything was
+-- what C was told, if it was told anything
 abbrev pub told_if : {A : Type 0} → Bool → A → Option A
 told_if true told = Some told
 told_if false told = None
@@ -53,7 +53,7 @@ pub record TellsLabel (old : ManagerView) (before : List ℕ) (told : Option Sta
   pub is_told : told ≡ option_map shown_label found
   pub bytes : MatchOption found (after ≡ before) (λ label. AreToldIn before (label_bytes label) after)
 
--- an answer was
+-- an answer was taken, if there was one, and told with its bytes
 pub record TellsAnswer (old : ManagerView) (before : List ℕ) (told : Option StackAnswer) (after : List ℕ) (new : ManagerView) : Type 0 where
   pub found : Option Answer
   pub takes : TakesAnswer old found new

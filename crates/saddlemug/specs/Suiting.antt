@@ -22,11 +22,12 @@ is_of_kind Flush size sectors srb_data bytes a = (length srb_data == 0) && (leng
 abbrev pub is_asked : ℕ → ℕ → List ℕ → List ℕ → Asked → Bool
 is_asked size sectors srb_data bytes a = is_of_kind a.kind size sectors srb_data bytes a
 
--- an entry of this kind and these sectors, with all bytes of the place, is of an act that the SRB asks for; the bytes are this many
+-- an entry of this kind and these sectors, with all bytes of the place, is of an act that the SRB asks for; there are
+-- this many bytes
 pub record SuitsAs (disk : DiskOf) (srb : Srb) (count : ℕ) (own : PieceBytes) (a : Asked) : Type 0 where
   pub many : count ≡ length own.bytes.items
   pub suits : (entry : Entry) → entry.kind ≡ a.kind → entry.extent ≡ a.extent → entry.bytes ≡ own.bytes.items → IsOfSrb disk.sector_size disk.sectors srb entry
 
--- no entry with this many bytes, all those of the place, is
+-- no entry with all bytes of the place, this many, is of an act that the SRB asks for
 abbrev pub SuitsNone : DiskOf → Srb → ℕ → PieceBytes → Type 0
 SuitsNone disk srb count own = (entry : Entry) → count ≡ length own.bytes.items → entry.bytes ≡ own.bytes.items → ¬ IsOfSrb disk.sector_size disk.sectors srb entry

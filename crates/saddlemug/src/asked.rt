@@ -13,9 +13,9 @@ use srb::{Kind, Srb};
 #[derive(Debug, Clone, Copy)]
 pub(crate) struct Asked {
     pub(crate) kind: Kind,
-    /// On the disk.
+    /// The sectors of the disk.
     pub(crate) extent: Extent,
-    /// Past volatile caches (SBC: FUA).
+    /// Whether it goes past volatile caches (SBC: FUA).
     pub(crate) through: bool,
 }
 
@@ -23,9 +23,9 @@ pub(crate) struct Asked {
 #[repr(C)]
 #[derive(Debug, Clone, Copy)]
 pub struct StackAsked {
-    /// 0 read, 1 write, 2 flush; 3 where the block asks for none of these.
+    /// The kind: 0 read, 1 write, 2 flush; 3 where the block asks for none of these.
     pub kind: u32,
-    /// 1 where it goes past volatile caches.
+    /// 1 where it goes past volatile caches, else 0.
     pub through: u32,
     /// The first sector of the disk.
     pub first: u64,
@@ -37,17 +37,17 @@ pub struct StackAsked {
 #[repr(C)]
 #[derive(Clone, Copy, Drop)]
 pub struct StackArmed {
-    /// The low and the high 64 bits of its number.
+    /// The low and the high 64 bits of the piece's number.
     pub piece_low: u64,
     pub piece_high: u64,
     pub asked: StackAsked,
-    /// Where its bytes stand.
+    /// Where the piece's bytes stand.
     pub bytes: *mut u8,
-    /// Their number.
+    /// The number of these bytes.
     pub length: u64,
-    /// Bytes of the command block, at most 16.
+    /// The number of bytes of the command block, at most 16.
     pub block_length: u32,
-    /// Behind the block there are zeros.
+    /// The command block, and zeros behind it.
     pub block: [u8; 16],
 }
 
@@ -64,7 +64,7 @@ fn to_move(kind: Kind, first: u64, count: u32, through: bool) -> Asked
     }
 }
 
-/// Returns what a command asks to move; nothing, of a read capacity.
+/// Returns what a command asks to move. A READ CAPACITY asks to move nothing.
 fn asked_by(command: Cdb) -> Option<Asked>
     ensures { result ≡ asked_by command }
 {

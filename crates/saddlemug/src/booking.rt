@@ -15,13 +15,13 @@ use srb::{Class, Completion, Kind, Srb};
 #[repr(C)]
 #[derive(Debug, Clone, Copy)]
 pub struct StackCompletion {
-    /// WDK: SRB_STATUS.
+    /// The SRB status (WDK: SRB_STATUS).
     pub srb_status: u8,
-    /// SAM: STATUS.
+    /// The SCSI status (SAM: STATUS).
     pub scsi_status: u8,
     /// Whether there are sense data.
     pub has_sense: bool,
-    /// SPC: the sense key, the additional sense code and its qualifier.
+    /// The sense key, the additional sense code and its qualifier (SPC).
     pub key: u8,
     pub asc: u8,
     pub ascq: u8,
@@ -31,14 +31,14 @@ pub struct StackCompletion {
 #[repr(C)]
 #[derive(Debug, Clone, Copy)]
 pub struct StackBooking {
-    /// The low and the high 64 bits of its number.
+    /// The low and the high 64 bits of the piece's number.
     pub piece_low: u64,
     pub piece_high: u64,
     /// The number of bytes that were moved; not read for a failure.
     pub length: u64,
     pub tag: u8,
     pub failed: bool,
-    /// For a failure: how the piece failed.
+    /// How the piece failed, for a failure.
     pub completion: StackCompletion,
 }
 
@@ -86,7 +86,7 @@ impl StackCompletion {
     }
 }
 
-/// Returns what an SRB asks for, where an entry of all bytes in this place may be of its act, and they are this many.
+/// Returns what an SRB asks for, where an entry of all bytes in this place, this many, may be of its act.
 pub(crate) fn asked_of(disk: &DiskOf, srb: &Srb, place: &PieceBytes, count: u64) -> Option<Asked>
     ensures { MatchOption result (SuitsNone disk.now srb.now count place.now) (SuitsAs disk.now srb.now count place.now) }
 {

@@ -9,7 +9,7 @@ use std::alloc::{AllocError, Global};
 ///
 /// # Errors
 ///
-/// Where memory was refused.
+/// [`AllocError`] where memory was refused.
 pub(crate) fn copied(alloc: Global, bytes: &[u8]) -> Result<Bytes, AllocError>
     ensures { IfOk result (λ copy. copy ≡ bytes.now) }
 {
@@ -22,7 +22,7 @@ pub(crate) fn copied(alloc: Global, bytes: &[u8]) -> Result<Bytes, AllocError>
 ///
 /// # Errors
 ///
-/// Where memory was refused.
+/// [`AllocError`] where memory was refused.
 pub(crate) fn zeros(alloc: Global, count: u64) -> Result<Bytes, AllocError>
     ensures { IfOk result (λ zeros. zeros ≡ replicate count 0) }
 {
@@ -31,7 +31,7 @@ pub(crate) fn zeros(alloc: Global, count: u64) -> Result<Bytes, AllocError>
     Ok(Bytes::new(zeros))
 }
 
-/// Puts bytes into a buffer, as many as it has room for, and gives their whole number.
+/// Puts bytes into a buffer, as many as have room, and returns how many there are in all.
 pub(crate) fn put(buffer: &mut [u8], bytes: &[u8]) -> u64
     ensures count { result ≡ length bytes.now }
     ensures put { take (min (length bytes.now) (length buffer.old)) buffer.new ≡ take (min (length bytes.now) (length buffer.old)) bytes.now }

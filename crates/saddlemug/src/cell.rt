@@ -29,7 +29,7 @@ impl Model for Cell {
 }
 
 impl Cell {
-    /// Nothing.
+    /// A cell that holds nothing.
     pub fn empty(alloc: Global) -> Cell
         ensures { result.held ≡ None }
     {
@@ -68,8 +68,8 @@ impl Cell {
         *self = Cell::of(RawBox::of(held));
     }
 
-    /// Puts something into an empty cell, in memory of its own. Answers 0, or the status where memory was refused; the cell
-    /// is then still empty.
+    /// Puts something into an empty cell, in memory of its own. Returns 0, or the status where memory was refused; the
+    /// cell is then still empty.
     pub fn fill(&mut self, alloc: Global, held: Instance) -> u32
         requires { self.old.held ≡ None }
         ensures held { MatchBool (nat_eq result 0) (self.new.held ≡ Some held) (self.new.held ≡ None) }

@@ -19,7 +19,7 @@ pub struct StackId {
     pub slot: u32,
 }
 
-/// Which event. C tells it by its number here, from 0.
+/// The kind of an event. C tells it by its place in this list, from 0.
 #[derive(Debug, Clone, Copy, PartialEq, Eq)]
 pub(crate) enum EventKind {
     Open,
@@ -63,26 +63,26 @@ impl EventKind {
     }
 }
 
-/// An event. What its kind doesn't ask for is not read.
+/// An event. A field that its kind doesn't ask for is not read.
 #[repr(C)]
 #[derive(Debug, Clone, Copy)]
 pub struct StackEvent {
     /// The number of its [`EventKind`].
     pub kind: u32,
-    /// For an open, counted from 0.
+    /// The partition of an open, counted from 0.
     pub partition: u8,
-    /// For an act or a finish.
+    /// The tag of an act or a finish.
     pub tag: u8,
-    /// For a write: whether it goes past volatile caches.
+    /// Whether a write goes past volatile caches.
     pub through: bool,
     /// Whether a CancelIoEx is for `request` alone.
     pub one: bool,
     pub handle: StackId,
-    /// For a CancelIoEx of one request: its number, which the mark has too.
+    /// The request of a CancelIoEx for one alone. A mark reads its number.
     pub request: StackId,
-    /// For a read or a write, in bytes.
+    /// Where a read or a write begins, in bytes.
     pub offset: u64,
-    /// For a read, in bytes.
+    /// The length of a read, in bytes.
     pub length: u64,
 }
 
@@ -90,11 +90,11 @@ pub struct StackEvent {
 #[repr(C)]
 #[derive(Debug, Clone, Copy)]
 pub struct StackReply {
-    /// Which reply, in the order of [`Reply`], from 0.
+    /// The kind of the reply, by its place in [`Reply`], from 0.
     pub kind: u32,
-    /// For a request that was answered at once, or a refusal; else 0.
+    /// The status of a request that was answered at once, or of a refusal; else 0.
     pub status: u32,
-    /// The handle or the request; for a request that was answered at once only its number; else 0.
+    /// The handle or the request. Of a request that was answered at once only the number is told. Else it is 0.
     pub id: StackId,
 }
 

@@ -201,8 +201,8 @@ impl Instance {
 ///
 /// # Errors
 ///
-/// As [`Volume::read`], and [`Refusal::InsufficientResources`] where memory for the bytes was refused. The buffer is as it
-/// was.
+/// As [`Volume::read`], and [`Refusal::InsufficientResources`] where memory for the bytes was refused. The buffer is as
+/// it was.
 fn read_into<A: Adapter>(
     volume: &mut Volume<A>,
     alloc: Global,
@@ -229,8 +229,8 @@ fn read_into<A: Adapter>(
 ///
 /// # Errors
 ///
-/// As [`Volume::write`], and [`Refusal::InsufficientResources`] where memory for the bytes was refused; then nothing has
-/// changed.
+/// As [`Volume::write`], and [`Refusal::InsufficientResources`] where memory for the bytes was refused; then nothing
+/// has changed.
 fn write_from<A: Adapter>(
     volume: &mut Volume<A>,
     alloc: Global,

@@ -8,35 +8,35 @@ use compose::Answer;
 use machine::{ClientRequest, Kind, Label};
 use srb::{Class, DeviceLabel};
 
-/// A label. What its kind doesn't tell is 0.
+/// A label. A field that its kind doesn't tell is 0.
 #[repr(C)]
 #[derive(Debug, Clone, Copy, Default)]
 pub struct StackLabel {
-    /// Which: 0 to 11 for a call, a start, an act, a fault, a return, an answer, a cancel, a pause, a resume, a remove,
-    /// a surprise, and the end of a removal.
+    /// The kind: 0 to 11 for a call, a start, an act, a fault, a return, an answer, a cancel, a pause, a resume, a
+    /// remove, a surprise, and the end of a removal.
     pub kind: u32,
-    /// For an answer.
+    /// The status of an answer.
     pub status: u32,
-    /// For a call, an answer or a cancel: the number of its request.
+    /// The number of the request of a call, an answer or a cancel.
     pub number: u64,
-    /// For an answer: the number of bytes that it moved.
+    /// The number of bytes that the request of an answer moved.
     pub information: u64,
     /// The low and the high 64 bits of the piece of a start, an act, a fault or a return.
     pub piece_low: u64,
     pub piece_high: u64,
-    /// For a start.
+    /// The tag of a start.
     pub tag: u32,
-    /// For a return: 0 good, 1 busy, 2 bad.
+    /// How the piece of a return came back: 0 good, 1 busy, 2 bad.
     pub class: u32,
-    /// For a call: 0 read, 1 write, 2 flush.
+    /// The kind of the request of a call: 0 read, 1 write, 2 flush.
     pub request: u32,
-    /// For a call: its partition, counted from 1, or 0 where its handle isn't open.
+    /// The partition of a call, counted from 1, or 0 where its handle isn't open.
     pub partition: u32,
-    /// For a call, in bytes.
+    /// Where the request of a call begins, in bytes.
     pub offset: u64,
-    /// For a call, in bytes.
+    /// The length of the request of a call, in bytes.
     pub length: u64,
-    /// For a call: 1 for a write-through.
+    /// 1 for the call of a write-through, else 0.
     pub through: u32,
     /// The number of bytes that come with the label.
     pub bytes: u64,
@@ -46,12 +46,12 @@ pub struct StackLabel {
 #[repr(C)]
 #[derive(Debug, Clone, Copy, Default)]
 pub struct StackAnswer {
-    /// The number of its request.
+    /// The number of the request.
     pub number: u64,
-    /// The number of bytes that it moved.
+    /// The number of bytes that the request moved.
     pub information: u64,
     pub status: u32,
-    /// The number of bytes that come with it: those of a read that succeeded.
+    /// The number of bytes that come with the answer, which only a read brings that succeeded.
     pub bytes: u64,
 }
 

@@ -1,14 +1,18 @@
 //! The stack as a static library for C. Its header is `saddlemug.h`, which says what C has to know.
 //!
-//! C holds a [`Cell`], which begins as zeros: an empty one, or one with a volume, which is one partition of a disk in memory
-//! as an array of bytes, over a stack of its own. Each call is carried out whole, and answers an NTSTATUS.
+//! C holds a [`Cell`], which begins as zeros: it is empty. A cell may hold a volume, which is one partition of a disk
+//! in memory as an array of bytes, or a whole stack. Each call is carried out whole, and answers an NTSTATUS.
 //!
-//! It promises to C, by the contracts of the functions that it exports: a volume that was opened is the partition of the
-//! disk of the text's settings ([`saddlemug_open`]); a read that succeeds has put just the bytes of the partition into
-//! the buffer, and one that doesn't leaves the buffer as it was ([`saddlemug_read`], clauses `reads`, `as_it_was`); a write
-//! that succeeds has replaced just its bytes ([`saddlemug_write`], `writes`); each number that is not 0 is that of the
-//! status that says why. Nothing checks that C keeps what a call requires: that the cell holds what the call is for, and
-//! that no two arguments share memory.
+//! The contracts of the functions that it exports promise to C:
+//!
+//! - [`saddlemug_open`]: a volume that was opened is the partition of the disk of the text's settings.
+//! - [`saddlemug_read`] (`reads`, `as_it_was`): a read that succeeds has put just the bytes of the partition into the
+//!   buffer, and one that fails leaves the buffer as it was.
+//! - [`saddlemug_write`] (`writes`): a write that succeeds has replaced just its bytes.
+//! - Each number that is not 0 is the number of the status that says why a call did not succeed.
+//!
+//! Nothing checks that C keeps what a call requires: the cell holds what the call is for, and no two arguments share
+//! memory.
 #![tactic(auto)]
 
 mod asked;

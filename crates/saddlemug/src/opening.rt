@@ -18,7 +18,7 @@ use startup::{open, settings_of, start};
 use std::alloc::Global;
 use volume::{OpenFault, Volume};
 
-/// A volume of a partition, counted from 0, over a disk of zeros with the partition table of a text's settings.
+/// Opens a partition, counted from 0, of a disk of zeros with the partition table of a text's settings.
 ///
 /// # Errors
 ///
@@ -36,7 +36,7 @@ pub(crate) fn new_volume(
     volume_of(alloc, config, partition)
 }
 
-/// A stack over a disk of zeros with the partition table of a text's settings.
+/// Starts a stack over a disk of zeros with the partition table of a text's settings.
 ///
 /// # Errors
 ///
@@ -53,7 +53,7 @@ pub(crate) fn new_stack(
     stack_of(alloc, config)
 }
 
-/// The settings of a text.
+/// Reads the settings of a text.
 ///
 /// # Errors
 ///
@@ -72,7 +72,7 @@ fn config_of(alloc: Global, text: &[u8]) -> Result<Config, NtStatus>
     }
 }
 
-/// A volume of a partition over the disk of some settings.
+/// Opens a partition of the disk of some settings.
 ///
 /// # Errors
 ///
@@ -94,7 +94,7 @@ fn volume_of(
     }
 }
 
-/// A stack over the disk of some settings.
+/// Starts a stack over the disk of some settings.
 ///
 /// # Errors
 ///

@@ -1,4 +1,4 @@
-//! A stack over storage of C's own is opened.
+//! How a stack is started over storage of C's own.
 
 ghost use Rattle.std.specs.Prelude.{◌≡◌, ◌≢◌, ◌≤◌, ◌↔◌, IfErr, IfOk, IsFalse, IsTrue, None, length, replicate};
 ghost use Rattle.ntstatus.specs.declared.NtStatus.TheVariants.{InsufficientResources, Success};
@@ -19,15 +19,15 @@ use std::alloc::{AllocError, Global};
 #[repr(C)]
 #[derive(Debug, Clone, Copy)]
 pub struct StackDisk {
-    /// Sectors of the disk, 1 to 2^40.
+    /// The number of sectors, 1 to 2^40.
     pub sectors: u64,
-    /// Sectors of the longest command, 1 to 65,536.
+    /// How many sectors the longest command has, 1 to 65,536.
     pub max_transfer: u32,
-    /// Tags, 1 to 32.
+    /// The number of tags, 1 to 32.
     pub depth: u32,
-    /// Requests at work at once, 1 to 64.
+    /// How many requests may be at work at once, 1 to 64.
     pub window: u32,
-    /// Requests open at once, 1 to 64.
+    /// How many requests may be open at once, 1 to 64.
     pub open_requests: u32,
 }
 
@@ -59,8 +59,8 @@ impl StackDisk {
 ///
 /// # Errors
 ///
-/// [`NtStatus::InvalidParameter`] where a size or a limit is out of range, or the sector has no partition table of such a
-/// disk; [`NtStatus::InsufficientResources`] where memory was refused.
+/// [`NtStatus::InvalidParameter`] where a size or a limit is out of range, or the sector has no partition table of such
+/// a disk; [`NtStatus::InsufficientResources`] where memory was refused.
 pub(crate) fn new_over(alloc: Global, disk: &StackDisk, first: &[u8]) -> Result<Over, NtStatus>
     ensures over { IfOk result (IsNewOver disk.now first.now) }
     ensures fault { IfErr result (λ status. status ≢ Success) }

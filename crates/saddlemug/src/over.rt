@@ -21,11 +21,11 @@ use srb::{Booked, Entry, Srb};
 use std::alloc::{AllocError, Global};
 use std::marker::Model;
 
-/// A stack over an adapter without sectors, with a place for the bytes of each piece that C was told of.
+/// A stack over an adapter without sectors, with a place for the bytes of each piece of which C was told.
 #[derive(Drop)]
 pub struct Over {
     stack: Stack<BookedAdapter>,
-    /// By tag.
+    /// The place of each tag.
     places: Vec<Option<PieceBytes>>,
     disk: DiskOf,
 }
@@ -41,7 +41,7 @@ impl Model for Over {
 }
 
 impl Over {
-    /// With nothing told of any piece.
+    /// A stack whose places are empty: C was told of no piece.
     pub(crate) fn new(
         alloc: Global,
         stack: Stack<BookedAdapter>,
@@ -97,13 +97,13 @@ impl Over {
         tell_answer(&mut self.stack, buffer)
     }
 
-    /// Tells the piece on a tag that could act. Its bytes stand in the tag's place: the first time those of the SRB, later
-    /// what C made of them.
+    /// Tells of the piece on a tag that could act. Its bytes stand in the tag's place. The first time they are the
+    /// SRB's, later what C made of them.
     ///
     /// # Errors
     ///
-    /// [`NtStatus::NotFound`] where no piece of the tag could act; [`NtStatus::InsufficientResources`] where memory for the
-    /// place was refused. Nothing has changed.
+    /// [`NtStatus::NotFound`] where no piece of the tag could act; [`NtStatus::InsufficientResources`] where memory for
+    /// the place was refused. Nothing has changed.
     pub(crate) fn armed(&mut self, alloc: Global, tag: u8) -> Result<StackArmed, NtStatus>
         ensures tells { MatchResult result (λ told. TellsArmed self.old tag told self.new) (λ _. self.new ≡ self.old) }
         ensures fault { IfErr result (λ status. status ≢ Success) }
@@ -123,9 +123,9 @@ impl Over {
     ///
     /// # Errors
     ///
-    /// [`NtStatus::NotFound`] where the tag has no such piece that could act, or none that was told and not booked since;
-    /// [`NtStatus::InvalidParameter`] where the length isn't that of its bytes, the bytes of a write were changed, or the
-    /// completion is good or busy. Nothing has changed.
+    /// [`NtStatus::NotFound`] where no such piece of the tag could act, or C was not told of it since the tag was last
+    /// booked; [`NtStatus::InvalidParameter`] where its bytes have another length, the bytes of a write were changed,
+    /// or the completion is good or busy. Nothing has changed.
     pub(crate) fn book(&mut self, booking: &StackBooking) -> Result<(), NtStatus>
         ensures books { MatchResult result (λ _. BooksTold self.old booking.now self.new) (λ _. self.new ≡ self.old) }
         ensures fault { IfErr result (λ status. status ≢ Success) }
@@ -147,7 +147,7 @@ impl Over {
         }
     }
 
-    /// The place of a piece, where it stands in that of the tag.
+    /// The place of the tag, where this piece stands there.
     fn place_of(&self, tag: u8, piece: u128) -> Option<&PieceBytes>
         ensures { MatchOption result (¬ HasPiece (place_of self.now.places tag) piece) (λ own. (place_of self.now.places tag ≡ Some own.now) × (own.now.piece ≡ piece)) }
     {

@@ -15,8 +15,8 @@ use crate::opening_over::{StackDisk, new_over};
 use ntstatus::NtStatus;
 use std::alloc::Global;
 
-/// Starts a stack into an empty cell, over a disk that C keeps and that begins with this sector. Answers 0, or the status
-/// that says why there is none; the cell is then still empty.
+/// Starts a stack into an empty cell, over a disk that C keeps and that begins with this sector. Answers 0, or the
+/// status that says why there is none; the cell is then still empty.
 #[unsafe(no_mangle)]
 pub extern "C" fn saddlemug_over_open(
     alloc: Global,
@@ -34,8 +34,8 @@ pub extern "C" fn saddlemug_over_open(
     }
 }
 
-/// Tells the piece on a tag that could act, and where its bytes stand. Answers 0, or the status that says why nothing is
-/// told.
+/// Tells the piece on a tag that could act, and where its bytes stand. Answers 0, or the status that says why nothing
+/// is told.
 #[unsafe(no_mangle)]
 pub extern "C" fn saddlemug_over_armed(
     alloc: Global,
@@ -61,8 +61,8 @@ pub extern "C" fn saddlemug_over_armed(
     }
 }
 
-/// Books what became of a piece that was told: the bytes in its place were moved, or it failed. Answers 0, or the status
-/// that says why nothing was booked.
+/// Books what became of a piece that was told: the bytes in its place were moved, or it failed. Answers 0, or the
+/// status that says why nothing was booked.
 #[unsafe(no_mangle)]
 pub extern "C" fn saddlemug_over_book(alloc: Global, cell: &mut Cell, booking: &StackBooking) -> u32
     requires { HoldsAnyStack cell.old.held }

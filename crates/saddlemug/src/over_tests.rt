@@ -138,7 +138,7 @@ fn armed(rt: &impl Abort, alloc: Global, cell: &mut Cell) -> StackArmed
     armed
 }
 
-/// The piece on tag 0 acts and comes back: the status of its request, and how many bytes it moved.
+/// Has the piece on tag 0 act and come back, and returns the status of its request and how many bytes it moved.
 fn answered(alloc: Global, cell: &mut Cell) -> (u32, u64)
     requires { HoldsAnyStack cell.old.held }
     ensures { HoldsAnyStack cell.new.held }
@@ -215,7 +215,7 @@ fn refuses_what_is_not_of_the_piece(rt: HostRuntime) {
     );
 }
 
-/// The status of a read that failed so, or of which nothing was booked.
+/// The status of a read whose piece failed like this, or of which nothing was booked.
 fn read_failed(rt: &impl Abort, alloc: Global, failure: Option<StackCompletion>) -> u32 {
     let mut cell = Cell::empty(alloc);
     requested(rt, alloc, &mut cell, 2);

@@ -14,8 +14,8 @@ use crate::opening::new_stack;
 use ntstatus::NtStatus;
 use std::alloc::Global;
 
-/// Starts a stack into an empty cell, over a disk of zeros with the partition table of a text's settings. Answers 0, or the
-/// status that says why there is none; the cell is then still empty.
+/// Starts a stack into an empty cell, over a disk of zeros with the partition table of a text's settings. Answers 0, or
+/// the status that says why there is none; the cell is then still empty.
 #[unsafe(no_mangle)]
 pub extern "C" fn saddlemug_stack_open(alloc: Global, cell: &mut Cell, settings: &[u8]) -> u32
     requires { cell.old.held ≡ None }
@@ -28,8 +28,9 @@ pub extern "C" fn saddlemug_stack_open(alloc: Global, cell: &mut Cell, settings:
     }
 }
 
-/// Carries an event out, with the bytes of a write, and tells the reply. Labels of the step before that were not taken are
-/// let go. Answers 0, or the status that says why there was no event; then nothing has changed, and no reply is told.
+/// Carries an event out, with the bytes of a write, and tells the reply. Labels of the step before that were not taken
+/// are let go. Answers 0, or the status that says why there was no event; then nothing has changed, and no reply is
+/// told.
 #[unsafe(no_mangle)]
 pub extern "C" fn saddlemug_stack_step(
     alloc: Global,
@@ -56,8 +57,8 @@ pub extern "C" fn saddlemug_stack_step(
     }
 }
 
-/// Takes the earliest label of the last step that was not taken yet, if there is one. Its bytes go into the buffer, as many
-/// as have room.
+/// Takes the earliest label of the last step that was not taken yet, if there is one. Its bytes go into the buffer, as
+/// many as have room.
 #[unsafe(no_mangle)]
 pub extern "C" fn saddlemug_stack_take_label(
     alloc: Global,
@@ -82,7 +83,8 @@ pub extern "C" fn saddlemug_stack_take_label(
     }
 }
 
-/// Takes the waiting answer with the lowest number, if there is one. Its bytes go into the buffer, as many as have room.
+/// Takes the waiting answer with the lowest number, if there is one. Its bytes go into the buffer, as many as have
+/// room.
 #[unsafe(no_mangle)]
 pub extern "C" fn saddlemug_stack_take_answer(
     alloc: Global,

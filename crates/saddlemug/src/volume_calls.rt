@@ -20,12 +20,12 @@ use std::alloc::Global;
 pub struct DiskSizes {
     /// Bytes of a sector, 512 or 4096.
     pub sector_size: u64,
-    /// From 1 to 2^40.
+    /// The number of sectors, from 1 to 2^40.
     pub sectors: u64,
 }
 
-/// Opens a volume into an empty cell: a partition, counted from 0, of a disk of zeros with the partition table of a text's
-/// settings. Answers 0, or the status that says why there is none; the cell is then still empty.
+/// Opens a volume into an empty cell: a partition, counted from 0, of a disk of zeros with the partition table of a
+/// text's settings. Answers 0, or the status that says why there is none; the cell is then still empty.
 #[unsafe(no_mangle)]
 pub extern "C" fn saddlemug_open(
     alloc: Global,
@@ -43,7 +43,7 @@ pub extern "C" fn saddlemug_open(
     }
 }
 
-/// The sizes of the partition.
+/// Tells the sizes of the partition.
 #[unsafe(no_mangle)]
 pub extern "C" fn saddlemug_sizes(alloc: Global, cell: &mut Cell) -> DiskSizes
     requires { HoldsAnyVolume cell.old.held }

@@ -1,9 +1,9 @@
-//! The program: says whether a trace is a run of the machine that some settings describe, writes the trace of a script,
+//! This program says whether a trace is a run of the machine that some settings describe, writes the trace of a script,
 //! or draws a trace.
 //!
-//! What its words ask for, what is printed and which line and exit status a fault has is promised by the crate
-//! `judging` ([`command`], [`check`], [`record_script`], [`Error`]) and by `startup` ([`ended`]). Here are its
-//! arguments, files and output alone, of which nothing is promised: no contract says what a file holds.
+//! The crates `judging` ([`command`], [`check`], [`record_script`], [`Error`]) and `startup` ([`ended`]) promise what
+//! its words ask for, what is printed, and which line and exit status a fault has. This crate has only its arguments,
+//! files and output, of which nothing is promised: no contract says what a file holds.
 #![tactic(auto)]
 
 use judging::Error;
@@ -18,10 +18,10 @@ use std::env;
 use std::io::{BufWriter, Write};
 use std::process::ExitCode;
 
-/// Bytes of output that are written at once.
+/// How many bytes of output are written at once.
 const BUFFER: usize = 65_536;
 
-/// Labels between two lines of progress.
+/// How many labels are between two lines of progress.
 const EVERY: u64 = 100_000;
 
 /// Does what the command line asks for.
@@ -53,7 +53,7 @@ fn run(rt: &HostRuntime) -> Result<Verdict, Error> {
     }
 }
 
-/// Judges the trace at a path, or that of standard input.
+/// Judges the trace at a path, or the one on standard input.
 fn judge<W: Write>(
     rt: &HostRuntime,
     config: &str,
@@ -74,7 +74,7 @@ fn judge<W: Write>(
     )
 }
 
-/// Judges the same by any cut.
+/// Judges a trace as [`check`] does, by any cut.
 fn judge_any_cut<W: Write>(
     rt: &HostRuntime,
     config: &str,
@@ -95,7 +95,7 @@ fn judge_any_cut<W: Write>(
     )
 }
 
-/// Writes the trace of the script at a path, or of that of standard input.
+/// Writes the trace of the script at a path, or of the one on standard input.
 fn write_trace(rt: &HostRuntime, config: &str, script: &str) -> Result<Verdict, Error> {
     let alloc = rt.alloc();
     let config = open_input(rt, config);
@@ -110,7 +110,7 @@ fn write_trace(rt: &HostRuntime, config: &str, script: &str) -> Result<Verdict, 
     Ok(Verdict::Passed)
 }
 
-/// Draws the trace at a path, or that of standard input.
+/// Draws the trace at a path, or the one on standard input.
 fn draw_trace(rt: &HostRuntime, trace: &str, events: bool) -> Result<Verdict, Error> {
     let alloc = rt.alloc();
     let Ok(mut out) = BufWriter::with_capacity(alloc, BUFFER, rt.stdout()) else {

@@ -1,9 +1,9 @@
-//! The program: runs a script of events through a stack over a disk in memory, and prints the trace, or runs clients in
-//! threads of their own over one, and prints their tally.
+//! This program runs a script of events through a stack over a disk in memory, and prints the trace. Or it runs clients
+//! in threads of their own over such a stack, and prints their tally.
 //!
-//! What its words ask for, what is printed and which line and exit status a fault has is promised by the crate
-//! `commands` ([`command`], [`trace`], [`clients`], [`Error`]) and by `startup` ([`ended`]). Here are its arguments,
-//! files, threads and output alone, of which nothing is promised: no contract says what a file holds.
+//! The crates `commands` ([`command`], [`trace`], [`clients`], [`Error`]) and `startup` ([`ended`]) promise what its
+//! words ask for, what is printed, and which line and exit status a fault has. This crate has only its arguments,
+//! files, threads and output, of which nothing is promised: no contract says what a file holds.
 #![tactic(auto)]
 
 use commands::Error;

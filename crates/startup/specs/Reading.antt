@@ -19,11 +19,11 @@ pub record AreRead (input : Option (List ℕ)) (settings : Config) : Type 0 wher
   pub all : IsAllOf input text
   pub of_text : AreSettingsOf text settings
 
--- the first fault of a text of settings, which is UTF-8
+-- the first fault of a text of settings; a text that isn't UTF-8 is no TOML
 abbrev pub settings_fault : List ℕ → Option ConfigFault
 settings_fault text = if is_utf8 text then text_fault text else Some NotToml
 
--- a fault of settings is that of all the text that an input has, or want of memory
+-- a fault of settings is the fault of all the text that an input has, or want of memory
 abbrev pub HasFault : Option (List ℕ) → Error → Type 0
 HasFault input ConfigUnreadable = Unit {0}
 HasFault input (Settings fault) = (text : List ℕ) × IsAllOf input text × ((settings_fault text ≡ Some fault) ⊎ (fault ≡ WantOfMemory))

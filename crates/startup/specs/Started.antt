@@ -29,8 +29,8 @@ use Rattle.volume.specs.Shown.{VolumeView, extent_at, parted_at}
 abbrev pub limits_of : Config → Settings
 limits_of c = record { window = c.window; open_requests = c.open_requests }
 
--- the rules of the stack: the pieces of a request are as long as a transfer. The adapter may be faithful to the sectors that it
--- shows, or may not
+-- the rules of the stack. The longest piece is as long as a transfer. The adapter may be faithful to the sectors that
+-- it shows, or not
 abbrev pub rules_over : Bool → Config → Rules
 rules_over is_faithful c = record {
   sector_size = c.sector_size;
@@ -47,7 +47,7 @@ rules_over is_faithful c = record {
   faithful = is_faithful;
 }
 
--- over the disk itself, to whose sectors the adapter is faithful
+-- the rules of a stack over the disk itself, to whose sectors the adapter is faithful
 abbrev pub rules_of : Config → Rules
 rules_of c = rules_over true c
 
@@ -72,23 +72,23 @@ pub record IsStartOver (is_faithful : Bool) (c : Config) (view : ManagerView) : 
   pub no_labels : view.labels ≡ []
   pub no_answers : view.answers ≡ []
 
--- over the disk itself
+-- such a stack over the disk itself
 abbrev pub IsStartOf : Config → ManagerView → Type 0
 IsStartOf c view = IsStartOver true c view
 
--- over an adapter beside the disk, which has of its sectors the first alone
+-- such a stack over an adapter beside the disk, which holds only the first of the disk's sectors
 abbrev pub IsStartApart : Config → ManagerView → Type 0
 IsStartApart c view = IsStartOver false c view
 
 -- what a stack shows over an adapter of these settings before its first event
 pub record IsFirstOf (c : Config) (view : ManagerView) : Type 0 where
-  -- of which nothing was asked
+  -- an adapter of which nothing was asked
   pub adapter : MemView
   pub new : IsNewAdapter c adapter
   pub blank : HasBlankPartitions c adapter.shown.sectors
   pub first : IsFirstView adapter.shown (limits_of c) view
 
--- over the disk of these settings a command was sent and failed with this status
+-- a command was sent to the disk of these settings, and failed with this status
 pub record FailsOnDisk (c : Config) (status : NtStatus) : Type 0 where
   pub adapter : MemView
   pub new : IsNewAdapter c adapter
@@ -96,14 +96,15 @@ pub record FailsOnDisk (c : Config) (status : NtStatus) : Type 0 where
   pub after : AdapterView
   pub fails : FailsOne adapter.shown status after
 
--- why no stack of these settings could be started: the adapter failed a command, a partition is wrong, or memory was refused
+-- why no stack of these settings could be started: the adapter failed a command, a partition is wrong, or memory was
+-- refused
 abbrev pub IsStartFault : Config → StartFault → Type 0
 IsStartFault c (FailedCommand status) = FailsOnDisk c status
 IsStartFault c (WrongTable fault) = said_of c.sectors (entries_of c) ≡ Err fault
 IsStartFault c WantOfMemory = Unit {0}
 IsStartFault c WrongSettings = ⊥
 
--- beside the disk of these settings a command was sent and failed with this status
+-- a command was sent to the adapter beside the disk of these settings, and failed with this status
 pub record FailsApart (c : Config) (status : NtStatus) : Type 0 where
   pub adapter : MemView
   pub new : IsNewBooked (table_sector c) c.sectors c.max_transfer c.depth adapter
@@ -114,8 +115,8 @@ pub record FailsApart (c : Config) (status : NtStatus) : Type 0 where
 abbrev pub IsTableBad : Config → NtStatus → Type 0
 IsTableBad c status = Contains c.bad_sectors.items 0 × (status ≡ DeviceDataError)
 
--- why no such stack could be started beside the disk: sector 0 is bad, the adapter failed a command, a partition is wrong, or memory
--- was refused
+-- why no stack could be started beside the disk: sector 0 is bad, the adapter failed a command, a partition is wrong,
+-- or memory was refused
 abbrev pub IsApartFault : Config → StartFault → Type 0
 IsApartFault c (FailedCommand status) = IsTableBad c status ⊎ FailsApart c status
 IsApartFault c (WrongTable fault) = said_of c.sectors (entries_of c) ≡ Err fault

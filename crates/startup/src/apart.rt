@@ -15,13 +15,13 @@ use sector::Extent;
 use settings::{Config, new_disk};
 use std::alloc::Global;
 
-/// The disk of the settings, of which nothing was asked but its first sector; and a stack over an adapter beside it, which
-/// has of its sectors a copy of the first alone.
+/// Makes the disk of the settings, of which nothing was asked but its first sector, and starts a stack over an adapter
+/// beside it. The adapter holds a copy of that sector, and no other.
 ///
 /// # Errors
 ///
-/// [`StartFault::Device`] where sector 0 is bad, or the adapter failed a command, [`StartFault::Mbr`] with what is wrong
-/// with the partitions of the settings, [`StartFault::NoMemory`].
+/// [`StartFault::Device`] where sector 0 is bad, or the adapter failed a command, [`StartFault::Mbr`] with what is
+/// wrong with the partitions of the settings, [`StartFault::NoMemory`].
 pub fn start_apart(
     alloc: Global,
     config: Config,
@@ -47,11 +47,11 @@ pub fn start_apart(
     Ok((stack, disk))
 }
 
-/// The bytes of sector 0.
+/// Reads the bytes of sector 0.
 ///
 /// # Errors
 ///
-/// [`StartFault::Device`] where it is bad, [`StartFault::NoMemory`].
+/// [`StartFault::Device`] where the sector is bad, [`StartFault::NoMemory`].
 fn first_sector<M: Medium>(alloc: Global, disk: &mut M) -> Result<Vec<u8>, StartFault>
     requires some { 1 ≤ length (M.view disk.old).sectors }
     requires unfailed { (M.view disk.old).failures ≡ 0 }

@@ -14,9 +14,9 @@ use std::io::{ErrorKind, Write};
 /// What is said of a run that no fault ended.
 #[derive(Debug, Clone, Copy, PartialEq, Eq)]
 pub enum Verdict {
-    /// It did what it was asked for.
+    /// The run did what it was asked for.
     Passed,
-    /// Not all that it did went well, as it has printed.
+    /// Something that the run did went wrong, as it has printed.
     Failed,
 }
 
@@ -24,13 +24,13 @@ pub enum Verdict {
 pub trait Ending: Display + Drop {
     ghost usage: { Self → Bool };
 
-    /// Whether the words of the command line ask for nothing that there is, or for help.
+    /// Whether the words of the command line ask for nothing that the program does, or for help.
     fn is_usage(&self) -> bool
         ensures { result ≡ usage self.now };
 }
 
-/// Says why a run ended early, where it did, and gives the exit status: 0 where there was no fault and all went well, 2
-/// where the words of the command line asked for nothing, else 1.
+/// Says why a run ended early, where it did, and returns the exit status: 0 where there was no fault and all went well,
+/// 2 where the words of the command line asked for nothing that the program does, else 1.
 pub fn ended<F: Write, E: Ending>(outcome: Result<Verdict, E>, faults: &mut F) -> u8
     ensures status { result ≡ exit_status E.usage outcome }
     ensures silent { IfOk outcome (λ _. F.contents faults.new ≡ F.contents faults.old) }

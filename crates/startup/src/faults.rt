@@ -18,7 +18,7 @@ pub enum Error {
     NoMemory,
 }
 
-/// What is said of the fault, without the program's name.
+/// The text that is said of the fault, without the program's name.
 impl fmt::Display for Error {
     ghost use Rattle.std.specs.Prelude.{Some};
     ghost use Rattle.startup.specs.Texts.{text_of};

@@ -9,12 +9,12 @@ use std::io;
 use std::io::{ErrorKind, Read};
 use std::rt::Files;
 
-/// A file that was opened, or why it was not, which each read of it says.
+/// A file that was opened, or why it was not opened, which each read of it says.
 #[derive(Drop)]
 pub enum Input<F: Read + Drop> {
-    /// It was opened, and is read.
+    /// The file was opened, and is read.
     Opened(F),
-    /// It was not, and each read of it fails in this way.
+    /// The file was not opened, and each read of it fails in this way.
     Refused(ErrorKind),
 }
 
@@ -43,7 +43,7 @@ impl<F: Read + Drop> Read for Input<F> {
     }
 }
 
-/// Opens the file at a path for its reads. Where that fails, its reads say so: there is no error here.
+/// Opens the file at a path for its reads. Where that fails, each read says so, and there is no error here.
 pub fn open_input<R: Files>(rt: &R, path: &str) -> Input<R::File> {
     Input::of(File::open(rt, path))
 }

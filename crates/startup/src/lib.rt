@@ -1,5 +1,5 @@
-//! How a program begins and ends that runs a stack over a disk in memory: its settings are read, the stack or a volume of a
-//! partition is opened, and a fault is said, with an exit status.
+//! How a program begins and ends that runs a stack over a disk in memory: its settings are read, the stack or a volume
+//! of a partition is opened, and a fault is said, with an exit status.
 //!
 //! It promises to the crate above, by the contract of [`read_settings`] (`read`, `in_range`), that settings are those
 //! of all that their input has; by [`start`] (`view`, `fault`) and [`open`] (`volume`, `fault`), that the stack and the

@@ -13,7 +13,7 @@ use std::alloc::Global;
 use std::io;
 use std::io::Read;
 
-/// The settings that an input gives.
+/// Reads the settings that an input gives.
 ///
 /// # Errors
 ///
@@ -31,11 +31,11 @@ pub fn read_settings<R: Read + Drop>(alloc: Global, input: R) -> Result<Config, 
     }
 }
 
-/// The settings of a text.
+/// Reads the settings of a text.
 ///
 /// # Errors
 ///
-/// As [`document::config`]; [`ConfigFault::NotToml`] where it is not UTF-8.
+/// As [`document::config`]; [`ConfigFault::NotToml`] where the text is not UTF-8.
 pub fn settings_of(alloc: Global, text: &[u8]) -> Result<Config, ConfigFault>
     ensures in_range { IfOk result AreInRange }
     ensures settings { IfOk result (AreSettingsOf text.now) }
@@ -47,7 +47,7 @@ pub fn settings_of(alloc: Global, text: &[u8]) -> Result<Config, ConfigFault>
     }
 }
 
-/// All bytes of an input.
+/// Reads all bytes of an input.
 ///
 /// # Errors
 ///

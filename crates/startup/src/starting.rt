@@ -11,7 +11,7 @@ use settings::{Config, new_adapter};
 use std::alloc::Global;
 use volume::{OpenFault, Volume};
 
-/// A stack over a disk of zeros, but for its partition table.
+/// Starts a stack over a disk that is zeros but for its partition table.
 ///
 /// # Errors
 ///
@@ -31,7 +31,7 @@ pub fn start(alloc: Global, config: Config) -> Result<Stack<MemAdapter<SparseDis
     Ok(stack)
 }
 
-/// A volume of a partition, counted from 0, of such a stack.
+/// Opens a volume of a partition, counted from 0, over a stack that [`start`] starts.
 ///
 /// # Errors
 ///

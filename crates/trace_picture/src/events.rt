@@ -34,7 +34,7 @@ const OTHERS: Track = Track {
     thread: 2,
 };
 
-/// From one label to another.
+/// The time from one label to another.
 #[derive(Clone, Copy)]
 struct Span {
     start: u64,
@@ -151,7 +151,7 @@ fn span_of(scene: Scene<'_>, start: u64, end: Option<u64>) -> Span {
     }
 }
 
-/// Something that takes a while.
+/// An event that takes a while.
 fn slice_event(
     alloc: Global,
     track: Track,
@@ -166,7 +166,7 @@ fn slice_event(
     })
 }
 
-/// Something that happens at one label.
+/// An event that happens at one label.
 fn instant_event(
     alloc: Global,
     track: Track,

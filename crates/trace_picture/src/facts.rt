@@ -12,7 +12,7 @@ use std::collections::BTreeMap;
 pub(crate) struct Answer {
     pub label: u64,
     pub status: NtStatus,
-    /// Bytes that were moved.
+    /// The number of bytes that were moved.
     pub information: u64,
 }
 
@@ -22,9 +22,9 @@ pub(crate) struct Request {
     pub number: u64,
     pub partition: Option<u8>,
     pub kind: Kind,
-    /// In bytes, from the start of the partition.
+    /// Where it begins, in bytes from the start of the partition.
     pub offset: u64,
-    /// In bytes.
+    /// Its length, in bytes.
     pub length: u64,
     pub through: bool,
     pub call: u64,
@@ -49,7 +49,7 @@ impl Request {
 pub(crate) struct Piece {
     pub number: u128,
     pub tag: u8,
-    /// None where the block is no command.
+    /// The command of its block, if the block is one.
     pub command: Option<Cdb>,
     pub start: u64,
     pub act: Option<u64>,
@@ -70,17 +70,17 @@ impl Piece {
     }
 }
 
-/// What the device was in for a while.
+/// A phase of the device.
 #[derive(Clone, Copy)]
 pub(crate) enum Phase {
     Paused,
     Removing,
-    /// Since a surprise removal.
+    /// The time since a surprise removal.
     Gone,
     Removed,
 }
 
-/// A while that the device was in some phase; to the end of the trace where it has no end.
+/// A time in which the device was in some phase, up to the end of the trace where the phase has no end.
 #[derive(Clone, Copy)]
 pub(crate) struct Band {
     pub phase: Phase,
@@ -119,7 +119,7 @@ pub(crate) struct Facts {
     pub pieces: Vec<Piece>,
     pub bands: Vec<Band>,
     pub strays: Vec<Stray>,
-    /// Bytes of a sector, once an act has told it.
+    /// The bytes of a sector, once an act has told them.
     pub sector_size: Option<u64>,
     request_places: BTreeMap<u64, usize>,
     piece_places: BTreeMap<u128, usize>,

@@ -16,21 +16,21 @@ const NARROWEST: u64 = 4;
 const FEW: u64 = 400;
 /// Above that many labels the columns share this width, as long as it lasts.
 const SHARED: u64 = FEW * WIDEST;
-/// The legend needs so much.
+/// The width that the legend needs.
 const LEGEND: u64 = 1000;
-/// Behind the last label.
+/// The room behind the last label.
 const MARGIN: u64 = 200;
 /// Where the rows begin, below the legend and the numbers of the labels.
 const HEAD: u64 = 140;
-/// Letters of the longest caption of a row that is no request's.
+/// How many letters the longest caption of a row has that is no request's.
 const CAPTION_LETTERS: u64 = 12;
-/// Room for the mark of a call or an answer beside its text.
+/// The room for the mark of a call or an answer beside its text.
 const MARK: u64 = 20;
-/// Height of the row of the device, of a tag and of the labels that fit nothing.
+/// The height of the row of the device, of a tag and of the labels that fit nothing.
 pub(crate) const ROW: u64 = 26;
-/// Height of the bar in it.
+/// The height of the bar in such a row.
 pub(crate) const BAR: u64 = 20;
-/// Height of the caption of a group of rows.
+/// The height of the caption of a group of rows.
 pub(crate) const CAPTION: u64 = 22;
 
 /// A row for requests.
@@ -39,7 +39,7 @@ pub(crate) struct Row {
     pub y: u64,
     /// The pieces that stand one below the other.
     pub lanes: u64,
-    /// Up to where it is taken.
+    /// Up to which label the row is taken.
     end: u64,
 }
 
@@ -58,7 +58,7 @@ impl Row {
     }
 }
 
-/// Height of a piece in the bar of its request, where there are several.
+/// The height of a piece in the bar of its request, where there are several.
 pub(crate) const LANE: u64 = 13;
 
 /// Where a request stands.
@@ -72,7 +72,7 @@ pub(crate) struct Place {
 
 #[derive(Drop)]
 pub(crate) struct Layout {
-    /// Width of the column of one label.
+    /// The width of the column of one label.
     pub column: u64,
     /// Where the column of label 1 begins.
     pub left: u64,
@@ -82,7 +82,7 @@ pub(crate) struct Layout {
     pub top: u64,
     /// Where the rows end.
     pub bottom: u64,
-    /// Several requests share a row.
+    /// Whether several requests share a row.
     pub is_shared: bool,
     pub device: Option<u64>,
     pub tags_caption: u64,
@@ -172,7 +172,7 @@ impl Layout {
         Some(place.row)
     }
 
-    /// Takes so much room below what is placed, and gives where that begins.
+    /// Takes this much room below what is placed, and returns where it begins.
     fn room(&mut self, height: u64) -> u64 {
         let y = self.bottom;
         self.bottom = y.saturating_add(height);

@@ -1,8 +1,9 @@
-//! The request that each piece belongs to, which no label says: found by what its command asks for.
+//! The request that each piece belongs to. No label says it; it is found by what the command of the piece asks for.
 //!
 //! A piece belongs to the open request of lowest number that asks for its sectors in this way, has them still to send
-//! and isn't cancelled; one that goes on where its last piece ended comes first. Where a partition begins is told by
-//! the first piece of its first request. So an owner is a guess where requests ask for the same sectors at once.
+//! and isn't cancelled. A request whose last piece ended where this one begins comes first. The first piece of a
+//! partition's first request tells where the partition begins. An owner is therefore a guess where requests ask for the
+//! same sectors at once.
 
 use crate::facts::{Facts, Piece, Request};
 use cdb::Cdb;
@@ -10,7 +11,7 @@ use machine::Kind;
 use srb::Class;
 use std::alloc::{AllocError, Global};
 
-/// Bytes of a sector where no act tells it.
+/// The bytes of a sector where no act tells them.
 const SECTOR: u64 = 512;
 
 /// What a command asks for, in sectors; a flush counts as one.
@@ -26,7 +27,7 @@ struct Asked {
 #[derive(Clone, Copy)]
 enum Fit {
     No,
-    /// Its partition has told nothing yet.
+    /// It isn't known yet where the request's partition begins.
     First,
     Inside,
     /// The piece goes on where the last one ended.
