@@ -34,9 +34,9 @@ pub(crate) enum Row<'a> {
     Step(usize, Order, &'a str),
     /// A lane has the piece of a tag act in the journal: it makes the entry of this number.
     Lane(u8, u64),
-    /// A lane has it act, it fails, and the lane hands the failure to the book, whose reply is this.
+    /// A lane has the piece of a tag act, which fails, and hands the failure to the book, whose reply is this.
     LaneFails(u8, &'a str),
-    /// No piece of the tag may act in the journal, and so this one doesn't.
+    /// No piece of the tag may act in the journal, this one neither.
     Rests(u8, u128),
 }
 
@@ -88,7 +88,7 @@ fn is_refused_for_memory(reply: &Reply) -> bool {
     )
 }
 
-// A step that has just this reply. Where it was refused for want of memory, the trace has not grown.
+// Checks that a step has just this reply. Where it was refused for want of memory, the trace has not grown.
 fn go<M: Medium, N: Naming, R: Wait + Abort>(
     rt: &R,
     alloc: Global,
@@ -172,8 +172,8 @@ pub(crate) fn play<M: Medium, N: Naming, R: Wait + Abort>(
     Ok(())
 }
 
-/// What is wanted of a test: its rows, the whole trace and all entries once those that are left were booked, the places
-/// of each client's calls and answers, and of request 1 where its answer stands and what it transferred.
+/// What is wanted of a test: its rows, the whole trace and all entries once the book has them all, and the places of
+/// each client's calls and answers. Of request 1 also where its answer stands and what it transferred.
 #[derive(Debug, Clone, Copy)]
 pub(crate) struct Run<'a> {
     pub rows: &'a [Row<'a>],
@@ -182,7 +182,7 @@ pub(crate) struct Run<'a> {
     pub first: &'a [usize],
     pub second: &'a [usize],
     pub answered: Option<usize>,
-    /// In bytes, and 0 where it was answered at once.
+    /// How many bytes request 1 transferred, and 0 where it was answered at once.
     pub transferred: u64,
 }
 
@@ -195,7 +195,7 @@ fn claim_first<N: Naming>(book: &mut Book<N>, history: &History<TraceEntry, N>) 
     book.check(history, &mut claims);
 }
 
-// What is told of request 1, and of the rows so far.
+// Checks what is told of request 1, and of the rows so far.
 fn ask<N: Naming>(rt: &impl Abort, book: &mut Book<N>, run: &Run)
     requires { N.partitions ≡ 0 ∷ 0 ∷ [] }
 {
@@ -209,7 +209,7 @@ fn ask<N: Naming>(rt: &impl Abort, book: &mut Book<N>, run: &Run)
     assert!(rt; book.row(1) == run.second);
 }
 
-// What is left of the entries is booked.
+// Books what is left of the entries.
 fn book_rest<M: Medium, N: Naming, R: Wait + Abort>(
     rt: &R,
     alloc: Global,

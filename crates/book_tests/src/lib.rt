@@ -1,5 +1,5 @@
-//! Tests of a book beside its journal, in one thread: what pieces do in the journal is booked in the order of its entries,
-//! and what a trace and its entries then are, worked by hand.
+//! Tests of a book beside its journal, in one thread: what pieces do in the journal is booked in the order of its
+//! entries. The trace and the entries that this makes are worked by hand.
 #![tactic(auto)]
 
 #[cfg(test)]

@@ -83,7 +83,7 @@ fn handles_on<A: Adapter>(
     }
 }
 
-/// Over an adapter that a stack can be started over.
+/// A stack over an adapter that it can be started over.
 pub(crate) fn open_two<A: Adapter>(
     rt: &impl Abort,
     alloc: Global,

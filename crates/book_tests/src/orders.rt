@@ -18,7 +18,7 @@ use traced::{Share, TraceEntry};
 /// What is asked of a book. A client's orders are on its handle.
 #[derive(Debug, Clone, Copy)]
 pub(crate) enum Order {
-    /// A read of so many bytes.
+    /// A read of this many bytes.
     Read(u64, usize),
     /// A write of equal bytes.
     Write(u64, usize, u8),

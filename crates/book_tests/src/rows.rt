@@ -87,7 +87,7 @@ fn run_on<M: Medium, R: Wait + Abort>(
     )
 }
 
-// Beside a journal of a disk in memory, in which these sectors are bad.
+// A run beside a journal of a disk in memory, in which these sectors are bad.
 fn run_on_disk<R: Wait + Abort>(
     rt: &R,
     alloc: Global,
@@ -122,7 +122,7 @@ const LATER_LANE_FIRST: Run = Run {
     transferred: 512,
 };
 
-// A read of what the other client wrote: no lane has it act, so its step does. A finish books what a lane left there.
+// A read of what the other client wrote. No lane has it act, and its step does. A finish books what a lane left there.
 const NO_LANE: Run = Run {
     rows: &[
         Row::Step(0, Order::Write(512, 512, 0xA5), "request 1 at 0"),

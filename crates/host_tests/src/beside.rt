@@ -28,7 +28,7 @@ impl Turnstile for Open {
     fn pass<R: Wait>(&self, _: &R, _: u8) {}
 }
 
-/// One that holds the lane of tag 0.
+/// A turnstile that holds the lane of tag 0.
 #[derive(Drop)]
 struct HoldsFirst<'a, C: Clock> {
     holding: &'a Holding<'a, C>,
@@ -42,7 +42,7 @@ impl<'a, C: Clock> Turnstile for HoldsFirst<'a, C> {
     }
 }
 
-/// A medium that holds who reads.
+/// A medium that holds each thread that reads.
 #[derive(Drop)]
 struct HoldsReads<'a, M: Medium, C: Clock, W: Wait> {
     medium: M,
@@ -102,7 +102,7 @@ fn read_first<M: Medium, N: Naming, R: Wait>(
     }
 }
 
-// A client reads a sector that lies past its partition: why it may not.
+// A client reads a sector that lies past its partition. Returns why it may not.
 fn read_past<M: Medium, N: Naming, R: Wait>(
     rt: &R,
     alloc: Global,
@@ -261,7 +261,8 @@ fn run_over<
     }
 }
 
-// The mark is carried out before the call that comes after it, while the piece is transferred; its act comes behind both.
+// The mark is carried out before the call that comes after it, while the piece is transferred; its act comes behind
+// both.
 const TRANSFER: Want = Want {
     seen: "marked / InvalidParameter 512 at 3, 4 / answer 1 SUCCESS 512 00*512 at 0, 7",
     trace: "call 1 of 0 / start 1 / cancel 1 / call 2 of 1 / answer 2 INVALID_PARAMETER of 1 / act 1 / return 1 / answer 1 SUCCESS of 0 / pause / remove / removed",
@@ -301,7 +302,7 @@ fn reset_beside_a_turnstile(rt: HostRuntime) -> Result<(), Fail> {
     Ok(())
 }
 
-// The second is answered while the lane of the first is held.
+// The second client is answered while the lane of the first is held.
 const TURNSTILE: Want = Want {
     seen: "held / answer 2 SUCCESS 512 00*512 at 2, 6 / answer 1 SUCCESS 512 00*512 at 0, 9",
     trace: "call 1 of 0 / start 1 / call 2 of 1 / start 2 / act 2 / return 2 / answer 2 SUCCESS of 1 / act 1 / return 1 / answer 1 SUCCESS of 0 / pause / remove / removed",

@@ -39,7 +39,7 @@ pub(crate) enum Drive {
 pub(crate) enum Row<'a> {
     By(usize, Deed, &'a str),
     Host(Drive, &'a str),
-    /// What a tag's lane has to do, and does.
+    /// A tag's lane does what it has to do.
     Lane(u8, Step),
 }
 
@@ -60,7 +60,7 @@ pub(crate) struct Run<'a> {
     pub second: Part<'a>,
 }
 
-// A step that is no client's.
+// Takes a step that is no client's.
 fn step<M: Medium, N: Naming, R: Wait>(
     rt: &R,
     host: &Host<M, N>,
@@ -78,7 +78,7 @@ fn step<M: Medium, N: Naming, R: Wait>(
     }
 }
 
-// A step that is no client's, and has just this reply.
+// Takes a step that is no client's, and checks its reply.
 fn go<M: Medium, N: Naming, R: Wait + Abort>(
     rt: &R,
     alloc: Global,
@@ -99,7 +99,7 @@ fn go<M: Medium, N: Naming, R: Wait + Abort>(
     Ok(())
 }
 
-// A lane's step.
+// Takes a lane's step.
 fn serve<D: Desk, R: Wait + Abort>(rt: &R, desk: &D, tag: u8, want: Step) {
     let step = desk.next(rt, tag);
     same(rt, &step, &want);
@@ -112,7 +112,7 @@ fn serve<D: Desk, R: Wait + Abort>(rt: &R, desk: &D, tag: u8, want: Step) {
     }
 }
 
-// The rows of a test one by one.
+// Carries the rows of a test out one by one.
 fn play<M: Medium, N: Naming, R: Wait + Abort>(
     rt: &R,
     alloc: Global,
@@ -136,7 +136,7 @@ fn play<M: Medium, N: Naming, R: Wait + Abort>(
     Ok(())
 }
 
-/// Two clients, the first of them first.
+/// Two clients, in order.
 pub(crate) fn two_of<N: Naming>(rt: &impl Abort, clients: Vec<Client<N>>) -> (Client<N>, Client<N>)
     requires two { AreNumbered 2 clients.items }
     ensures first { result.0.client ≡ 0 }
@@ -151,7 +151,7 @@ pub(crate) fn two_of<N: Naming>(rt: &impl Abort, clients: Vec<Client<N>>) -> (Cl
     }
 }
 
-// The rows of a test; then both were told what is wanted.
+// Carries the rows of a test out, and checks that both clients were told what is wanted.
 fn play_and_compare<M: Medium, N: Naming, R: Wait + Abort>(
     rt: &R,
     alloc: Global,

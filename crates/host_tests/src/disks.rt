@@ -21,8 +21,9 @@ pub(crate) type Entry = (u8, u32, u32);
 /// The sectors of every disk here.
 pub(crate) const SECTORS: u64 = 4096;
 
-/// Sector 0 with these entries in its table, of sixteen bytes each from byte 446 on; their type is byte 4, the first sector
-/// and the count are the bytes from 8 and 12 on, the lowest first.
+/// Sector 0 with these entries in its table. Entries have sixteen bytes each, from byte 446 on. The type of an entry is
+/// byte 4 of it, its first sector stands in the bytes from 8 on, and its count in those from 12 on, the lowest byte
+/// first.
 pub(crate) fn sector_0(entries: &[Entry]) -> [u8; 512] {
     let mut bytes = [0; 512];
     for n in 0..4_usize {
@@ -55,7 +56,7 @@ pub(crate) fn disk(alloc: Global, table: &[Entry]) -> Result<VecDisk, AllocError
     )
 }
 
-/// An adapter of two tags without sectors that moves so many at most.
+/// An adapter of two tags without sectors, which moves this many at most.
 fn adapter(alloc: Global, table: &[Entry], max_transfer: u32) -> Result<BookedAdapter, AllocError>
     requires some { 1 ≤ max_transfer }
     requires short { max_transfer ≤ 2 ^ 16 }
@@ -66,7 +67,8 @@ fn adapter(alloc: Global, table: &[Entry], max_transfer: u32) -> Result<BookedAd
     BookedAdapter::new(alloc, first, SECTORS, max_transfer, 2).map_err(no_memory)
 }
 
-/// A stack over an adapter without sectors that was started, and its sizes; two requests at work and so many open, 1 to 64.
+/// A stack over an adapter without sectors that was started, and its sizes. Two requests may be at work, and 1 to 64
+/// open.
 fn start_over<A: Adapter>(
     rt: &impl Abort,
     alloc: Global,
@@ -101,7 +103,7 @@ fn start_over<A: Adapter>(
     }
 }
 
-/// A stack for a disk with this table, whose pieces are of so many sectors at most.
+/// A stack for a disk with this table, whose pieces have this many sectors at most.
 pub(crate) fn start(
     rt: &impl Abort,
     alloc: Global,

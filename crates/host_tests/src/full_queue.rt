@@ -1,4 +1,4 @@
-//! A queue of one place that is full: it hands back what the second lane puts, and that lane finishes its piece itself.
+//! A queue of one place that is full. It hands back what the second lane puts, and that lane finishes its piece itself.
 
 ghost use Rattle.std.specs.Prelude.{◌≡◌, IfOk, IfSome, length, suc};
 ghost use Rattle.lanes.specs.Queue.{fresh_lane, issued, lanes_of, standing};
@@ -26,8 +26,8 @@ use std::thread;
 use std::thread::{Scope, Threads};
 use std::time::Clock;
 
-/// A host as the desk of its lanes and of a worker that is held once it found nothing in the queue. Who waits for an item to
-/// be put is let go.
+/// A host as the desk of its lanes and of a worker, which is held once it found nothing in the queue. A put of an item
+/// lets the thread go on that waits for it.
 #[derive(Drop)]
 struct HoldsWorker<'a, M: Medium, N: Naming, C: Clock>
 where
@@ -72,7 +72,7 @@ fn last_lane(passes: &mut Vec<Pass>, completions: &Completions, tag: u8) -> Opti
     passes.pop()
 }
 
-// Starts a worker and two lanes. Where it answers false a thread could not be started.
+// Starts a worker and two lanes. Returns false where a thread could not be started.
 fn start_two<'s, E, D: Desk + Sync, R: Threads + Wait + Sync>(
     rt: &'s R,
     scope: &'s Scope<'s, E>,

@@ -1,10 +1,10 @@
-//! What holds one thread until another has done what it is to do, for so many turns at most.
+//! What holds one thread until another has done what it is to do, for a limited number of turns.
 
 use std::sync::{Mutex, Wait};
 use std::thread;
 use std::time::{Clock, Duration};
 
-/// So many turns of a millisecond a thread is held at most.
+/// How many turns of a millisecond a thread is held at most.
 const TURNS: u32 = 10_000;
 
 #[derive(Debug, Clone, Copy, PartialEq, Eq, Drop)]
@@ -47,7 +47,7 @@ impl<'a, C: Clock> Holding<'a, C> {
         *self.given_up.lock(rt) = true;
     }
 
-    /// Holds who comes first until it is let go, and then nobody.
+    /// Holds the thread that comes first until it is let go, and no other.
     pub(crate) fn hold<R: Wait>(&self, rt: &R) {
         if self.comes_first(rt) {
             self.wait_for(rt, Hold::LetGo);

@@ -20,7 +20,8 @@ const MOVED: [Extent; 2] = [
     },
 ];
 
-/// The entries, one after the other, on a disk as it was: the same bytes are read, and the same sectors stand there then.
+/// Replays the entries, one after the other, on a disk as it was. Each read gives the bytes of its entry, and in the
+/// end the sectors are those of the journal's medium.
 pub(crate) fn replay<M: Medium>(
     rt: &impl Abort,
     alloc: Global,

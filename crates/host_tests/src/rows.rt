@@ -89,8 +89,8 @@ const THROUGH: Run = Run {
     },
 };
 
-// A write of four pieces that is marked with two of them out: the next step cancels it first. Once it is answered its slot
-// has it no more.
+// A write of four pieces that is marked with two of them out. The next step cancels it first. Once it is answered, it
+// is in its slot no more.
 const MARKED: Run = Run {
     rows: &[
         Row::By(0, Deed::Write(0, 131_072, 0xA5), "request 1"),
@@ -116,7 +116,8 @@ const MARKED: Run = Run {
     },
 };
 
-// Calls that are answered at once, a flush with no lane and one on a lane, and a removal, after which no call reaches the trace.
+// Calls that are answered at once, a flush with no lane and one on a lane, and a removal, after which no call reaches
+// the trace.
 const REMOVED: Run = Run {
     rows: &[
         Row::By(0, Deed::Read(524_288, 512), "InvalidParameter 512 at 0, 1"),

@@ -46,7 +46,7 @@ struct Played<N: Naming> {
     seen: Result<String, AllocError>,
 }
 
-// The scene, and the removal.
+// Plays the scene, and removes the device.
 fn play_and_remove<M: Medium, N: Naming, S: Scene, R: Wait>(
     rt: &R,
     alloc: Global,

@@ -16,14 +16,14 @@ use std::sync::Wait;
 /// What a client does. A call leaves a ticket, which a mark looks at and a wait spends.
 #[derive(Debug, Clone, Copy)]
 pub(crate) enum Deed {
-    /// A read at this offset of so many bytes.
+    /// A read of this many bytes at this offset.
     Read(u64, usize),
-    /// A write at this offset of so many equal bytes.
+    /// A write of this many equal bytes at this offset.
     Write(u64, usize, u8),
-    /// Such a write past volatile caches.
+    /// A write of this many equal bytes at this offset, past volatile caches.
     WriteThrough(u64, usize, u8),
     Flush,
-    /// Reads of a sector each, from the first on, sixty-four of them. The last one's ticket is left.
+    /// Sixty-four reads of a sector each, from the first on. The ticket of the last one is left.
     Fill,
     Mark,
     Wait,
@@ -185,7 +185,7 @@ impl<N: Naming> User<N> {
         }
     }
 
-    /// A deed that has just this outcome.
+    /// Does a deed, and checks that it has just this outcome.
     pub(crate) fn go<M: Medium, R: Wait + Abort>(
         &mut self,
         rt: &R,

@@ -4,7 +4,7 @@ use Rattle.adapter.specs.View.{AdapterView}
 use Rattle.device.specs.View.{DeviceView}
 use Rattle.port.specs.Opening.{sizes_of, opening_view}
 
--- over an adapter of this many sectors of 512 bytes, with two tags and transfers of this many sectors
+-- a port over an adapter of this many sectors of 512 bytes, with two tags and transfers of this many sectors at most
 pub record IsFreshOver (v : DeviceView) (sectors transfer : ℕ) : Type 0 where
   pub over : AdapterView
   pub opening : v ≡ opening_view over

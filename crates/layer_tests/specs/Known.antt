@@ -14,7 +14,7 @@ abbrev pub rules_on : List Extent → ℕ → Rules
 rules_on table longest =
     record (rules_of (record { sector_size = 512; sectors = 4096; max_transfer = 64; depth = 2; faithful = true })) { partitions = table; longest = longest }
 
--- the layer has such rules, whatever its longest request is, and two tags
+-- the layer has such rules, with any longest request, and two tags
 pub record AreLike (rules : Rules) (table : List Extent) : Type 0 where
   pub size : rules.sector_size ≡ 512
   pub flush : flush_command rules.disk_sectors ≡ Sync10 0 0

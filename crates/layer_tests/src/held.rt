@@ -13,7 +13,7 @@ use sector::Extent;
 use std::alloc::{AllocError, Global};
 use std::process::Abort;
 
-/// Cancels what is held at a spot, with at most three visits of the queue; true where it was held.
+/// Cancels what is held at a spot, with at most three visits of the queue. Returns whether something was held there.
 fn cancel_held<D: Device>(filter: &mut Filter<D>, spot: usize, number: u64) -> bool
     ensures keeps { Keeps (⟦<Filter<D> as Shown>⟧.view filter.old) (⟦<Filter<D> as Shown>⟧.view filter.new) }
     ensures visits { VisitsAtMost 3 filter.old.queue_visits filter.new.queue_visits }
@@ -25,7 +25,7 @@ fn cancel_held<D: Device>(filter: &mut Filter<D>, spot: usize, number: u64) -> b
 pub(crate) trait Holds: Hold {
     fn count_held(&self) -> usize;
 
-    /// Cancels what is held at a spot; true where it was held.
+    /// Cancels what is held at a spot, and returns whether something was held there.
     fn cancel_at_spot(&mut self, spot: usize, number: u64) -> bool
         ensures keeps { Keeps (Self.view self.old) (Self.view self.new) };
 }
@@ -50,7 +50,7 @@ impl<'a, D: Holds> Session<'a, D> {
         true
     }
 
-    /// Ends a pause; nothing that has ended waits then.
+    /// Ends a pause, and checks that nothing that has ended waits then.
     fn resume(&mut self, rt: &impl Abort) -> bool {
         if !self.paused {
             return false;
@@ -68,7 +68,7 @@ impl<'a, D: Holds> Session<'a, D> {
         self.device.cancel_at_spot(spot, number)
     }
 
-    /// One step, and whether it answered what it must.
+    /// Takes one step, and returns whether it answered what it must.
     fn carry_out_held(
         &mut self,
         rt: &impl Abort,
@@ -85,7 +85,7 @@ impl<'a, D: Holds> Session<'a, D> {
     }
 }
 
-/// All steps in turn, on a filter of which nothing was asked yet.
+/// Takes all steps in turn, on a filter of which nothing was asked yet.
 pub(crate) fn try_all_held<D: Holds>(
     rt: &impl Abort,
     alloc: Global,

@@ -1,5 +1,6 @@
 //! Tests of the layers `port`, `class_disk`, `hold_filter` and `partition`, each over an adapter in memory and by the
-//! contract of a layer, and of what no contract says: texts worked by hand, and what a refused request for memory leaves.
+//! contract of a layer, and of what no contract says: texts worked by hand, and what a refused request for memory
+//! leaves.
 #![tactic(auto)]
 
 #[cfg(test)]

@@ -19,7 +19,7 @@ use std::alloc::{AllocError, Global};
 use std::process::Abort;
 use std::test::Fail;
 
-/// These steps on these partitions of a disk of which nothing was asked yet.
+/// Takes these steps on these partitions of a disk of which nothing was asked yet.
 fn run_over<D: Device>(
     rt: &impl Abort,
     alloc: Global,
@@ -40,7 +40,7 @@ fn run_over<D: Device>(
     try_all(rt, alloc, stack, Driver::Partition, partitions, steps)
 }
 
-/// These steps on these partitions of a disk of 4,096 sectors, the sectors 2120 and 3100 of it bad.
+/// Takes these steps on these partitions of a disk of 4,096 sectors, of which 2120 and 3100 are bad.
 fn run(
     rt: &impl Abort,
     alloc: Global,
@@ -187,7 +187,7 @@ fn reaches_the_last_sector(rt: HostRuntime) -> Result<(), Fail> {
 /// The block that asks for a read of the first sector of the upper partition.
 const READ: [u8; 10] = [0x28, 0, 0, 0, 0x0C, 0, 0, 0, 1, 0];
 
-/// The block that asks for a write of its first two.
+/// The block that asks for a write of the first two sectors of that partition.
 const WRITE: [u8; 10] = [0x2A, 0, 0, 0, 0x0C, 0, 0, 0, 2, 0];
 
 // A packet is cancelled by its number and one by its spot; another is gone with the device. What is out comes back.
@@ -222,7 +222,7 @@ fn passes_on_cancellation_and_removal(rt: HostRuntime) -> Result<(), Fail> {
     Ok(())
 }
 
-// One of four requests may find no memory: those that were taken end under their numbers.
+// One of four requests may find no memory. The requests that were taken end under their numbers.
 #[test]
 fn takes_requests_or_no_memory(rt: HostRuntime) -> Result<(), Fail> {
     let _ = run(

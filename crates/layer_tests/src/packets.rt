@@ -13,7 +13,7 @@ use srb::{CommandBlock, Srb, SrbFlags, SrbFunction};
 use std::alloc::{AllocError, Global};
 use std::process::Abort;
 
-/// A request lies in its partition, is no longer than the layer takes, and a block of ten bytes can ask for it.
+/// Checks that a request lies in its partition, is no longer than the layer takes, and can be asked for by ten bytes.
 pub(crate) fn assert_askable(
     rt: &impl Abort,
     partitions: &[Extent],

@@ -17,7 +17,7 @@ use std::alloc::{AllocError, Global};
 use std::process::Abort;
 use std::test::Fail;
 
-/// These steps on a class driver over a port of this many sectors of which nothing was asked yet.
+/// Takes these steps on a class driver over a port of this many sectors, of which nothing was asked yet.
 fn run_over<D: Device>(
     rt: &impl Abort,
     alloc: Global,
@@ -38,20 +38,22 @@ fn run_over<D: Device>(
     try_all(rt, alloc, disk, Driver::Class, &whole, steps)
 }
 
-/// These steps on a class driver over eight sectors of 512 bytes, sector 5 bad, with pieces of two sectors and two tags.
+/// Takes these steps on a class driver over eight sectors of 512 bytes, sector 5 bad, with pieces of two sectors and
+/// two tags.
 fn run(rt: &impl Abort, alloc: Global, steps: &[Step]) -> Result<(), AllocError> {
     let port = port(alloc, 8, &[5], 2)?;
     run_over(rt, alloc, port, 8, steps)
 }
 
-/// The same stack over 4,096 sectors, with pieces of 16.
+/// Takes these steps on a class driver over 4,096 sectors of 512 bytes, sector 5 bad, with pieces of 16 sectors and two
+/// tags.
 fn run_on_large(rt: &impl Abort, alloc: Global, steps: &[Step]) -> Result<(), AllocError> {
     let port = port(alloc, 4096, &[], 16)?;
     run_over(rt, alloc, port, 4096, steps)
 }
 
-// The sizes. A read joins its pieces by their places, though the second comes back first. A bad piece in the middle, and one
-// that a reset meets, decide the status, and the other pieces go on.
+// The sizes. A read joins its pieces by their places, though the second comes back first. A bad piece in the middle,
+// and one that a reset meets, decide the status, and the other pieces go on.
 #[test]
 fn joins_pieces_by_place(rt: HostRuntime) -> Result<(), Fail> {
     run(
@@ -179,7 +181,7 @@ fn withdraws_what_was_not_started(rt: HostRuntime) -> Result<(), Fail> {
     Ok(())
 }
 
-// One of four requests may find no memory: those that were taken end under their numbers.
+// One of four requests may find no memory. The requests that were taken end under their numbers.
 #[test]
 fn takes_requests_or_no_memory(rt: HostRuntime) -> Result<(), Fail> {
     let _ = run(

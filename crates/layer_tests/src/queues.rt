@@ -13,7 +13,7 @@ use std::alloc::{AllocError, Global};
 use std::process::Abort;
 use std::test::Fail;
 
-/// These steps on a port of four sectors, the last one bad, with two tags.
+/// Takes these steps on a port of four sectors, the last one bad, with two tags.
 fn run(rt: &impl Abort, alloc: Global, steps: &[Step]) -> Result<(), AllocError> {
     let port = port(alloc, 4, &[3], 2)?;
     let whole = [Extent { first: 0, count: 4 }];
@@ -162,7 +162,8 @@ fn resets_what_is_out(rt: HostRuntime) -> Result<(), Fail> {
     Ok(())
 }
 
-// One of four requests may find no memory: those that were taken end under their numbers, those that wait by a removal.
+// One of four requests may find no memory. The requests that were taken end under their numbers, and the waiting ones
+// by a removal.
 #[test]
 fn takes_requests_or_no_memory(rt: HostRuntime) -> Result<(), Fail> {
     let _ = run(

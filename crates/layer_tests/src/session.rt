@@ -21,7 +21,7 @@ pub(crate) struct Session<'a, D: Shown> {
     partitions: &'a [Extent],
     /// The next number to be given.
     next: u64,
-    /// By its number, the spot of a packet's room.
+    /// The spot of each packet's room, by the packet's number.
     pub(crate) spots: [usize; 65],
     pub(crate) paused: bool,
     pub(crate) removed: bool,
@@ -62,7 +62,7 @@ impl<'a, D: Device> Session<'a, D> {
         }
     }
 
-    /// A request goes down under the next number; where memory for it was refused, none goes.
+    /// Sends a request down under the next number. Where memory for it was refused, none goes.
     fn submit(
         &mut self,
         rt: &impl Abort,
@@ -90,7 +90,7 @@ impl<'a, D: Device> Session<'a, D> {
         Ok(())
     }
 
-    /// Room is made for a request, and given back.
+    /// Makes room for a request, and gives it back.
     fn reserve(&mut self, rt: &impl Abort, request: &Request) -> Result<(), AllocError> {
         let longest = self.device.longest();
         assert_askable(rt, self.partitions, longest, request);
@@ -118,17 +118,19 @@ impl<'a, D: Device> Session<'a, D> {
         self.tells_no_more()
     }
 
-    /// Acts on a tag, with no label left from before; whether a piece had done nothing as is wanted.
+    /// Acts on a tag. Returns whether no label was left from before and the tag had a piece that did nothing, as is
+    /// wanted.
     fn act(&mut self, tag: u8, want: bool) -> bool {
         self.device.take_label().is_none() && self.device.act(tag) == want
     }
 
-    /// Takes the piece of a tag back, with no label left from before; whether there was one as is wanted.
+    /// Takes the piece of a tag back. Returns whether no label was left from before and there was a piece, as is
+    /// wanted.
     fn finish(&mut self, tag: u8, want: bool) -> bool {
         self.device.take_label().is_none() && self.device.finish(tag) == want
     }
 
-    /// Resets the adapter, with no label left from before.
+    /// Resets the adapter. Returns whether no label was left from before.
     fn reset(&mut self) -> bool {
         if self.device.take_label().is_some() {
             return false;
@@ -160,7 +162,7 @@ impl<'a, D: Device> Session<'a, D> {
         true
     }
 
-    /// Whether what comes up is as a step wants it; its room is given back.
+    /// Takes what comes up, gives its room back, and returns whether it is as a step wants it.
     fn comes_up(&mut self, step: &Step) -> bool {
         let takes_srb = self.form.takes_srb;
         let Some((climb, room)) = self.device.take_done() else {
@@ -183,7 +185,7 @@ impl<'a, D: Device> Session<'a, D> {
         self.spots[(of % 65) as usize] == self.spots[(other % 65) as usize]
     }
 
-    /// The piece on tag 0 comes back busy so often, and is sent again each time.
+    /// Has the piece on tag 0 come back busy this many times, and checks that it is sent again each time.
     fn sends_again(&mut self, count: u8) -> bool {
         for before in 0..count {
             let piece = u128::from(before) + 1;
@@ -195,7 +197,7 @@ impl<'a, D: Device> Session<'a, D> {
         true
     }
 
-    /// A flush is started on tag 0, acts and comes up.
+    /// Checks that a flush is started on tag 0, acts and comes up.
     fn serves_one(&mut self, piece: u128, number: u128) -> bool {
         self.tells(&[Told::Starts(piece, 0)])
             && self.act(0, true)
@@ -215,7 +217,7 @@ impl<'a, D: Device> Session<'a, D> {
         true
     }
 
-    /// Four requests, of which want of memory may turn one away.
+    /// Sends four requests down, of which want of memory may turn one away.
     fn submit_four(&mut self, rt: &impl Abort, alloc: Global, request: &Request, byte: u8) -> bool {
         for _ in 0..4 {
             let _ = self.submit(rt, alloc, request, byte);
@@ -236,7 +238,7 @@ impl<'a, D: Device> Session<'a, D> {
         Ok(true)
     }
 
-    /// A step that ends packets, or looks at what there is, and whether it answered what it must.
+    /// Takes a step that ends packets or looks at what there is, and returns whether it answered what it must.
     fn ends(&mut self, step: &Step) -> bool {
         match step {
             Step::Cancel(number) => self.cancel(*number),
@@ -251,7 +253,7 @@ impl<'a, D: Device> Session<'a, D> {
         }
     }
 
-    /// One step that takes no memory, and whether it answered what it must. A filter's own does not.
+    /// Takes one step that takes no memory, and returns whether it answered what it must. A filter's own step does not.
     fn follows(&mut self, step: &Step) -> bool {
         match step {
             Step::Act(tag, want) => self.act(*tag, !want.is_empty()) && self.tells(want),
@@ -265,7 +267,7 @@ impl<'a, D: Device> Session<'a, D> {
         }
     }
 
-    /// One step, and whether it answered what it must.
+    /// Takes one step, and returns whether it answered what it must.
     pub(crate) fn carry_out(
         &mut self,
         rt: &impl Abort,
@@ -292,7 +294,7 @@ impl<'a, D: Device> Session<'a, D> {
     }
 }
 
-/// All steps in turn, on a layer of which nothing was asked yet.
+/// Takes all steps in turn, on a layer of which nothing was asked yet.
 pub(crate) fn try_all<D: Device>(
     rt: &impl Abort,
     alloc: Global,

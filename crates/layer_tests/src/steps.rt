@@ -24,10 +24,10 @@ pub(crate) enum Told<'a> {
 /// What is done, and what must follow. Where labels stand, just these are recorded.
 #[derive(Clone, Copy)]
 pub(crate) enum Step<'a> {
-    /// The volumes, the sectors of the first three numbers, the longest request in sectors, and how many requests there may
-    /// be.
+    /// The volumes, the sectors of the first three numbers, the longest request in sectors, and how many requests there
+    /// may be.
     Sizes(u8, [u64; 3], u64, u128),
-    /// A request goes down: its volume, its kind, its first sector and how many, and the byte that its data are full of.
+    /// A request goes down: its volume, its kind, its first sector, its number of sectors, and the byte of its data.
     Submit(u8, Kind, u64, u64, u8),
     /// Four such requests, of which want of memory may turn one away.
     SubmitFour(u8, Kind, u64, u64, u8),
@@ -42,7 +42,7 @@ pub(crate) enum Step<'a> {
     /// The labels that are there are forgotten.
     Forget,
     Cancel(u64),
-    /// By the spot of the first number's packet, the packet of the second.
+    /// The packet of the second number is cancelled at the spot of the first number's packet.
     CancelAt(u64, u64),
     /// The packet of the first number and that of the second have the same spot.
     HaveOneSpot(u64, u64),
@@ -51,26 +51,26 @@ pub(crate) enum Step<'a> {
     Done(u128, NtStatus),
     /// The fourth packet comes up with this status, if it was given.
     FourthDone(NtStatus),
-    /// A packet comes up that moved as many sectors, each full of its byte.
+    /// A packet comes up that moved one sector for each byte, full of that byte.
     Moved(u128, NtStatus, &'a [u8]),
     /// A packet comes up, and all its data are this byte.
     Filled(u128, NtStatus, u8),
     /// No packet comes up.
     NoneDone,
-    /// The piece on tag 0 comes back busy so often, the first of them with number 1, and is sent again each time.
+    /// The piece on tag 0 comes back busy this many times, first as piece 1, and is sent again each time.
     SendsAgain(u8),
-    /// Flushes, this many, go down.
+    /// This many flushes go down.
     SubmitFlushes(u8),
-    /// One behind the other flushes are started, act and come up: the number of the first piece, the number of the first
-    /// packet, and how many.
+    /// Flushes are started, act and come up, one behind the other. The numbers are the first piece, the first packet,
+    /// and how many flushes.
     Serve(u8, u8, u8),
-    /// The number of packets that are held.
+    /// This many packets are held.
     Holds(usize),
     Pause,
     Resume,
-    /// As `CancelAt`, if the packet is held.
+    /// A cancel as in `CancelAt`, if the packet is held.
     CancelHeld(u64, u64, bool),
-    /// As `CancelAt`, if the packet waits in a port's queue.
+    /// A cancel as in `CancelAt`, if the packet waits in a port's queue.
     CancelWaiting(u64, u64, bool),
 }
 

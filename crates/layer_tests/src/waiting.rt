@@ -14,7 +14,7 @@ use sector::Extent;
 use std::alloc::{AllocError, Global};
 use std::process::Abort;
 
-/// Cancels what waits at a spot, with at most three visits of the queue; true where it waited there.
+/// Cancels what waits at a spot, with at most three visits of the queue. Returns whether something waited there.
 fn cancel_waiting<A: Adapter>(port: &mut Port<A>, spot: usize, number: u64) -> bool
     ensures keeps { Keeps (⟦<Port<A> as Shown>⟧.view port.old) (⟦<Port<A> as Shown>⟧.view port.new) }
     ensures visits { VisitsAtMost 3 port.old.visits port.new.visits }
@@ -24,7 +24,7 @@ fn cancel_waiting<A: Adapter>(port: &mut Port<A>, spot: usize, number: u64) -> b
 
 /// A layer in which packets wait, each at its spot.
 pub(crate) trait Queued: Device {
-    /// Cancels what waits at a spot; true where it waited there.
+    /// Cancels what waits at a spot, and returns whether something waited there.
     fn cancel_waiting_at(&mut self, spot: usize, number: u64) -> bool
         ensures keeps { Keeps (Self.view self.old) (Self.view self.new) };
 }
@@ -41,7 +41,7 @@ impl<'a, D: Queued> Session<'a, D> {
         self.device.cancel_waiting_at(spot, number)
     }
 
-    /// One step, and whether it answered what it must.
+    /// Takes one step, and returns whether it answered what it must.
     fn carry_out_queued(
         &mut self,
         rt: &impl Abort,
@@ -57,7 +57,7 @@ impl<'a, D: Queued> Session<'a, D> {
     }
 }
 
-/// All steps in turn, on a port of which nothing was asked yet.
+/// Takes all steps in turn, on a port of which nothing was asked yet.
 pub(crate) fn try_all_queued<D: Queued>(
     rt: &impl Abort,
     alloc: Global,

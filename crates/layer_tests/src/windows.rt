@@ -17,7 +17,7 @@ use std::alloc::{AllocError, Global};
 use std::process::Abort;
 use std::test::Fail;
 
-/// These steps on a filter over a device of four sectors of which nothing was asked yet.
+/// Takes these steps on a filter over a device of four sectors, of which nothing was asked yet.
 fn run_over<D: Device>(
     rt: &impl Abort,
     alloc: Global,
@@ -36,7 +36,7 @@ fn run_over<D: Device>(
     try_all_held(rt, alloc, filter, &whole, steps)
 }
 
-/// These steps on a filter with this window over a disk of four sectors, the last one bad, with two tags.
+/// Takes these steps on a filter with this window over a disk of four sectors, the last one bad, with two tags.
 fn run(rt: &impl Abort, alloc: Global, window: usize, steps: &[Step]) -> Result<(), AllocError>
     requires { 0 < window }
 {
@@ -243,7 +243,7 @@ fn of_sixty_four_the_others_go_in_order(rt: HostRuntime) -> Result<(), Fail> {
     Ok(())
 }
 
-// One of four requests may find no memory: those that were taken end under their numbers.
+// One of four requests may find no memory. The requests that were taken end under their numbers.
 #[test]
 fn takes_requests_or_no_memory(rt: HostRuntime) -> Result<(), Fail> {
     let _ = run(

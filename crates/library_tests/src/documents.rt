@@ -64,7 +64,7 @@ fn reads_defaults(rt: HostRuntime) -> Result<(), Fail> {
     Ok(())
 }
 
-/// More requests may be open than are at work: this many as are given, or 64.
+/// More requests may be open than are at work: as many as are given, or 64.
 #[test]
 fn reads_open_requests(rt: HostRuntime) -> Result<(), Fail> {
     let alloc = rt.alloc();
@@ -340,8 +340,8 @@ fn writes_partition_tables(rt: HostRuntime) -> Result<(), Fail> {
     Ok(())
 }
 
-/// Disks of few sectors, of as many as ten bytes can name, and of as many as there may be: an adapter takes room for sector
-/// 0 alone.
+/// Disks of few sectors, of as many as ten bytes can name, and of as many as there may be: an adapter takes room for
+/// sector 0 alone.
 #[test]
 fn gives_adapters(rt: HostRuntime) -> Result<(), Fail> {
     let alloc = rt.alloc();

@@ -1,6 +1,6 @@
 //! Tests of the libraries beside the stack and over it, by their public calls: the judge, sessions of NBD, volumes,
-//! settings, what they start, scripts, and what the programs `stackrun` and `nbd_disk` can be asked for. Each compares what
-//! a call answers with values worked by hand.
+//! settings, what they start, scripts, and what the programs `stackrun` and `nbd_disk` can be asked for. Each compares
+//! what a call answers with values worked by hand.
 #![tactic(auto)]
 
 #[cfg(test)]

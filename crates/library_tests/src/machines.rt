@@ -14,13 +14,13 @@ use std::test::Fail;
 /// A label of the only request and its only piece, on tag 0 and in partition 0. Offsets and lengths are in bytes.
 #[derive(Debug, Clone, Copy)]
 enum Told {
-    /// A write brings this byte.
+    /// A call. Each byte that a write brings is this one.
     Call(Kind, u64, u64, u8),
     Start(Cdb),
-    /// It hands over this many equal bytes.
+    /// An act that hands over this many equal bytes.
     Act(u8, usize),
     Good,
-    /// SUCCESS, with this many bytes transferred, and this many equal bytes.
+    /// An answer of SUCCESS, with this many bytes transferred, and this many equal bytes.
     Answer(u64, u8, usize),
 }
 
@@ -158,7 +158,7 @@ fn verdict(alloc: Global, kept: Kept, rows: &[Told]) -> Result<Verdict, Fail> {
     Ok(verdict.ok().ok_or("no verdict")?)
 }
 
-/// The first label that no step allows; none of a run, which leads to one machine here.
+/// The first label that no step allows, if there is one. A run leads to one machine here.
 fn stops(alloc: Global, kept: Kept, rows: &[Told]) -> Result<Option<usize>, Fail> {
     match verdict(alloc, kept, rows)? {
         Verdict::Stops(at) => Ok(Some(at)),
@@ -179,7 +179,7 @@ const READ_HIGH: [Told; 5] = [
     Told::Answer(2, 0, 2),
 ];
 
-/// The address has lost its highest bit.
+/// A read whose command has lost the highest bit of its address.
 const READ_CUT: [Told; 2] = [
     Told::Call(Kind::Read, 2, 2, 0),
     Told::Start(Cdb::Read10 {
@@ -225,7 +225,7 @@ const BOTH: [Told; 2] = [
     }),
 ];
 
-/// A read of three, of which a piece has two at most.
+/// A read of three sectors, of which a piece has two at most.
 const TWO_OF_THREE: [Told; 2] = [
     Told::Call(Kind::Read, 0, 6, 0),
     Told::Start(Cdb::Read10 {
@@ -303,7 +303,7 @@ fn left_by(alloc: Global, kept: Kept, rows: &[Told], partition: u8) -> Result<Ve
     Ok(all)
 }
 
-/// A write is in its partition's sectors, unless they stand elsewhere.
+/// A write stands in its partition's sectors, unless they are kept elsewhere.
 #[test]
 fn sectors_behind_a_run(rt: HostRuntime) -> Result<(), Fail> {
     let alloc = rt.alloc();

@@ -34,7 +34,7 @@ pub(crate) fn add(bytes: &mut Vec<u8>, parts: &[Part]) -> Result<(), AllocError>
     Ok(())
 }
 
-/// Adds this many of one byte.
+/// Adds this many bytes of one value.
 pub(crate) fn fill(bytes: &mut Vec<u8>, byte: u8, count: usize) -> Result<(), AllocError> {
     for _ in 0..count {
         bytes.push(byte)?;

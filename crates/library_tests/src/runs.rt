@@ -1,5 +1,5 @@
-//! What command lines ask of the program `stackrun`; and what no contract says of a run: the order of faults, what a failed
-//! read or write gives, and traces as they are printed.
+//! What command lines ask of the program `stackrun`, and what no contract says of a run: the order of faults, what a
+//! failed read or write gives, and traces as they are printed.
 
 mod endings;
 mod given;
@@ -31,7 +31,7 @@ fn reads_a_command_line(rt: HostRuntime) -> Result<(), Fail> {
     Ok(())
 }
 
-/// Command lines behind the program's name that ask for nothing that there is, or for help.
+/// Command lines behind the program's name that ask for no command, or for help.
 static REFUSED: [&[&str]; 20] = [
     &[],
     &["--help"],

@@ -1,4 +1,4 @@
-//! Recorded sessions: the bytes of a client, and those of the server, by hand.
+//! Recorded sessions. The bytes of the client and of the server are written by hand.
 
 use crate::expect::{same, same_at};
 use crate::parts::Part::{Fill, Long, Short, Word};
@@ -13,7 +13,7 @@ struct Session {
     client: &'static [Part],
     server: &'static [Part],
     end: End,
-    /// What the blocks are filled with behind it.
+    /// What the blocks are filled with after the session.
     blocks: [u8; 4],
 }
 
@@ -548,7 +548,7 @@ fn requests_are_served(rt: HostRuntime) -> Result<(), AllocError> {
 #[derive(Drop)]
 struct Counting {
     array: MemArray,
-    /// Writes past caches.
+    /// How many writes went past caches.
     through: u32,
     flushes: u32,
     fault: Option<ArrayFault>,

@@ -28,7 +28,7 @@ enum Told {
     Fault(u128),
     Good(u128),
     Busy(u128),
-    /// With sense data MEDIUM ERROR.
+    /// A return with sense data MEDIUM ERROR.
     Bad(u128),
     /// An answer with this many bytes, each the same.
     Answer(u64, NtStatus, u64, usize, u8),
@@ -157,8 +157,8 @@ fn labels(alloc: Global, rows: &[Told]) -> Result<Vec<Label>, AllocError> {
     Ok(labels)
 }
 
-/// One partition, sectors 2 to 4 of the disk, of two bytes each; pieces of one sector on two tags; a second busy return is
-/// the last.
+/// One partition, sectors 2 to 4 of the disk, of two bytes each; pieces of one sector on two tags; a second busy return
+/// is the last.
 fn small(alloc: Global) -> Result<MachineRules, AllocError> {
     let mut partitions = Vec::new(alloc);
     partitions.push(Extent { first: 2, count: 3 })?;
@@ -222,7 +222,7 @@ fn a_sector_is_written_and_read_back(rt: HostRuntime) -> Result<(), Fail> {
     Ok(())
 }
 
-/// With only this much of it the machine isn't settled, and a read of other bytes is no run.
+/// A beginning after which the machine isn't settled, and a read of other bytes, which is no run.
 #[test]
 fn parts_and_other_bytes(rt: HostRuntime) -> Result<(), Fail> {
     let rows = [
@@ -283,7 +283,7 @@ const CANCELLED: [Told; 3] = [
     Told::Answer(1, NtStatus::Cancelled, 0, 0, 0),
 ];
 
-/// The labels that other tests have not; a refused call is owed its answer before anything else.
+/// The labels that other tests don't have. A refused call is owed its answer before anything else.
 #[test]
 fn each_other_label(rt: HostRuntime) -> Result<(), Fail> {
     same(&rt, &seen(rt.alloc(), &FLUSH)?, &Expected::Run(1, true));

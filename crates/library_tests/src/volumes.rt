@@ -79,32 +79,32 @@ fn filled(alloc: Global, byte: u8, length: usize) -> Result<Bytes, AllocError> {
 /// A call on a volume.
 #[derive(Debug, Clone, Copy)]
 enum Call {
-    /// From a byte on, this many bytes.
+    /// A read of this many bytes from this byte on.
     Read(u64, usize),
-    /// Equal bytes, and whether past volatile caches.
+    /// A write of this many equal bytes from this byte on, past volatile caches or not.
     Write(u64, usize, u8, bool),
     Flush,
 }
 
-/// What it must give.
+/// What a call must give.
 #[derive(Clone, Copy, PartialEq, Eq)]
 enum Given {
     Done,
-    /// Equal bytes.
+    /// This many equal bytes.
     Bytes(u8, usize),
-    /// Equal bytes, and then others.
+    /// This many bytes of one value, and then this many of another.
     Two(u8, usize, u8, usize),
     Fault(Error),
 }
 
-/// Whether there are first this many of one byte, and then this many of the other.
+/// Whether there are first this many bytes of one value, and then this many of the other.
 fn are(bytes: &[u8], first: u8, count: usize, second: u8, more: usize) -> bool {
     bytes.len() == count.saturating_add(more)
         && bytes.iter().take(count).all(|b| *b == first)
         && bytes.iter().skip(count).all(|b| *b == second)
 }
 
-/// Whether a read gave that.
+/// Whether a read gave what it must.
 fn read_gives(read: Result<Bytes, Error>, given: Given) -> Result<bool, AllocError> {
     match read {
         Ok(bytes) => {
@@ -122,7 +122,7 @@ fn read_gives(read: Result<Bytes, Error>, given: Given) -> Result<bool, AllocErr
     }
 }
 
-/// Whether a write or a flush gave that.
+/// Whether a write or a flush gave what it must.
 fn gives(done: Result<(), Error>, given: Given) -> Result<bool, AllocError> {
     match done {
         Ok(()) => Ok(given == Given::Done),

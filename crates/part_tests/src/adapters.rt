@@ -28,7 +28,7 @@ enum End {
     Busy,
     Invalid,
     Reset,
-    /// With sense data of this key and code.
+    /// CHECK CONDITION, with sense data of this key and code.
     Checked(u8, u8),
 }
 
@@ -147,7 +147,7 @@ fn finish<A: Adapter>(adapter: &mut A, tag: u8) -> Result<(Srb, Completion), Fai
     Ok(adapter.finish(tag).ok_or("a free tag")?)
 }
 
-/// The completion of one SRB on a disk of four sectors, the last one bad; the failures that were counted.
+/// The completion of one SRB on a disk of four sectors, the last one bad, and how many failures were counted.
 fn carried_out(
     rt: &impl Abort,
     alloc: Global,
@@ -186,7 +186,7 @@ fn completes(
     Ok(())
 }
 
-/// Other functions than that of a command.
+/// Functions that aren't EXECUTE_SCSI.
 const OTHERS: [Case; 2] = [
     (0x40, &[0x28, 0, 0, 0, 0, 0, 0, 0, 1, 0], 512, Invalid),
     (0x40, &[], 0, Invalid),
@@ -546,7 +546,7 @@ fn told(rt: &impl Abort, label: DeviceLabel) -> (u128, char, u8) {
     }
 }
 
-/// The label is there and says this.
+/// Checks that there is a label, which says this.
 fn is_told(rt: &impl Abort, label: Option<DeviceLabel>, want: (u128, char, u8)) {
     match label {
         Some(label) => same(rt, &told(rt, label), &want),
@@ -554,7 +554,7 @@ fn is_told(rt: &impl Abort, label: Option<DeviceLabel>, want: (u128, char, u8)) 
     }
 }
 
-/// Takes as many labels as are wanted, and no more are there.
+/// Takes the labels, and checks that just the wanted ones are there.
 fn tells<A: Adapter>(rt: &impl Abort, adapter: &mut A, want: Told)
     ensures labels { length (A.view adapter.new).labels ≡ 0 }
     ensures accepted { (A.view adapter.new).accepted ≡ (A.view adapter.old).accepted }
@@ -566,7 +566,7 @@ fn tells<A: Adapter>(rt: &impl Abort, adapter: &mut A, want: Told)
     assert!(rt; adapter.take_label().is_none());
 }
 
-/// What is done to an adapter, and what it must answer. The first number is a tag, but of a reset.
+/// What is done to an adapter, and what it must answer. The first number is a tag, except in a reset.
 #[derive(Clone, Copy)]
 enum Step {
     /// A write of one sector is put on a tag: its piece, its sector, and the byte that it is full of.
@@ -585,7 +585,7 @@ enum Step {
 
 use Step::{Act, AllReset, Back, Free, Read, Write};
 
-/// The SRB of one sector, all of a byte.
+/// The SRB of a transfer of one sector, with data full of a byte.
 fn one_sector(alloc: Global, flags: u8, code: u8, sector: u8, byte: u8) -> Result<Srb, Fail>
     ensures { IfOk result (λ s. length s.data ≤ s.for_label) }
 {
@@ -599,7 +599,7 @@ fn one_sector(alloc: Global, flags: u8, code: u8, sector: u8, byte: u8) -> Resul
     )
 }
 
-/// The data are full of the byte, and the label's room is whole where nothing was done.
+/// Checks that the data are full of the byte, and that the label's room is whole where nothing was done.
 fn comes_back_with(rt: &impl Abort, srb: &Srb, end: End, byte: u8) {
     let for_label = srb.for_label.capacity();
     if let Busy = end {
@@ -608,7 +608,7 @@ fn comes_back_with(rt: &impl Abort, srb: &Srb, end: End, byte: u8) {
     same(rt, &srb.data.as_slice(), &[byte; 512].as_slice());
 }
 
-/// The piece of a tag comes back so.
+/// Checks how the piece of a tag comes back, and with which data.
 fn is_back<A: Adapter>(
     rt: &impl Abort,
     adapter: &mut A,
@@ -625,7 +625,7 @@ fn is_back<A: Adapter>(
     Ok(())
 }
 
-/// No piece is on a tag.
+/// Checks that no piece is on a tag.
 fn is_free<A: Adapter>(rt: &impl Abort, adapter: &mut A, tag: u8)
     requires { length (A.view adapter.old).labels < 64 }
     ensures { (A.view adapter.new).accepted ≡ (A.view adapter.old).accepted }
@@ -634,7 +634,7 @@ fn is_free<A: Adapter>(rt: &impl Abort, adapter: &mut A, tag: u8)
     assert!(rt; !adapter.in_use(tag));
 }
 
-/// All is reset, and this many failures are counted.
+/// Resets the adapter, and checks that this many failures are counted.
 fn is_reset<A: Adapter>(rt: &impl Abort, adapter: &mut A, failures: u128)
     requires { length (A.view adapter.old).labels ≤ 32 }
     ensures { (A.view adapter.new).accepted ≡ (A.view adapter.old).accepted }
@@ -684,7 +684,7 @@ fn take<A: Adapter>(rt: &impl Abort, alloc: Global, adapter: &mut A, step: Step)
     }
 }
 
-/// Takes the steps one after the other; after each just its labels are there.
+/// Takes the steps one after the other, and checks that just the labels of each are there after it.
 fn run<A: Adapter>(
     rt: &impl Abort,
     alloc: Global,
@@ -780,7 +780,7 @@ fn fails_once(alloc: Global, before: u64) -> Result<OnceAdapter<VecDisk>, Fail>
 }
 
 /// Act number 2 fails though nothing is wrong with its command, and moves nothing; acts that were ignored don't count.
-/// All else is the adapter's in memory, its own failures too.
+/// All else is as with the adapter in memory, its own failures too.
 const SECOND_ACT_FAILS: [(Step, Told<'static>); 22] = [
     (Write(0, 1, 0, 0xA5), &[(1, 'S', 0)]),
     (Act(0, true), &[(1, 'A', 0xA5)]),
@@ -844,19 +844,20 @@ fn booked_adapter(alloc: Global) -> Result<BookedAdapter, AllocError>
 /// A command: its flags, its block and the length of its data.
 type Asked<'a> = (u8, &'a [u8], usize);
 
-/// An entry: its kind, its first sector, the number of its sectors, and that of its bytes, all of this value.
+/// An entry: its kind, its first sector, the number of its sectors, the number of its bytes, and the value of each
+/// byte.
 type Done = (Kind, u64, u64, usize, u8);
 
 /// How an act is handed over.
 #[derive(Clone, Copy)]
 enum How {
-    /// As its entry, to be copied.
+    /// It hands its entry over, to be copied.
     Copied,
-    /// As its entry, whose bytes may be taken.
+    /// It hands its entry over, whose bytes may be taken.
     Taken,
-    /// As what the SRB sends.
+    /// It says that it moved what the SRB sends.
     Sent,
-    /// It fails.
+    /// It fails in this way.
     Fails(End),
 }
 
@@ -889,7 +890,7 @@ fn book_as(adapter: &mut BookedAdapter, tag: u8, piece: u128, entry: &mut Entry,
     }
 }
 
-/// Books this of piece 1 on tag 0, and of others, which are not there.
+/// Books this of piece 1 on tag 0, and of two pieces that are not there.
 fn book(rt: &impl Abort, adapter: &mut BookedAdapter, entry: &mut Entry, how: How)
     ensures labels { adapter.new.shown.labels ≡ adapter.old.shown.labels }
 {
@@ -900,13 +901,13 @@ fn book(rt: &impl Abort, adapter: &mut BookedAdapter, entry: &mut Entry, how: Ho
     book_as(adapter, 0, 1, entry, how);
 }
 
-/// The byte that bytes begin with, 0 where there are none.
+/// The first of some bytes, or 0 where there are none.
 fn first_of(bytes: &Bytes) -> u8 {
     bytes.as_slice().first().copied().unwrap_or(0)
 }
 
-/// Returns the first byte that an SRB comes back with where this was booked of its act, how it ends, and whether it
-/// acted; and the first byte that the entry is left with.
+/// Books this of an SRB's act. Returns the first byte that the SRB comes back with, how it ends, whether it acted, and
+/// the first byte that the entry is left with.
 fn comes_back(
     rt: &impl Abort,
     alloc: Global,
@@ -938,10 +939,10 @@ const A_READ: Asked<'static> = (0x40, &[0x28, 0, 0, 0, 0, 0, 0, 0, 1, 0], 512);
 
 const A_WRITE: Asked<'static> = (0x80, &[0x2A, 0, 0, 0, 0, 0, 0, 0, 1, 0], 512);
 
-/// Fewer bytes than it asks for.
+/// A write with fewer bytes than it asks for.
 const A_SHORT_WRITE: Asked<'static> = (0x80, &[0x2A, 0, 0, 0, 0, 0, 0, 0, 1, 0], 511);
 
-/// Of the sector behind the last.
+/// A write of the sector behind the last.
 const A_WRITE_BEHIND: Asked<'static> = (0x80, &[0x2A, 0, 0, 0, 0, 4, 0, 0, 1, 0], 512);
 
 const A_LONG_WRITE: Asked<'static> = (
@@ -958,11 +959,11 @@ const ONE_READ: Done = (Kind::Read, 0, 1, 512, 0x5A);
 
 const ONE_FLUSH: Done = (Kind::Flush, 0, 0, 0, 0);
 
-/// What an SRB asks for, what is booked of its act and how it is handed over; with which first byte it comes back, how
-/// it ends, and whether it acted; and the first byte that the entry is left with.
+/// What an SRB asks for, what is booked of its act, and how that is handed over. Then the first byte that the SRB comes
+/// back with, how it ends, and whether it acted. Last the first byte that the entry is left with.
 type Row = (Asked<'static>, Done, How, (u8, End, bool), u8);
 
-/// Of a piece of which nothing could be booked.
+/// How a piece comes back of which nothing could be booked.
 const UNBOOKED: (u8, End, bool) = (0xA5, Checked(4, 0), false);
 
 const BOOKED: [Row; 21] = [
@@ -1100,7 +1101,7 @@ fn labels_wait(rt: HostRuntime) -> Result<(), Fail> {
     Ok(())
 }
 
-/// Labels that are forgotten are not told, those of what comes later are.
+/// Labels that are forgotten are not told. The labels of what comes later are told.
 #[test]
 fn labels_are_forgotten(rt: HostRuntime) -> Result<(), Fail> {
     let mut adapter = four_sectors(rt.alloc(), 2, false)?;
@@ -1118,7 +1119,7 @@ fn labels_are_forgotten(rt: HostRuntime) -> Result<(), Fail> {
     Ok(())
 }
 
-/// Piece 0 brings these data of a booked adapter's disk, and ends so.
+/// Checks which data piece 0 brings of a booked adapter's disk, and how it ends.
 fn is_looked_at(
     rt: &impl Abort,
     alloc: Global,

@@ -121,7 +121,7 @@ fn starts_blank_or_refuses(rt: HostRuntime) -> Result<(), Fail> {
     Ok(())
 }
 
-// The bytes of a sector; none where it can't be read.
+// The bytes of a sector, or none where it can't be read.
 fn sector_at<M: Medium>(
     rt: &impl Abort,
     alloc: Global,
@@ -168,7 +168,7 @@ fn starts_with_bytes_or_refuses(rt: HostRuntime) -> Result<(), Fail> {
     Ok(())
 }
 
-// These two sectors at the start of a disk that takes room for them alone.
+// A disk that begins with these two sectors, and takes room for them alone.
 #[test]
 fn starts_sparse_with_sectors(rt: HostRuntime) -> Result<(), Fail> {
     let alloc = rt.alloc();
@@ -197,7 +197,7 @@ fn mark_of(sector: u64) -> u8 {
     (sector % 251) as u8 + 1
 }
 
-// A sector is read, and is all of a byte.
+// Reads a sector, and checks that it is full of a byte.
 fn reads_as<M: Medium>(rt: &impl Abort, disk: &mut M, sector: u64, byte: u8) {
     assert!(rt; sector < disk.sectors() && disk.sector_size() == 512 && disk.failures() == 0);
     let mut buffer = [0xff; 512];

@@ -18,7 +18,8 @@ fn two(alloc: Global, first: u32, second: u32) -> Result<(Gate, Pass, Pass), Gat
     Ok((gate, a, b))
 }
 
-// Two passes in turn, of one hold each. It is passed no handle: no call of a gate waits. The answer is what went wrong.
+// Two passes in turn, of one hold each. The function has no handle, since no call of a gate waits. It returns what went
+// wrong.
 fn in_turn(gate: &Gate, a: &mut Pass, b: &mut Pass) -> Result<(), &'static str>
     requires { (a.old.gate ≡ gate.now) × (b.old.gate ≡ gate.now) }
 {
@@ -106,7 +107,7 @@ fn takes_quotas_up_to_the_limit(rt: HostRuntime) -> Result<(), Fail> {
     Ok(())
 }
 
-// Takes and releases a hold many times. The answer is the pass and the number of holds taken.
+// Takes and releases a hold many times. Returns the pass and the number of holds taken.
 fn churn(gate: &Gate, mut pass: Pass) -> (Pass, u32)
     requires { (pass.gate ≡ gate.now) × (pass.view.holds ≡ 0) }
     ensures { (result.0.gate ≡ gate.now) × (result.0.view.holds ≡ 0) }

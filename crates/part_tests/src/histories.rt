@@ -11,7 +11,7 @@ use std::sync::{Mutex, Wait};
 use std::test::Fail;
 use std::thread::{Threads, join};
 
-// What lies under the lock: entries that are stored, and the whole history, which is theirs.
+// What lies under the lock: the entries that are stored, and their whole history.
 #[derive(Drop)]
 struct Desk<N: Naming> {
     stored: Vec<u64>,
@@ -112,8 +112,8 @@ struct Written {
     bytes: Vec<u8>,
 }
 
-// Every call in one thread. It is passed no handle and no allocator: no call waits or takes memory. What comes back
-// claims the second entry, the first, and the second again.
+// Makes every call in one thread. The function has no handle and no allocator, since no call waits or takes memory.
+// What it returns claims the second entry, the first, and the second again.
 fn in_turn<N: Naming>(
     history: &History<Written, N>,
     whole: &mut Whole<Written, N>,

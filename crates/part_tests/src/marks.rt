@@ -21,8 +21,8 @@ fn two(alloc: Global) -> Result<(Marks, Seat, Seat), NoMemory>
     Ok((marks, owner, other))
 }
 
-// Two seats in turn. It is passed no handle: no call on a table waits. The answers are those of `mark` and of `look`,
-// in order.
+// Two seats in turn. The function has no handle, since no call on a table waits. It returns what `mark` and `look`
+// answered, in order.
 fn in_turn(
     marks: &Marks,
     owner: &mut Seat,

@@ -15,7 +15,7 @@ use srb::Srb;
 use std::process::Abort;
 use std::test::Fail;
 
-/// With which outcomes a routine is asked for: success, error, cancel.
+/// The outcomes for which a routine is asked: success, error, cancel.
 type Asked = (bool, bool, bool);
 
 const NEVER: Asked = (false, false, false);
@@ -41,7 +41,7 @@ fn location(driver: Driver) -> StackLocation {
     }
 }
 
-/// The packet goes to this driver, which asks for a routine.
+/// Passes the packet on to this driver, which asks for a routine.
 fn pass_to(irp: &mut Irp, driver: Driver, asked: Asked)
     requires { array_vec_len irp.old.locations < 4 }
     ensures { array_vec_len irp.new.locations ≡ array_vec_len irp.old.locations + 1 }
@@ -50,7 +50,7 @@ fn pass_to(irp: &mut Irp, driver: Driver, asked: Asked)
     irp.set_completion(asked.0, asked.1, asked.2);
 }
 
-/// A packet that has come down to the port, past three drivers that ask so.
+/// A packet that has come down to the port, past three drivers that ask for these routines.
 fn packet_at_port(payload: Payload, partition: Asked, filter: Asked, class: Asked) -> Irp {
     let mut irp = Irp::new(7, payload);
     pass_to(&mut irp, Driver::Partition, partition);

@@ -30,8 +30,8 @@ struct PartitionTable {
 }
 
 impl PartitionTable {
-    /// Entries have sixteen bytes each from byte 446 on; their type is byte 4, the first sector and the count are the bytes
-    /// from 8 and 12 on, the lowest first.
+    /// Entries have sixteen bytes each from byte 446 on; their type is byte 4, the first sector and the count are the
+    /// bytes from 8 and 12 on, the lowest first.
     fn sector(&self) -> [u8; 512] {
         let mut bytes = [0; 512];
         for n in 0..4 {
@@ -109,7 +109,7 @@ fn adapter<M: Medium>(
     MemAdapter::new(alloc, medium, 64, 2, false).map_err(no_memory)
 }
 
-/// Probes a disk, which tells these partitions, or this fault; this many failures are then counted.
+/// Probes a disk, and checks its partitions or the fault, and how many failures are then counted.
 fn tells<A: Adapter>(
     rt: &impl Abort,
     alloc: Global,
@@ -153,7 +153,7 @@ fn finds_the_sizes(rt: HostRuntime) -> Result<(), Fail> {
     Ok(())
 }
 
-/// The number of sectors that READ CAPACITY(10) can't tell any more.
+/// The least number of sectors that READ CAPACITY(10) can't tell.
 const FAR: u64 = 0x1_0000_0000;
 
 #[test]

@@ -17,7 +17,7 @@ const fn extent(first: u64, count: u64) -> Extent {
 /// The largest number of an entry.
 const FAR: u64 = 0xFFFF_FFFF;
 
-/// What a sector says on a disk of this many sectors: these partitions, or this fault.
+/// Checks what a sector says on a disk of this many sectors: these partitions, or this fault.
 fn expect(
     rt: &impl Abort,
     sector: &[u8],
@@ -48,20 +48,20 @@ fn one_entry() -> [u8; 512] {
 /// What one changed byte does.
 #[derive(Clone, Copy)]
 enum Change {
-    /// Nothing.
+    /// It changes nothing.
     Nothing,
-    /// There is no partition.
+    /// It leaves no partition.
     Unused,
-    /// The first sector is so much, and so much for each one of the byte's value.
+    /// The first sector is the first number, plus the second times the byte's value.
     First(u64, u64),
-    /// The number of sectors, likewise.
+    /// The number of sectors is the first number, plus the second times the byte's value.
     Count(u64, u64),
     Fault(MbrFault),
 }
 
 use Change::{Count, Fault, First, Nothing, Unused};
 
-/// For a byte and values from one to another what a change of the byte to such a value does. All other changes do
+/// A byte, the values from one to another, and what a change of the byte to such a value does. All other changes do
 /// nothing.
 static CHANGES: [(usize, u8, u8, Change); 20] = [
     (450, 0, 0, Unused),
@@ -139,7 +139,7 @@ fn looks_at_512_bytes(rt: HostRuntime) {
     expect(&rt, &long, 4096, &[extent(2048, 1024)], None);
 }
 
-/// The first bytes of a sector, this many, are too few.
+/// Checks that the first bytes of a sector, this many, are too few.
 fn is_short(rt: &impl Abort, sector: &[u8], length: usize) {
     assert!(rt; length <= sector.len());
     expect(
@@ -165,7 +165,7 @@ fn table(rt: &impl Abort, entries: &[(u8, Extent)]) -> ArrayVec<u8, 512> {
     render(entries)
 }
 
-/// What a table of these entries says on a disk of this many sectors: these partitions, or this fault.
+/// Checks what a table of these entries says on a disk of this many sectors: these partitions, or this fault.
 fn says(
     rt: &impl Abort,
     entries: &[(u8, Extent)],

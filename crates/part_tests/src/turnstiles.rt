@@ -159,14 +159,14 @@ impl Desk for Table {
     }
 }
 
-// It holds nobody.
+// A turnstile that holds nobody.
 struct Open;
 
 impl Turnstile for Open {
     fn pass<R: Wait>(&self, _: &R, _: u8) {}
 }
 
-// It holds who comes until a piece was finished, for at most that many turns of a millisecond.
+// A turnstile that holds a thread until a piece was finished, for at most this many turns of a millisecond.
 #[derive(Drop)]
 struct Held<'a, C: Clock> {
     clock: &'a C,

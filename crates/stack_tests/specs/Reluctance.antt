@@ -3,7 +3,7 @@ use Rattle.std.specs.Prelude.{ℕ, zero, suc, List, []}
 use Rattle.sector.specs.declared.Extent.{Extent}
 use Rattle.disk.specs.Medium.{MediumView}
 
--- nothing is reserved as long as it refuses; it reserves all sectors at once
+-- the medium reserves nothing as long as it refuses, and then all sectors at once
 abbrev pub granted : ℕ → List Extent → List Extent
 granted zero reserved = reserved
 granted (suc more) reserved = []

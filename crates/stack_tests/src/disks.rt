@@ -27,8 +27,8 @@ pub(crate) struct PartitionTable {
 }
 
 impl PartitionTable {
-    /// Entries have sixteen bytes each from byte 446 on; their type is byte 4, the first sector and the count are the bytes
-    /// from 8 and 12 on, the lowest first.
+    /// Entries have sixteen bytes each from byte 446 on; their type is byte 4, the first sector and the count are the
+    /// bytes from 8 and 12 on, the lowest first.
     pub(crate) fn sector(&self) -> [u8; 512] {
         let mut bytes = [0; 512];
         for n in 0..4 {

@@ -1,5 +1,5 @@
-//! Tests of the whole stack over disks in memory, and of what no contract says: texts worked by hand, and what a refused
-//! request for memory leaves.
+//! Tests of the whole stack over disks in memory, and of what no contract says: texts worked by hand, and what a
+//! refused request for memory leaves.
 #![tactic(auto)]
 
 #[cfg(test)]

@@ -18,23 +18,23 @@ use std::test::Fail;
 /// A label. Requests are of partition 0, which begins at block 2; offsets and lengths are in bytes. A sector has two.
 #[derive(Clone, Copy)]
 enum Say {
-    /// Number, kind, offset, length, bytes that come with it.
+    /// A call: number, kind, offset, length, and the bytes that come with it.
     Call(u64, Kind, u64, u64, usize),
     Start(u128, u8, Cdb),
-    /// With READ CAPACITY(10), which no request has.
+    /// A start with READ CAPACITY(10), for which no request asks.
     StartCapacity(u128, u8),
-    /// With an empty block.
+    /// A start with an empty block.
     StartNothing(u128, u8),
-    /// With a block of these bytes.
+    /// A start with a block of these bytes.
     StartBytes(u128, u8, &'static [u8]),
-    /// Piece, the byte that is repeated, how often.
+    /// An act: piece, the byte that is repeated, and how often.
     Act(u128, u8, usize),
     Fault(u128),
     Good(u128),
     Busy(u128),
-    /// With this SRB status.
+    /// A return with this SRB status.
     Bad(u128, u8),
-    /// Number, status, information, the byte that is repeated, how often.
+    /// An answer: number, status, information, the byte that is repeated, and how often.
     Answer(u64, NtStatus, u64, u8, usize),
     Cancel(u64),
     Pause,
@@ -198,7 +198,7 @@ fn stops(judge: &mut Judge, alloc: Global, rows: &[Say]) -> Result<(usize, Optio
     Ok((rows.len(), None))
 }
 
-/// The last label alone breaks a rule, and this one.
+/// Checks that the last label alone breaks a rule, and that it breaks this one.
 fn breaks(alloc: Global, rows: &[Say], rule: Rule) -> Result<bool, Fail> {
     let mut judge = judge(alloc)?;
     let seen = stops(&mut judge, alloc, rows)?;
@@ -509,7 +509,7 @@ const READ_FIRST: Cdb = Cdb::Read10 {
     fua: false,
 };
 
-/// A request of four sectors, too many for a piece.
+/// A request of four sectors, which are too many for a piece.
 const READ_ALL: Cdb = Cdb::Read10 {
     lba: 2,
     count: 4,
@@ -929,7 +929,7 @@ fn left(alloc: Global, rows: &[Say]) -> Result<Option<Undone>, Fail> {
     left_by(&mut judge(alloc)?, alloc, rows)
 }
 
-/// The rule that a judge tells which was made here.
+/// The rule that a judge names which was made here.
 fn left_by(judge: &mut Judge, alloc: Global, rows: &[Say]) -> Result<Option<Undone>, Fail> {
     for say in rows {
         if taken(judge, alloc, *say)?.is_some() {

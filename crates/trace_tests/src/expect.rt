@@ -8,7 +8,7 @@ pub(crate) fn same<T: PartialEq + Debug>(rt: &impl Abort, got: &T, wanted: &T) {
     assert_eq!(rt; got, wanted);
 }
 
-/// As `same`, and names the case.
+/// Compares as `same` does, and names the case.
 pub(crate) fn same_at<T: PartialEq + Debug>(
     rt: &impl Abort,
     got: &T,

@@ -18,7 +18,7 @@ static CONFIG: &str =
 
 static SCRIPT: &str = "open 0\nwrite 1 0 512 a5\nact 0\nfinish 0\n";
 
-/// What comes of the script, and is legal.
+/// The trace of the script, which is legal.
 static TRACE: &str =
     "call 1 write 0 512 in 0 a5*512\nstart 1 tag 0 2a000000080000000100\nact 1 a5*512\n\
     return 1 good\nanswer 1 SUCCESS 512\n";
@@ -27,7 +27,7 @@ static TRACE: &str =
 static TOO_SOON: &str =
     "# a remark\ncall 1 write 0 512 in 0 a5*512\n\nstart 1 tag 0 2a000000080000000100\nanswer 1 SUCCESS 512\n";
 
-/// Its second sector goes first, off the grid of 64 sectors.
+/// A read whose second sector goes first, off the grid of 64 sectors.
 static CUT: &str =
     "call 1 write 0 1024 in 0 a5*1024\nstart 1 tag 0 2a000000080100000100\nact 1 a5*512\n\
     return 1 good\nstart 2 tag 0 2a000000080000000100\nact 2 a5*512\nreturn 2 good\n\
@@ -38,7 +38,8 @@ static LARGE: &str =
     "sector_size = 512\nsectors = 4294967296\nmax_transfer = 64\ndepth = 2\nwindow = 2\n\
     [[partition]]\nfirst = 2048\ncount = 4294965247\n";
 
-/// One of its last sectors is written, and read back with the one before it, which is blank.
+/// A trace over that partition: one of its last sectors is written, and read back with the sector before it, which is
+/// blank.
 static FAR: &str =
     "call 1 write 2199019520000 512 in 0 a5*512\nstart 1 tag 0 2a00ffffeb8000000100\nact 1 a5*512\n\
     return 1 good\nanswer 1 SUCCESS 512\ncall 2 read 2199019519488 1024 in 0\n\
@@ -59,7 +60,7 @@ fn judged(alloc: Global, trace: &str, wanted: &str) -> Option<(Verdict, bool)> {
     judged_over(alloc, CONFIG, trace, wanted)
 }
 
-/// The same by other settings.
+/// The verdict on a trace by other settings, and whether this is printed.
 fn judged_over(alloc: Global, config: &str, trace: &str, wanted: &str) -> Option<(Verdict, bool)> {
     let mut out = Vec::new(alloc);
     let verdict = check(
@@ -81,7 +82,7 @@ fn untold(alloc: Global) -> Progress<Vec<u8>> {
     }
 }
 
-/// What is said of how far a check came, every so many labels.
+/// What is said of how far a check came, each time after this many labels.
 fn said(alloc: Global, every: u64, trace: &str) -> Option<Vec<u8>> {
     let mut out: Vec<u8> = Vec::new(alloc);
     let mut progress = Progress {
@@ -217,7 +218,7 @@ fn a_script_is_recorded(rt: HostRuntime) -> Result<(), Fail> {
     Ok(())
 }
 
-/// Whether what is drawn of the trace begins so.
+/// Whether what is drawn of the trace begins with this text.
 fn is_drawn(alloc: Global, events: bool, beginning: &str) -> Option<bool> {
     let mut out = Vec::new(alloc);
     draw(alloc, TRACE.as_bytes(), events, &mut out).ok()?;

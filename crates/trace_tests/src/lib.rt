@@ -1,5 +1,5 @@
-//! Tests of traces: lines of labels, read and written; of each rule of the judge a run with one label that breaks it,
-//! and the rule that is named; a picture, and its events; and what `stackjudge` is asked to do.
+//! Tests of traces: lines of labels that are read and written; for each rule of the judge a run with one label that
+//! breaks it, and the rule that is named; a picture and its events; and what `stackjudge` is asked to do.
 #![tactic(auto)]
 
 #[cfg(test)]

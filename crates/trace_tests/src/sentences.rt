@@ -138,7 +138,7 @@ static STARTS: [(Rule, &str); 16] = [
     ),
 ];
 
-/// Behind 'request 8 asks for it, but'.
+/// What stands behind 'request 8 asks for it, but'.
 static HINDRANCES: [(Hindrance, &str); 12] = [
     (Hindrance::Cancelled, "it is cancelled"),
     (Hindrance::Removing, "the device is being removed"),

@@ -10,7 +10,7 @@ use std::test::Fail;
 const ONE: &str =
     "sector_size = 512\nsectors = 4096\nmax_transfer = 64\ndepth = 1\nwindow = 1\nopen_requests = 1\n";
 
-/// The same settings with two tags and four requests.
+/// A disk of 4,096 sectors of 512 bytes with one partition, two tags and four requests at a time.
 const FOUR: &str =
     "sector_size = 512\nsectors = 4096\nmax_transfer = 64\ndepth = 2\nwindow = 4\nopen_requests = 4\n";
 

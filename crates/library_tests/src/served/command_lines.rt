@@ -20,7 +20,7 @@ static REFUSED: [&[&str]; 6] = [
     &["nbd_disk", "--help"],
 ];
 
-/// Whether a command line is answered so.
+/// Whether this is what a command line is answered.
 fn is_answered(alloc: Global, words: &[&str], wanted: Result<Asked<'_>, Error>) -> bool {
     command(alloc, words) == wanted
 }

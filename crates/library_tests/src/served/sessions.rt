@@ -1,5 +1,5 @@
-//! Sessions of the program `nbd_disk` with a disk of four sectors, two of which are a partition: the bytes of a client, and
-//! those of the server, by hand.
+//! Sessions of the program `nbd_disk` with a disk of four sectors, two of which are a partition. The bytes of the
+//! client and of the server are written by hand.
 
 use crate::expect::same_at;
 use crate::parts::Part::{Fill, Long, Short, Word};

@@ -21,7 +21,8 @@ type Row = (Step, Option<Opened>);
 
 const NEVER_GIVEN: Handle = Handle { slot: 2, number: 3 };
 
-// Partitions at the sectors 2,048 and 3,072, of 1,024 each; pieces of 64 sectors at most; two requests at work and four open.
+// Partitions at the sectors 2,048 and 3,072, of 1,024 each; pieces of 64 sectors at most; two requests at work and four
+// open.
 const CALLS: &[Row] = &[
     (Step::Open(0), None),
     (Step::Open(1), None),

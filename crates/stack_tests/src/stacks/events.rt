@@ -41,8 +41,8 @@ fn writes_and_reads_a_sector(rt: HostRuntime) -> Result<(), Fail> {
     Ok(())
 }
 
-// A write that succeeds although it was cancelled, and a read of two pieces: they come back in turn, the first one busy at
-// first.
+// A write that succeeds although it was cancelled, and a read of two pieces: they come back in turn, the first one busy
+// at first.
 pub(super) const TWO_PIECES: &[Row] = &[
     (Step::Open(0), "handle 1"),
     (Step::Open(0), "handle 2"),
@@ -126,8 +126,8 @@ pub(super) const HELD_AND_CANCELLED: &[Row] = &[
     (Step::Finish(1), "ignored"),
 ];
 
-// A mark of a write that waits for a tag, and a reset that meets a piece that acted and one that did not; what starts after
-// it is met by none.
+// A mark of a write that waits for a tag, and a reset that meets a piece that acted and one that did not. No reset
+// meets what starts after it.
 pub(super) const RESET: &[Row] = &[
     (
         Step::Read(FIRST, 0, 2048),
@@ -162,8 +162,8 @@ pub(super) const RESET: &[Row] = &[
     ),
 ];
 
-// While a removal is pending a read is held that came after the query; a handle is closed with a read at the adapter and a
-// write held.
+// While a removal is pending a read is held that came after the query; a handle is closed with a read at the adapter
+// and a write held.
 pub(super) const QUERY_TAKEN_BACK: &[Row] = &[
     (Step::Remove, "refused InvalidDeviceRequest none"),
     (

@@ -6,13 +6,13 @@ use compose::Id;
 use miniport::OnceAdapter;
 use std::test::Fail;
 
-/// The acts that go before the one that fails: two of the start, and the first of the write.
+/// How many acts go before the one that fails: two of the start, and the first of the write.
 const BEFORE: u64 = 3;
 
 const OWN: Option<Id> = Some(Id { slot: 0, number: 1 });
 
-// A write of four pieces is cancelled with two of them started, and the second of these fails: that one is the lowest that
-// did not succeed, below the two that were never sent. What the first wrote stands, and the failed act wrote nothing.
+// A write of four pieces is cancelled with two of them started, and the second one fails. It is the lowest that did not
+// succeed, below the two that were never sent. What the first piece wrote stands, and the failed act wrote nothing.
 const SECOND_PIECE_FAILS: &[Row] = &[
     (Step::Open(0), "handle 1"),
     (

@@ -1,5 +1,5 @@
-//! Stacks whose sectors stand in a journal: they show the same as stacks over a disk, row by row, and the entries of the
-//! journal, replayed on a fresh disk, read the same bytes and leave the same sectors.
+//! Stacks whose sectors stand in a journal: they show the same as stacks over a disk, row by row, and the entries of
+//! the journal, replayed on a fresh disk, read the same bytes and leave the same sectors.
 
 ghost use Rattle.std.specs.Prelude.{◌≡◌, ◌≤◌, ◌+◌, ◌*◌, [], IfOk, IsFalse, OnOk, length};
 ghost use Rattle.disk.specs.Medium.{HasWholeSectors};
@@ -127,7 +127,8 @@ const MOVED: Extent = Extent {
     count: 64,
 };
 
-/// The entries, one after the other, on a disk as it was: the same bytes are read, and the same sectors stand there then.
+/// Replays the entries, one after the other, on a disk as it was. Each read gives the bytes of its entry, and in the
+/// end the sectors are those of the journal's medium.
 fn replay<M: Medium>(
     rt: &impl Abort,
     alloc: Global,
@@ -155,7 +156,7 @@ fn acts_in(rows: &[&[Row]]) -> usize {
     acts
 }
 
-/// The rows show just what is wanted.
+/// Checks that the rows show just what is wanted.
 fn drive<M: Medium, N: Naming>(
     rt: &impl Abort,
     alloc: Global,
@@ -167,7 +168,7 @@ fn drive<M: Medium, N: Naming>(
     go_and_answer(rt, alloc, driver, rows, None)
 }
 
-/// The rows over a journal of this medium show just what is wanted, with an entry for each act.
+/// Checks that the rows over a journal of this medium show just what is wanted, with an entry for each act.
 fn play_over<M: Medium, N: Naming>(
     rt: &impl Abort,
     alloc: Global,
@@ -242,7 +243,7 @@ fn journals_what_a_bad_sector_leaves(rt: HostRuntime) -> Result<(), Fail> {
     Ok(())
 }
 
-/// A disk that takes no write: it fails, and a read does not.
+/// A disk that takes no write: a write fails, and a read does not.
 const PROTECTED: &[Row] = &[
     (Step::Open(0), "handle 1"),
     (

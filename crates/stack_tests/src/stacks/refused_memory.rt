@@ -4,8 +4,8 @@ use crate::disks::{ONE, Reluctant, adapter, disk};
 use crate::stacks::steps::{FIRST, REFUSED, Row, Step, go_on};
 use std::test::Fail;
 
-/// Two writes are refused by a medium that has no memory for them. They leave nothing behind: the next call has the first
-/// number, and goes as ever.
+/// Two writes are refused by a medium that has no memory for them. They leave nothing behind: the next call has the
+/// first number, and goes as ever.
 pub(super) const REFUSED_TWICE: &[Row] = &[
     (Step::Open(0), "handle 1"),
     (Step::Write(FIRST, 0, 512, 0xA5), REFUSED),

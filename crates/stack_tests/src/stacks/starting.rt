@@ -59,7 +59,7 @@ fn fault<A: Adapter>(
     }
 }
 
-/// Starts a stack over each; it is stopped as it should be.
+/// Starts a stack over each disk, and checks what stops it.
 fn start_all(rt: &impl Abort, alloc: Global, rows: &[Start]) -> Result<(), AllocError> {
     for (table, bad, window, open_requests, want) in rows {
         let adapter = disk_adapter(rt, alloc, table, &[*bad])?;
@@ -73,7 +73,7 @@ fn start_all(rt: &impl Abort, alloc: Global, rows: &[Start]) -> Result<(), Alloc
     Ok(())
 }
 
-// Settings are looked at before the disk, and that before its table.
+// Settings are looked at before the disk, and the disk before its table.
 #[test]
 fn starts_or_says_why(rt: HostRuntime) -> Result<(), Fail> {
     let alloc = rt.alloc();
@@ -101,7 +101,7 @@ fn starts_or_says_why(rt: HostRuntime) -> Result<(), Fail> {
     Ok(())
 }
 
-/// On the last of four partitions.
+/// A stack with a handle on the last of four partitions.
 const ON_THE_LAST: &[Row] = &[
     (Step::Open(4), "refused InvalidParameter none"),
     (Step::Open(3), "handle 1"),

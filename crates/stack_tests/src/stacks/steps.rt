@@ -22,7 +22,7 @@ pub(crate) enum Step {
     Read(Handle, u64, usize),
     /// A write of equal bytes.
     Write(Handle, u64, usize, u8),
-    /// A write-through write.
+    /// A write that goes through.
     Through(Handle, u64, usize, u8),
     Flush(Handle),
     Cancel(Handle, Option<Id>),
@@ -39,7 +39,7 @@ pub(crate) enum Step {
 /// The first handle that a stack gives.
 pub(crate) const FIRST: Handle = Handle { slot: 0, number: 1 };
 
-/// The second, where the first is open.
+/// The second handle that a stack gives, where the first is open.
 pub(crate) const SECOND: Handle = Handle { slot: 1, number: 2 };
 
 /// A step, and what it must show.
@@ -92,7 +92,8 @@ fn events_of(alloc: Global, rows: &[Row]) -> Result<Vec<Event>, AllocError> {
     Ok(events)
 }
 
-/// Each shows just what is wanted, up to one that was refused for want of memory: it has told nothing.
+/// Checks that each row shows just what is wanted, up to one that was refused for want of memory, which has told
+/// nothing.
 fn compare(
     rt: &impl Abort,
     alloc: Global,
@@ -110,7 +111,7 @@ fn compare(
     Ok(())
 }
 
-/// Who carries events out one by one, as a stack does.
+/// What carries events out one by one, as a stack does.
 pub(crate) trait Carrier {
     ghost use Rattle.std.specs.Prelude.{◌≡◌, ◌∷◌, List, [], MatchOption};
     ghost use Rattle.machine.specs.declared.Label.{Label};
@@ -207,8 +208,8 @@ pub(super) fn is_refused_for_memory(reply: &Reply) -> bool {
     )
 }
 
-/// Carries a step out, which shows just what is wanted. Where it was refused for want of memory it has told nothing, and is
-/// carried out again, unless that is wanted.
+/// Carries a step out, and checks that it shows just what is wanted. A step that was refused for want of memory has
+/// told nothing, and is carried out again, unless that is wanted.
 fn go_one<S: Carrier>(
     rt: &impl Abort,
     alloc: Global,
@@ -247,7 +248,7 @@ fn go<S: Carrier>(
     Ok(())
 }
 
-// Takes the waiting answers, which are just these, in this order.
+// Takes the waiting answers, and checks that they are just these, in this order.
 fn answers<S: Carrier>(
     rt: &impl Abort,
     alloc: Global,
@@ -266,7 +267,7 @@ fn answers<S: Carrier>(
     Ok(())
 }
 
-// All rows in one run, and then the answers.
+// Carries all rows out in one run, and then takes the answers.
 fn run_and_answer<A: Adapter>(
     rt: &impl Abort,
     alloc: Global,
@@ -280,7 +281,7 @@ fn run_and_answer<A: Adapter>(
     answers(rt, alloc, stack, told)
 }
 
-/// Carries the rows out in one run of a new stack over an adapter; then just these answers wait.
+/// Carries the rows out in one run of a new stack over an adapter. Then just these answers wait.
 pub(crate) fn run_on<A: Adapter>(
     rt: &impl Abort,
     alloc: Global,
@@ -295,7 +296,7 @@ pub(crate) fn run_on<A: Adapter>(
     run_and_answer(rt, alloc, &mut stack, rows, told)
 }
 
-/// All rows one by one, and then the answers, where these are told.
+/// Carries all rows out one by one, and then takes the answers, where these are told.
 pub(super) fn go_and_answer<S: Carrier>(
     rt: &impl Abort,
     alloc: Global,
@@ -314,7 +315,7 @@ pub(super) fn go_and_answer<S: Carrier>(
     }
 }
 
-/// Carries the rows out one by one on a new stack over an adapter; then just these answers wait, where they are told.
+/// Carries the rows out one by one on a new stack over an adapter. Then just these answers wait, where they are told.
 pub(crate) fn go_on<A: Adapter>(
     rt: &impl Abort,
     alloc: Global,
