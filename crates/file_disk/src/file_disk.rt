@@ -25,7 +25,7 @@ const DATA_PROTECT: u8 = 7;
 /// The sizes of a disk.
 #[derive(Debug, Clone, Copy, PartialEq, Eq)]
 pub struct Sizes {
-    /// Bytes of a sector, 512 or 4096.
+    /// The bytes of a sector, 512 or 4096.
     pub sector_size: u32,
     /// The number of sectors, from 1 to 2^40.
     pub sectors: u64,
@@ -157,9 +157,9 @@ fn write<S: Storage>(
 /// What the act of a piece came to.
 #[derive(Debug, Drop)]
 pub enum Moved {
-    /// It read these bytes.
+    /// The piece read these bytes.
     Read(Entry),
-    /// It wrote what its SRB sends, or flushed.
+    /// The piece wrote what its SRB sends, or flushed.
     Sent,
 }
 

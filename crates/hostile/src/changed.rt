@@ -7,15 +7,15 @@ use sector::Bytes;
 use srb::{Class, CommandBlock, Completion, DeviceLabel};
 use std::alloc::{AllocError, Global};
 
-/// Bytes of a sector.
+/// The bytes of a sector.
 const SECTOR: u64 = 512;
 
 /// Where a changed label has to be refused.
 #[derive(Debug, Clone, Copy, PartialEq, Eq)]
 pub enum Due {
-    /// It is refused there: the labels before leave this field one value.
+    /// The label is refused there: the labels before leave this field one value.
     There,
-    /// It is refused there, later or nowhere: it may be the label of another run.
+    /// A label is refused there, later or nowhere: this one may be the label of another run.
     Anywhere,
 }
 

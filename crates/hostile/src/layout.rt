@@ -9,7 +9,7 @@ use disk::{Medium, VecDisk};
 use miniport::MemAdapter;
 use std::alloc::Global;
 
-/// Bytes of a sector.
+/// The bytes of a sector.
 pub const SECTOR: u32 = 512;
 
 /// The first sector of a partition, and the number of its sectors, which is 0 where there is no partition.

@@ -50,9 +50,8 @@ pub fn run_of(alloc: Global, seed: u64) -> Result<Run, HostileFault> {
     Ok(Run { layout, goes, told })
 }
 
-/// The longest transfer where little is open at once: pieces of two reads are often the same then. The checker
-/// follows each way in which such pieces may be of either read, so where much is open reads of the same sectors have
-/// to be rare.
+/// The longest transfer where little is open at once. Pieces of two reads are often alike then, and the judge follows
+/// each way in which they may be of either read. Where much is open, reads of the same sectors have to be rare.
 const SHORT_TRANSFER: u32 = 4;
 
 fn is_wide(layout: &Layout) -> bool {
@@ -127,7 +126,7 @@ fn bad(dice: &mut Dice, sectors: u32) -> u64 {
     sector as u64
 }
 
-/// Some hundred steps; where they go to the end, all that is held is let go, and all that is out acts and is finished.
+/// Some hundred steps. Where they go to the end, all that is held is let go, and all that is out acts and is finished.
 fn steps(
     alloc: Global,
     dice: &mut Dice,
@@ -214,7 +213,7 @@ fn write(dice: &mut Dice, layout: &Layout) -> Step {
     )
 }
 
-/// One of the tags, seldom one that isn't there.
+/// A tag of the adapter, seldom one that isn't there.
 fn tag(dice: &mut Dice, layout: &Layout) -> u8 {
     if dice.one_of(30) {
         dice.byte(256)
@@ -223,7 +222,7 @@ fn tag(dice: &mut Dice, layout: &Layout) -> u8 {
     }
 }
 
-/// One of the last handles that were given, seldom any.
+/// A handle of the last ones that were given, seldom any other.
 fn handle(dice: &mut Dice) -> On {
     if dice.one_of(12) {
         On::Made(Handle {
@@ -246,7 +245,7 @@ fn target(dice: &mut Dice) -> Target {
     }
 }
 
-/// Bytes to the start of a sector, mostly of the partition, seldom to the middle of one.
+/// A number of bytes to the start of a sector, mostly of the partition, seldom to the middle of one.
 fn offset(dice: &mut Dice, layout: &Layout) -> u64 {
     let most = if is_wide(layout) { 610 } else { 10 };
     let sector = dice.below(most) as u64;

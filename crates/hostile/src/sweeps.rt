@@ -41,7 +41,7 @@ const INSERTIONS: [Insertion; 4] = [
 /// How many times each tag acts and is finished after a row. No row has more pieces.
 const ROUNDS: usize = 8;
 
-/// One more than the acts of the longest row.
+/// More acts than the longest row has.
 const MOST_ACTS: u64 = 64;
 
 /// Plays a row with each insertion before each of its steps and at its end.

@@ -12,7 +12,7 @@ use sector::{Bytes, Extent, LabelRoom};
 use srb::{CommandBlock, Srb, SrbFlags, SrbFunction};
 use std::alloc::{AllocError, Global};
 
-/// Bytes of a sector.
+/// The bytes of a sector.
 const SECTOR_SIZE: usize = 512;
 
 /// Carries this many requests of one sector through a layer, each to its end before the next, and returns how many

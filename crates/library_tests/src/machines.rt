@@ -38,7 +38,7 @@ const LOW: Kept = Kept {
     faithful: true,
 };
 
-/// Its sectors stand behind those that blocks of ten bytes reach.
+/// A machine whose sectors stand behind those that blocks of ten bytes reach.
 const HIGH: Kept = Kept {
     first: 1 << 32,
     one_piece: false,

@@ -5,20 +5,20 @@ use Rattle.std.specs.Prelude.{◌≡◌, ◌≤◌, ◌<◌, ◌⊎◌, ℕ, ◌
 pub record Content : Type 0 where
   -- bytes of a block
   pub block : ℕ
-  -- of the array
+  -- the bytes of the array
   pub bytes : List ℕ
 
 abbrev pub IsBlockSize : ℕ → Type 0
 IsBlockSize size = (size ≡ 512) ⊎ (size ≡ 4096)
 
--- this many bytes from this one on are whole blocks of an array of that many bytes, and at least one
+-- `count` bytes from byte `offset` on are whole blocks of an array of `size` bytes, and at least one
 pub record AreInBounds (block size offset count : ℕ) : Type 0 where
   pub begins : offset % block ≡ 0
   pub ends : count % block ≡ 0
   pub some : 0 < count
   pub inside : offset + count ≤ size
 
--- the list with others in the place of as many from this one on
+-- the list with other items in place, from this one on
 abbrev pub splice : List ℕ → ℕ → List ℕ → List ℕ
 splice xs first others = take first xs ++ (others ++ drop (first + length others) xs)
 

@@ -14,13 +14,13 @@ use Rattle.nbd.specs.Session.{Begins, Exchange, IsTold, IsLast, Run, asked_by, s
 abbrev pub answers_to : ℕ → ℕ → Bool → Asked → List ℕ
 answers_to block size no_zeroes a = replies_to block size no_zeroes a.code (wish_of a)
 
--- each of these options but the last leads to another, and the last to this
+-- each of these options but the last leads to another option, and the last one leads to this
 abbrev pub Leads : List Asked → Next → Type 0
 Leads [] next = next ≡ Options
 Leads (a ∷ []) next = IsAsked a × (next ≡ next_of (wish_of a))
 Leads (a ∷ b ∷ as') next = IsAsked a × (Options ≡ next_of (wish_of a)) × Leads (b ∷ as') next
 
--- the bytes that end the options, where none of them did
+-- the bytes that end the options, where no option did
 abbrev pub IsLastOption : End → List ℕ → Type 0
 IsLastOption Left bytes = ⊥
 IsLastOption Malformed bytes = IsNoOption bytes
@@ -66,11 +66,11 @@ pub record EndsGreeting (input out : Option (List ℕ)) (end : End) (after : Opt
   pub asked : Begins input last
   pub told : IsTold end out after greeting
 
--- the array is then as it was
+-- a session ended before its options, and the array is as it was
 pub record EndsEarly (old : Content) (input out : Option (List ℕ)) (end : End) (new : Content) (after : Option (List ℕ)) : Type 0 where
   pub same : new ≡ old
   pub ended : EndsGreeting input out end after
 
--- a whole session, over an array that may fail so
+-- a whole session, over an array that may fail in these ways
 abbrev pub IsSession : Faulting → Content → Option (List ℕ) → Option (List ℕ) → End → Content → Option (List ℕ) → Type 0
 IsSession F old input out end new after = EndsEarly old input out end new after ⊎ Talks F old input out end new after

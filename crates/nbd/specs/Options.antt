@@ -44,7 +44,7 @@ wish_in code bytes =
     else if code == NBD_OPT_GO then info_in Go bytes
     else Refuse Unsupported
 
--- what comes then
+-- what comes after an option
 abbrev pub next_of : Wish → Next
 next_of Export = Requests
 next_of Go = Requests

@@ -31,7 +31,7 @@ module _ {S : Type 0} (Carries : Command → List ℕ → S → Outcome → S �
     pub long : length x.payload ≡ payload_count x.request
     pub serves : ServesOver x.request x.payload old x.outcome new
 
-  -- these were served, one after the other, and nothing else was done
+  -- these requests were served, one after the other, and nothing else was done
   abbrev pub RunOver : S → List Exchange → S → Type 0
   RunOver old [] new = new ≡ old
   RunOver old (x ∷ xs) new = (mid : S) × IsExchangeOver old x mid × RunOver mid xs new

@@ -25,7 +25,7 @@ pub record IsRequest (bytes : List ℕ) (r : Request) : Type 0 where
   pub magic : big_from 0 4 bytes ≡ NBD_REQUEST_MAGIC
   pub fields : r ≡ request_in bytes
 
--- a flag is set that isn't known
+-- what is wrong with flags, of which these are known
 abbrev pub flags_fault : ℕ → ℕ → Option ReplyError
 flags_fault known flags = if bit_and flags known == flags then None else Some Einval
 
@@ -56,7 +56,7 @@ command_in block size r =
     else if r.kind == NBD_CMD_WRITE_ZEROES then unless (flags_fault (NBD_CMD_FLAG_FUA + NBD_CMD_FLAG_NO_HOLE) r.flags) (extent_fault block size 0xFFFFFFFF Enospc r) (WriteZeroes r.offset r.count (is_through r.flags))
     else Err Einval
 
--- what it asks for lies in an array of this many bytes
+-- a command is for whole blocks of an array of this many bytes
 abbrev pub IsWithin : ℕ → ℕ → Command → Type 0
 IsWithin block size (Read offset count) = AreInBounds block size offset count × (count ≤ LONGEST)
 IsWithin block size (Write offset count through) = AreInBounds block size offset count × (count ≤ LONGEST)

@@ -11,17 +11,18 @@ use Rattle.nbd.specs.Requests.{IsRequest, payload_count}
 use Rattle.nbd.specs.Replies.{Outcome, reply_bytes}
 use Rattle.nbd.specs.Carrying.{Faulting, Serves}
 
--- a request that was served: its 28 bytes, those that came behind it, and how it ended
+-- a request that was served: its 28 bytes, the bytes that came behind it, and how it ended
 pub record Exchange : Type 0 where
   pub header : List ℕ
   pub request : Request
   pub payload : List ℕ
   pub outcome : Outcome
 
--- its bytes, and those of its reply
+-- the bytes that a client sent for a request
 abbrev pub asked_by : Exchange → List ℕ
 asked_by x = x.header ++ x.payload
 
+-- the bytes of the reply to a request
 abbrev pub told_by : Exchange → List ℕ
 told_by x = reply_bytes x.request.cookie x.outcome
 
@@ -36,17 +37,17 @@ pub record IsExchange (F : Faulting) (old : Content) (x : Exchange) (new : Conte
   pub long : length x.payload ≡ payload_count x.request
   pub serves : Serves F x.request x.payload old x.outcome new
 
--- the array moved by these, one after the other, and by nothing else
+-- the array moved by these requests, one after the other, and by nothing else
 abbrev pub Run : Faulting → Content → List Exchange → Content → Type 0
 Run F old [] new = new ≡ old
 Run F old (x ∷ xs) new = (mid : Content) × IsExchange F old x mid × Run F mid xs new
 
--- a stream, where its bytes are known, begins with these
+-- a stream begins with these bytes, where its bytes are known
 abbrev pub Begins : Option (List ℕ) → List ℕ → Type 0
 Begins None bytes = ⊤
 Begins (Some xs) bytes = (rest : List ℕ) × (xs ≡ bytes ++ rest)
 
--- unless writing failed, these bytes were written
+-- these bytes were written, unless writing failed
 abbrev pub IsTold : End → Option (List ℕ) → Option (List ℕ) → List ℕ → Type 0
 IsTold Output out after bytes = ⊤
 IsTold _ out after bytes = Appends out after bytes

@@ -11,9 +11,9 @@ use thiserror::Error;
 /// The sizes of an array.
 #[derive(Debug, Clone, Copy, PartialEq, Eq)]
 pub struct Sizes {
-    /// Bytes of a block, 512 or 4096. Each request has whole blocks.
+    /// The bytes of a block, 512 or 4096. Each request has whole blocks.
     pub block: u32,
-    /// Bytes of the array.
+    /// The bytes of the array.
     pub bytes: u64,
 }
 
@@ -23,13 +23,13 @@ pub enum ArrayFault {
     /// Memory was refused.
     #[error("no memory")]
     NoMemory,
-    /// It can't be written.
+    /// The array can't be written.
     #[error("write protected")]
     Protected,
-    /// It isn't there any more.
+    /// The array isn't there any more.
     #[error("gone")]
     Gone,
-    /// It failed.
+    /// The array failed.
     #[error("failed")]
     Failed,
 }
@@ -38,7 +38,7 @@ pub enum ArrayFault {
 pub trait Array {
     ghost content: { Self → Content };
 
-    // how a call may fail that leaves the second array of the first
+    // how a call may fail that turns the first array into the second
     ghost fails: { Content → Content → ArrayFault → Type 0 };
 
     /// The sizes, which never change.

@@ -58,7 +58,7 @@ impl Array for MemArray {
     }
 }
 
-/// Puts bytes in the place of those from `first` on.
+/// Puts bytes in the place of as many from `first` on.
 fn put(all: &mut [u8], first: usize, bytes: &[u8])
     requires { first + length bytes.now ≤ length all.old }
     ensures { all.new ≡ splice all.old first bytes.now }

@@ -45,7 +45,7 @@ fn write_simple<W: Write>(out: &mut W, cookie: u64, error: u32, content: &[u8]) 
     Ok(())
 }
 
-/// The bytes of a reply in front of those that its request brought.
+/// The bytes of a reply in front of what its request brought.
 fn simple_reply(cookie: u64, error: u32) -> [u8; 16]
     ensures { result ≡ simple_bytes cookie error }
 {

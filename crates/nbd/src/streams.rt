@@ -9,7 +9,7 @@ use crate::constants::LONGEST;
 use std::alloc::Global;
 use std::io::Read;
 
-/// Bytes that are skipped at once.
+/// How many bytes are skipped at once.
 const SKIPPED: u32 = 512;
 
 /// Fills the buffer.

@@ -471,7 +471,7 @@ fn brought_of(
     brought_from_memory(rt, alloc, sectors, block, count)
 }
 
-/// For a number of sectors the data of READ CAPACITY(10), and how those of READ CAPACITY(16) begin.
+/// A number of sectors, the data of READ CAPACITY(10), and the first data of READ CAPACITY(16).
 const CAPACITIES: [(u64, [u8; 8], [u8; 12]); 3] = [
     (
         4096,
@@ -522,7 +522,7 @@ fn is_an_adapter_or_no_memory(rt: HostRuntime) -> Result<(), Fail> {
     Ok(())
 }
 
-/// For each label its piece, a letter, and the tag, the first byte of an act or the status of a bad return.
+/// What each label tells: its piece, a letter, and the tag, the first byte of an act or the status of a bad return.
 type Told<'a> = &'a [(u128, char, u8)];
 
 /// Returns what a label says: its piece, a letter, and the bytes of an act.

@@ -209,7 +209,7 @@ fn reads_as<M: Medium>(rt: &impl Abort, disk: &mut M, sector: u64, byte: u8) {
     assert!(rt; buffer.iter().all(|b| *b == byte), "{sector}");
 }
 
-// Bytes are written over an extent that is reserved.
+// Writes bytes over an extent that is reserved.
 fn puts<M: Medium>(rt: &impl Abort, disk: &mut M, extent: Extent, bytes: &[u8]) {
     assert!(rt; extent.is_within(disk.sectors()) && extent.count <= 1000);
     assert!(rt; bytes.len() as u64 == extent.count * 512);

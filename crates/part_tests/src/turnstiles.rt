@@ -263,7 +263,7 @@ fn serve_four<R: Threads + Wait + Sync, T: Turnstile + Sync>(
     Ok(())
 }
 
-// One lane and the worker.
+// Runs one lane and the worker.
 fn serve_one<R: Threads + Wait + Sync>(
     rt: &R,
     table: &Table,

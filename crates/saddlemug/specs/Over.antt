@@ -123,7 +123,7 @@ pub record IsTold (v : OverView) (tag piece : ℕ) (srb : Srb) (own : PieceBytes
   pub is_piece : own.piece ≡ piece
   pub not_first : piece ≢ 0
 
--- no piece of the tag could act, or only another, or the one by which the disk was looked at
+-- no piece of the tag could act, or only another one, or only the piece by which the disk was looked at
 abbrev pub IsNotArmed : OverView → ℕ → ℕ → Type 0
 IsNotArmed v tag piece =
     HasNoneFresh v.stack.adapter tag ⊎ ((other : ℕ) × (srb : Srb) × IsArmed v.stack.adapter tag other srb × ((other ≢ piece) ⊎ (piece ≡ 0)))

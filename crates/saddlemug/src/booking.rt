@@ -45,7 +45,7 @@ pub struct StackBooking {
 /// The sizes of a disk.
 #[derive(Debug, Clone, Copy)]
 pub(crate) struct DiskOf {
-    /// Bytes of a sector, 512 or 4096.
+    /// The bytes of a sector, 512 or 4096.
     pub(crate) sector_size: u64,
     pub(crate) sectors: u64,
 }

@@ -55,7 +55,7 @@ pub struct StackAnswer {
     pub bytes: u64,
 }
 
-/// A label as C is told it; its bytes go into the buffer, as many as have room.
+/// A label as C is told it. Its bytes go into the buffer, as many as have room.
 pub(crate) fn told_label(label: Label, buffer: &mut [u8]) -> StackLabel
     ensures label { result ≡ shown_label label }
     ensures bytes { AreToldIn buffer.old (label_bytes label) buffer.new }
@@ -161,7 +161,7 @@ fn of_piece(kind: u32, piece: u128) -> StackLabel
     }
 }
 
-/// An answer as C is told it; its bytes go into the buffer, as many as have room.
+/// An answer as C is told it. Its bytes go into the buffer, as many as have room.
 pub(crate) fn told_answer(answer: Answer, buffer: &mut [u8]) -> StackAnswer
     ensures answer { result ≡ shown_answer answer }
     ensures bytes { AreToldIn buffer.old answer.bytes buffer.new }

@@ -237,7 +237,7 @@ fn read_failed(rt: &impl Abort, alloc: Global, failure: Option<StackCompletion>)
 #[test]
 fn failures_come_up(rt: HostRuntime) {
     let alloc = rt.alloc();
-    // MEDIUM ERROR, HARDWARE ERROR, and the same where nothing was booked.
+    // MEDIUM ERROR, HARDWARE ERROR, and HARDWARE ERROR where nothing was booked.
     let medium = read_failed(&rt, alloc, Some(error(3, 0x11)));
     let hardware = read_failed(&rt, alloc, Some(error(4, 0)));
     let unbooked = read_failed(&rt, alloc, None);

@@ -18,7 +18,7 @@ use std::alloc::Global;
 #[repr(C)]
 #[derive(Debug, Clone, Copy)]
 pub struct DiskSizes {
-    /// Bytes of a sector, 512 or 4096.
+    /// The bytes of a sector, 512 or 4096.
     pub sector_size: u64,
     /// The number of sectors, from 1 to 2^40.
     pub sectors: u64,

@@ -21,7 +21,7 @@ pub enum Error {
     Disk(DiskFault),
     /// What came is not the protocol, or asks for an export that isn't there.
     Malformed,
-    /// Input ended, or failed, and the client had not left by the protocol.
+    /// The input ended or failed before the client left by the protocol.
     InputEnded,
     /// Output didn't take all of a reply.
     OutputFailed,

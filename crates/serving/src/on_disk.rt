@@ -154,7 +154,7 @@ fn checked_table<S: Storage>(
     }
 }
 
-/// Returns whether the extents are those of the partitions, in order.
+/// Returns whether the extents are the partitions' own, in order.
 fn are_those(extents: &[Extent], partitions: &[Partition]) -> bool
     ensures { IsTrue result → extents.now ≡ map extent_of partitions.now }
 {
@@ -171,7 +171,7 @@ fn are_those(extents: &[Extent], partitions: &[Partition]) -> bool
     true
 }
 
-/// Returns whether the extent is that of the partition.
+/// Returns whether the extent is the partition's own.
 fn is_that(extent: Extent, partition: Partition) -> bool
     ensures { IsTrue result → extent ≡ extent_of partition }
 {

@@ -1,12 +1,16 @@
-//! How a program begins and ends that runs a stack over a disk in memory: its settings are read, the stack or a volume
+//! How a program begins and ends that runs a stack over a disk in memory. Its settings are read, the stack or a volume
 //! of a partition is opened, and a fault is said, with an exit status.
 //!
-//! It promises to the crate above, by the contract of [`read_settings`] (`read`, `in_range`), that settings are those
-//! of all that their input has; by [`start`] (`view`, `fault`) and [`open`] (`volume`, `fault`), that the stack and the
-//! volume are those of the settings' disk, zeros but for its partition table, or why there is none; by the text of
-//! [`Error`], the words for each fault; by [`ended`] (`status`, `silent`) and [`say`], the exit status, and that just
-//! the line of a fault is written. An [`Input`] that can't be opened says so when it is read. It does not promise that
-//! there is memory, nor which of several faults is told.
+//! It promises to the crate above:
+//!
+//! - [`read_settings`] (`read`, `in_range`): settings are those of all that their input has.
+//! - [`start`] (`view`, `fault`) and [`open`] (`volume`, `fault`): the stack and the volume are those of the settings'
+//!   disk, which is zeros but for its partition table; or why there is none.
+//! - [`Error`]'s text: the words for each fault.
+//! - [`ended`] (`status`, `silent`) and [`say`]: the exit status, and that just the line of a fault is written.
+//!
+//! An [`Input`] that can't be opened says so when it is read. The crate does not promise that there is memory, nor
+//! which of several faults is told.
 #![tactic(auto)]
 
 mod apart;

@@ -53,7 +53,7 @@ fn write_time<W: Write>(out: &mut W, label: u64, layout: &Layout) -> io::Result<
     write_text(out, MIDDLE, Point { x, y }, &label)
 }
 
-/// Returns how many labels are between two numbers, so that these do not touch.
+/// Returns how many labels have to be between two numbers so that the numbers do not touch.
 fn step_of(labels: u64, column: u64) -> u64 {
     let room = text_width(digits(labels));
     for step in STEPS.iter() {

@@ -156,7 +156,7 @@ impl Layout {
             .saturating_add(columns.saturating_mul(self.column))
     }
 
-    /// The row of the request at a place, with as many lanes as that has.
+    /// The row of the request at a place, with its lanes.
     pub fn row_at(&self, number: usize) -> Option<Row> {
         let place = self.places.get(number)?;
         let row = self.rows.get(place.row)?;
@@ -256,7 +256,7 @@ fn place_rows(rows: &mut [Row], top: u64) -> u64 {
     bottom
 }
 
-/// For each of this many requests the ends of its lanes, of which there are none.
+/// Where the lanes of each request end, for this many requests that have none.
 fn no_lanes(alloc: Global, requests: usize) -> Result<Vec<Vec<u64>>, AllocError> {
     let mut lanes = Vec::new(alloc);
     for _ in 0..requests {

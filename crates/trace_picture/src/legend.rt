@@ -80,7 +80,7 @@ const WORDS: [(u64, u64, &str); 7] = [
     (554, 75, "fits nothing before it"),
 ];
 
-/// The marks of lines: those of a fault, a call, a cancel and an answer that isn't SUCCESS.
+/// The marks that are made of lines: of a fault, a call, a cancel, and an answer that isn't SUCCESS.
 const MARKS: [(Mark, u64, u64, bool); 4] = [
     (Mark::Cross, 526, 47, false),
     (Mark::Call, 95, 71, true),

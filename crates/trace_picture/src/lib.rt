@@ -1,4 +1,4 @@
-//! A trace to look at: one SVG of it, or the same as Trace Event JSON.
+//! A trace to look at: a picture of it, as an SVG or as Trace Event JSON.
 //!
 //! [`Picture::take`] is given the labels of a trace one after the other, legal or not, and keeps their numbers and no
 //! bytes. [`Picture::write_svg`] writes one self-contained SVG without scripts: labels run to the right, a row a tag

@@ -34,7 +34,7 @@ enum Fit {
     Next,
 }
 
-/// A piece that comes back busy, so that its sectors are sent again.
+/// A piece that comes back busy: its sectors are sent again.
 #[derive(Clone, Copy)]
 struct Busy {
     label: u64,

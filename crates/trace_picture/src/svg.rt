@@ -37,7 +37,7 @@ const STYLE: &str =
 </style>
 ";
 
-/// What lies over a colour, so that it is told without colours too.
+/// The patterns that lie over the colours, which tell them apart without colours too.
 const PATTERNS: &str = "<defs>\
 <pattern id=\"busy\" width=\"7\" height=\"7\" patternUnits=\"userSpaceOnUse\" patternTransform=\"rotate(45)\">\
 <path fill=\"#f3b63f\" d=\"M0 0h7v7h-7z\"/><path fill=\"#b87900\" d=\"M0 0h2v7h-2z\"/></pattern>

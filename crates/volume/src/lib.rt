@@ -25,7 +25,7 @@ pub use volume::Volume;
 /// The sizes of a partition.
 #[derive(Debug, Clone, Copy, PartialEq, Eq)]
 pub struct Sizes {
-    /// Bytes of a sector, 512 or 4096.
+    /// The bytes of a sector, 512 or 4096.
     pub sector_size: u64,
     /// The number of sectors, from 1 to 2^40.
     pub sectors: u64,

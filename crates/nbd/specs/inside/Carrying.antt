@@ -15,7 +15,7 @@ pub record IsServed (F : Faulting) (r : Request) (old : Content) (input rest : O
   pub taken : Consumes input rest payload
   pub serves : Serves F r payload old o new
 
--- this many bytes came and were written from this one on, or it failed
+-- this many bytes came and were written from this one on, or the write failed
 pub record IsWritten (F : Faulting) (offset count : ℕ) (old : Content) (input rest : Option (List ℕ)) (o : Outcome) (new : Content) : Type 0 where
   pub payload : List ℕ
   pub long : length payload ≡ count

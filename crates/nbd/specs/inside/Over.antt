@@ -25,7 +25,7 @@ module _ {S : Type 0} (Carries : Command → List ℕ → S → Outcome → S �
     pub taken : Consumes input rest (said asked_by exchanges)
     pub told : Appends out after (said told_by exchanges)
 
-  -- one exchange
+  -- one request was taken, served and answered
   pub record IsExchangedOver (old : S) (input out : Option (List ℕ)) (new : S) (rest after : Option (List ℕ)) : Type 0 where
     pub exchange : Exchange
     pub is : IsExchangeOver Carries sizes old exchange new

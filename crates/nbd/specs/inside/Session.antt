@@ -25,7 +25,7 @@ pub record Ends (F : Faulting) (old : Content) (input out : Option (List ℕ)) (
   pub told : IsTold end out after (said told_by exchanges)
   pub is_last : IsLast end last
 
--- one exchange
+-- one request was taken, served and answered
 pub record IsExchanged (F : Faulting) (old : Content) (input out : Option (List ℕ)) (new : Content) (rest after : Option (List ℕ)) : Type 0 where
   pub exchange : Exchange
   pub is : IsExchange F old exchange new
@@ -39,7 +39,7 @@ pub record TakesRequest (input rest : Option (List ℕ)) (request : Request) : T
   pub goes_on : request.kind ≢ NBD_CMD_DISC
   pub taken : Consumes input rest header
 
--- the bytes with which a stream began end the requests
+-- a stream began with bytes that end the requests
 pub record TakesLast (input : Option (List ℕ)) (end : End) : Type 0 where
   pub last : List ℕ
   pub asked : Begins input last

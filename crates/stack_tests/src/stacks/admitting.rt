@@ -56,7 +56,7 @@ fn as_opened(told: Option<(u64, Extent)>) -> Option<Opened> {
     Some((pieces, extent.first, extent.count))
 }
 
-/// Asks twice what a step would open, and carries it out: it opens a request just where that was told.
+/// Asks twice what a step would open, and carries the step out. It opens a request just where that was told.
 fn ask<A: Adapter>(
     rt: &impl Abort,
     alloc: Global,
