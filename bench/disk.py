@@ -1,9 +1,15 @@
 #!/usr/bin/env python3
-"""Times nbd_disk over a disk in a file beside nbdkit's file plugin and qemu-nbd, on the same image, in one run.
+"""Times a server of NBD beside others, in one run.
 
-Reads and writes of 4 and 128 KiB at depth 1 and 16 by fio, and sequential copies both ways by nbdcopy over one connection. The servers
-take turns; of each the best round counts. Prints MiB a second and the processor time that the server took for a MiB, user's and
-system's, and the ratio of each to the better of the two others: above 1 where nbd_disk is faster, or takes less."""
+usage: disk.py disk PROGRAM | plugin PLUGIN
+
+disk: nbd_disk over a disk in a file, beside nbdkit's file plugin and qemu-nbd on the same image. plugin: the plugin for
+nbdkit, over a disk in memory, beside nbdkit's memory plugin.
+
+Reads and writes of 4 and 128 KiB at depth 1 and 16 by fio, and sequential copies both ways by nbdcopy over one
+connection. The servers take turns; of each the best round counts. Prints MiB a second and the processor time that the
+server took for a MiB, user's and system's, and the ratio of each to the better of the others: above 1 where the first is
+faster, or takes less."""
 
 import json
 import os
@@ -15,7 +21,7 @@ import tempfile
 import threading
 import time
 
-PROGRAM = sys.argv[1]
+WHICH, PROGRAM = sys.argv[1:]
 ROUNDS = int(os.environ.get("ROUNDS", "3"))
 SECONDS = os.environ.get("SECONDS_EACH", "2")
 MEBIBYTES = 512
@@ -86,6 +92,13 @@ class Command:
 def servers(image):
     """Returns how each server is started at a path."""
     size = SECTORS * 512
+    if WHICH == "plugin":
+        return {
+            "saddlemug": lambda path: Command(
+                ["nbdkit", "-f", "-U", path, PROGRAM, "settings=config.toml", "partition=0"], path
+            ),
+            "nbdkit memory": lambda path: Command(["nbdkit", "-f", "-U", path, "memory", str(size)], path),
+        }
     return {
         "nbd_disk": lambda path: Program(path, image),
         "nbdkit file": lambda path: Command(
@@ -141,7 +154,7 @@ def rounds(here):
             path = os.path.join(here, f"socket.{turn}.{name[:5].strip()}")
             server = start(path)
             uri = f"nbd+unix:///?socket={path}"
-            if turn == 0 and name == "nbd_disk":
+            if WHICH == "plugin" or turn == 0 and name == "nbd_disk":
                 by_copy(["source", uri])
             for what, measure in measures(uri).items():
                 found = measured(server, measure)
@@ -175,8 +188,10 @@ def main():
         with open("source", "wb") as it:
             for _ in range(MEBIBYTES):
                 it.write(os.urandom(1 << 20))
-        made = [PROGRAM, "config.toml", "0", "--disk", "image", "--create"]
-        subprocess.run(made, stdin=subprocess.DEVNULL, stdout=subprocess.DEVNULL, stderr=subprocess.DEVNULL, check=False)
+        if WHICH == "disk":
+            made = [PROGRAM, "config.toml", "0", "--disk", "image", "--create"]
+            quiet = {"stdin": subprocess.DEVNULL, "stdout": subprocess.DEVNULL, "stderr": subprocess.DEVNULL}
+            subprocess.run(made, check=False, **quiet)
         show(rounds(here))
         return 0
     finally:
