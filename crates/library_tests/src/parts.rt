@@ -1,6 +1,6 @@
 //! The bytes of an NBD stream, by their numbers.
 
-use std::alloc::AllocError;
+use std::alloc::{AllocError, Global};
 
 /// Numbers of a stream, highest byte first, and runs of one byte.
 #[derive(Clone, Copy)]
@@ -21,6 +21,41 @@ pub(crate) const GO: [Part; 6] = [
     Part::Short(0),
 ];
 
+/// The server's first bytes.
+pub(crate) const GREETING: [Part; 3] = [
+    Part::Long(0x4E42_444D_4147_4943),
+    Part::Long(0x4948_4156_454F_5054),
+    Part::Short(3),
+];
+
+/// What the client of [`GO`] is answered: the greeting, an export of this many bytes, its blocks, and an end.
+pub(crate) fn gone(bytes: u64) -> [Part; 22] {
+    [
+        Part::Long(0x4E42_444D_4147_4943),
+        Part::Long(0x4948_4156_454F_5054),
+        Part::Short(3),
+        Part::Long(0x0003_E889_0455_65A9),
+        Part::Word(7),
+        Part::Word(3),
+        Part::Word(12),
+        Part::Short(0),
+        Part::Long(bytes),
+        Part::Short(77),
+        Part::Long(0x0003_E889_0455_65A9),
+        Part::Word(7),
+        Part::Word(3),
+        Part::Word(14),
+        Part::Short(3),
+        Part::Word(512),
+        Part::Word(4096),
+        Part::Word(0x0200_0000),
+        Part::Long(0x0003_E889_0455_65A9),
+        Part::Word(7),
+        Part::Word(1),
+        Part::Word(0),
+    ]
+}
+
 /// Adds the bytes of these parts.
 pub(crate) fn add(bytes: &mut Vec<u8>, parts: &[Part]) -> Result<(), AllocError> {
     for part in parts {
@@ -40,4 +75,16 @@ pub(crate) fn fill(bytes: &mut Vec<u8>, byte: u8, count: usize) -> Result<(), Al
         bytes.push(byte)?;
     }
     Ok(())
+}
+
+/// The bytes of some parts, and then of others.
+pub(crate) fn bytes_of(
+    alloc: Global,
+    first: &[Part],
+    then: &[Part],
+) -> Result<Vec<u8>, AllocError> {
+    let mut bytes = Vec::new(alloc);
+    add(&mut bytes, first)?;
+    add(&mut bytes, then)?;
+    Ok(bytes)
 }

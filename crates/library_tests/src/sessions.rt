@@ -2,7 +2,7 @@
 
 use crate::expect::{same, same_at};
 use crate::parts::Part::{Fill, Long, Short, Word};
-use crate::parts::{GO, Part, add, fill};
+use crate::parts::{GO, GREETING, Part, add, bytes_of, fill, gone};
 use nbd::{Array, ArrayFault, End, MemArray, Sizes, serve};
 use std::alloc::{AllocError, Global};
 use std::process::Abort;
@@ -16,38 +16,6 @@ struct Session {
     /// What the blocks are filled with after the session.
     blocks: [u8; 4],
 }
-
-/// What the client of [`GO`] is answered: the greeting, the export, its blocks, and an end.
-const GONE: [Part; 22] = [
-    Long(0x4E42_444D_4147_4943),
-    Long(0x4948_4156_454F_5054),
-    Short(3),
-    Long(0x0003_E889_0455_65A9),
-    Word(7),
-    Word(3),
-    Word(12),
-    Short(0),
-    Long(2048),
-    Short(77),
-    Long(0x0003_E889_0455_65A9),
-    Word(7),
-    Word(3),
-    Word(14),
-    Short(3),
-    Word(512),
-    Word(4096),
-    Word(0x0200_0000),
-    Long(0x0003_E889_0455_65A9),
-    Word(7),
-    Word(1),
-    Word(0),
-];
-
-const GREETING: [Part; 3] = [
-    Long(0x4E42_444D_4147_4943),
-    Long(0x4948_4156_454F_5054),
-    Short(3),
-];
 
 /// Sessions behind the greeting.
 const HANDSHAKES: [Session; 8] = [
@@ -515,12 +483,8 @@ fn run_one(
     session: &Session,
 ) -> Result<(), AllocError> {
     let name = session.name;
-    let mut client = Vec::new(alloc);
-    add(&mut client, before)?;
-    add(&mut client, session.client)?;
-    let mut wanted = Vec::new(alloc);
-    add(&mut wanted, greeted)?;
-    add(&mut wanted, session.server)?;
+    let client = bytes_of(alloc, before, session.client)?;
+    let wanted = bytes_of(alloc, greeted, session.server)?;
     let mut array = MemArray {
         bytes: blocks(alloc, &[1, 2, 3, 4])?,
         long_blocks: false,
@@ -541,7 +505,7 @@ fn options_are_answered(rt: HostRuntime) -> Result<(), AllocError> {
 
 #[test]
 fn requests_are_served(rt: HostRuntime) -> Result<(), AllocError> {
-    run(&rt, rt.alloc(), &GO, &GONE, &REQUESTS)
+    run(&rt, rt.alloc(), &GO, &gone(2048), &REQUESTS)
 }
 
 /// An array that counts what goes past caches, and may fail.
@@ -633,11 +597,8 @@ fn fails_by(
     fault: Option<ArrayFault>,
     error: u32,
 ) -> Result<(), AllocError> {
-    let mut client = Vec::new(alloc);
-    add(&mut client, &GO)?;
-    add(&mut client, &FOUR)?;
-    let mut wanted = Vec::new(alloc);
-    add(&mut wanted, &GONE)?;
+    let client = bytes_of(alloc, &GO, &FOUR)?;
+    let mut wanted = bytes_of(alloc, &gone(2048), &[])?;
     for cookie in 1..5_u64 {
         let reply = [Word(0x6744_6698), Word(error), Long(cookie)];
         add(&mut wanted, &reply)?;

@@ -3,7 +3,7 @@
 
 use crate::expect::same_at;
 use crate::parts::Part::{Fill, Long, Short, Word};
-use crate::parts::{GO, Part, add};
+use crate::parts::{GO, Part, bytes_of, gone};
 use serving::serve_disk;
 use startup::{Verdict, ended};
 use std::alloc::{AllocError, Global};
@@ -16,32 +16,6 @@ const DISK: &str =
 
 const PROTECTED: &str =
     "sector_size = 512\nsectors = 4\nmax_transfer = 1\ndepth = 1\nwindow = 1\nwrite_protected = true\npartition = [{ first = 1, count = 1 }, { first = 2, count = 2 }]\n";
-
-/// What the client of [`GO`] is answered: the greeting, the export, its blocks, and an end.
-const GONE: [Part; 22] = [
-    Long(0x4E42_444D_4147_4943),
-    Long(0x4948_4156_454F_5054),
-    Short(3),
-    Long(0x0003_E889_0455_65A9),
-    Word(7),
-    Word(3),
-    Word(12),
-    Short(0),
-    Long(1024),
-    Short(77),
-    Long(0x0003_E889_0455_65A9),
-    Word(7),
-    Word(3),
-    Word(14),
-    Short(3),
-    Word(512),
-    Word(4096),
-    Word(0x0200_0000),
-    Long(0x0003_E889_0455_65A9),
-    Word(7),
-    Word(1),
-    Word(0),
-];
 
 /// A session, and how it ends.
 struct Session {
@@ -283,14 +257,6 @@ const REQUESTS: [Session; 4] = [
     },
 ];
 
-/// The bytes of some parts, and then of others.
-fn bytes_of(alloc: Global, first: &[Part], then: &[Part]) -> Result<Vec<u8>, AllocError> {
-    let mut bytes = Vec::new(alloc);
-    add(&mut bytes, first)?;
-    add(&mut bytes, then)?;
-    Ok(bytes)
-}
-
 /// Runs a session behind these parts.
 fn run(
     rt: &impl Abort,
@@ -324,8 +290,9 @@ fn handshakes_are_served(rt: HostRuntime) -> Result<(), Fail> {
 
 #[test]
 fn requests_are_served(rt: HostRuntime) -> Result<(), Fail> {
+    let greeted = gone(1024);
     for session in &REQUESTS {
-        run(&rt, rt.alloc(), &GO, &GONE, session)?;
+        run(&rt, rt.alloc(), &GO, &greeted, session)?;
     }
     Ok(())
 }
