@@ -1,4 +1,4 @@
--- What is printed of settings and a script, and why not all of it.
+-- What is printed of settings and a script, and why not all of it is printed.
 use Rattle.std.specs.Prelude.{◌≡◌, ◌⊎◌, ℕ, List, Option, false}
 use Rattle.std.specs.Str.{is_utf8}
 use Rattle.io_manager.specs.Shown.{ManagerView}
@@ -30,7 +30,7 @@ pub record IsPrintOf (config script : Option (List ℕ)) (text : List ℕ) : Typ
   pub last : ManagerView
   pub trace : IsTrace start lines text last
 
--- all bytes of a script could not be had
+-- a script could not be read to its end
 abbrev pub IsUnreadScript : Error → Type 0
 IsUnreadScript fault = (fault ≡ ScriptUnreadable) ⊎ (fault ≡ NoMemory)
 

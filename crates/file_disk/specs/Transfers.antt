@@ -39,7 +39,7 @@ disk_over shape write_protected calls = record {
   calls = calls;
 }
 
--- sizes that a disk may have
+-- a disk may have these sizes
 pub record IsDiskSize (shape : MediumView) : Type 0 where
   pub size : (shape.sector_size ≡ 512) ⊎ (shape.sector_size ≡ 4096)
   pub few : length shape.sectors ≤ 2 ^ 40

@@ -73,7 +73,7 @@ pub record IsRecordOf (config script : Option (List ℕ)) (text : List ℕ) : Ty
   pub last : ManagerView
   pub is_record : IsRecord start lines text last
 
--- all bytes of a script could not be had
+-- a script could not be read to its end
 abbrev pub IsUnreadScript : Error → Type 0
 IsUnreadScript fault = (fault ≡ ScriptUnreadable) ⊎ (fault ≡ NoMemory)
 

@@ -1,5 +1,4 @@
--- A session over storage whose content isn't shown: what each command does to it is told by a relation of the storage's
--- own.
+-- A session over storage whose content isn't shown. A relation of the storage's own tells what each command does to it.
 use Rattle.std.specs.Prelude.{◌≡◌, ◌≢◌, ◌⊎◌, ℕ, Bool, List, [], ◌∷◌, ◌++◌, length, Option, MatchResult}
 use Rattle.nbd.specs.declared.End.{End}
 use Rattle.nbd.specs.declared.arrays.Sizes.{Sizes}

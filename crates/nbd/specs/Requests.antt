@@ -63,7 +63,7 @@ IsWithin block size (Write offset count through) = AreInBounds block size offset
 IsWithin block size Flush = Unit {0}
 IsWithin block size (WriteZeroes offset count through) = AreInBounds block size offset count
 
--- the bytes that come behind a request
+-- how many bytes come behind a request
 abbrev pub payload_count : Request → ℕ
 payload_count r = if r.kind == NBD_CMD_WRITE then r.count else 0
 

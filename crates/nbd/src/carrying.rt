@@ -97,7 +97,7 @@ fn read<A: Array>(alloc: Global, array: &mut A, offset: u64, count: u32) -> Answ
 ///
 /// # Errors
 ///
-/// [`End::Input`] where they don't come.
+/// [`End::Input`] where the bytes don't come.
 fn write<R: Read, A: Array>(
     alloc: Global,
     array: &mut A,
@@ -151,7 +151,7 @@ fn clear<A: Array>(alloc: Global, array: &mut A, offset: u64, count: u32, throug
 ///
 /// # Errors
 ///
-/// Why it was not written.
+/// Why the piece was not written.
 fn clear_piece<A: Array>(
     alloc: Global,
     array: &mut A,
@@ -183,7 +183,7 @@ fn flush<A: Array>(alloc: Global, array: &mut A) -> Answer
     }
 }
 
-/// The error that a fault is answered by.
+/// The error by which a fault is answered.
 fn error_of(fault: ArrayFault) -> ReplyError
     ensures { result ≡ error_of fault }
 {

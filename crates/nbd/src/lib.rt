@@ -47,7 +47,7 @@ pub use session::serve;
 pub enum End {
     /// The client left by the protocol: NBD_OPT_ABORT or NBD_CMD_DISC.
     Left,
-    /// What came is not the protocol, or asks for an export that isn't there.
+    /// The client's bytes are not the protocol, or ask for an export that isn't there.
     Malformed,
     /// No more bytes came, or reading failed.
     Input,

@@ -15,7 +15,7 @@ use crate::streams::{skip, take_all_in};
 use std::alloc::Global;
 use std::io::{Read, Write};
 
-/// Serves a client as [`serve`](crate::serve), over storage whose content isn't shown.
+/// Serves a client as [`serve`](crate::serve) does, over storage whose content isn't shown.
 pub fn serve_over<R: Read, W: Write, B: Backing>(
     alloc: Global,
     backing: &mut B,

@@ -34,6 +34,8 @@ pub fn write_reply<W: Write>(out: &mut W, cookie: u64, answer: &Answer) -> io::R
     }
 }
 
+/// Writes a simple reply with this error, and these bytes behind it.
+///
 /// # Errors
 ///
 /// The errors of the writer.

@@ -107,7 +107,7 @@ pub fn parse_request(bytes: &[u8]) -> Option<Request>
 ///
 /// # Errors
 ///
-/// [`ReplyError::Einval`] and [`ReplyError::Enospc`], as they say.
+/// [`ReplyError::Einval`] and [`ReplyError::Enospc`], each where its own comment says so.
 pub fn command_of(request: Request, sizes: Sizes) -> Result<Command, ReplyError>
     requires { 0 < sizes.block }
     ensures command { result ≡ command_in sizes.block sizes.bytes request }
@@ -154,7 +154,7 @@ pub fn command_of(request: Request, sizes: Sizes) -> Result<Command, ReplyError>
     }
 }
 
-/// The bytes that come behind a request.
+/// How many bytes come behind a request.
 pub(crate) fn payload_count(request: Request) -> u32
     ensures { result ≡ payload_count request }
 {
@@ -165,6 +165,8 @@ pub(crate) fn payload_count(request: Request) -> u32
     }
 }
 
+/// Looks at the flags of a request, of which these are known.
+///
 /// # Errors
 ///
 /// [`ReplyError::Einval`] where a flag is set that isn't known.
@@ -181,8 +183,8 @@ fn check_flags(flags: u16, known: u16) -> Result<(), ReplyError>
 ///
 /// # Errors
 ///
-/// [`ReplyError::Einval`] where they are none, more than `longest` or not whole blocks; `beyond` where they go past the
-/// end.
+/// [`ReplyError::Einval`] where there are no bytes, more than `longest`, or bytes that aren't whole blocks; `beyond`
+/// where they go past the end.
 fn check_extent(
     request: Request,
     sizes: Sizes,

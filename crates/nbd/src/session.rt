@@ -73,7 +73,7 @@ fn exchange<R: Read, W: Write, A: Array>(
     Ok(())
 }
 
-/// The next request.
+/// Takes the next request.
 ///
 /// # Errors
 ///

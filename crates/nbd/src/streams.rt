@@ -45,6 +45,8 @@ pub(crate) fn skip<R: Read>(input: &mut R, count: u32) -> Result<(), End>
     Ok(())
 }
 
+/// Passes over this many bytes, at most as many as are skipped at once.
+///
 /// # Errors
 ///
 /// [`End::Input`].

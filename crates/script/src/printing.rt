@@ -20,7 +20,7 @@ static DIGITS: [u8; 16] = *b"0123456789abcdef";
 ///
 /// # Errors
 ///
-/// [`AllocError`] where the text has no room, and memory for more was refused; so do all writes here.
+/// [`AllocError`] where the text has no room, and memory for more was refused. All writes here fail in this way.
 pub fn write_reply(text: &mut Vec<u8>, reply: &Reply) -> Result<(), AllocError>
     ensures { OnOk result (text.new.items ≡ text.old.items ++ reply_line reply.now) }
 {

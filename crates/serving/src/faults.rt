@@ -19,7 +19,7 @@ pub enum Error {
     NoPartition,
     /// The disk in a file can't be served.
     Disk(DiskFault),
-    /// What came is not the protocol, or asks for an export that isn't there.
+    /// The client's bytes are not the protocol, or ask for an export that isn't there.
     Malformed,
     /// The input ended or failed before the client left by the protocol.
     InputEnded,

@@ -34,7 +34,7 @@ pub(crate) fn laws_of_entries()
 ///
 /// # Errors
 ///
-/// Why it was refused.
+/// Why the request was refused.
 pub(crate) fn carry_out<S: Storage + Drop>(
     stack: &mut Stack<BookedAdapter>,
     disk: &mut FileDisk<S>,

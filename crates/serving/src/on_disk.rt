@@ -245,7 +245,7 @@ fn sizes_of(config: &Config, partition: u8) -> Result<Sizes, Error>
 ///
 /// # Errors
 ///
-/// Why it could not be started.
+/// Why the stack could not be started.
 fn started(alloc: Global, config: &Config, first: Vec<u8>) -> Result<Stack<BookedAdapter>, Error>
     requires range { AreInRange config.now }
     requires long { length first.items ≡ config.now.sector_size }

@@ -64,7 +64,7 @@ impl<A: Adapter> Array for Served<A> {
         bytes: Vec<u8>,
         through: bool,
     ) -> Result<(), ArrayFault> {
-        // What a write that failed left in its own sectors changed nothing outside them.
+        // A write that failed changed nothing outside its own sectors.
         nbd::written_inside();
         match self.volume.write(alloc, offset, Bytes::new(bytes), through) {
             Ok(()) => Ok(()),
@@ -80,7 +80,7 @@ impl<A: Adapter> Array for Served<A> {
     }
 }
 
-/// Returns the fault of an array for one of a volume.
+/// Returns the fault of an array that stands for a fault of a volume.
 fn array_fault(fault: Error) -> ArrayFault
     ensures { result ≡ told_fault fault }
 {

@@ -7,6 +7,6 @@ use Rattle.judging.specs.declared.faults.Error.TheVariants.{TraceUnreadable, NoM
 abbrev pub IsEnded : List ℕ → Type 0
 IsEnded line = (front : List ℕ) × (line ≡ front ++ 10 ∷ [])
 
--- all bytes of a trace could not be had
+-- a trace could not be read to its end
 abbrev pub IsUnreadTrace : Error → Type 0
 IsUnreadTrace fault = (fault ≡ TraceUnreadable) ⊎ (fault ≡ NoMemory)

@@ -16,7 +16,7 @@ pub record Served (F : Faulting) (old : Content) (input out : Option (List ℕ))
   pub taken : Consumes input rest (said asked_by exchanges)
   pub told : Appends out after (said told_by exchanges)
 
--- how a client's requests ended: these were served, by the bytes with which its stream began, and answered in order
+-- how a client's requests ended: the requests with whose bytes its stream began were served, and answered in order
 pub record Ends (F : Faulting) (old : Content) (input out : Option (List ℕ)) (end : End) (new : Content) (after : Option (List ℕ)) : Type 0 where
   pub exchanges : List Exchange
   pub last : List ℕ

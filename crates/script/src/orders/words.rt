@@ -102,7 +102,7 @@ fn with_digit(number: u64, byte: u8) -> Option<u64>
     tens.checked_add((byte - b'0') as u64)
 }
 
-/// The number that decimal digits spell, which is below 2^64; no digits are worth 0.
+/// The number that decimal digits spell, which is below 2^64. No digits spell 0.
 fn worth(digits: &[u8]) -> Option<u64>
     ensures { Finds (AreWorth digits.now) result }
 {
