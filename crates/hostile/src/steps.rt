@@ -58,7 +58,7 @@ fn from_back<T: Copy>(entries: &[T], back: u32) -> Option<T> {
 }
 
 impl Given {
-    /// Nothing was given yet.
+    /// No handles and no requests yet.
     pub fn new(alloc: Global) -> Given {
         Given {
             handles: Vec::new(alloc),

@@ -135,7 +135,7 @@ fn steps_of(alloc: Global, row: &Row, parts: &[&[Step]]) -> Result<Vec<Step>, Al
     Ok(steps)
 }
 
-/// Each tag acts and is finished.
+/// Adds an act and a finish of each tag.
 pub fn push_round(steps: &mut Vec<Step>, depth: u8) -> Result<(), AllocError> {
     for tag in 0..depth {
         steps.push(Step::Act(tag))?;

@@ -27,8 +27,8 @@ const BUFFER: usize = 65_536;
 /// # Errors
 ///
 /// The first of these that fits: the settings can't be read, or are refused; the trace can't be read, or has a bad
-/// line; `out` failed. [`Error::NoMemory`] in place of any of them, where memory was refused, or a count of the trace
-/// is full.
+/// line; `out` failed. Where memory was refused, or a count of the trace is full, [`Error::NoMemory`] stands in place
+/// of any of them.
 pub fn check<C: Read + Drop, T: Read + Drop, O: Write, W: Write>(
     alloc: Global,
     config: C,
@@ -51,7 +51,7 @@ pub fn check<C: Read + Drop, T: Read + Drop, O: Write, W: Write>(
 ///
 /// # Errors
 ///
-/// As for [`check`].
+/// The errors of [`check`].
 pub fn check_any_cut<C: Read + Drop, T: Read + Drop, O: Write, W: Write>(
     alloc: Global,
     config: C,

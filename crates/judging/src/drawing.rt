@@ -16,8 +16,8 @@ const BUFFER: usize = 65_536;
 ///
 /// # Errors
 ///
-/// The first of these that fits: the trace can't be read, or has a bad line; `out` failed. [`Error::NoMemory`] in
-/// place of any of them, where memory was refused.
+/// The first of these that fits: the trace can't be read, or has a bad line; `out` failed. Where memory was refused,
+/// [`Error::NoMemory`] stands in place of any of them.
 pub fn draw<T: Read + Drop, O: Write>(
     alloc: Global,
     trace: T,

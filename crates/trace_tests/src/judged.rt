@@ -27,7 +27,7 @@ static TRACE: &str =
 static TOO_SOON: &str =
     "# a remark\ncall 1 write 0 512 in 0 a5*512\n\nstart 1 tag 0 2a000000080000000100\nanswer 1 SUCCESS 512\n";
 
-/// A read whose second sector goes first, off the grid of 64 sectors.
+/// A write whose second sector goes first, off the grid of 64 sectors.
 static CUT: &str =
     "call 1 write 0 1024 in 0 a5*1024\nstart 1 tag 0 2a000000080100000100\nact 1 a5*512\n\
     return 1 good\nstart 2 tag 0 2a000000080000000100\nact 2 a5*512\nreturn 2 good\n\
