@@ -3,7 +3,7 @@ use Rattle.std.proofs.Common.{◌≡◌, ◌↔◌, ◌+◌, ◌*◌, ℕ, Bool,
 use Rattle.std.specs.Bool.{then_some}
 use Rattle.std.specs.List.{AllZip}
 use Rattle.script.specs.declared.Order.{Order}
-use Rattle.script.specs.declared.Order.TheVariants.{Open, Close, Read, Write, Flush, Cancel, Mark, QueryRemove, CancelRemove, Remove, SurpriseRemove, Act, Finish, Reset}
+use Rattle.script.specs.declared.Order.TheVariants.{Read, Write, Cancel}
 use Rattle.script.specs.Script.{Argument, Asks, Byte, Finds, FirstSpells, Length, Number, Spells, request_of, through_of, verb_of}
 
 -- an argument and those after it
@@ -91,34 +91,3 @@ pub no_request_found : (words : List (List ℕ)) (b : Bool) (found : Option (Opt
     → ((n : ℕ) → ¬ (AllZip Spells words (Number n ∷ []))) → Finds (λ request. AllZip Spells words (request_of request)) found
 no_request_found words b found e some ends none =
     finds_none (λ request. AllZip Spells words (request_of request)) found e (λ request h. no_request words b request some ends none h)
-
--- words ask for an order that begins with the first of them
-begins_with : (order : Order) (word : List ℕ) (words : List (List ℕ)) → Some word ≡ slice_get words 0 → Asks words order → word ≡ verb_of order
-begins_with order word [] first h = absurd h
-begins_with order word (verb ∷ words) first h = cc (first, h.0)
-
--- each order begins with one of the verbs
-module _ (word : List ℕ)
-    (not_open : ¬ (word ≡ codes "open")) (not_close : ¬ (word ≡ codes "close")) (not_read : ¬ (word ≡ codes "read"))
-    (not_write : ¬ (word ≡ codes "write")) (not_flush : ¬ (word ≡ codes "flush")) (not_cancel : ¬ (word ≡ codes "cancel"))
-    (not_mark : ¬ (word ≡ codes "mark")) (not_query_remove : ¬ (word ≡ codes "query-remove")) (not_cancel_remove : ¬ (word ≡ codes "cancel-remove"))
-    (not_remove : ¬ (word ≡ codes "remove")) (not_surprise_remove : ¬ (word ≡ codes "surprise-remove")) (not_act : ¬ (word ≡ codes "act"))
-    (not_finish : ¬ (word ≡ codes "finish")) (not_reset : ¬ (word ≡ codes "reset")) where
-  is_verb : (order : Order) → ¬ (word ≡ verb_of order)
-  is_verb (Open partition) = not_open
-  is_verb (Close handle) = not_close
-  is_verb (Read handle offset count) = not_read
-  is_verb (Write handle offset count byte through) = not_write
-  is_verb (Flush handle) = not_flush
-  is_verb (Cancel handle request) = not_cancel
-  is_verb (Mark request) = not_mark
-  is_verb QueryRemove = not_query_remove
-  is_verb CancelRemove = not_cancel_remove
-  is_verb Remove = not_remove
-  is_verb SurpriseRemove = not_surprise_remove
-  is_verb (Act tag) = not_act
-  is_verb (Finish tag) = not_finish
-  is_verb Reset = not_reset
-
-  pub no_verb : (order : Order) (words : List (List ℕ)) → Some word ≡ slice_get words 0 → ¬ (Asks words order)
-  no_verb order words first h = is_verb order (begins_with order word words first h)

@@ -1,5 +1,6 @@
 mod Asked
 mod Cuts
+mod Decimals
 mod Digits
 mod EqualBytes
 mod GivenBack

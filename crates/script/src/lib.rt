@@ -16,6 +16,7 @@ ghost use Rattle.script.specs.Faults.{IsOfWrite};
 
 mod buffers;
 mod given;
+mod numbers;
 mod orders;
 mod player;
 mod printing;

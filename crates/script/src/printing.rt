@@ -1,13 +1,13 @@
 //! Replies and labels in print, one a line, each behind a text.
 
-ghost use Rattle.std.specs.Prelude.{◌≡◌, ◌++◌, OnOk, codes};
+ghost use Rattle.std.specs.Prelude.{◌≡◌, ◌++◌, [], OnOk, codes, if◌then◌else◌};
 ghost use Rattle.std.specs.Fmt.{decimal};
 ghost use Rattle.script.specs.Printing.{answer_line, bytes_text, call_line, device_line, hex_bytes, hex_of, label_line, line_end, number_of, reply_line, word_of};
 
+use crate::numbers::{write_number, write_piece};
 use crate::runs::write_runs;
 use compose::{Refusal, Reply};
 use hex::encode_to_slice;
-use itoa::{Buffer, Integer};
 use machine::{ClientRequest, Kind, Label};
 use ntstatus::NtStatus;
 use srb::{Class, CommandBlock, DeviceLabel};
@@ -25,47 +25,37 @@ pub fn write_reply(text: &mut Vec<u8>, reply: &Reply) -> Result<(), AllocError>
     ensures { OnOk result (text.new.items ≡ text.old.items ++ reply_line reply.now) }
 {
     match reply {
-        Reply::Handle(handle) => write_numbered(text, b"handle ", handle.number),
+        Reply::Handle(handle) => {
+            text.extend_from_slice(b"handle ")?;
+            write_last(text, handle.number)
+        }
         Reply::Ok => text.extend_from_slice(b"ok\n"),
-        Reply::Request(id) => write_numbered(text, b"request ", id.number),
+        Reply::Request(id) => {
+            text.extend_from_slice(b"request ")?;
+            write_last(text, id.number)
+        }
         Reply::Answered(_) => text.extend_from_slice(b"answered\n"),
-        Reply::Refused { refusal, .. } => write_numbered(text, b"refused E", number_of(*refusal)),
+        Reply::Refused { refusal, .. } => {
+            text.extend_from_slice(b"refused E")?;
+            write_last(text, number_of(*refusal) as u64)
+        }
         Reply::Ignored => text.extend_from_slice(b"ignored\n"),
     }
 }
 
-/// Writes a number in decimal digits.
-pub(crate) fn write_number<N: Integer>(text: &mut Vec<u8>, number: N) -> Result<(), AllocError>
-    ensures { OnOk result (text.new.items ≡ text.old.items ++ N.text number) }
+/// Writes a number, and ends the line.
+fn write_last(text: &mut Vec<u8>, number: u64) -> Result<(), AllocError>
+    ensures { OnOk result (text.new.items ≡ text.old.items ++ (decimal number ++ line_end)) }
 {
-    text.extend_from_slice(Buffer::new().format(number).as_bytes())
-}
-
-/// Writes the number of a piece, which seldom needs the digits of 128 bits.
-fn write_piece(text: &mut Vec<u8>, piece: u128) -> Result<(), AllocError>
-    ensures { OnOk result (text.new.items ≡ text.old.items ++ decimal piece) }
-{
-    match u64::try_from(piece) {
-        Ok(short) => write_number(text, short),
-        Err(_) => write_number(text, piece),
-    }
-}
-
-/// Writes a line of a word and the number of a piece.
-fn write_of_piece(text: &mut Vec<u8>, word: &[u8], piece: u128) -> Result<(), AllocError>
-    ensures { OnOk result (text.new.items ≡ text.old.items ++ (word.now ++ (decimal piece ++ line_end))) }
-{
-    text.extend_from_slice(word)?;
-    write_piece(text, piece)?;
+    write_number(text, number)?;
     text.extend_from_slice(b"\n")
 }
 
-/// Writes a line of a word and a number.
-fn write_numbered<N: Integer>(text: &mut Vec<u8>, word: &[u8], number: N) -> Result<(), AllocError>
-    ensures { OnOk result (text.new.items ≡ text.old.items ++ (word.now ++ (N.text number ++ line_end))) }
+/// Writes the number of a piece, and ends the line.
+fn write_last_piece(text: &mut Vec<u8>, piece: u128) -> Result<(), AllocError>
+    ensures { OnOk result (text.new.items ≡ text.old.items ++ (decimal piece ++ line_end)) }
 {
-    text.extend_from_slice(word)?;
-    write_number(text, number)?;
+    write_piece(text, piece)?;
     text.extend_from_slice(b"\n")
 }
 
@@ -101,7 +91,10 @@ pub fn write_label(text: &mut Vec<u8>, label: &Label) -> Result<(), AllocError>
             information,
             bytes,
         } => write_answer(text, *number, *status, *information, bytes.as_slice()),
-        Label::Cancel { number } => write_numbered(text, b"cancel ", *number),
+        Label::Cancel { number } => {
+            text.extend_from_slice(b"cancel ")?;
+            write_last(text, *number)
+        }
         Label::Pause => text.extend_from_slice(b"pause\n"),
         Label::Resume => text.extend_from_slice(b"resume\n"),
         Label::Remove => text.extend_from_slice(b"remove\n"),
@@ -117,27 +110,34 @@ fn write_call(text: &mut Vec<u8>, number: u64, request: &ClientRequest) -> Resul
     text.extend_from_slice(b"call ")?;
     write_number(text, number)?;
     match request.kind {
-        Kind::Read => write_place(text, b" read ", request, b"\n"),
-        Kind::Write if request.through => write_place(text, b" write ", request, b" through\n"),
-        Kind::Write => write_place(text, b" write ", request, b"\n"),
+        Kind::Read => {
+            text.extend_from_slice(b" read ")?;
+            write_place(text, request)?;
+            text.extend_from_slice(b"\n")
+        }
+        Kind::Write => {
+            text.extend_from_slice(b" write ")?;
+            write_place(text, request)?;
+            text.extend_from_slice(end_of_write(request.through))
+        }
         Kind::Flush => text.extend_from_slice(b" flush\n"),
     }
 }
 
-/// Writes the word of a request, its first byte and its length, and what ends the line.
-fn write_place(
-    text: &mut Vec<u8>,
-    word: &[u8],
-    request: &ClientRequest,
-    end: &[u8],
-) -> Result<(), AllocError>
-    ensures { OnOk result (text.new.items ≡ text.old.items ++ (word.now ++ (decimal request.now.offset ++ (codes " " ++ (decimal request.now.length ++ end.now))))) }
+/// What stands behind the place of a write, to the end of its line.
+fn end_of_write(through: bool) -> &'static [u8]
+    ensures { result.now ≡ (if through then codes " through" else []) ++ line_end }
 {
-    text.extend_from_slice(word)?;
+    if through { b" through\n" } else { b"\n" }
+}
+
+/// Writes the first byte of a request, and its length.
+fn write_place(text: &mut Vec<u8>, request: &ClientRequest) -> Result<(), AllocError>
+    ensures { OnOk result (text.new.items ≡ text.old.items ++ (decimal request.now.offset ++ (codes " " ++ decimal request.now.length))) }
+{
     write_number(text, request.offset)?;
     text.extend_from_slice(b" ")?;
-    write_number(text, request.length)?;
-    text.extend_from_slice(end)
+    write_number(text, request.length)
 }
 
 fn write_device_label(text: &mut Vec<u8>, label: &DeviceLabel) -> Result<(), AllocError>
@@ -148,13 +148,19 @@ fn write_device_label(text: &mut Vec<u8>, label: &DeviceLabel) -> Result<(), All
             text.extend_from_slice(b"start ")?;
             write_piece(text, *piece)?;
             text.extend_from_slice(b" tag ")?;
-            write_number(text, *tag)?;
+            write_number(text, *tag as u64)?;
             text.extend_from_slice(b" ")?;
             write_hex(text, block)?;
             text.extend_from_slice(b"\n")
         }
-        DeviceLabel::Act { piece, .. } => write_of_piece(text, b"act ", *piece),
-        DeviceLabel::Fault { piece } => write_of_piece(text, b"fault ", *piece),
+        DeviceLabel::Act { piece, .. } => {
+            text.extend_from_slice(b"act ")?;
+            write_last_piece(text, *piece)
+        }
+        DeviceLabel::Fault { piece } => {
+            text.extend_from_slice(b"fault ")?;
+            write_last_piece(text, *piece)
+        }
         DeviceLabel::Return { piece, class } => {
             text.extend_from_slice(b"return ")?;
             write_piece(text, *piece)?;

@@ -3,7 +3,8 @@
 ghost use Rattle.std.specs.Prelude.{◌≡◌, ◌≢◌, ◌<◌, ◌≤◌, ◌++◌, All, IsTrue, OnOk, length, take, slice_index};
 ghost use Rattle.script.specs.Printing.{comma, run_text, runs_of, runs_text};
 
-use crate::printing::{write_byte, write_number};
+use crate::numbers::write_number;
+use crate::printing::write_byte;
 use std::alloc::AllocError;
 
 /// How many bytes are compared at once.
@@ -86,7 +87,7 @@ fn write_run(text: &mut Vec<u8>, byte: u8, count: usize, is_last: bool) -> Resul
 {
     write_byte(text, byte)?;
     text.extend_from_slice(b"*")?;
-    write_number(text, count)?;
+    write_number(text, count as u64)?;
     if is_last {
         return Ok(());
     }

@@ -37,9 +37,8 @@ pub(crate) fn first_line(text: &str) -> (&str, &str)
 fn without_return(line: &str) -> &str
     ensures { result.now ≡ strip_carriage_return line.now }
 {
-    if line.ends_with('\r') {
-        &line[..line.len() - 1]
-    } else {
-        line
+    match line.as_bytes() {
+        [.., b'\r'] => &line[..line.len() - 1],
+        _ => line,
     }
 }

@@ -87,7 +87,7 @@ impl<'a> Words<'a> {
     pub fn is_at_end(&self) -> bool
         ensures { IsTrue result ↔ (self.now ≡ []) }
     {
-        Words::new(self.rest).word().is_none()
+        self.rest.is_empty() || Words::new(self.rest).word().is_none()
     }
 }
 
