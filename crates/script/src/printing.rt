@@ -164,9 +164,7 @@ fn write_device_label(text: &mut Vec<u8>, label: &DeviceLabel) -> Result<(), All
         DeviceLabel::Return { piece, class } => {
             text.extend_from_slice(b"return ")?;
             write_piece(text, *piece)?;
-            text.extend_from_slice(b" ")?;
-            text.extend_from_slice(word_of(class).as_bytes())?;
-            text.extend_from_slice(b"\n")
+            write_class(text, class)
         }
     }
 }
@@ -192,13 +190,14 @@ pub(crate) fn write_byte(text: &mut Vec<u8>, byte: u8) -> Result<(), AllocError>
     text.extend_from_slice(&[DIGITS[byte as usize / 16], DIGITS[byte as usize % 16]])
 }
 
-fn word_of(class: &Class) -> &'static str
-    ensures { result.now ≡ word_of class.now }
+/// Writes the word of a class, and ends the line.
+fn write_class(text: &mut Vec<u8>, class: &Class) -> Result<(), AllocError>
+    ensures { OnOk result (text.new.items ≡ text.old.items ++ (codes " " ++ (word_of class.now ++ line_end))) }
 {
     match class {
-        Class::Good => "good",
-        Class::Busy => "busy",
-        Class::Bad(_) => "bad",
+        Class::Good => text.extend_from_slice(b" good\n"),
+        Class::Busy => text.extend_from_slice(b" busy\n"),
+        Class::Bad(_) => text.extend_from_slice(b" bad\n"),
     }
 }
 

@@ -1,4 +1,3 @@
-use Rattle.std.proofs.Common.{arith}
 use Rattle.script.proofs.Decimals.{five, where_written}
 use Rattle.script.proofs.numbers.write_five.Goals as goal
 
