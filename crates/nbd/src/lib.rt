@@ -16,6 +16,9 @@
 //!
 //! Where a reader or a writer doesn't tell its bytes, only what became of the array is promised. The crate doesn't
 //! promise that a flush and a write past caches reach the array as such; tests show that.
+//!
+//! No contract says when replies are passed on. [`serve`] passes each on at once. [`serve_over`] may pass several on
+//! together, but does so before it waits for more bytes of the client.
 #![tactic(auto)]
 
 mod arrays;
@@ -31,6 +34,7 @@ mod replies;
 mod requests;
 mod session;
 mod streams;
+mod waiting;
 
 pub use arrays::{Array, ArrayFault, Sizes};
 pub use backing::Backing;
@@ -41,6 +45,7 @@ pub use over::serve_over;
 pub use replies::{Answer, write_reply};
 pub use requests::{Command, ReplyError, Request, command_of, parse_request};
 pub use session::serve;
+pub use waiting::Ahead;
 
 /// How a session ended.
 #[derive(Debug, Clone, Copy, PartialEq, Eq)]

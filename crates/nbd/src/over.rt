@@ -1,22 +1,27 @@
 //! A client's session over storage whose content isn't shown.
 
 ghost use Rattle.std.specs.Prelude.{◌≡◌, IfErr, IfOk, OnOk};
-ghost use Rattle.nbd.specs.Replies.{outcome_of};
+ghost use Rattle.std.specs.Io.KnownBytes.{Appends};
+ghost use Rattle.nbd.specs.Replies.{outcome_of, reply_bytes};
 ghost use Rattle.nbd.specs.Over.{IsSessionOver};
 ghost use Rattle.nbd.specs.inside.Over.{EndsOver, IsExchangedOver, IsServedOver};
 
 use crate::End;
 use crate::backing::Backing;
 use crate::handshake::{answer_options, greet};
-use crate::replies::Answer;
+use crate::replies::{Answer, write_reply};
 use crate::requests::{ReplyError, Request, command_of, payload_count};
-use crate::session::{next_request, tell};
+use crate::session::next_request;
 use crate::streams::{skip, take_all_in};
+use crate::waiting::{Ahead, pass_on};
 use std::alloc::Global;
 use std::io::{Read, Write};
 
 /// Serves a client as [`serve`](crate::serve) does, over storage whose content isn't shown.
-pub fn serve_over<R: Read, W: Write, B: Backing>(
+///
+/// Replies are passed on together where the next writes are there already, but before `input` is asked for more bytes
+/// than it has read ahead.
+pub fn serve_over<R: Ahead, W: Write, B: Backing>(
     alloc: Global,
     backing: &mut B,
     input: &mut R,
@@ -35,7 +40,7 @@ pub fn serve_over<R: Read, W: Write, B: Backing>(
 }
 
 /// Serves requests until the client leaves, or can't go on.
-fn serve_requests<R: Read, W: Write, B: Backing>(
+fn serve_requests<R: Ahead, W: Write, B: Backing>(
     alloc: Global,
     backing: &mut B,
     input: &mut R,
@@ -56,7 +61,7 @@ fn serve_requests<R: Read, W: Write, B: Backing>(
 /// # Errors
 ///
 /// How the session ends.
-fn exchange<R: Read, W: Write, B: Backing>(
+fn exchange<R: Ahead, W: Write, B: Backing>(
     alloc: Global,
     backing: &mut B,
     input: &mut R,
@@ -68,8 +73,24 @@ fn exchange<R: Read, W: Write, B: Backing>(
 {
     let request = next_request(input)?;
     let answer = serve_request(alloc, backing, input, request)?;
-    tell(out, request.cookie, &answer)?;
+    tell(input, out, request.cookie, &answer)?;
     keep(backing, answer);
+    Ok(())
+}
+
+/// Writes a reply, and passes it on or leaves it to those behind it.
+///
+/// # Errors
+///
+/// [`End::Output`].
+fn tell<R: Ahead, W: Write>(input: &R, out: &mut W, cookie: u64, answer: &Answer) -> Result<(), End>
+    ensures told { OnOk result (Appends (W.contents out.old) (W.contents out.new) (reply_bytes cookie (outcome_of answer.now))) }
+    ensures ended { IfErr result (λ end. end ≡ End.Output) }
+{
+    let written = write_reply(out, cookie, answer);
+    if written.is_err() || pass_on(input, out).is_err() {
+        return Err(End::Output);
+    }
     Ok(())
 }
 

@@ -96,7 +96,7 @@ pub(crate) fn next_request<R: Read>(input: &mut R) -> Result<Request, End>
 /// # Errors
 ///
 /// [`End::Output`].
-pub(crate) fn tell<W: Write>(out: &mut W, cookie: u64, answer: &Answer) -> Result<(), End>
+fn tell<W: Write>(out: &mut W, cookie: u64, answer: &Answer) -> Result<(), End>
     ensures told { OnOk result (Appends (W.contents out.old) (W.contents out.new) (reply_bytes cookie (outcome_of answer.now))) }
     ensures ended { IfErr result (λ end. end ≡ End.Output) }
 {

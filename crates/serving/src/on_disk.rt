@@ -24,11 +24,11 @@ use compose::{Event, Handle, Refusal, Reply, Settings, Stack};
 use file_disk::{Failure, FileDisk, Sizes as FileSizes, Storage, read_all, write_all};
 use mbr::{parse, render};
 use miniport::BookedAdapter;
-use nbd::{Sizes, serve_over};
+use nbd::{Ahead, Sizes, serve_over};
 use sector::Extent;
 use settings::{Config, Partition};
 use std::alloc::{AllocError, Global};
-use std::io::{Read, Write};
+use std::io::Write;
 
 /// Returns the bytes of the disk of some settings.
 pub fn disk_bytes(config: &Config) -> u64
@@ -313,7 +313,7 @@ fn handle_in(reply: Reply) -> Result<Handle, Error>
 /// # Errors
 ///
 /// How the session ended, where the client did not leave by the protocol.
-pub fn serve_file<S: Storage + Drop, R: Read, W: Write>(
+pub fn serve_file<S: Storage + Drop, R: Ahead, W: Write>(
     alloc: Global,
     filed: &mut Filed<S>,
     input: &mut R,
