@@ -11,7 +11,7 @@ const DISK: &str = "sector_size = 512\nsectors = 4096\nmax_transfer = 64\ndepth 
 const PARTITION: &str = "[[partition]]\nfirst = 2048\ncount = 1024\n";
 
 /// Settings behind those of the disk, threads, rounds, what is printed, what is said of a fault, and the exit status.
-static ROWS: [(&str, u16, u16, &str, &str, u8); 7] = [
+static ROWS: [(&str, u16, u16, &str, &str, u8); 8] = [
     (
         PARTITION,
         2,
@@ -33,6 +33,15 @@ static ROWS: [(&str, u16, u16, &str, &str, u8); 7] = [
         2,
         1,
         "threads 2 rounds 1 answered 2 differing 0\n",
+        "",
+        1,
+    ),
+    // Writes fail, and the second client reads other bytes than it wanted to write.
+    (
+        "write_protected = true\n[[partition]]\nfirst = 2048\ncount = 1024\n",
+        2,
+        1,
+        "threads 2 rounds 1 answered 2 differing 1\n",
         "",
         1,
     ),
