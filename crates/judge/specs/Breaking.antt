@@ -194,11 +194,11 @@ IsMisfit s (misfit.Kind kind) = (o : OpenRequest) → Contains s.requests o → 
 IsMisfit s (misfit.Fua number due) = (o : OpenRequest) × Contains s.requests o × (o.number ≡ number) × (o.request.through ≡ due)
 IsMisfit s _ = Unit {0}
 
--- one of the places
+-- the place is one of these
 abbrev pub IsAmong : Extent → ℕ → Type 0
 IsAmong places place = (places.first ≤ place) × (place < places.first + places.count)
 
--- what holds those places of the request back
+-- what holds these places of the request back
 abbrev pub Hinders : Rules → State → OpenRequest → Extent → Hindrance → Type 0
 Hinders rules s o places hindrance.Cancelled = IsTrue o.cancelled
 Hinders rules s o places hindrance.Removing = IsTrue s.removing

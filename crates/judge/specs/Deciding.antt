@@ -140,7 +140,7 @@ places_at rules q lba count =
     let base = home rules q.partition (first_sector rules q) in
     if nat_le base lba then Some (record { first = lba - base; count = count }) else None
 
--- those places, if the command has the form and the access that the machine gives it
+-- these places, if the command has the form and the access that the machine gives it
 abbrev pub places_if : Bool → Rules → ClientRequest → ℕ → ℕ → Option Extent
 places_if test rules q lba count = if test then places_at rules q lba count else None
 

@@ -35,7 +35,7 @@ admitted rules s number q (Some status) =
 abbrev pub called : Rules → State → ℕ → ClientRequest → Option State
 called rules s number q = if number == s.next_request then admitted rules s number q (refusal rules s q) else None
 
--- the one request with its number, and the others
+-- the state after the answer of the request, taken out of the others
 abbrev pub answered_of : Rules → State → NtStatus → ℕ → List ℕ → Option (OpenRequest × List OpenRequest) → Option State
 answered_of rules s status informed bytes None = None
 answered_of rules s status informed bytes (Some (o, others)) = only (may_answer rules s o status informed bytes) (record s { requests = others })
@@ -50,7 +50,7 @@ repaid s owed number status informed bytes =
 
 -- STARTS
 
--- the request with those places out
+-- the state after a start of these places of the request, taken out of the others
 abbrev pub started_by : State → ℕ → OpenRequest → List OpenRequest → Extent → State
 started_by s tag o others places = record s {
   next_piece = s.next_piece + 1;
@@ -62,7 +62,7 @@ abbrev pub started_of : State → ℕ → OpenRequest → List OpenRequest → O
 started_of s tag o others None = []
 started_of s tag o others (Some places) = started_by s tag o others places ∷ []
 
--- by each request that may make it
+-- the state after a start by the request of this choice, if it may make it
 abbrev pub started_each : Rules → State → ℕ → Option Cdb → OpenRequest × List OpenRequest → List State
 started_each rules s tag command (o, others) = started_of s tag o others (startable rules s command o)
 
@@ -74,7 +74,7 @@ started rules s number tag command =
 
 -- ACTS, FAULTS AND RETURNS
 
--- the arrays after an act on those places
+-- the arrays after an act on these places
 abbrev pub arrays_after : Rules → State → ClientRequest → Extent → Kind → List (List ℕ) → List (List (List ℕ))
 arrays_after rules s q places Read sectors = s.arrays
 arrays_after rules s q places Write sectors = if rules.faithful then written rules s q places sectors else s.arrays
@@ -160,14 +160,14 @@ by_end s = only (s.removing && (not s.removed && (length s.requests == 0))) (rec
 
 -- EACH LABEL
 
--- by a label of the adapter; a start goes by the command whose plain block it has
+-- the states after a label of the adapter; a start goes by the command whose plain block it has
 abbrev pub device_next : Rules → Option Cdb → State → DeviceLabel → List State
 device_next rules command s (Start number tag block) = started rules s number tag command
 device_next rules command s (Act number bytes) = option_to_list (acted rules s number bytes)
 device_next rules command s (Fault number) = option_to_list (faulted s number)
 device_next rules command s (Return number class) = option_to_list (returned s number class)
 
--- where no answer is owed
+-- the states after a label where no answer is owed
 abbrev pub free_next : Rules → Option Cdb → State → Label → List State
 free_next rules command s (Call number q) = option_to_list (called rules s number q)
 free_next rules command s (Device label) = device_next rules command s label
@@ -179,7 +179,7 @@ free_next rules command s Remove = option_to_list (by_removal s)
 free_next rules command s Surprise = option_to_list (by_surprise rules s)
 free_next rules command s Removed = option_to_list (by_end s)
 
--- where one is owed
+-- the states after a label where an answer is owed
 abbrev pub owing_next : State → Owed → Label → List State
 owing_next s owed (Answer number status informed bytes) = option_to_list (repaid s owed number status informed bytes)
 owing_next s owed _ = []

@@ -82,14 +82,14 @@ abbrev pub sent_hindrance : OpenRequest → ℕ → Option ℕ → Option Hindra
 sent_hindrance o first None = None
 sent_hindrance o first (Some place) = Some (sent_as (first + place) (mark_at o (first + place)))
 
--- of where a piece begins, and of restarts, unless any cut will do
+-- what holds a piece back by the place where it begins, or by the restarts that are left, unless any cut will do
 abbrev pub grid_hindrance : Rules → OpenRequest → ℕ → Option Hindrance
 grid_hindrance rules o place =
     if rules.any_cut then None
     else (if not (place % rules.max_transfer == 0) then Some (hindrance.OffGrid place rules.max_transfer)
     else (if is_back (mark_at o place) && not (nat_lt 0 (restarts_left rules o)) then Some (hindrance.Worn place) else None))
 
--- of a request that goes as one piece
+-- what holds back a piece of a request that goes as one piece
 abbrev pub whole_hindrance : Rules → OpenRequest → ℕ → Option Hindrance
 whole_hindrance rules o count =
     if rules.one_piece && not (count == length o.marks) then Some (hindrance.NotWhole (length o.marks) count)
@@ -134,7 +134,7 @@ kind_of (Sync16 lba blocks) = Some Flush
 kind_of ReadCapacity10 = None
 kind_of (ReadCapacity16 allocation) = None
 
--- the form of ten bytes where they have room, else that of sixteen
+-- the command has ten bytes where its numbers have room in them, else sixteen
 abbrev pub is_in_form : Rules → Cdb → Bool
 is_in_form rules (Read10 lba count fua) = fits_ten lba count
 is_in_form rules (Write10 lba count fua) = fits_ten lba count
@@ -145,7 +145,7 @@ is_in_form rules (Sync16 lba blocks) = not (nat_le rules.disk_sectors (2 ^ 32))
 is_in_form rules ReadCapacity10 = true
 is_in_form rules (ReadCapacity16 allocation) = true
 
--- the blocks that it is of
+-- the blocks of a command
 abbrev pub span_of : Cdb → Extent
 span_of (Read10 lba count fua) = record { first = lba; count = count }
 span_of (Read16 lba count fua) = record { first = lba; count = count }
@@ -202,7 +202,7 @@ abbrev pub command_rule : Rules → State → Cdb → Option StartRule
 command_rule rules s command =
     if list_any (may_go rules s command) s.requests then None else asked_rule rules s command (find (is_asked rules command) s.requests)
 
--- by the command that was read, or the rule that the block breaks
+-- the rule that is named by the command that was read, or the rule that the block breaks
 abbrev pub block_rule : Rules → State → Result Cdb StartRule → Option StartRule
 block_rule rules s (Ok command) = command_rule rules s command
 block_rule rules s (Err rule) = Some rule

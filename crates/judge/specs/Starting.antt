@@ -11,7 +11,7 @@ use Rattle.judge.specs.declared.starts.Pending.{Pending}
 abbrev pub choice_at : State → ℕ → List (OpenRequest × List OpenRequest)
 choice_at s at = take 1 (drop at (choices s.requests))
 
--- the states after a start of those places by a choice
+-- the states after a start of these places by a choice
 abbrev pub started_as : State → ℕ → Extent → OpenRequest × List OpenRequest → List State
 started_as s tag places (o, others) = started_of s tag o others (Some places)
 
@@ -20,7 +20,7 @@ abbrev pub IsPending : State → Option Pending → Type 0
 IsPending s None = Unit {0}
 IsPending s (Some start) = start.at < length s.requests
 
--- the states after it
+-- the states after the start that was found, if there is one
 abbrev pub pending_states : State → ℕ → Option Pending → List State
 pending_states s tag None = []
 pending_states s tag (Some start) = flat_map (started_as s tag start.places) (choice_at s start.at)

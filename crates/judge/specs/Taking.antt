@@ -9,7 +9,7 @@ abbrev pub TakesOpen : State → ℕ → Option OpenRequest → State → Type 0
 TakesOpen s number None s' = take_out (has_number number) s.requests ≡ None
 TakesOpen s number (Some o) s' = (take_out (has_number number) s.requests ≡ Some (o, s'.requests)) × (s' ≡ record s { requests = s'.requests })
 
--- the first piece of a number
+-- the first piece of the number is taken out, if there is one
 abbrev pub TakesStarted : State → ℕ → Option Piece → State → Type 0
 TakesStarted s number None s' = take_out (is_piece number) s.pieces ≡ None
 TakesStarted s number (Some piece) s' = (take_out (is_piece number) s.pieces ≡ Some (piece, s'.pieces)) × (s' ≡ record s { pieces = s'.pieces })

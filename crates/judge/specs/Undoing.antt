@@ -61,6 +61,6 @@ abbrev pub undone_at_first : Rules → Option State → Option Undone
 undone_at_first rules None = None
 undone_at_first rules (Some s) = undone rules s
 
--- of the first of the states, if none is settled
+-- what the first of the states leaves undone, if none is settled
 abbrev pub undone_at_all : Rules → List State → Option Undone
 undone_at_all rules states = if list_any (is_settled rules) states then None else undone_at_first rules (slice_get states 0)

@@ -54,7 +54,7 @@ extent_at partitions (Some p) = slice_get partitions p
 abbrev pub opened : ℕ → ClientRequest → Bool → List Mark → OpenRequest
 opened number q late marks = record { number = number; request = q; cancelled = false; late = late; busy_returns = 0; marks = marks }
 
--- one that is late or not
+-- the request, late or not
 abbrev pub with_late : Bool → OpenRequest → OpenRequest
 with_late late o = record o { late = late }
 

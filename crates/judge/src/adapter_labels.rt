@@ -31,7 +31,7 @@ pub(crate) fn partition_of(q: &ClientRequest) -> usize
 }
 
 impl Machine {
-    /// Whether an act of those places of the request may hand these bytes over, as these sectors.
+    /// Whether an act of these places of the request may hand these bytes over, as these sectors.
     fn may_move(
         &self,
         rules: &MachineRules,

@@ -42,7 +42,7 @@ impl Sectors {
         }
     }
 
-    /// These sectors.
+    /// An array of these sectors.
     ///
     /// # Errors
     ///
@@ -118,7 +118,7 @@ impl Copied for Sectors {
     }
 }
 
-/// Whether the same was written.
+/// Whether two partitions have the same written sectors.
 fn have_same_written(a: &BTreeMap<u64, Vec<u8>>, b: &BTreeMap<u64, Vec<u8>>) -> bool
     ensures { OnTrue result (AreHeld a.now b.now) }
 {

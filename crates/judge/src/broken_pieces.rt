@@ -98,7 +98,7 @@ impl Machine {
         self.pieces.iter().find(|piece| piece.has_number(number))
     }
 
-    /// Returns what is wrong with the bytes of an act on those places of the request.
+    /// Returns what is wrong with the bytes of an act on these places of the request.
     fn broken_move(
         &self,
         rules: &MachineRules,

@@ -217,7 +217,7 @@ fn first_asked<'m>(rules: &MachineRules, command: Cdb, requests: &'m [Open]) -> 
         .find(|entry| entry.asked(rules, command).is_some())
 }
 
-/// The first of the requests that is to be started before that of this number.
+/// The first of the requests that is to be started before the request of this number.
 fn first_before(requests: &[Open], number: u64) -> Option<&Open>
     ensures { option_copied result ≡ find (is_before number) requests.now }
 {
@@ -240,7 +240,7 @@ impl Machine {
         }
     }
 
-    /// Returns what holds those places of the request back.
+    /// Returns what holds these places of the request back.
     fn hindrance_of(&self, rules: &MachineRules, entry: &Open, places: Extent) -> Option<Hindrance>
         requires { IsTrue (is_inside entry.now places) }
         ensures { result ≡ hindrance_of (rules_of rules.now) self.now entry.now places }
@@ -257,7 +257,7 @@ impl Machine {
         entry.places_hindrance(rules, places)
     }
 
-    /// Returns what holds a request back that asks for those places, if it does.
+    /// Returns what holds a request back that asks for these places, if anything does.
     fn held(&self, rules: &MachineRules, entry: &Open, places: Option<Extent>) -> Option<StartRule>
         requires { IfSome places (λ inside. IsTrue (is_inside entry.now inside)) }
         ensures { result ≡ held_rule (rules_of rules.now) self.now entry.now places }

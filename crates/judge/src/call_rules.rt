@@ -18,7 +18,7 @@ use machine::{ClientRequest, Kind};
 use ntstatus::NtStatus;
 use std::alloc::{AllocError, Global};
 
-/// Whether as many requests are open as may be.
+/// Whether the count is at its limit, if it has one.
 pub(crate) fn is_full(most: Option<u64>, count: usize) -> bool
     ensures { result ≡ is_full most count }
 {

@@ -119,7 +119,7 @@ impl Open {
         self.whole_hindrance(rules, places.count)
     }
 
-    /// Returns what holds those places back, whatever the machine does.
+    /// Returns what holds these places back, whatever the machine does.
     pub(crate) fn places_hindrance(&self, rules: &MachineRules, places: Extent) -> Option<Hindrance>
         requires { IsTrue (is_inside self.now places) }
         ensures { result ≡ places_hindrance (rules_of rules.now) self.now places }

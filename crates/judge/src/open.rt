@@ -324,7 +324,7 @@ impl Open {
         }
     }
 
-    /// Whether a piece may have those places.
+    /// Whether a piece may have these places.
     pub(crate) fn can_send(&self, rules: &MachineRules, places: Extent) -> bool
         ensures { result ≡ is_sendable (rules_of rules.now) self.now places }
     {
@@ -396,7 +396,7 @@ impl Open {
         self.late = late;
     }
 
-    /// The request with those places out.
+    /// The request with these places out.
     pub(crate) fn sent(mut self, alloc: Global, places: Extent) -> Result<Open, AllocError>
         ensures { IfOk result (λ o. o ≡ sent places self) }
     {

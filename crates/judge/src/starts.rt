@@ -29,7 +29,7 @@ struct Pending {
     places: Extent,
 }
 
-/// Whether none of the requests is to be started before that of this number.
+/// Whether none of the requests is to be started before the request of this number.
 fn let_start(requests: &[Open], number: u64) -> bool
     ensures { result ≡ list_all (is_in_turn number) requests.now }
 {
@@ -76,7 +76,7 @@ impl Machine {
         }
     }
 
-    /// The machine after a start of those places of a request that was taken out.
+    /// The machine after a start of these places of a request that was taken out.
     fn started_with(
         mut self,
         alloc: Global,
@@ -97,7 +97,7 @@ impl Machine {
         Ok(self)
     }
 
-    /// Adds the machine after a start of those places of the request at this place.
+    /// Adds the machine after a start that was found.
     fn add_start(
         mut self,
         alloc: Global,

@@ -1,7 +1,8 @@
 //! Labels judged one by one.
 //!
-//! A [`Judge`] follows each reading of the labels, as [`crate::judge`] does. Readings that came to the same machine go
-//! on as one. It keeps what is open, what is at the adapter and the sectors: a longer trace needs no more.
+//! A [`Judge`] follows each reading of the labels, as [`crate::judge`] does. Readings that came to the same machine are
+//! joined where this is seen. It keeps what is open, what is at the adapter and the sectors: a longer trace needs no
+//! more.
 
 ghost use Rattle.std.specs.Prelude.{◌≡◌, ◌<◌, IfOk, OnOk, IfErr, MatchOption, Result, [], length, ◌↔◌, None, Any, IfSome};
 ghost use Rattle.judge.specs.Following.{HasTaken, Takes, GoesTo, GoesOnceTo, AllReached, SomeGoes, StopsAll};
@@ -90,7 +91,7 @@ fn broken_at_all(
     }
 }
 
-/// The machines that the label leads to from these; readings that came to the same machine go on as one.
+/// The machines that the label leads to from these. Readings that came to the same machine are joined where this is seen.
 fn next_once(
     alloc: Global,
     rules: &MachineRules,
@@ -147,7 +148,8 @@ impl Judge {
         &self.rules
     }
 
-    /// The machines that the labels lead to: one, unless several requests might have made a start.
+    /// The machines that the labels lead to: one, unless several requests might have made a start. Readings that led to
+    /// the same machine are joined where this is seen.
     pub fn machines(&self) -> &[Machine]
         ensures { result.now ≡ self.now.states }
     {

@@ -182,7 +182,7 @@ impl Machine {
         self.unpaused_undone()
     }
 
-    /// Whether as many requests are started as may be.
+    /// Whether no further request may be started.
     fn has_full_window(&self, rules: &MachineRules) -> bool
         ensures { result ≡ is_full (rules_of rules.now).window (started_count self.now) }
     {

@@ -304,7 +304,7 @@ short_by verb words = if bytes_eq verb (codes "start") then start_at words
     else (if bytes_eq verb (codes "surprise") then at_end words (Some Surprise)
     else (if bytes_eq verb (codes "removed") then at_end words (Some Removed) else None))))))))
 
--- any label by it
+-- any label, by the word that it begins with
 abbrev pub label_by : List ℕ → Words → Option Label
 label_by verb words = if bytes_eq verb (codes "call") then call_at words
     else (if bytes_eq verb (codes "act") then act_at words
