@@ -1,4 +1,5 @@
-//! Whether two machines are the same. Readings of a start that are seen to have led to the same machine are followed as one.
+//! Whether two machines are the same. Readings of a start that are seen to have led to the same machine are followed as
+//! one.
 
 ghost use Rattle.std.specs.Prelude.{◌≡◌, Contains, IfOk, OnOk, option_map};
 ghost use Rattle.std.specs.Bool.{OnTrue};

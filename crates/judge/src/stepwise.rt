@@ -91,7 +91,8 @@ fn broken_at_all(
     }
 }
 
-/// The machines that the label leads to from these. Readings that came to the same machine are joined where this is seen.
+/// The machines that the label leads to from these. Readings that came to the same machine are joined where this is
+/// seen.
 fn next_once(
     alloc: Global,
     rules: &MachineRules,
