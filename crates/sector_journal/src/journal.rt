@@ -232,6 +232,13 @@ impl<M: Medium, N: Naming> Journal<M, N> {
         self.entries.as_slice()
     }
 
+    /// How many reservations there are: one for each that was made and not released.
+    pub fn reservations(&self) -> usize
+        ensures { result ≡ length self.now.reservations }
+    {
+        self.reservations.len()
+    }
+
     /// Shows the caller that the entries, replayed from the sectors that the journal was opened with, give its sectors.
     pub fn shows_rule(&self)
         ensures { Replays self.now.medium.sector_size N.opening (entries_of self.now) self.now.medium.sectors }
