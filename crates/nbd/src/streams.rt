@@ -12,6 +12,9 @@ use std::io::Read;
 /// How many bytes are skipped at once.
 const SKIPPED: u32 = 512;
 
+/// How many bytes of a long write are read last, with those behind it that the reader has room for.
+const LAST: usize = 4_096;
+
 /// Fills the buffer.
 ///
 /// # Errors
@@ -25,6 +28,22 @@ pub(crate) fn take<R: Read>(input: &mut R, buffer: &mut [u8]) -> Result<(), End>
         Ok(()) => Ok(()),
         Err(_) => Err(End::Input),
     }
+}
+
+/// Fills the buffer, its last bytes by a read of their own. A reader with a buffer of its own then takes what comes behind
+/// them too, so that the client can send on before these bytes are used.
+///
+/// # Errors
+///
+/// [`End::Input`].
+fn take_in_two<R: Read>(input: &mut R, buffer: &mut [u8]) -> Result<(), End>
+    ensures taken { OnOk result (Consumes (R.remaining input.old) (R.remaining input.new) buffer.new) }
+    ensures ended { IfErr result (λ end. end ≡ End.Input) }
+{
+    let apart = buffer.len().saturating_sub(LAST);
+    let (first, last) = buffer.split_at_mut(apart);
+    take(input, first)?;
+    take(input, last)
 }
 
 /// Passes over this many bytes.
@@ -117,6 +136,6 @@ pub(crate) fn take_all_in<R: Read>(
         skip(input, count)?;
         return Ok(None);
     };
-    take(input, room.as_mut_slice())?;
+    take_in_two(input, room.as_mut_slice())?;
     Ok(Some(room))
 }

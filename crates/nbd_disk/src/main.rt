@@ -38,8 +38,9 @@ use std::{env, io};
 /// long write go past the reader's.
 const BUFFER: usize = 65_536;
 
-/// How many bytes of input are read at once, of several short writes.
-const INPUT_BUFFER: usize = 32_768;
+/// How many bytes of input are read at once: several short writes, or the first bytes of a long one behind the last of
+/// another. They are less than half of 128 KiB, so that the others go past the buffer.
+const INPUT_BUFFER: usize = 61_440;
 
 /// The bytes of a block that is taken at the start and given back at once, nearly the most that counts there. The C
 /// library keeps freed memory of twice as many bytes from then on, and the buffers of a long request are not taken from
