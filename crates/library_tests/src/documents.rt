@@ -6,7 +6,7 @@ use mbr::MbrFault;
 use probe::{ProbeFault, probe};
 use sector::Extent;
 use settings::document::config;
-use settings::{ConfigFault, Partition, new_adapter};
+use settings::{ConfigFault, Partition, new_adapter, table_sector};
 use std::alloc::Global;
 use std::process::Abort;
 use std::test::Fail;
@@ -354,6 +354,27 @@ fn gives_adapters(rt: HostRuntime) -> Result<(), Fail> {
         same(&rt, &adapter.sectors(), &sectors);
         same(&rt, &adapter.max_transfer(), &64);
         same(&rt, &adapter.depth(), &3);
+    }
+    Ok(())
+}
+
+/// Sector 0 as the layout of a partition table has it: type, first sector and count of the entry at 446, the signature
+/// at 510, and zeros behind it.
+#[test]
+fn gives_sector_0(rt: HostRuntime) -> Result<(), Fail> {
+    let alloc = rt.alloc();
+    for size in [512usize, 4096] {
+        let text = format!(in alloc;
+            "sector_size = {size}\n{DISK}[[partition]]\nfirst = 2048\ncount = 1025\ntype = 131\n"
+        )?;
+        let sector = table_sector(alloc, &config(alloc, text.as_str())?)?;
+        let bytes = sector.as_slice();
+        same(&rt, &bytes.len(), &size);
+        same(&rt, &bytes[450], &131);
+        same(&rt, &&bytes[454..462], &&[0, 8, 0, 0, 1, 4, 0, 0][..]);
+        same(&rt, &&bytes[510..512], &&[0x55, 0xAA][..]);
+        assert!(rt; bytes[462..510].iter().all(|byte| *byte == 0));
+        assert!(rt; bytes[512..].iter().all(|byte| *byte == 0));
     }
     Ok(())
 }

@@ -1,5 +1,5 @@
 -- A partition table in sector 0.
-use Rattle.std.proofs.Common.{◌≡◌, ◌<◌, ℕ, ◌+◌, ◌-◌, List, [], ◌∷◌, ◌++◌, None, Result, Ok, Err, get_or, length, map, replicate, take, refl, sym, ap, subst, ◌∙◌}
+use Rattle.std.proofs.Common.{◌≡◌, ◌<◌, ℕ, ◌+◌, List, [], ◌∷◌, ◌++◌, None, Result, Ok, Err, get_or, length, map, take, refl, sym, ap, subst, ◌∙◌}
 use Rattle.std.specs.Prelude.{OnOk}
 use Rattle.std.specs.Result.{result_err}
 use Rattle.std.proofs.lemmas.List.{map-append, take_more}
@@ -9,18 +9,9 @@ use Rattle.settings.specs.declared.Partition.{Partition}
 use Rattle.settings.specs.Medium.{extent_of}
 use Rattle.mbr.specs.declared.MbrFault.{MbrFault}
 use Rattle.mbr.specs.Faults.{told_by}
-use Rattle.mbr.specs.Table.{Entry, table_bytes}
 use Rattle.file_disk.specs.declared.storage.Failure.{Failure}
 use Rattle.file_disk.specs.Calls.{Call, Since, Sync, WritesAll}
 use Rattle.file_disk.specs.Transfers.{SyncsAfter}
-
--- a table with zeros behind it
-pub padded_table : (size : ℕ) (entries named : List Entry) (table shown sector : List ℕ) → entries ≡ named → table ≡ table_bytes entries
-    → length table ≡ 512 → shown ≡ table → sector ≡ shown ++ replicate (size - length shown) 0 → sector ≡ table_bytes named ++ replicate (size - 512) 0
-padded_table size entries named table shown sector are bytes long is padded =
-    let many : length shown ≡ 512 = ap length is ∙ long in
-    let same : shown ≡ table_bytes named = is ∙ (bytes ∙ ap table_bytes are) in
-    padded ∙ (ap (λ (n : ℕ). shown ++ replicate (size - n) 0) many ∙ ap (λ (l : List ℕ). l ++ replicate (size - 512) 0) same)
 
 -- bytes that were all told, and then synced
 pub put_synced : (old mid new : List Call) (offset : ℕ) (bytes : List ℕ) → Since old mid (WritesAll offset bytes) → new ≡ Sync None ∷ mid → Since old new (SyncsAfter offset bytes None)

@@ -1,13 +1,12 @@
 //! A session over a disk in a storage.
 
-ghost use Rattle.std.specs.Prelude.{◌≡◌, ◌≤◌, ◌<◌, ◌*◌, ◌-◌, ◌^◌, ◌++◌, List, [], All, IfOk, IsTrue, Ok, OnOk, length, map, replicate, None};
+ghost use Rattle.std.specs.Prelude.{◌≡◌, ◌≤◌, ◌<◌, ◌*◌, ◌^◌, List, [], IfOk, IsTrue, Ok, OnOk, length, map, None};
 ghost use Rattle.std.specs.Result.{result_err};
 ghost use Rattle.machine.specs.declared.Label.{Label};
 ghost use Rattle.io_manager.specs.declared.Reply.TheVariants.{Handle as HandleReply};
 ghost use Rattle.mbr.specs.Faults.{told_by};
-ghost use Rattle.mbr.specs.Table.{FitsEntry};
 ghost use Rattle.settings.specs.InRange.{AreInRange};
-ghost use Rattle.settings.specs.Medium.{entry_of, extent_of, extents_of, table_sector};
+ghost use Rattle.settings.specs.Medium.{extent_of, extents_of, table_sector};
 ghost use Rattle.volume.specs.Opening.{IsOn};
 ghost use Rattle.volume.specs.Shown.{extent_at};
 ghost use Rattle.file_disk.specs.Calls.{ReadsAll, Since};
@@ -19,15 +18,14 @@ use crate::faults::{DiskFault, Error};
 use crate::filed::Filed;
 use crate::moving::laws_of_entries;
 use crate::serving::outcome;
-use arrayvec::ArrayVec;
 use compose::{Event, Handle, Refusal, Reply, Settings, Stack};
 use file_disk::{Failure, FileDisk, Sizes as FileSizes, Storage, read_all, write_all};
-use mbr::{parse, render};
+use mbr::parse;
 use miniport::BookedAdapter;
 use nbd::{Ahead, Sizes, serve_over};
 use sector::Extent;
-use settings::{Config, Partition};
-use std::alloc::{AllocError, Global};
+use settings::{Config, Partition, table_sector};
+use std::alloc::Global;
 use std::io::Write;
 
 /// Returns the bytes of the disk of some settings.
@@ -47,7 +45,7 @@ pub fn put_table<S: Storage>(alloc: Global, storage: &mut S, config: &Config) ->
     requires { AreInRange config.now }
     ensures { IfOk result (λ _. Since (S.calls storage.old) (S.calls storage.new) (SyncsAfter 0 (table_sector config.now) None)) }
 {
-    let sector = first_sector(alloc, config)?;
+    let sector = table_sector(alloc, config)?;
     match put(storage, sector.as_slice()) {
         Ok(()) => Ok(()),
         Err(_) => Err(Error::Disk(DiskFault::NotCreated)),
@@ -65,67 +63,6 @@ fn put<S: Storage>(storage: &mut S, bytes: &[u8]) -> Result<(), Failure>
 {
     write_all(storage, 0, bytes)?;
     storage.sync()
-}
-
-/// Returns sector 0 of a disk of these settings: their partition table, and zeros.
-///
-/// # Errors
-///
-/// [`AllocError`] where memory was refused.
-fn first_sector(alloc: Global, config: &Config) -> Result<Vec<u8>, AllocError>
-    requires { AreInRange config.now }
-    ensures { IfOk result (λ sector. sector.items ≡ table_sector config.now) }
-{
-    let entries = entries(config.partitions.as_slice());
-    let table = render(entries.as_slice());
-    let sector = padded(alloc, table.as_slice(), config.sector_size as usize)?;
-    Ok(sector)
-}
-
-/// Returns these bytes with zeros behind them, `total` in all.
-///
-/// # Errors
-///
-/// [`AllocError`] where memory was refused.
-fn padded(alloc: Global, bytes: &[u8], total: usize) -> Result<Vec<u8>, AllocError>
-    requires { length bytes.now ≤ total }
-    ensures { IfOk result (λ padded. padded.items ≡ bytes.now ++ replicate (total - length bytes.now) 0) }
-{
-    let mut padded = Vec::with_capacity(alloc, total)?;
-    padded.extend_from_slice(bytes)?;
-    padded.resize(total, 0)?;
-    Ok(padded)
-}
-
-/// Returns the entries of partitions, in order.
-fn entries(partitions: &[Partition]) -> ArrayVec<(u8, Extent), 4>
-    requires { length partitions.now ≤ 4 }
-    ensures all { result.items ≡ map entry_of partitions.now }
-    ensures fit { All FitsEntry result.items }
-{
-    let mut entries = ArrayVec::new();
-    for partition in partitions {
-        entries.push(entry(*partition));
-    }
-    entries
-}
-
-/// Returns the entry of a partition.
-fn entry(partition: Partition) -> (u8, Extent)
-    ensures entry { result ≡ entry_of partition }
-    ensures fits { FitsEntry result }
-{
-    (partition.kind, extent_of(partition))
-}
-
-/// Returns the sectors of a partition.
-fn extent_of(partition: Partition) -> Extent
-    ensures { result ≡ extent_of partition }
-{
-    Extent {
-        first: partition.first as u64,
-        count: partition.count as u64,
-    }
 }
 
 /// Returns sector 0 of a storage, whose partitions are those of the settings.
@@ -175,8 +112,7 @@ fn are_those(extents: &[Extent], partitions: &[Partition]) -> bool
 fn is_that(extent: Extent, partition: Partition) -> bool
     ensures { IsTrue result → extent ≡ extent_of partition }
 {
-    let wanted = extent_of(partition);
-    extent.first == wanted.first && extent.count == wanted.count
+    extent.first == partition.first as u64 && extent.count == partition.count as u64
 }
 
 /// Opens a partition, counted from 0, of the disk of the settings in a storage that has as many bytes.

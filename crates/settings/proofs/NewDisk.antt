@@ -29,17 +29,10 @@ padded_says size entries named table shown sector are is followed padded sectors
     let more : List ℕ = replicate (size - length shown) 0 in
     ap (told_by sectors) (padded ∙ ap (λ (l : List ℕ). l ++ more) is) ∙ (followed sectors more ∙ ap (said_of sectors) are)
 
--- the same for the partitions of settings
-pub is_table_sector : (c : Config) (partitions : List Partition) (first : List ℕ) → partitions ≡ c.partitions.items
-    → first ≡ table_bytes (map entry_of partitions) ++ replicate (c.sector_size - 512) 0 → first ≡ table_sector c
-is_table_sector c partitions first are bytes =
-    bytes ∙ ap (λ (ps : List Partition). table_bytes (map entry_of ps) ++ replicate (c.sector_size - 512) 0) are
-
-pub told_of : (c : Config) (partitions : List Partition) (first : List ℕ) → partitions ≡ c.partitions.items
-    → ((sectors : ℕ) → told_by sectors first ≡ said_of sectors (map entry_of partitions))
-    → (sectors : ℕ) → told_by sectors first ≡ said_of sectors (entries_of c)
-told_of c partitions first are told sectors =
-    told sectors ∙ ap (λ (ps : List Partition). said_of sectors (map entry_of ps)) are
+-- the entries that a table has are those of the settings
+pub entries_are : (c : Config) (entries : List Entry) (partitions : List Partition) → entries ≡ map entry_of partitions → partitions ≡ c.partitions.items
+    → entries ≡ entries_of c
+entries_are c entries partitions are same = are ∙ ap (λ (ps : List Partition). map entry_of ps) same
 
 new_sectors : (c : Config) (medium : MediumView) (first : List ℕ) → AreInRange c → StartsWith medium c.sector_size c.sectors first
     → HasWholeSectors medium → first ≡ table_sector c → length first ≡ c.sector_size → medium.sectors ≡ disk_of c

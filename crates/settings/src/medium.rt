@@ -3,10 +3,10 @@
 ghost use Rattle.std.specs.Prelude.{◌≡◌, ◌≤◌, ◌-◌, ◌++◌, ℕ, [], All, IfOk, get_or, length, map, replicate};
 ghost use Rattle.disk.specs.Medium.{HasWholeSectors};
 ghost use Rattle.disk.specs.SparseDisk.{shown};
-ghost use Rattle.mbr.specs.Table.{FitsEntry, partitions_of, table_bytes};
+ghost use Rattle.mbr.specs.Table.{FitsEntry, partitions_of};
 ghost use Rattle.mbr.specs.Faults.{said_of, told_by};
 ghost use Rattle.settings.specs.InRange.{AreInRange};
-ghost use Rattle.settings.specs.Medium.{HasBlankPartitions, IsNewAdapter, IsNewDisk, entries_of, entry_of, extents_of};
+ghost use Rattle.settings.specs.Medium.{HasBlankPartitions, IsNewAdapter, IsNewDisk, entries_of, entry_of, extents_of, table_sector};
 
 use crate::{Config, Partition};
 use arrayvec::ArrayVec;
@@ -49,7 +49,7 @@ pub fn new_disk(alloc: Global, config: Config) -> Result<SparseDisk, NoMemory>
     ensures extents { partitions_of (entries_of config) ≡ extents_of config }
     ensures blank { IfOk result (λ disk. HasBlankPartitions config (shown disk).sectors) }
 {
-    let first = table_sector(alloc, config.sector_size, config.partitions.as_slice())?;
+    let first = table_sector(alloc, &config)?;
     let disk = SparseDisk::starting_with(
         alloc,
         config.sector_size,
@@ -66,21 +66,21 @@ fn has_whole_sectors<M: Medium>(_medium: &M)
     ensures { HasWholeSectors (M.view _medium.now) }
 {}
 
-/// Sector 0: the partition table, and zeros behind it.
-fn table_sector(
-    alloc: Global,
-    sector_size: u32,
-    partitions: &[Partition],
-) -> Result<Vec<u8>, AllocError>
-    requires large { 512 ≤ sector_size }
-    requires few { length partitions.now ≤ 4 }
-    ensures bytes { IfOk result (λ sector. sector.items ≡ table_bytes (map entry_of partitions.now) ++ replicate (sector_size - 512) 0) }
-    ensures whole { IfOk result (λ sector. length sector.items ≡ sector_size) }
-    ensures says { IfOk result (λ sector. (sectors : ℕ) → told_by sectors sector.items ≡ said_of sectors (map entry_of partitions.now)) }
+/// Sector 0 of the disk of the settings: their partition table, and zeros behind it. No fault of a partition is looked for:
+/// the table says what is wrong with it.
+///
+/// # Errors
+///
+/// [`AllocError`] where memory was refused.
+pub fn table_sector(alloc: Global, config: &Config) -> Result<Vec<u8>, AllocError>
+    requires { AreInRange config.now }
+    ensures bytes { IfOk result (λ sector. sector.items ≡ table_sector config.now) }
+    ensures whole { IfOk result (λ sector. length sector.items ≡ config.now.sector_size) }
+    ensures says { IfOk result (λ sector. (sectors : ℕ) → told_by sectors sector.items ≡ said_of sectors (entries_of config.now)) }
 {
-    let entries = entries(partitions);
+    let entries = entries(config.partitions.as_slice());
     let table = mbr::render(entries.as_slice());
-    let sector = padded(alloc, table.as_slice(), sector_size as usize)?;
+    let sector = padded(alloc, table.as_slice(), config.sector_size as usize)?;
     Ok(sector)
 }
 

@@ -1,4 +1,4 @@
-use Rattle.std.proofs.Common.{◌≡◌, refl, ap, get_or, length, List, [], ℕ, ◌∙◌, arith}
+use Rattle.std.proofs.Common.{refl, ap, get_or, length, List, [], ℕ, ◌∙◌, arith}
 use Rattle.miniport.proofs.OneSector.{counted}
 use Rattle.serving.proofs.on_disk.started.Goals as goal
 
