@@ -5,8 +5,8 @@
 //! were accepted are those of the document, each in its range, or its default, and that a document is refused for its
 //! first fault, or for want of memory; by [`new_adapter`] (`new`, `says`), that the adapter is the one of the settings, over
 //! a disk of zeros with their partition table, and that this table says what their partitions say, faults too. Settings
-//! need no document: [`new_adapter`] takes all that are in range, and so do [`new_disk`], which gives that disk alone (`new`),
-//! and [`table_sector`], which gives its sector 0 (`bytes`).
+//! need no document: [`new_adapter`] takes all that are in range, and so do [`new_disk`], which gives that disk alone
+//! (`new`), and [`table_sector`], which gives its sector 0 (`bytes`).
 //! It does not promise that memory for a disk is there.
 #![tactic(auto)]
 

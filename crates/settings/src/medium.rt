@@ -66,8 +66,8 @@ fn has_whole_sectors<M: Medium>(_medium: &M)
     ensures { HasWholeSectors (M.view _medium.now) }
 {}
 
-/// Sector 0 of the disk of the settings: their partition table, and zeros behind it. No fault of a partition is looked for:
-/// the table says what is wrong with it.
+/// Sector 0 of the disk of the settings: their partition table, and zeros behind it. No fault of a partition is looked
+/// for: the table says what is wrong with it.
 ///
 /// # Errors
 ///
