@@ -8,7 +8,7 @@ use Rattle.srb.specs.declared.Entry.{Entry}
 use Rattle.srb.specs.declared.Completion.{Completion}
 use Rattle.srb.specs.declared.DeviceLabel.{DeviceLabel}
 use Rattle.srb.specs.declared.DeviceLabel.TheVariants.{Start, Act, Fault, Return}
-use Rattle.adapter.specs.View.{TagInUse, AdapterView, ReservesMore, MovesBy, MovesOn, MovesByAll, NotesReset, acted, faulted, met_by_reset, in_use_from}
+use Rattle.adapter.specs.View.{TagInUse, AdapterView, MovesBy, MovesOn, MovesByAll, NotesReset, acted, faulted, met_by_reset, in_use_from}
 use Rattle.adapter.specs.Booking.{Books, with_booked, booked_on, with_booking}
 
 module _ (P : ℕ → ℕ → List ℕ → Type 0) where
@@ -25,9 +25,6 @@ module _ (P : ℕ → ℕ → List ℕ → Type 0) where
   StartsSo (Act piece bytes) = Unit {0}
   StartsSo (Fault piece) = Unit {0}
   StartsSo (Return piece class) = Unit {0}
-
-  reserved_so : (old new : AdapterView) → ReservesMore old new → AllTagged old → AllTagged new
-  reserved_so old new h all = subst AllTagged (sym h.after) all
 
   one_so : (old new : AdapterView) (u u' : TagInUse) (others tags : List TagInUse) → IsPermutation old.tags (u ∷ others) → IsPermutation tags (u' ∷ others) → (IsTagged u → IsTagged u') → AllTagged old → All IsTagged tags
   one_so old new u u' others tags before after mine all =
@@ -46,10 +43,10 @@ module _ (P : ℕ → ℕ → List ℕ → Type 0) where
       subst AllTagged (sym h.after) (All-permutation IsTagged _ _ (IsPermutation-sym _ _ h.in_use) (All-tail IsTagged h.use' h.others (All-permutation IsTagged _ _ h.is_on.in_use all)))
 
   pub all_moved_so : (old : AdapterView) (labels : List DeviceLabel) (new : AdapterView) → All StartsSo labels → MovesByAll old labels new → AllTagged old → AllTagged new
-  all_moved_so old [] new so h all = reserved_so old new h all
-  all_moved_so old (label ∷ labels) new so (before, after, reserves, (tag, moves), rest) all =
+  all_moved_so old [] new so h all = subst AllTagged (sym h) all
+  all_moved_so old (label ∷ labels) new so (after, (tag, moves), rest) all =
       all_moved_so after labels new (All-tail StartsSo label labels so) rest
-      (moved_so before after tag label (All-head StartsSo label labels so) moves (reserved_so old before reserves all))
+      (moved_so old after tag label (All-head StartsSo label labels so) moves all)
 
   pub reset_so : (old new : AdapterView) → NotesReset old new → AllTagged old → AllTagged new
   reset_so old new h all = subst AllTagged (sym h.after) (All-permutation IsTagged _ _ (IsPermutation-sym _ _ h.in_use) (All-map IsTagged met_by_reset old.tags all))

@@ -253,8 +253,7 @@ pub record NotesReset (old new : AdapterView) : Type 0 where
   pub counted : old.failures ≤ failures
   pub after : new ≡ record old { tags = tags; failures = failures }
 
--- the view moves by just these labels, in this order; before, between and behind them more may be reserved
+-- the view moves by just these labels, in this order
 abbrev pub MovesByAll : AdapterView → List DeviceLabel → AdapterView → Type 0
-MovesByAll old [] new = ReservesMore old new
-MovesByAll old (label ∷ labels) new =
-    (before after : AdapterView) × ReservesMore old before × MovesBy before label after × MovesByAll after labels new
+MovesByAll old [] new = new ≡ old
+MovesByAll old (label ∷ labels) new = (after : AdapterView) × MovesBy old label after × MovesByAll after labels new

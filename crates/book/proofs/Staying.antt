@@ -17,6 +17,7 @@ use Rattle.machine.specs.Step.{as_label}
 use Rattle.io_manager.specs.declared.Reply.{Reply}
 use Rattle.io_manager.specs.Shown.{ManagerView}
 use Rattle.io_manager.specs.Right.{Told, IsRightBy, MovesWith, labels_of, end_labels, as_answer}
+use Rattle.io_manager.proofs.AdapterJoins.{reserves_more}
 use Rattle.compose.specs.declared.Event.{Event}
 use Rattle.compose.specs.Right.{IsRight}
 use Rattle.compose.proofs.JournaledStep.{there_mapped}
@@ -59,14 +60,11 @@ stays_on old new tag (Fault piece) u leaves h there =
 stays_on old new tag (Return piece class) u leaves h there =
     subst (λ (v : AdapterView). Contains v.tags u) (sym h.after) (after_return old.tags h.tags h.others u h.use' h.is_on.in_use (λ e. leaves (sym h.is_piece ∙ e)) h.in_use there)
 
-reserved_stays : (old new : AdapterView) (u : TagInUse) → ReservesMore old new → Contains old.tags u → Contains new.tags u
-reserved_stays old new u h there = subst (λ (v : AdapterView). Contains v.tags u) (sym h.after) there
-
 all_stays : (old : AdapterView) (labels : List DeviceLabel) (new : AdapterView) (u : TagInUse) → All (LeavesPiece u.piece) labels → MovesByAll old labels new → Contains old.tags u → Contains new.tags u
-all_stays old [] new u leave h there = reserved_stays old new u h there
-all_stays old (label ∷ labels) new u leave (before, after, reserves, (tag, moves), rest) there =
+all_stays old [] new u leave h there = subst (λ (v : AdapterView). Contains v.tags u) (sym h) there
+all_stays old (label ∷ labels) new u leave (after, (tag, moves), rest) there =
     all_stays after labels new u (All-tail (LeavesPiece u.piece) label labels leave) rest
-    (stays_on before after tag label u (All-head (LeavesPiece u.piece) label labels leave) moves (reserved_stays old before u reserves there))
+    (stays_on old after tag label u (All-head (LeavesPiece u.piece) label labels leave) moves there)
 
 -- THE VIEW
 
@@ -101,17 +99,28 @@ moved_with false old labels new tag piece srb moves leave h = record {
   is_fresh = h.is_fresh;
   is_srb = h.is_srb;
 }
-moved_with true old labels new tag piece srb (faulted_all, noted, moves, notes, reserves) leave h =
+moved_with true old labels new tag piece srb (faulted_all, moves, notes) leave h =
     let there : Contains faulted_all.tags h.use' = all_stays old labels faulted_all h.use' (subst (λ k. All (LeavesPiece k) labels) (sym h.is_piece) leave) moves h.there in
     let met : Contains notes.tags (met_by_reset h.use') = Contains-permutation _ _ (met_by_reset h.use') (IsPermutation-sym _ _ notes.in_use) (there_mapped met_by_reset faulted_all.tags h.use' there) in
     record {
       use' = met_by_reset h.use';
-      there = reserved_stays noted new (met_by_reset h.use') reserves (subst (λ (v : AdapterView). Contains v.tags (met_by_reset h.use')) (sym notes.after) met);
+      there = subst (λ (v : AdapterView). Contains v.tags (met_by_reset h.use')) (sym notes.after) met;
       has_tag = h.has_tag;
       is_piece = h.is_piece;
       is_fresh = h.is_fresh;
       is_srb = h.is_srb;
     }
+
+-- what is reserved leaves all tags as they are
+reserved_stays : (old new : AdapterView) (tag piece : ℕ) (srb : Srb) → ReservesMore old new → IsIn old tag piece srb → IsIn new tag piece srb
+reserved_stays old new tag piece srb h before = subst (λ v. IsIn v tag piece srb) (sym h.after) (record {
+  use' = before.use';
+  there = before.there;
+  has_tag = before.has_tag;
+  is_piece = before.is_piece;
+  is_fresh = before.is_fresh;
+  is_srb = before.is_srb;
+})
 
 -- THE STEP
 
@@ -128,8 +137,10 @@ device_leaves piece told leave =
 
 step_stays : (reset : Bool) (told : Told) (old new : ManagerView) (tag piece : ℕ) (srb : Srb) → IsRightBy reset told old new → All (Leaves piece) new.labels → IsArmed old.adapter tag piece srb → IsArmed new.adapter tag piece srb
 step_stays reset told old new tag piece srb by leave armed =
+    let first : IsIn by.adapter.first tag piece srb =
+    reserved_stays old.adapter by.adapter.first tag piece srb (reserves_more told.reserves old.adapter by.adapter.first by.adapter.before) (is_in old.adapter tag piece srb armed) in
     let moved : IsIn by.adapter.moved tag piece srb =
-    moved_with reset old.adapter told.device by.adapter.moved tag piece srb by.adapter.moves (device_leaves piece told (subst (λ (ls : List Label). All (Leaves piece) ls) by.in_order leave)) (is_in old.adapter tag piece srb armed) in
+    moved_with reset by.adapter.first told.device by.adapter.moved tag piece srb by.adapter.moves (device_leaves piece told (subst (λ (ls : List Label). All (Leaves piece) ls) by.in_order leave)) first in
     subst (λ (v : AdapterView). IsArmed v tag piece srb) (sym by.adapter.taken) (is_armed (record by.adapter.moved { labels = [] }) tag piece srb (record {
       use' = moved.use';
       there = moved.there;

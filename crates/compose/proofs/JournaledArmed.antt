@@ -4,6 +4,7 @@ use Rattle.std.specs.Prelude.{Contains}
 use Rattle.std.proofs.lemmas.List.Elements.{All-head}
 use Rattle.std.proofs.lemmas.List.Sorted.{All-permutation}
 use Rattle.ntstatus.specs.declared.NtStatus.{NtStatus}
+use Rattle.sector.specs.declared.Extent.{Extent}
 use Rattle.srb.specs.declared.DeviceLabel.{DeviceLabel}
 use Rattle.srb.specs.declared.DeviceLabel.TheVariants.{Start, Act, Fault, Return}
 use Rattle.adapter.specs.View.{AdapterView, ReservesMore, MovesOn, MovesByAll}
@@ -15,7 +16,8 @@ use Rattle.machine.specs.Rules.{Rules}
 use Rattle.machine.specs.State.{State, opening}
 use Rattle.machine.specs.Calling.{Admits, refusal}
 use Rattle.machine.specs.Step.{DeviceStep, FreeStep, OwingStep, Step, Run}
-use Rattle.io_manager.specs.Right.{MovesWith}
+use Rattle.io_manager.specs.Right.{AdapterMoves, MovesWith}
+use Rattle.io_manager.proofs.AdapterJoins.{reserves_more}
 use Rattle.compose.specs.Journaled.{IsStartedUse, ArmedMayBeBooked}
 
 -- A PIECE THAT WAS STARTED ISN'T PIECE 0
@@ -94,11 +96,14 @@ reserves_apart : (old new : AdapterView) → ReservesMore old new → IsFalse ol
 reserves_apart old new h apart = subst (λ (v : AdapterView). IsFalse v.faithful) (sym h.after) apart
 
 all_apart : (old : AdapterView) (labels : List DeviceLabel) (new : AdapterView) → MovesByAll old labels new → IsFalse old.faithful → IsFalse new.faithful
-all_apart old [] new h apart = reserves_apart old new h apart
-all_apart old (label ∷ labels) new (before, after, reserves, (tag, moves), rest) apart =
-    all_apart after labels new rest (moves_apart before after tag label moves (reserves_apart old before reserves apart))
+all_apart old [] new h apart = subst (λ (v : AdapterView). IsFalse v.faithful) (sym h) apart
+all_apart old (label ∷ labels) new (after, (tag, moves), rest) apart = all_apart after labels new rest (moves_apart old after tag label moves apart)
 
-pub with_apart : (reset : Bool) (old : AdapterView) (labels : List DeviceLabel) (new : AdapterView) → MovesWith reset old labels new → IsFalse old.faithful → IsFalse new.faithful
-with_apart false old labels new h apart = all_apart old labels new h apart
-with_apart true old labels new (faulted, noted, moves, notes, reserves) apart =
-    reserves_apart noted new reserves (subst (λ (v : AdapterView). IsFalse v.faithful) (sym notes.after) (all_apart old labels faulted moves apart))
+with_apart : (reset : Bool) (first : AdapterView) (labels : List DeviceLabel) (new : AdapterView) → MovesWith reset first labels new → IsFalse first.faithful → IsFalse new.faithful
+with_apart false first labels new h apart = all_apart first labels new h apart
+with_apart true first labels new (faulted, moves, notes) apart = subst (λ (v : AdapterView). IsFalse v.faithful) (sym notes.after) (all_apart first labels faulted moves apart)
+
+pub step_apart : (reset : Bool) (reserves : Option Extent) (old : AdapterView) (labels : List DeviceLabel) (new : AdapterView) → AdapterMoves reset reserves old labels new → IsFalse old.faithful → IsFalse new.faithful
+step_apart reset reserves old labels new h apart =
+    let first : IsFalse h.first.faithful = reserves_apart old h.first (reserves_more reserves old h.first h.before) apart in
+    subst (λ (v : AdapterView). IsFalse v.faithful) (sym h.taken) (with_apart reset h.first labels h.moved h.moves first)

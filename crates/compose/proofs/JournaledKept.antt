@@ -30,7 +30,7 @@ use Rattle.compose.specs.Right.{IsRight}
 use Rattle.compose.specs.Journaled.{IsStarted, IsNoAct, IsJournaled, StepsKeepEntries, BookedActsAddEntries, IdleActsKeepEntries, StepsStayApart}
 use Rattle.compose.proofs.Journaled.{acts_longer, acts_joined}
 use Rattle.compose.proofs.JournaledStep.{there_mapped, mapped_there, ActsAsBooked, FaultsAsBooked, booked_step, failed_step, tagged_step}
-use Rattle.compose.proofs.JournaledArmed.{with_apart}
+use Rattle.compose.proofs.JournaledArmed.{step_apart}
 use Rattle.compose.proofs.JournaledOthers.{others_step}
 
 -- each right step tells something that leads to the new view
@@ -146,5 +146,4 @@ idle_acts_keep_entries trace entries old tag reply new fits none right kept = id
 pub steps_stay_apart : StepsStayApart
 steps_stay_apart old event reply new right apart =
     let l = led old event reply new right in
-    let moved : IsFalse l.by.adapter.moved.faithful = with_apart l.reset old.adapter l.told.device l.by.adapter.moved l.by.adapter.moves apart in
-    subst (λ (v : AdapterView). IsFalse v.faithful) (sym l.by.adapter.taken) moved
+    step_apart l.reset l.told.reserves old.adapter l.told.device new.adapter l.by.adapter apart

@@ -82,7 +82,7 @@ module _ (trace : List Label) where
 
   turned_bare : (old : ManagerView) (q : ClientRequest) (reason : Refusal) (new : ManagerView) (told : Told) → IsTurnedAway old q reason new told → TellsBare told
   turned_bare old q DeviceBusy new told h = nothing old told h.1.nothing
-  turned_bare old q InsufficientResources new told h = nothing old told h.2.nothing
+  turned_bare old q InsufficientResources new told h = telling told [] [] (ap (λ (t : Told). t.own) h.2.nothing) (ap (λ (t : Told). t.device) h.2.nothing) refl refl
   turned_bare old q InvalidHandle new told h = absurd h
   turned_bare old q InvalidParameter new told h = absurd h
   turned_bare old q DeletePending new told h = absurd h

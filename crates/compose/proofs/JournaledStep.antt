@@ -1,5 +1,5 @@
 -- An entry that is booked is that of the next step of its tag, and every step keeps the starts of what is out in the trace.
-use Rattle.std.proofs.Common.{◌≡◌, ◌≢◌, ℕ, zero, suc, Bool, true, false, IsTrue, IsFalse, List, [], ◌∷◌, ◌++◌, map, Ok, Err, Result, IsPermutation, refl, sym, ap, subst, ◌∙◌, arith, length-append, if◌then◌else◌}
+use Rattle.std.proofs.Common.{◌≡◌, ◌≢◌, ℕ, zero, suc, Bool, true, false, IsTrue, IsFalse, List, [], ◌∷◌, ◌++◌, map, Option, None, Ok, Err, Result, IsPermutation, refl, sym, ap, subst, ◌∙◌, arith, length-append, if◌then◌else◌}
 use Rattle.std.specs.Prelude.{All, Contains, eqb}
 use Rattle.std.specs.List.{IsDistinct}
 use Rattle.std.proofs.lemmas.Bool.Decides.{Decides-eqb}
@@ -29,7 +29,9 @@ use Rattle.device.specs.Served.{IsFreshOn, IsAct, IsActOrFault}
 use Rattle.io_manager.specs.declared.Reply.{Reply}
 use Rattle.io_manager.specs.declared.Reply.TheVariants.{Handle as HandleReply, Ok as OkReply, Request as Requested, Answered, Refused, Ignored}
 use Rattle.io_manager.specs.Shown.{ManagerView}
-use Rattle.io_manager.specs.Right.{Told, labels_of, end_labels, as_answer, BooksPiece, ActReplies, IsRightBy, MovesWith}
+use Rattle.sector.specs.declared.Extent.{Extent}
+use Rattle.io_manager.specs.Right.{Told, labels_of, end_labels, as_answer, BooksPiece, ActReplies, ReservesFor, AdapterMoves, IsRightBy, MovesWith}
+use Rattle.io_manager.proofs.AdapterJoins.{reserves_more}
 use Rattle.compose.specs.declared.Event.TheVariants.{Act as ActEvent}
 use Rattle.compose.specs.Right.{IsRight}
 use Rattle.compose.specs.Journaled.{IsStarted}
@@ -129,11 +131,17 @@ number_is mid tag piece Holds order read here p fresh =
     sym (ap (λ (x : OnTag). x.number) found.2) ∙ ap use_piece same ∙ here.is_piece
 
 bytes_are : (mid : AdapterView) (tag piece : ℕ) (entry : Entry) (bytes : List ℕ) (moved : AdapterView) → IsDistinct eqb (map use_piece mid.tags) → Stands mid tag piece (HasBytes entry) → piece ≢ 0 → MovesByAll mid (Act piece bytes ∷ []) moved → bytes ≡ entry.bytes
-bytes_are mid tag piece entry bytes moved distinct here other (before, after, reserves, (tag', act), rest) =
-    let on : IsPermutation mid.tags (act.use' ∷ act.others) = subst (λ (x : AdapterView). IsPermutation x.tags (act.use' ∷ act.others)) reserves.after act.is_on.in_use in
-    let same : here.use' ≡ act.use' = (first_unique use_piece mid.tags here.use' act.use' here.others act.others distinct here.is_on.in_use on (act.is_piece ∙ sym here.is_piece)).0 in
-    let faith : IsFalse before.faithful = subst (λ (x : AdapterView). IsFalse x.faithful) (sym reserves.after) here.apart in
-    (act.as_booked faith other).1 ∙ sym (ap (λ (u : TagInUse). u.srb.data) same) ∙ here.holds
+bytes_are mid tag piece entry bytes moved distinct here other (after, (tag', act), rest) =
+    let same : here.use' ≡ act.use' = (first_unique use_piece mid.tags here.use' act.use' here.others act.others distinct here.is_on.in_use act.is_on.in_use (act.is_piece ∙ sym here.is_piece)).0 in
+    (act.as_booked here.apart other).1 ∙ sym (ap (λ (u : TagInUse). u.srb.data) same) ∙ here.holds
+
+-- an act reserves nothing, and moves by its label alone
+acts_alone : (mid : AdapterView) (reserves : Option Extent) (devices : List DeviceLabel) (n piece : ℕ) (bytes : List ℕ) (new : AdapterView) → (h : AdapterMoves false reserves mid devices new) → reserves ≡ None → devices ≡ Act n bytes ∷ [] → n ≡ piece
+    → MovesByAll mid (Act piece bytes ∷ []) h.moved
+acts_alone mid reserves devices n piece bytes new h none device n_is =
+    let first : h.first ≡ mid = subst (λ r. ReservesFor r mid h.first) none h.before in
+    let on : MovesByAll h.first (Act n bytes ∷ []) h.moved = subst (λ ls. MovesByAll h.first ls h.moved) device h.moves in
+    subst (λ k. MovesByAll mid (Act k bytes ∷ []) h.moved) n_is (subst (λ v. MovesByAll v (Act n bytes ∷ []) h.moved) first on)
 
 -- what the step of a booked entry is
 pub record ActsAsBooked (trace : List Label) (piece : ℕ) (entry : Entry) (reply : Reply) (new : ManagerView) : Type 0 where
@@ -146,21 +154,21 @@ module _ (trace : List Label) (first mid new : ManagerView) (tag piece : ℕ) (e
   here : Stands mid.adapter tag piece (HasBytes entry)
   here = stands_booked first.adapter tag piece entry mid.adapter books.adapter can
 
-  by_label : (label : DeviceLabel) (number : ℕ) → number ≡ piece → IsActOrFault number label → IsAct label → (told : Told) → told.own ≡ [] → told.device ≡ label ∷ [] → told.answers ≡ [] → told.ends ≡ false → IsRightBy false told mid new → new.labels ≡ Device (Act piece entry.bytes) ∷ []
-  by_label (Act n bytes) number is same act told own device answers ends by =
+  by_label : (label : DeviceLabel) (number : ℕ) → number ≡ piece → IsActOrFault number label → IsAct label → (told : Told) → told.own ≡ [] → told.device ≡ label ∷ [] → told.answers ≡ [] → told.ends ≡ false → told.reserves ≡ None → IsRightBy false told mid new → new.labels ≡ Device (Act piece entry.bytes) ∷ []
+  by_label (Act n bytes) number is same act told own device answers ends none by =
       let n_is : n ≡ piece = same ∙ is in
-      let moves : MovesByAll mid.adapter (Act piece bytes ∷ []) by.adapter.moved = subst (λ k. MovesByAll mid.adapter (Act k bytes ∷ []) by.adapter.moved) n_is (subst (λ ls. MovesByAll mid.adapter ls by.adapter.moved) device by.adapter.moves) in
+      let moves : MovesByAll mid.adapter (Act piece bytes ∷ []) by.adapter.moved = acts_alone mid.adapter told.reserves told.device n piece bytes new.adapter by.adapter none device n_is in
       let b : bytes ≡ entry.bytes = bytes_are mid.adapter tag piece entry bytes by.adapter.moved (distinct_uses mid.state mid.adapter.tags distinct read.pieces) here can.not_first moves in
       by.in_order ∙ rw (own, device, answers, ends) (rw (n_is, b) refl)
-  by_label (Start k t block) number is same act told own device answers ends by = absurd act
-  by_label (Fault k) number is same act told own device answers ends by = absurd act
-  by_label (Return k class) number is same act told own device answers ends by = absurd act
+  by_label (Start k t block) number is same act told own device answers ends none by = absurd act
+  by_label (Fault k) number is same act told own device answers ends none by = absurd act
+  by_label (Return k class) number is same act told own device answers ends none by = absurd act
 
   by_reply : (reply : Reply) (told : Told) → ActReplies mid tag reply new told → IsRightBy false told mid new → ActsAsBooked trace piece entry reply new
   by_reply OkReply told (tells, handles) by = record {
     replies = refl;
     labels = by_label tells.label tells.piece.number (number_is mid tag piece (HasBytes entry) order read here tells.piece tells.fresh) tells.acts (tells.if_booked (booked_is first.adapter tag piece entry mid.adapter books.adapter can)) told
-        tells.no_own tells.device tells.ends_none.none_answered tells.ends_none.not_ended by;
+        tells.no_own tells.device tells.ends_none.none_answered tells.ends_none.not_ended tells.reserves_none by;
     is_of_act = entry_of_act trace first.adapter tag piece entry entry.bytes tagged can same_piece same_tag refl;
   }
   by_reply Ignored told (unmoved, none, handles) by = let f = fresh_there mid tag piece (HasBytes entry) read here in absurd (none.none f.0 f.1)
@@ -175,11 +183,9 @@ module _ (trace : List Label) (first mid new : ManagerView) (tag piece : ℕ) (e
 -- THE STEP OF A BOOKED FAILURE
 
 acts_not : (mid : AdapterView) (tag piece : ℕ) (bytes : List ℕ) (moved : AdapterView) → IsDistinct eqb (map use_piece mid.tags) → Stands mid tag piece HasNoBytes → piece ≢ 0 → MovesByAll mid (Act piece bytes ∷ []) moved → ⊥
-acts_not mid tag piece bytes moved distinct here other (before, after, reserves, (tag', act), rest) =
-    let on : IsPermutation mid.tags (act.use' ∷ act.others) = subst (λ (x : AdapterView). IsPermutation x.tags (act.use' ∷ act.others)) reserves.after act.is_on.in_use in
-    let same : here.use' ≡ act.use' = (first_unique use_piece mid.tags here.use' act.use' here.others act.others distinct here.is_on.in_use on (act.is_piece ∙ sym here.is_piece)).0 in
-    let faith : IsFalse before.faithful = subst (λ (x : AdapterView). IsFalse x.faithful) (sym reserves.after) here.apart in
-    let yes : IsTrue here.use'.booked = subst (λ (u : TagInUse). IsTrue u.booked) (sym same) (act.as_booked faith other).0 in
+acts_not mid tag piece bytes moved distinct here other (after, (tag', act), rest) =
+    let same : here.use' ≡ act.use' = (first_unique use_piece mid.tags here.use' act.use' here.others act.others distinct here.is_on.in_use act.is_on.in_use (act.is_piece ∙ sym here.is_piece)).0 in
+    let yes : IsTrue here.use'.booked = subst (λ (u : TagInUse). IsTrue u.booked) (sym same) (act.as_booked here.apart other).0 in
     let no_bytes : IsFalse here.use'.booked = here.holds in
     absurd (cc (yes, no_bytes))
 
@@ -192,22 +198,22 @@ module _ (first mid new : ManagerView) (tag piece : ℕ) (completion : Completio
   fails_here : Stands mid.adapter tag piece HasNoBytes
   fails_here = stands_failed first.adapter tag piece completion mid.adapter books.adapter can
 
-  fault_label : (label : DeviceLabel) (number : ℕ) → number ≡ piece → IsActOrFault number label → (told : Told) → told.own ≡ [] → told.device ≡ label ∷ [] → told.answers ≡ [] → told.ends ≡ false → IsRightBy false told mid new → new.labels ≡ Device (Fault piece) ∷ []
-  fault_label (Act n bytes) number is same told own device answers ends by =
+  fault_label : (label : DeviceLabel) (number : ℕ) → number ≡ piece → IsActOrFault number label → (told : Told) → told.own ≡ [] → told.device ≡ label ∷ [] → told.answers ≡ [] → told.ends ≡ false → told.reserves ≡ None → IsRightBy false told mid new → new.labels ≡ Device (Fault piece) ∷ []
+  fault_label (Act n bytes) number is same told own device answers ends none by =
       let n_is : n ≡ piece = same ∙ is in
-      let moves : MovesByAll mid.adapter (Act piece bytes ∷ []) by.adapter.moved = subst (λ k. MovesByAll mid.adapter (Act k bytes ∷ []) by.adapter.moved) n_is (subst (λ ls. MovesByAll mid.adapter ls by.adapter.moved) device by.adapter.moves) in
+      let moves : MovesByAll mid.adapter (Act piece bytes ∷ []) by.adapter.moved = acts_alone mid.adapter told.reserves told.device n piece bytes new.adapter by.adapter none device n_is in
       absurd (acts_not mid.adapter tag piece bytes by.adapter.moved (distinct_uses mid.state mid.adapter.tags distinct read.pieces) fails_here can.not_first moves)
-  fault_label (Fault n) number is same told own device answers ends by =
+  fault_label (Fault n) number is same told own device answers ends none by =
       let n_is : n ≡ piece = same ∙ is in
       by.in_order ∙ rw (own, device, answers, ends) (rw n_is refl)
-  fault_label (Start k t block) number is same told own device answers ends by = absurd same
-  fault_label (Return k class) number is same told own device answers ends by = absurd same
+  fault_label (Start k t block) number is same told own device answers ends none by = absurd same
+  fault_label (Return k class) number is same told own device answers ends none by = absurd same
 
   fault_reply : (reply : Reply) (told : Told) → ActReplies mid tag reply new told → IsRightBy false told mid new → FaultsAsBooked piece reply new
   fault_reply OkReply told (tells, handles) by = record {
     replies = refl;
     labels = fault_label tells.label tells.piece.number (number_is mid tag piece HasNoBytes order read fails_here tells.piece tells.fresh) tells.acts told
-        tells.no_own tells.device tells.ends_none.none_answered tells.ends_none.not_ended by;
+        tells.no_own tells.device tells.ends_none.none_answered tells.ends_none.not_ended tells.reserves_none by;
   }
   fault_reply Ignored told (unmoved, none, handles) by = let f = fresh_there mid tag piece HasNoBytes read fails_here in absurd (none.none f.0 f.1)
   fault_reply (HandleReply handle) told h by = absurd h
@@ -249,14 +255,15 @@ longer_so trace more v all = All-weaker (λ (u : TagInUse). IsStarted trace u.pi
 
 moved_with : (P : ℕ → ℕ → List ℕ → Type 0) (reset : Bool) (old : AdapterView) (labels : List DeviceLabel) (new : AdapterView) → All (StartsSo P) labels → MovesWith reset old labels new → AllTagged P old → AllTagged P new
 moved_with P false old labels new so h all = all_moved_so P old labels new so h all
-moved_with P true old labels new so (faulted, noted, moves, notes, reserves) all =
-    subst (AllTagged P) (sym reserves.after) (reset_so P faulted noted notes (all_moved_so P old labels faulted so moves all))
+moved_with P true old labels new so (faulted, moves, notes) all = reset_so P faulted new notes (all_moved_so P old labels faulted so moves all)
 
 -- what is on a tag after a step was started in the trace, as long as it was so before
 pub tagged_step : (reset : Bool) (trace : List Label) (told : Told) (old new : ManagerView) → IsRightBy reset told old new → AllTagged (IsStarted trace) old.adapter → AllTagged (IsStarted (trace ++ new.labels)) new.adapter
 tagged_step reset trace told old new by all =
     let there : All (λ l. Contains (trace ++ new.labels) (Device l)) told.device =
     All-weaker (Contains told.device) (λ l. Contains (trace ++ new.labels) (Device l)) (told_there trace told new by.in_order) told.device (All-contains_itself told.device) in
+    let first : AllTagged (IsStarted (trace ++ new.labels)) by.adapter.first =
+    subst (AllTagged (IsStarted (trace ++ new.labels))) (sym (reserves_more told.reserves old.adapter by.adapter.first by.adapter.before).after) (longer_so trace new.labels old.adapter all) in
     let moved : AllTagged (IsStarted (trace ++ new.labels)) by.adapter.moved =
-    moved_with (IsStarted (trace ++ new.labels)) reset old.adapter told.device by.adapter.moved (all_started_by (trace ++ new.labels) told.device there) by.adapter.moves (longer_so trace new.labels old.adapter all) in
+    moved_with (IsStarted (trace ++ new.labels)) reset by.adapter.first told.device by.adapter.moved (all_started_by (trace ++ new.labels) told.device there) by.adapter.moves first in
     subst (AllTagged (IsStarted (trace ++ new.labels))) (sym by.adapter.taken) moved

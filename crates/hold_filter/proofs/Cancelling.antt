@@ -23,7 +23,7 @@ use Rattle.device.specs.View.{DeviceView, Packet, packet_number, IsOrderly}
 use Rattle.device.specs.Served.{IsAt, HasOtherNumber, CancelsIfOpen, CancelsAt, IsBeside, NoneToCancel}
 use Rattle.hold_filter.specs.declared.table.Held.{Held}
 use Rattle.hold_filter.specs.declared.table.Table.{Table}
-use Rattle.hold_filter.specs.Shown.{Queued, FilterView, CancelsHeld, CancelsNone}
+use Rattle.hold_filter.specs.Shown.{Queued, FilterView, CancelsHeld, HoldsNone}
 use Rattle.hold_filter.specs.inside.TableView.{TableView, books_of, packet_in, here}
 use Rattle.hold_filter.specs.inside.TableCalls.{MayEnd, Withdraws, WithdrawsNot, LacksNumber, HoldsAt}
 use Rattle.hold_filter.specs.inside.View.{packets_of, packet_below, packet_here, open_here, are_late}
@@ -364,31 +364,26 @@ module _ (stack_size : ℕ) (v : DeviceView) (b : TableView) (k : IsInHand stack
 
 -- WHAT THE FILTER SHOWS
 
-pub held_or_none : (stack_size : ℕ) (v : DeviceView) (t t' : Table) (old : FilterView) (shown : shown_of v t ≡ old)
-    → IsInHand stack_size v (books_of t) → (spot number : ℕ) (result : Bool)
-    → MatchBool result (Withdraws (books_of t) spot number (books_of t'))
-    (WithdrawsNot (books_of t) spot number (books_of t'))
-    → IsInHand stack_size v (books_of t') × MatchBool result (CancelsHeld old spot number (shown_of v t'))
-    (CancelsNone old spot number (shown_of v t'))
-held_or_none stack_size v t t' old shown k spot number true w =
-    let c = withdrawn_cancels stack_size v (books_of t) k spot number (books_of t') w in (
-      withdrawn_hand stack_size v (books_of t) k spot number (books_of t') w,
-      subst (λ (f : FilterView). CancelsHeld f spot number (shown_of v t')) shown
-          (record {
-            before = map queued w.before;
-            behind = map queued w.behind;
-            held = was_queued stack_size v (books_of t) k spot number (books_of t') w;
-            leaves = has_left stack_size v (books_of t) k spot number (books_of t') w;
-            cancels = c.0;
-            beside =
-                c.1;
-          }),
-    )
-held_or_none stack_size v t t' old shown k spot number false w = (
-  subst (IsInHand stack_size v) (sym w.same) k,
-  subst (λ (f : FilterView). CancelsNone f spot number (shown_of v t')) shown (record {
-    none = none_queued (books_of t) (books_of t') spot number w;
-    same_queue = ap (λ (y : TableView). map queued y.held) w.same;
-    same = ap (view_of v) w.same;
-  }),
-)
+-- one that is held leaves the queue
+pub leaves_held : (stack_size : ℕ) (v : DeviceView) (t t' : Table) → IsInHand stack_size v (books_of t)
+    → (spot number : ℕ)
+    → Withdraws (books_of t) spot number (books_of t') → CancelsHeld (shown_of v t) spot number (shown_of v t')
+leaves_held stack_size v t t' k spot number w =
+    let c = withdrawn_cancels stack_size v (books_of t) k spot number (books_of t') w in
+    record {
+      before = map queued w.before;
+      behind = map queued w.behind;
+      held = was_queued stack_size v (books_of t) k spot number (books_of t') w;
+      leaves = has_left stack_size v (books_of t) k spot number (books_of t') w;
+      cancels = c.0;
+      beside = c.1;
+    }
+
+-- none that is held is meant, whatever happens below
+pub holds_none : (old new : FilterView) (b b' : TableView) (spot number : ℕ) → old.queue ≡ map queued b.held
+    → new.queue ≡ map queued b'.held → WithdrawsNot b spot number b' → HoldsNone old spot number new
+holds_none old new b b' spot number was is w = record {
+  none = λ there. none_queued b b' spot number w
+      (subst (λ queue. Contains queue (record { spot = spot; number = number })) was there);
+  same_queue = is ∙ ap (λ (y : TableView). map queued y.held) w.same ∙ sym was;
+}

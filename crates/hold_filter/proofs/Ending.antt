@@ -17,7 +17,7 @@ use Rattle.machine.specs.Answering.{Answers, IsGivenUp, information}
 use Rattle.machine.specs.Numbers.{AreDistinct, HasPlaces, request_number}
 use Rattle.machine.specs.Frame.{with_window}
 use Rattle.machine.specs.Window.{IsAbove}
-use Rattle.adapter.proofs.Joining.{reserves_none}
+use Rattle.adapter.proofs.Joining.{moves_none}
 use Rattle.machine.proofs.Same.{IsSame-refl}
 use Rattle.machine.proofs.Permuting.{first_unique}
 use Rattle.machine.proofs.Numbers.{AreDistinct-Step}
@@ -205,7 +205,7 @@ module _ (stack_size : ℕ) (v : DeviceView) (b : TableView) (x : Held) (held en
             same_submitted = refl;
             same_most = refl;
             run = IsSame-refl _;
-            adapter = reserves_none v.adapter;
+            adapter = moves_none v.adapter;
           };
         })
 

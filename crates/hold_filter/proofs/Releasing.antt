@@ -33,7 +33,7 @@ use Rattle.machine.proofs.Numbers.{AreDistinct-Run}
 use Rattle.machine.proofs.Framed.{Run-framed, Opens-framed}
 use Rattle.machine.proofs.Held.{Holds-Run, Holds-Opens}
 use Rattle.machine.proofs.Window.{AllMayPass-above}
-use Rattle.adapter.proofs.Joining.{reserves_none, moves_joined}
+use Rattle.adapter.proofs.Joining.{moves_none, moves_joined}
 use Rattle.hold_filter.specs.declared.table.Held.{Held}
 use Rattle.hold_filter.specs.inside.TableView.{TableView, packet_in, here}
 use Rattle.hold_filter.specs.inside.TableCalls.{LetsGo, LetsNoneGo}
@@ -414,7 +414,7 @@ releases_none view = record {
     same_submitted = refl;
     same_most = refl;
     run = IsSame-refl _;
-    adapter = reserves_none view.adapter;
+    adapter = moves_none view.adapter;
   };
 }
 

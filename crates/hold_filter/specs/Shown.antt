@@ -30,8 +30,7 @@ pub record CancelsHeld (old : FilterView) (spot number : ℕ) (new : FilterView)
   pub cancels : Cancels old.shown.state number new.shown.state
   pub beside : IsBeside old.shown new.shown
 
--- no held packet has this spot and this number, and nothing changes
-pub record CancelsNone (old : FilterView) (spot number : ℕ) (new : FilterView) : Type 0 where
+-- no held packet has this spot and this number, and the queue stays
+pub record HoldsNone (old : FilterView) (spot number : ℕ) (new : FilterView) : Type 0 where
   pub none : Contains old.queue (record { spot = spot; number = number }) → ⊥
   pub same_queue : new.queue ≡ old.queue
-  pub same : new.shown ≡ old.shown

@@ -1,8 +1,7 @@
 //! The filter, and what its owner calls.
 
-ghost use Rattle.std.specs.Prelude.{◌≡◌, ◌<◌, ◌^◌, [], IsFalse, MatchBool};
-ghost use Rattle.linked.specs.Queue.{VisitsAtMost};
-ghost use Rattle.hold_filter.specs.Shown.{held_count, CancelsHeld, CancelsNone};
+ghost use Rattle.std.specs.Prelude.{◌≡◌, ◌<◌, ◌^◌, [], IsFalse};
+ghost use Rattle.hold_filter.specs.Shown.{held_count};
 ghost use Rattle.hold_filter.specs.Opening.{IsFreshBelow, opening_over};
 
 use crate::parts::Parts;
@@ -59,17 +58,6 @@ impl<D: Device> Filter<D> {
         let table = Table::new(alloc, window);
         let parts = Parts { device, table };
         Filter { parts }
-    }
-
-    /// Cancels the packet that is held at this spot, where it has this number; false where no packet has both. At most
-    /// three entries of the queue are visited, and two of those that were cancelled.
-    pub fn cancel_held(&mut self, spot: usize, number: u128) -> bool
-        ensures cancels { MatchBool result (CancelsHeld self.old spot number self.new)
-            (CancelsNone self.old spot number self.new) }
-        ensures visits { VisitsAtMost 3 self.old.queue_visits self.new.queue_visits }
-        ensures ended_visits { VisitsAtMost 2 self.old.ended_visits self.new.ended_visits }
-    {
-        self.parts.table.withdraw(spot, number)
     }
 }
 

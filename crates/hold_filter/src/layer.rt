@@ -1,7 +1,10 @@
 //! The filter as a layer of the stack.
 
-ghost use Rattle.std.specs.Prelude.{ℕ, Bool, false, refl};
+ghost use Rattle.std.specs.Prelude.{◌⊎◌, ℕ, Bool, false, refl};
 ghost use Rattle.std.proofs.Common.{ap};
+ghost use Rattle.linked.specs.Queue.{VisitsAtMost};
+ghost use Rattle.device.specs.Served.{CancelsAt};
+ghost use Rattle.hold_filter.specs.Shown.{CancelsHeld, HoldsNone};
 ghost use Rattle.hold_filter.specs.inside.Invariant.{stack_over};
 
 use crate::filter::Filter;
@@ -115,7 +118,14 @@ impl<D: Device> Device for Filter<D> {
         self.parts.device.shows_order();
     }
 
-    fn cancel_at(&mut self, spot: usize, number: u128) {
+    /// A packet that is held leaves the queue. At most three entries of the queue are visited, and two of those that
+    /// were cancelled while they were held.
+    fn cancel_at(&mut self, spot: usize, number: u128)
+        ensures cancels { CancelsAt self.old.shown spot number self.new.shown }
+        ensures held { CancelsHeld self.old spot number self.new ⊎ HoldsNone self.old spot number self.new }
+        ensures visits { VisitsAtMost 3 self.old.queue_visits self.new.queue_visits }
+        ensures ended_visits { VisitsAtMost 2 self.old.ended_visits self.new.ended_visits }
+    {
         if self.parts.table.withdraw(spot, number) {
             return;
         }

@@ -8,7 +8,7 @@
 //! and one that is held at a removal as DELETE_PENDING; a packet that went below ends as the device below says. Each
 //! goes up with the cancel routine that it came with (`brings_routine`); while the filter holds it, it has the
 //! filter's own. By its spot, which is that of its room below, a packet that is held is found in a few steps
-//! ([`Filter::cancel_held`]). No call but `reserve` takes memory.
+//! (`cancel_at`, by its clauses `visits` and `ended_visits`). No call but `reserve` takes memory.
 //!
 //! It doesn't promise that a packet below ever comes back, nor that packets end in the order in which they came.
 #![tactic(auto)]

@@ -1,5 +1,5 @@
 -- Acts, returns and resets of the adapter as steps of the manager.
-use Rattle.std.proofs.Common.{◌≡◌, ◌≢◌, ℕ, true, List, [], ◌∷◌, ◌++◌, refl, sym, ◌∙◌, ap, subst, map, length}
+use Rattle.std.proofs.Common.{◌≡◌, ◌≢◌, ℕ, true, List, [], ◌∷◌, ◌++◌, refl, sym, ◌∙◌, ap, subst, None, map, length}
 use Rattle.std.proofs.lemmas.List.{append-nil}
 use Rattle.std.proofs.lemmas.List.Elements.{All-append}
 use Rattle.slab.specs.Slab.{Slab}
@@ -58,7 +58,7 @@ module _ (limits : Limits) (below : DeviceView) (tables : Tables) (old : Manager
   -- a right step after which all that has ended is told
   told_kept : (Row : ManagerView → ManagerView → Told → Type 0) (labels : List DeviceLabel) (below1 : DeviceView) (limits' : Limits) (below2 : DeviceView) (tables2 : Tables) → (moves : Moves below labels below1)
       → limits' ≡ limits → IsSound limits' below2 tables2 → (c : Collects below1 tables below2 tables2)
-      → Row (view_of limits below tables) (view_of limits below2 tables2) (told_by limits below tables [] labels below1 tables below2 tables2 (served labels below1 moves) c)
+      → Row (view_of limits below tables) (view_of limits below2 tables2) (told_by limits below tables [] labels below1 tables below2 tables2 (served labels below1 moves) c None)
       → IsRight (Row old (view_of limits' below2 tables2)) old (view_of limits' below2 tables2) × ManagerKept limits' below2 tables2
   told_kept Row labels below1 limits' below2 tables2 moves same sound c row =
       step_kept limits below tables old kept shown Row [] labels below1 tables (served labels below1 moves) limits' below2 tables2 moves.adapter same sound c row
@@ -88,6 +88,7 @@ module _ (limits : Limits) (below : DeviceView) (tables : Tables) (old : Manager
           device = refl;
           ends_none = record { none_answered = refl; not_ended = refl };
           holders = refl;
+          reserves_none = refl;
         },
         same_handles below1 below2 tables2 (labels_collected below1 tables below2 tables2 t settled (still_going (acts.label ∷ []) below1 acts.moves)),
       )
@@ -121,6 +122,7 @@ module _ (limits : Limits) (below : DeviceView) (tables : Tables) (old : Manager
           no_own = refl;
           device = refl;
           holders = refl;
+          reserves_none = refl;
         },
         same_handles below1 below2 tables2 c,
       )
@@ -197,19 +199,19 @@ module _ (limits : Limits) (below : DeviceView) (tables : Tables) (old : Manager
   reset_kept limits' below2 tables2 same sound t =
       let sound' : IsSound limits below2 tables2 = subst (λ (l : Limits). IsSound l below2 tables2) same sound in
       let only : faults ++ [] ≡ faults = append-nil faults in
-      let joined : AdapterMoves true below.adapter (faults ++ []) below2.adapter =
-      subst (λ labels. AdapterMoves true below.adapter labels below2.adapter) (sym only)
+      let joined : AdapterMoves true None below.adapter (faults ++ []) below2.adapter =
+      subst (λ labels. AdapterMoves true None below.adapter labels below2.adapter) (sym only)
       (reset_joined below.adapter faults r.all_faulted below1.adapter below2.adapter r.moves.adapter r.noted (faulted below2 tables2 t).adapter) in
       let a : AllWriteInside below.rules.partitions r.all_faulted × KeepsOutside below.rules.partitions below.adapter r.all_faulted =
-      stays limits below tables [] faults below1 tables below2 tables2 reset_served (faulted below2 tables2 t) r.all_faulted kept.reached kept.inside
+      stays limits below tables [] faults below1 tables below2 tables2 reset_served (faulted below2 tables2 t) below.adapter r.all_faulted kept.reached kept.inside
       (subst (λ labels. MovesByAll below.adapter labels r.all_faulted) (sym only) r.moves.adapter) in
       let b : AllWriteInside below.rules.partitions below1.adapter × KeepsOutside below.rules.partitions r.all_faulted below1.adapter =
       noted_inside below.rules.partitions r.all_faulted below1.adapter r.noted a.0 in
       let taken_are : below2.adapter ≡ record below1.adapter { labels = [] } = ap (λ (v : DeviceView). v.adapter) t.taken in
       let outside : KeepsOutside below.rules.partitions below.adapter (record below1.adapter { labels = [] }) = λ i apart. b.1 i apart ∙ a.1 i apart in
-      let told : Told = told_by limits below tables [] faults below1 tables below2 tables2 reset_served (faulted below2 tables2 t) in
+      let told : Told = told_by limits below tables [] faults below1 tables below2 tables2 reset_served (faulted below2 tables2 t) None in
       let by : IsRightBy true told (view_of limits below tables) (view_of limits below2 tables2) =
-      right_by limits below tables [] faults below1 tables below2 tables2 reset_served (faulted below2 tables2 t) true joined
+      right_by limits below tables [] faults below1 tables below2 tables2 reset_served (faulted below2 tables2 t) true None joined
       (subst (KeepsOutside below.rules.partitions below.adapter) (sym taken_are) outside) sound'.in_state in
       let inside : AsksInside below2 =
       subst (λ (rules : Rules). AllWriteInside rules.partitions below2.adapter) (sym (ap (λ (v : DeviceView). v.rules) t.taken ∙ r.moves.same_rules))
@@ -224,6 +226,7 @@ module _ (limits : Limits) (below : DeviceView) (tables : Tables) (old : Manager
           device = only;
           ends_none = record { none_answered = refl; not_ended = refl };
           holders = refl;
+          reserves_none = refl;
           handles = same_handles limits below tables old kept shown taken below1 below2 tables2 (faulted below2 tables2 t);
         };
         by = by;

@@ -1,21 +1,22 @@
 -- The tables stay sound when a request is opened and its packet goes down.
-use Rattle.std.proofs.Common.{◌≡◌, ◌≢◌, ◌<◌, ◌≤◌, ◌⊎◌, inl, inr, ℕ, ◌+◌, ◌*◌, ◌/◌, Bool, true, false, List, ◌∷◌, Some, None, refl, sym, ◌∙◌, ap, subst, arith, length, map}
+use Rattle.std.proofs.Common.{◌≡◌, ◌≢◌, ◌<◌, ◌≤◌, ◌⊎◌, inl, inr, ℕ, ◌+◌, ◌*◌, ◌/◌, Bool, true, false, List, ◌∷◌, Option, Some, None, refl, sym, ◌∙◌, ap, subst, arith, length, map}
 use Rattle.std.specs.Prelude.{IsTrue, IsFalse, All, Contains, is_some}
 use Rattle.std.specs.VecDeque.{deque_len, deque_capacity}
 use Rattle.std.proofs.lemmas.Bool.{cases_eq}
 use Rattle.std.proofs.lemmas.List.Elements.{All-cons, All-weaker, All-contains, All-map}
 use Rattle.slab.proofs.SlabLemmas.{Contains-cons}
 use Rattle.slab.specs.Slab.{Slab, get, slab_len, Updates as SlabUpdates}
+use Rattle.sector.specs.declared.Extent.{Extent}
 use Rattle.srb.specs.declared.Kind.TheVariants.{Read}
 use Rattle.machine.specs.declared.ClientRequest.{ClientRequest}
-use Rattle.machine.specs.Rules.{Rules, as_client}
+use Rattle.machine.specs.Rules.{Rules, as_client, home}
 use Rattle.machine.specs.State.{OpenRequest as OpenBelow, State}
 use Rattle.machine.specs.Calling.{Opens, new_request}
 use Rattle.machine.specs.Numbers.{request_number, IsGiven, AreDistinct}
 use Rattle.machine.proofs.Places.{taken_in}
 use Rattle.pnp.specs.declared.State.{State as PnpState}
 use Rattle.pnp.specs.declared.State.TheVariants.{Started, RemovePending, Removing, Removed}
-use Rattle.device.specs.View.{DeviceView, Packet, sent_bytes, IsTopmost}
+use Rattle.device.specs.View.{DeviceView, Packet, sent_bytes, sectors_asked, IsTopmost}
 use Rattle.machine.proofs.Same.{IsSame-sym}
 use Rattle.io_manager.specs.declared.Answer.{Answer}
 use Rattle.io_manager.specs.declared.Handle.{Handle}
@@ -23,7 +24,7 @@ use Rattle.io_manager.specs.declared.Limits.{Limits}
 use Rattle.io_manager.specs.declared.admission.LabelBytes.{LabelBytes}
 use Rattle.io_manager.specs.declared.tables.OpenRequest.{OpenRequest}
 use Rattle.io_manager.specs.declared.tables.Tables.{Tables}
-use Rattle.io_manager.specs.Calls.{number_limit}
+use Rattle.io_manager.specs.Calls.{number_limit, disk_extent}
 use Rattle.io_manager.specs.inside.Ordering.{HasOtherNumber}
 use Rattle.io_manager.specs.inside.Chains.{IsOpenIn}
 use Rattle.io_manager.specs.inside.Sound.{shown_state, is_gone, view_of, IsHeldAt, AreHeld, IsSpotted, WasGiven, AreApart, IsInState, IsSound}
@@ -154,6 +155,15 @@ module _ (limits : Limits) (below : DeviceView) (tables : Tables) (q : ClientReq
       ap (λ p. record q { partition = p; offset = q.offset / limits.sector_size * below.rules.sector_size; length = q.length / limits.sector_size * below.rules.sector_size; bytes = bytes }) asks.on_partition
       ∙ ap (λ n. record q { offset = n; length = q.length / limits.sector_size * below.rules.sector_size; bytes = bytes }) (sym asks.offset)
       ∙ ap (λ n. record q { length = n; bytes = bytes }) (sym asks.length_is)
+
+  abbrev extent_at : Option ℕ → ℕ → Extent
+  extent_at partition size = record { first = home below.rules partition (q.offset / size); count = q.length / size }
+
+  -- and the sectors of the disk that it asks for are the call's
+  pub asked_sectors : sectors_asked below.rules (request_of limits.sector_size q) ≡ disk_extent over q
+  asked_sectors =
+      let asks : AsksBy below.rules q limits.sector_size = asks_whole limits below tables q h k in
+      ap (λ p. extent_at p limits.sector_size) asks.on_partition ∙ ap (extent_at q.partition) h.fits.sector_size
 
   -- what the machine below opens, the manager's opens
   pub opened_above : (number : ℕ) (bytes : List ℕ) (opened : State) → number ≡ tables.next_request → Opens below.rules below.state number (as_client below.rules (request_of limits.sector_size q) bytes) opened

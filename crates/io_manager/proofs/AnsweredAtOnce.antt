@@ -1,9 +1,8 @@
 -- Calls that end where they begin are right steps: those that are refused, those of no bytes, and those past the last number.
-use Rattle.std.proofs.Common.{◌≡◌, ◌<◌, ◌≤◌, inl, inr, ℕ, ◌+◌, Bool, true, false, List, [], ◌∷◌, ◌++◌, Some, refl, sym, ◌∙◌, ap, subst, arith}
+use Rattle.std.proofs.Common.{◌≡◌, ◌<◌, ◌≤◌, inl, inr, ℕ, ◌+◌, Bool, true, false, List, [], ◌∷◌, ◌++◌, Some, None, refl, sym, ◌∙◌, ap, subst, arith}
 use Rattle.std.specs.Prelude.{IsNone}
 use Rattle.std.proofs.lemmas.List.Elements.{All-weaker}
 use Rattle.ntstatus.specs.declared.NtStatus.{NtStatus}
-use Rattle.adapter.proofs.Joining.{reserves_none}
 use Rattle.srb.specs.declared.Kind.{Kind}
 use Rattle.machine.specs.declared.ClientRequest.{ClientRequest}
 use Rattle.machine.specs.declared.Label.{Label}
@@ -102,8 +101,8 @@ module _ (limits : Limits) (below : DeviceView) (tables : Tables) (handle : Hand
           handles = record { handles = refl; next_handle = refl };
         };
         by =
-            right_alone view (own (status_at_once at_once)) (shown_state (tables.next_request + 1) (is_gone tables.state) below.state) below.adapter.reserved tables.handles.slots tables.next_handle
-            tables1.labels.items tables.untaken.items tables1.labels.keeps run (reserves_none below.adapter) taken.1 told refl answers.label_places.1;
+            right_alone view (own (status_at_once at_once)) (shown_state (tables.next_request + 1) (is_gone tables.state) below.state) None below.adapter.reserved tables.handles.slots tables.next_handle
+            tables1.labels.items tables.untaken.items tables1.labels.keeps run refl taken.1 told refl answers.label_places.1;
       }))
     where
       run : Run view.rules view.state (own (status_at_once at_once)) (shown_state (tables.next_request + 1) (is_gone tables.state) below.state)

@@ -6,8 +6,8 @@ use Rattle.std.specs.VecDeque.{deque_len, deque_capacity}
 use Rattle.std.proofs.Math.ListN.{get_or-map}
 use Rattle.std.proofs.lemmas.List.Elements.{All-append, All-cons}
 use Rattle.slab.specs.Slab.{Slab, get, slab_len}
-use Rattle.adapter.specs.View.{AdapterView, ReservesMore, MovesByAll}
-use Rattle.adapter.proofs.Joining.{moves_joined}
+use Rattle.sector.specs.declared.Extent.{Extent}
+use Rattle.adapter.specs.View.{AdapterView, ReservesMore, ReservesNear as AdapterReservesNear}
 use Rattle.irp.specs.declared.Payload.{Payload}
 use Rattle.srb.specs.declared.Kind.{Kind}
 use Rattle.srb.specs.declared.Kind.TheVariants.{Read, Write, Flush}
@@ -19,7 +19,7 @@ use Rattle.machine.specs.Calling.{refusal, Opens}
 use Rattle.machine.specs.Step.{Run}
 use Rattle.device.specs.View.{DeviceView, sent_bytes, payload_bytes}
 use Rattle.machine.specs.Sending.{IsStart}
-use Rattle.device.specs.Served.{Reserves}
+use Rattle.device.specs.Served.{Reserves, ReservesNear}
 use Rattle.machine.proofs.Same.{IsSame-refl}
 use Rattle.io_manager.specs.declared.Handle.{Handle}
 use Rattle.io_manager.specs.declared.Id.{Id}
@@ -31,8 +31,8 @@ use Rattle.io_manager.specs.declared.Limits.{Limits}
 use Rattle.io_manager.specs.declared.admission.LabelBytes.{LabelBytes}
 use Rattle.io_manager.specs.declared.tables.Tables.{Tables}
 use Rattle.io_manager.specs.Shown.{ManagerView, Holder}
-use Rattle.io_manager.specs.Calls.{bytes_called, call_on, without_bytes}
-use Rattle.io_manager.specs.Right.{tells_nothing, IsRight, IsRightBy, CallReplies}
+use Rattle.io_manager.specs.Calls.{bytes_called, call_on, without_bytes, disk_extent, reserved_of, reserved_by}
+use Rattle.io_manager.specs.Right.{tells_nothing, ReservesFor, IsRight, IsRightBy, CallReplies}
 use Rattle.io_manager.specs.inside.Sound.{shown_state, is_gone, holder_of, view_of, WasGiven, AreApart, IsInState, IsSound, AsksInside, Collects, ManagerKept}
 use Rattle.io_manager.specs.Opening.{rules_of}
 use Rattle.io_manager.specs.inside.Admitting.{request_of, HasLabelBytes, Admits, KeepsAnswers, SendsDown, IsSent, IsAdmissible}
@@ -42,7 +42,7 @@ use Rattle.io_manager.proofs.Righting.{IsServed, told_by, IsRightBy-served, have
 use Rattle.io_manager.proofs.Outside.{HasPartition}
 use Rattle.io_manager.proofs.AdapterJoins.{labels_moved}
 use Rattle.io_manager.proofs.Quiet.{right_alone}
-use Rattle.io_manager.proofs.Admitted.{opened_above}
+use Rattle.io_manager.proofs.Admitted.{asked_sectors, opened_above}
 use Rattle.io_manager.proofs.Stepping.{ManagerKept-reserved, ManagerKept-collected}
 
 -- PLACES ALONE ARE MADE
@@ -86,6 +86,12 @@ reserved_inside below below' h reserves = subst AsksInside (sym reserves.same) h
 more_reserved : (below below' : DeviceView) → Reserves below below' → ReservesMore below.adapter (record below.adapter { reserved = below'.adapter.reserved })
 more_reserved below below' reserves = subst (ReservesMore below.adapter) (ap (λ (b : DeviceView). b.adapter) reserves.same) reserves.adapter
 
+-- what is reserved is reserved for the sectors of a write; for any other kind nothing is
+reserved_of_kind : (kind : Kind) (extent : Extent) (old new : AdapterView) → ReservesMore old new → AdapterReservesNear old extent new → (kind ≢ Write → new ≡ old) → ReservesFor (reserved_of kind extent) old new
+reserved_of_kind Write extent old new more near unless_write = (more, near)
+reserved_of_kind Read extent old new more near unless_write = unless_write (λ e. cc (e))
+reserved_of_kind Flush extent old new more near unless_write = unless_write (λ e. cc (e))
+
 -- A CALL
 
 module _ (limits : Limits) (below : DeviceView) (tables : Tables) (handle : Handle) (q : ClientRequest) (buffer : List ℕ) (kept : ManagerKept limits below tables) (k : IsAdmissible (view_of limits below tables) q)
@@ -105,15 +111,23 @@ module _ (limits : Limits) (below : DeviceView) (tables : Tables) (handle : Hand
   admitted : refusal over view.state called ≡ None
   admitted = subst (λ r. refusal over view.state r ≡ None) is_call k.not_refused
 
+  reserved_for : (below' : DeviceView) → Reserves below below' → ReservesNear below (request_of limits.sector_size q) below' → (q.kind ≢ Write → below'.adapter ≡ below.adapter)
+      → ReservesFor (reserved_by over called) below.adapter (record below.adapter { reserved = below'.adapter.reserved })
+  reserved_for below' reserves near unless_write =
+      subst (λ r. ReservesFor (reserved_by over r) below.adapter (record below.adapter { reserved = below'.adapter.reserved })) is_call
+      (reserved_of_kind q.kind (disk_extent over q) below.adapter (record below.adapter { reserved = below'.adapter.reserved }) (more_reserved below below' reserves)
+      (subst (λ extent. AdapterReservesNear below.adapter extent (record below.adapter { reserved = below'.adapter.reserved })) (asked_sectors limits below tables q kept.sound k) near)
+      (λ other. ap (λ (a : AdapterView). record below.adapter { reserved = a.reserved }) (unless_write other)))
+
   -- for want of memory nothing happens
-  turned_away : (below' : DeviceView) (tables' : Tables) (reply : Reply) → Reserves below below' → (q.kind ≢ Write → below'.adapter ≡ below.adapter) → KeepsAnswers tables tables' → reply ≡ Refused InsufficientResources buffer
+  turned_away : (below' : DeviceView) (tables' : Tables) (reply : Reply) → Reserves below below' → ReservesNear below (request_of limits.sector_size q) below' → (q.kind ≢ Write → below'.adapter ≡ below.adapter) → KeepsAnswers tables tables' → reply ≡ Refused InsufficientResources buffer
       → IsRight (CallReplies view handle called buffer reply (view_of limits below' tables')) view (view_of limits below' tables')
-  turned_away below' tables' reply reserves unless_write keeps is_reply =
+  turned_away below' tables' reply reserves near unless_write keeps is_reply =
       subst (λ r. IsRight (CallReplies view handle called buffer r (view_of limits below' tables')) view (view_of limits below' tables')) (sym is_reply)
       (subst (λ b. IsRight (CallReplies view handle called buffer (Refused InsufficientResources buffer) (view_of limits b tables')) view (view_of limits b tables')) (sym reserves.same)
       (subst (λ t. IsRight (CallReplies view handle called buffer (Refused InsufficientResources buffer) (view_of limits (record below { rooms = below'.rooms; adapter = record below.adapter { reserved = below'.adapter.reserved } }) t)) view
       (view_of limits (record below { rooms = below'.rooms; adapter = record below.adapter { reserved = below'.adapter.reserved } }) t)) (sym keeps.after) (record {
-        told = tells_nothing view;
+        told = record (tells_nothing view) { reserves = reserved_by over called };
         replies = record {
           replies = (
             refl,
@@ -130,8 +144,8 @@ module _ (limits : Limits) (below : DeviceView) (tables : Tables) (handle : Hand
           handles = record { handles = refl; next_handle = refl };
         };
         by =
-            right_alone view [] view.state below'.adapter.reserved tables.handles.slots tables.next_handle tables.labels.items tables'.untaken.items tables.labels.keeps
-            (IsSame-refl _) (more_reserved below below' reserves) kept.none_recorded told keeps.same_untaken refl;
+            right_alone view [] view.state (reserved_by over called) below'.adapter.reserved tables.handles.slots tables.next_handle tables.labels.items tables'.untaken.items tables.labels.keeps
+            (IsSame-refl _) (reserved_for below' reserves near unless_write) kept.none_recorded told keeps.same_untaken refl;
       })))
 
   sent_is : (kind : Kind) (payload : Payload) → sent_bytes kind payload ≡ bytes_called kind (payload_bytes payload)
@@ -146,7 +160,7 @@ module _ (limits : Limits) (below : DeviceView) (tables : Tables) (handle : Hand
   told_is : told_request ≡ called
   told_is = ap (λ (r : ClientRequest). record r { bytes = bytes_called q.kind buffer }) is_call
 
-  module _ (below' : DeviceView) (tables' : Tables) (copies : LabelBytes) (spot slot : ℕ) (below1 : DeviceView) (tables1 : Tables) (reserves : Reserves below below') (keeps : KeepsAnswers tables tables')
+  module _ (below' : DeviceView) (tables' : Tables) (copies : LabelBytes) (spot slot : ℕ) (below1 : DeviceView) (tables1 : Tables) (reserves : Reserves below below') (near : ReservesNear below (request_of limits.sector_size q) below') (unless_write : q.kind ≢ Write → below'.adapter ≡ below.adapter) (keeps : KeepsAnswers tables tables')
       (buffers : HasLabelBytes tables'.labels.keeps q.kind buffer copies) (admits' : Admits tables' handle q copies spot slot tables1) (sends' : SendsDown below' tables'.next_request spot (request_of limits.sector_size q) buffer below1) where
     abbrev reserved_below : DeviceView
     reserved_below = record below { rooms = below'.rooms; adapter = record below.adapter { reserved = below'.adapter.reserved } }
@@ -199,8 +213,8 @@ module _ (limits : Limits) (below : DeviceView) (tables : Tables) (handle : Hand
         All-permutation HasPartition _ _ (IsPermutation-sym _ _ sends.submits.opens.after.requests)
         (All-cons HasPartition _ below.state.requests refl (have_partitions tables.requests below.state.requests kept.sound.held))
 
-    moves_all : MovesByAll below.adapter sends.submits.starts below1.adapter
-    moves_all = moves_joined below.adapter [] (record below.adapter { reserved = below'.adapter.reserved }) sends.submits.starts below1.adapter (more_reserved below below' reserves) sends.submits.moves.adapter
+    abbrev first : AdapterView
+    first = record below.adapter { reserved = below'.adapter.reserved }
 
     is_served : IsServed limits below tables own sends.submits.starts below1 tables1
     is_served = record {
@@ -210,7 +224,7 @@ module _ (limits : Limits) (below : DeviceView) (tables : Tables) (handle : Hand
       run = run_own;
       same_rules = sends.submits.moves.same_rules;
       device = sends.submits.moves.run;
-      recorded = labels_moved below.adapter sends.submits.starts below1.adapter moves_all ∙ ap (λ before. before ++ sends.submits.starts) kept.none_recorded;
+      recorded = labels_moved first sends.submits.starts below1.adapter sends.submits.moves.adapter ∙ ap (λ before. before ++ sends.submits.starts) kept.none_recorded;
       own_labels = labels_are;
       same_keeps = admits.label_places.1;
       same_untaken = ap (λ (t : Tables). t.untaken.items) admits.after ∙ keeps.same_untaken;
@@ -220,10 +234,11 @@ module _ (limits : Limits) (below : DeviceView) (tables : Tables) (handle : Hand
         → (c : Collects below1 tables1 below2 tables2) → IsInState tables2.state below2.state
         → IsRight (CallReplies view handle called buffer (Requested id) (view_of limits below2 tables2)) view (view_of limits below2 tables2) × AsksInside below2
     admitted_right below2 tables2 id same_slot same_number c in_state =
-        let both : IsRightBy false (told_by limits below tables own sends.submits.starts below1 tables1 below2 tables2 is_served c) view (view_of limits below2 tables2) × AsksInside below2 =
-        IsRightBy-served limits below tables own sends.submits.starts below1 tables1 below2 tables2 is_served c kept.reached kept.inside moves_all in_state in (
+        let both : IsRightBy false (told_by limits below tables own sends.submits.starts below1 tables1 below2 tables2 is_served c (reserved_by over called)) view (view_of limits below2 tables2) × AsksInside below2 =
+        IsRightBy-served limits below tables own sends.submits.starts below1 tables1 below2 tables2 is_served c (reserved_by over called) first kept.reached kept.inside (reserved_for below' reserves near unless_write)
+        sends.submits.moves.adapter in_state in (
           record {
-            told = told_by limits below tables own sends.submits.starts below1 tables1 below2 tables2 is_served c;
+            told = told_by limits below tables own sends.submits.starts below1 tables1 below2 tables2 is_served c (reserved_by over called);
             replies = record {
               replies = record {
                 numbers_last = k.numbers_last;
@@ -231,6 +246,7 @@ module _ (limits : Limits) (below : DeviceView) (tables : Tables) (handle : Hand
                 next_number = number_is;
                 own = ap (λ n. Call n told_request ∷ []) (sym number_is) ∙ ap (λ r. Call id.number r ∷ []) told_is;
                 only_starts = All-append IsStart sends.submits.starts c.starts sends.submits.only_starts c.only_starts;
+                reserves = refl;
                 was_free = get_or-map (option_map holder_of) tables.requests.slots id.slot None ∙ ap (option_map holder_of) (ap (get tables.requests) same_slot ∙ admits.was_free);
                 in_range = subst (λ n. id.slot < n) kept.sound.places.requests (subst (λ n. n < tables.requests.capacity) (sym same_slot) admits.in_range);
                 holds = record {
@@ -273,11 +289,11 @@ module _ (limits : Limits) (below : DeviceView) (tables : Tables) (old : Manager
   abbrev Row : ManagerView → Reply → ManagerView → Type 0
   Row v reply new = IsRight (CallReplies v handle (call_on v handle q.kind q.offset buffer q.through) buffer reply new) v new
 
-  pub turned_away_kept : (limits' : Limits) (below' : DeviceView) (tables' : Tables) (reply : Reply) → limits' ≡ limits → Reserves below below' → (q.kind ≢ Write → below'.adapter ≡ below.adapter) → KeepsAnswers tables tables' → reply ≡ Refused InsufficientResources buffer
+  pub turned_away_kept : (limits' : Limits) (below' : DeviceView) (tables' : Tables) (reply : Reply) → limits' ≡ limits → Reserves below below' → ReservesNear below (request_of limits.sector_size q) below' → (q.kind ≢ Write → below'.adapter ≡ below.adapter) → KeepsAnswers tables tables' → reply ≡ Refused InsufficientResources buffer
       → IsRight (CallReplies old handle (call_on old handle q.kind q.offset buffer q.through) buffer reply (view_of limits' below' tables')) old (view_of limits' below' tables') × ManagerKept limits' below' tables'
-  turned_away_kept limits' below' tables' reply same reserves unless_write keeps is_reply =
+  turned_away_kept limits' below' tables' reply same reserves near unless_write keeps is_reply =
       let right : Row (view_of limits below tables) reply (view_of limits below' tables') =
-      turned_away limits below tables handle q buffer kept admissible told is_called below' tables' reply reserves unless_write keeps is_reply in
+      turned_away limits below tables handle q buffer kept admissible told is_called below' tables' reply reserves near unless_write keeps is_reply in
       subst (λ (l : Limits). Row old reply (view_of l below' tables') × ManagerKept l below' tables') (sym same) (
         subst (λ v. Row v reply (view_of limits below' tables')) shown right,
         ManagerKept-reserved limits below below' tables tables' right.told kept right.by reserves (reserved_sound limits below tables below' tables' kept.sound reserves keeps) (reserved_inside below below' kept.inside reserves)
@@ -285,14 +301,14 @@ module _ (limits : Limits) (below : DeviceView) (tables : Tables) (old : Manager
       )
 
   pub admitted_kept : (below1 : DeviceView) (tables1 : Tables) (copies : LabelBytes) (spot : ℕ) (below2 : DeviceView) (tables2 : Tables) (limits' : Limits) (below3 : DeviceView) (tables3 : Tables) (id : Id)
-      → Reserves below below1 → KeepsAnswers tables tables1 → HasLabelBytes tables1.labels.keeps q.kind buffer copies
+      → Reserves below below1 → ReservesNear below (request_of limits.sector_size q) below1 → (q.kind ≢ Write → below1.adapter ≡ below.adapter) → KeepsAnswers tables tables1 → HasLabelBytes tables1.labels.keeps q.kind buffer copies
       → IsSent below1 tables1 handle q (request_of limits.sector_size q) copies buffer spot id.slot below2 tables2 → id.number ≡ tables1.next_request
       → limits' ≡ limits → IsSound limits' below3 tables3 → Collects below2 tables2 below3 tables3
       → IsRight (CallReplies old handle (call_on old handle q.kind q.offset buffer q.through) buffer (Requested id) (view_of limits' below3 tables3)) old (view_of limits' below3 tables3) × ManagerKept limits' below3 tables3
-  admitted_kept below1 tables1 copies spot below2 tables2 limits' below3 tables3 id reserves keeps buffers sent number same sound collects =
+  admitted_kept below1 tables1 copies spot below2 tables2 limits' below3 tables3 id reserves near unless_write keeps buffers sent number same sound collects =
       let sound' : IsSound limits below3 tables3 = subst (λ (l : Limits). IsSound l below3 tables3) same sound in
       let both : Row (view_of limits below tables) (Requested id) (view_of limits below3 tables3) × AsksInside below3 =
-      admitted_right limits below tables handle q buffer kept admissible told is_called below1 tables1 copies spot id.slot below2 tables2 reserves keeps buffers sent.admits sent.sends
+      admitted_right limits below tables handle q buffer kept admissible told is_called below1 tables1 copies spot id.slot below2 tables2 reserves near unless_write keeps buffers sent.admits sent.sends
       below3 tables3 id refl number collects sound'.in_state in (
         subst (λ (l : Limits). Row old (Requested id) (view_of l below3 tables3)) (sym same) (subst (λ v. Row v (Requested id) (view_of limits below3 tables3)) shown both.0),
         ManagerKept-collected limits limits' below below2 below3 tables tables2 tables3 false both.0.told same kept both.0.by sound both.1 collects,

@@ -5,7 +5,6 @@ use Rattle.std.proofs.lemmas.Bool.{cases_eq}
 use Rattle.std.proofs.lemmas.List.Elements.{All-weaker, All-contains}
 use Rattle.slab.specs.Slab.{Slab, get, Updates as SlabUpdates}
 use Rattle.adapter.specs.View.{AdapterView, MovesByAll}
-use Rattle.adapter.proofs.Joining.{reserves_none}
 use Rattle.machine.specs.declared.Label.TheVariants.{Cancel}
 use Rattle.machine.specs.Rules.{Rules}
 use Rattle.machine.specs.State.{OpenRequest as OpenBelow}
@@ -109,7 +108,7 @@ module _ (limits : Limits) (below : DeviceView) (tables : Tables) (old : Manager
   }
 
   still : (below1 : DeviceView) → IsBeside below below1 → MovesByAll below.adapter [] below1.adapter
-  still below1 beside = subst (MovesByAll below.adapter []) (sym beside.same_adapter) (reserves_none below.adapter)
+  still below1 beside = beside.same_adapter
 
   not_recorded : (below1 : DeviceView) → IsBeside below below1 → below1.adapter.labels ≡ []
   not_recorded below1 beside = ap (λ (a : AdapterView). a.labels) beside.same_adapter ∙ kept.none_recorded
@@ -156,8 +155,8 @@ module _ (limits : Limits) (below : DeviceView) (tables : Tables) (old : Manager
           | inr marked ↦ subst (Contains h.numbers) is_number marked.1
         ]
 
-    cancels_row : (told : Told) → told.own ≡ map as_cancel h.numbers → told.device ≡ [] → told.admitted ≡ view.holders → CancelsAllOf view handle told
-    cancels_row told own none holders = record {
+    cancels_row : (told : Told) → told.own ≡ map as_cancel h.numbers → told.device ≡ [] → told.admitted ≡ view.holders → told.reserves ≡ None → CancelsAllOf view handle told
+    cancels_row told own none holders reserves_none = record {
       numbers = h.numbers;
       own = own;
       rising = h.rising;
@@ -165,6 +164,7 @@ module _ (limits : Limits) (below : DeviceView) (tables : Tables) (old : Manager
       all = is_told;
       no_device = none;
       holders = holders;
+      reserves_none = reserves_none;
     }
 
     module _ (tables1' : Tables) (same : tables1' ≡ record tables1 { handles = tables1'.handles }) where
@@ -197,7 +197,7 @@ module _ (limits : Limits) (below : DeviceView) (tables : Tables) (old : Manager
           → IsRight (Row old (view_of limits' below2 tables2)) old (view_of limits' below2 tables2) × ManagerKept limits' below2 tables2
       all_kept Row limits' below2 tables2 same' sound c row =
           step_kept limits below tables old kept shown Row (map as_cancel h.numbers) [] below1 tables1' all_served limits' below2 tables2 (still below1 h.beside) same' sound c
-          (row _ (cancels_row _ refl (c.quiet (none_to_start below1 h.beside h.numbers h.run)) (ap (λ (t : Tables). (view_of limits below t).holders) same ∙ h.same_holders)))
+          (row _ (cancels_row _ refl (c.quiet (none_to_start below1 h.beside h.numbers h.run)) (ap (λ (t : Tables). (view_of limits below t).holders) same ∙ h.same_holders) refl))
 
   -- a close
   pub close_kept : (handle : Handle) (below1 : DeviceView) (tables1 : Tables) → IsHandleOpen view handle → CancelsAll below tables handle.number below1 tables1 → IsSound limits below1 tables1 → HasNoneToMark tables1.requests handle.number
@@ -281,14 +281,15 @@ module _ (limits : Limits) (below : DeviceView) (tables : Tables) (old : Manager
     b : IsBelow below.state.requests request
     b = held_below tables.requests below.state.requests kept.sound.held slot request there
 
-    one_row : (told : Told) → told.own ≡ (if request.cancelled then [] else Cancel request.number ∷ []) → told.device ≡ [] → told.admitted ≡ view.holders → CancelsOne view request.number told
-    one_row told own none holders = record {
+    one_row : (told : Told) → told.own ≡ (if request.cancelled then [] else Cancel request.number ∷ []) → told.device ≡ [] → told.admitted ≡ view.holders → told.reserves ≡ None → CancelsOne view request.number told
+    one_row told own none holders reserves_none = record {
       request = b.open';
       is_open = b.is_open;
       is_number = b.same_number;
       own = own ∙ ap (λ marked. if marked then [] else Cancel request.number ∷ []) (sym b.same_cancelled);
       no_device = none;
       holders = holders;
+      reserves_none = reserves_none;
     }
 
     -- it was cancelled already
@@ -309,8 +310,8 @@ module _ (limits : Limits) (below : DeviceView) (tables : Tables) (old : Manager
     marked_kept : request.cancelled ≡ true → (limits' : Limits) (below2 : DeviceView) (tables2 : Tables) → limits' ≡ limits → IsSound limits' below2 tables2 → Collects below tables below2 tables2
         → IsRight (Row old (view_of limits' below2 tables2)) old (view_of limits' below2 tables2) × ManagerKept limits' below2 tables2
     marked_kept marked limits' below2 tables2 same sound c =
-        step_kept limits below tables old kept shown Row [] [] below tables marked_served limits' below2 tables2 (reserves_none below.adapter) same sound c
-        (row _ _ (one_row _ (ap (λ m. if m then [] else Cancel request.number ∷ []) (sym marked)) (c.quiet none_before) refl) (same_handles below below2 tables tables2 refl refl c))
+        step_kept limits below tables old kept shown Row [] [] below tables marked_served limits' below2 tables2 refl same sound c
+        (row _ _ (one_row _ (ap (λ m. if m then [] else Cancel request.number ∷ []) (sym marked)) (c.quiet none_before) refl refl) (same_handles below below2 tables tables2 refl refl c))
 
     module _ (below1 : DeviceView) (tables1 : Tables) (s : CancelsSlot below tables slot below1 tables1) (sound1 : IsSound limits below1 tables1) where
       is_request : s.marks.request ≡ request
@@ -347,7 +348,7 @@ module _ (limits : Limits) (below : DeviceView) (tables : Tables) (old : Manager
       slot_kept limits' below2 tables2 same sound c =
           let not_yet : request.cancelled ≡ false = ap (λ (r : OpenRequest). r.cancelled) (sym is_request) ∙ s.marks.not_yet in
           step_kept limits below tables old kept shown Row (Cancel request.number ∷ []) [] below1 tables1 slot_served limits' below2 tables2 (still below1 s.beside) same sound c
-          (row _ _ (one_row _ (ap (λ m. if m then [] else Cancel request.number ∷ []) (sym not_yet)) (c.quiet (none_to_start below1 s.beside (request.number ∷ []) slot_run)) (holders_same tables.requests tables1.requests slot s.marks.request s.marks.there s.marks.slots_are))
+          (row _ _ (one_row _ (ap (λ m. if m then [] else Cancel request.number ∷ []) (sym not_yet)) (c.quiet (none_to_start below1 s.beside (request.number ∷ []) slot_run)) (holders_same tables.requests tables1.requests slot s.marks.request s.marks.there s.marks.slots_are) refl)
           (same_handles below1 below2 tables1 tables2 (ap (λ (t : Tables). t.handles) s.marks.after) (ap (λ (t : Tables). t.next_handle) s.marks.after) c))
 
     pub one_kept : (below1 : DeviceView) (tables1 : Tables) → CancelsUnlessMarked below tables slot below1 tables1 → IsSound limits below1 tables1

@@ -7,7 +7,7 @@ use Rattle.std.proofs.lemmas.List.Sorted.{IsPermutation-refl, IsPermutation-sym,
 use Rattle.std.proofs.lemmas.List.Elements.{All-nil, All-head, All-tail, All-cons, All-append, All-weaker}
 use Rattle.slab.specs.Slab.{Slab, get, slab_len}
 use Rattle.ntstatus.specs.declared.NtStatus.{NtStatus}
-use Rattle.adapter.proofs.Joining.{reserves_none, moves_joined}
+use Rattle.adapter.proofs.Joining.{moves_joined}
 use Rattle.std.specs.Global.{Box}
 use Rattle.irp.specs.declared.Irp.{Irp}
 use Rattle.device.specs.declared.climbing.Climb.TheVariants.{Finished}
@@ -230,7 +230,7 @@ gathers_none below tables none = record {
   same_rules = refl;
   same_rooms = λ spot. refl;
   run = rw none (IsSame-refl below.state);
-  adapter = reserves_none below.adapter;
+  adapter = refl;
   untaken = rw none (IsPermutation-refl tables.untaken.items);
   holders = λ slot. rw none (sym (unless_none (option_map holder_of (get tables.requests slot))));
   same_labels = refl;
@@ -368,7 +368,7 @@ module _ (below mid new : DeviceView) (first t t' t'' : Tables) (g : Gathers bel
     same_rules = ap (λ (v : DeviceView). v.rules) taken ∙ g.same_rules;
     same_rooms = subst (λ (v : DeviceView). SameRooms below.rooms v.rooms) (sym taken) g.same_rooms;
     run = subst (λ s. Run below.rules below.state (map as_label g.starts ++ map as_answer t.answered.items) s) (sym (ap (λ (v : DeviceView). v.state) taken)) g.run;
-    adapter = record { moved = mid.adapter; moves = g.adapter; taken = ap (λ (v : DeviceView). v.adapter) taken };
+    adapter = record { first = below.adapter; before = refl; moved = mid.adapter; moves = g.adapter; taken = ap (λ (v : DeviceView). v.adapter) taken };
     labels = e.tells ∙ ap (λ before. before ++ end_labels e.ends) (labels
         ∙ ap (λ q. (q.items ++ map as_label mid.adapter.labels) ++ map as_answer t.answered.items) g.same_labels
         ∙ ap (λ ls. (first.labels.items ++ map as_label ls) ++ map as_answer t.answered.items) (labels_moved below.adapter g.starts mid.adapter g.adapter));

@@ -5,7 +5,6 @@ use Rattle.std.proofs.lemmas.Bool.{cases_eq, leb-false}
 use Rattle.slab.specs.Slab.{Slab, get, slab_len, Updates as SlabUpdates}
 use Rattle.ntstatus.specs.declared.NtStatus.{NtStatus}
 use Rattle.ntstatus.specs.declared.NtStatus.TheVariants.{DeviceBusy as BusyStatus, DeletePending as PendingStatus, InvalidParameter as ParameterStatus}
-use Rattle.adapter.proofs.Joining.{reserves_none}
 use Rattle.ntstatus.specs.First.{when, first_some}
 use Rattle.device.specs.View.{DeviceView}
 use Rattle.machine.proofs.Same.{IsSame-refl}
@@ -120,8 +119,8 @@ opened_right limits below old partition (HandleReply handle) new h none_told non
         },
       );
       by =
-          right_alone (view_of limits below old) [] (view_of limits below old).state below.adapter.reserved new.handles.slots (old.next_handle + 1) old.labels.items old.untaken.items old.labels.keeps
-          (IsSame-refl _) (reserves_none below.adapter) none_recorded none_told refl refl;
+          right_alone (view_of limits below old) [] (view_of limits below old).state None below.adapter.reserved new.handles.slots (old.next_handle + 1) old.labels.items old.untaken.items old.labels.keeps
+          (IsSame-refl _) refl none_recorded none_told refl refl;
     })
 opened_right limits below old partition (Refused reason bytes) new h none_told none_recorded opens =
     subst (λ t. IsRight (OpenReplies (view_of limits below old) partition (Refused reason bytes) (view_of limits below t)) (view_of limits below old) (view_of limits below t)) (sym opens.2) (record {

@@ -8,7 +8,6 @@ use Rattle.std.proofs.lemmas.List.Elements.{All-nil}
 use Rattle.slab.specs.Slab.{get}
 use Rattle.srb.specs.declared.DeviceLabel.{DeviceLabel}
 use Rattle.srb.specs.declared.DeviceLabel.TheVariants.{Start, Act as ActLabel, Fault, Return}
-use Rattle.adapter.proofs.Joining.{reserves_none}
 use Rattle.pnp.specs.declared.State.TheVariants.{Removing}
 use Rattle.machine.specs.Rules.{Rules}
 use Rattle.machine.specs.State.{Piece, State, IsSame}
@@ -87,7 +86,7 @@ module _ (below : DeviceView) (tables : Tables) (below' : DeviceView) (tables' :
     same_rules = ap (λ (v : DeviceView). v.rules) t.taken;
     same_rooms = λ spot. ap (λ (v : DeviceView). room_at v.rooms spot) t.taken;
     run = subst (λ s. IsSame below.state s) (sym (ap (λ (v : DeviceView). v.state) t.taken)) (IsSame-refl below.state);
-    adapter = record { moved = below.adapter; moves = reserves_none below.adapter; taken = ap (λ (v : DeviceView). v.adapter) t.taken };
+    adapter = record { first = below.adapter; before = refl; moved = below.adapter; moves = refl; taken = ap (λ (v : DeviceView). v.adapter) t.taken };
     labels =
         t.tells
         ∙ ap (λ ls. tables.labels.items ++ map as_label ls) (sym (append-nil below.adapter.labels))

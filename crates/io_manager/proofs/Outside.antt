@@ -30,6 +30,8 @@ use Rattle.machine.proofs.Placed.{get_or-splice_below, get_or-splice_above}
 use Rattle.machine_laws.proofs.Serving.{IsSized}
 use Rattle.machine_laws.proofs.Sound.{IsSound, IsSound-Step}
 use Rattle.device.specs.View.{KeepsOutside}
+use Rattle.io_manager.specs.Right.{ReservesFor}
+use Rattle.io_manager.proofs.AdapterJoins.{reserves_more}
 use Rattle.io_manager.specs.inside.Inside.{LieIn, WritesInside, AllWriteInside}
 use Rattle.io_manager.proofs.Askings.{all_asked, device_keeps}
 
@@ -158,11 +160,14 @@ module _ (partitions : List Extent) where
   performs_outside true told size sectors bytes block (ReadCapacity16 allocation) moved after inside means h i apart = ap (λ xs. slice_get xs i) h.1
 
   -- what is reserved says nothing of either
-  pub reserves_inside : (old new : AdapterView) → ReservesMore old new → AllWriteInside partitions old → AllWriteInside partitions new × KeepsOutside partitions old new
+  reserves_inside : (old new : AdapterView) → ReservesMore old new → AllWriteInside partitions old → AllWriteInside partitions new × KeepsOutside partitions old new
   reserves_inside old new h inside = (
     subst (AllWriteInside partitions) (sym h.after) inside,
     λ i apart. ap (λ (v : AdapterView). slice_get v.sectors i) h.after,
   )
+
+  pub first_inside : (reserves : Option Extent) (old first : AdapterView) → ReservesFor reserves old first → AllWriteInside partitions old → AllWriteInside partitions first × KeepsOutside partitions old first
+  first_inside reserves old first h inside = reserves_inside old first (reserves_more reserves old first h) inside
 
   noted_all : (tags : List TagInUse) → All (WritesInside partitions) tags → All (WritesInside partitions) (map met_by_reset tags)
   noted_all [] h = h
@@ -220,12 +225,11 @@ module _ (rules : Rules) where
 
   pub stays_inside : (labels : List DeviceLabel) (s s' : State) (old new : AdapterView) → IsSound rules s → All HasPartition s.requests → Run rules s (map as_label labels) s' → MovesByAll old labels new
       → AllWriteInside rules.partitions old → AllWriteInside rules.partitions new × KeepsOutside rules.partitions old new
-  stays_inside [] s s' old new sound given run moves inside = reserves_inside rules.partitions old new moves inside
-  stays_inside (label ∷ labels) s s' old new sound given (mid, inl (free, step), run) (before, after, more, (tag, moved), rest) inside =
-      let a : AllWriteInside rules.partitions before × KeepsOutside rules.partitions old before = reserves_inside rules.partitions old before more inside in
-      let b : AllWriteInside rules.partitions after × KeepsOutside rules.partitions before after =
-      moves_inside rules.partitions before tag label after moved (starts_inside s label mid sound given step) a.0 in
+  stays_inside [] s s' old new sound given run moves inside = (subst (AllWriteInside rules.partitions) (sym moves) inside, λ i apart. ap (λ (v : AdapterView). slice_get v.sectors i) moves)
+  stays_inside (label ∷ labels) s s' old new sound given (mid, inl (free, step), run) (after, (tag, moved), rest) inside =
+      let b : AllWriteInside rules.partitions after × KeepsOutside rules.partitions old after =
+      moves_inside rules.partitions old tag label after moved (starts_inside s label mid sound given step) inside in
       let c : AllWriteInside rules.partitions new × KeepsOutside rules.partitions after new =
       stays_inside labels mid s' after new (IsSound-Step rules s (as_label label) mid sound (inl (free, step))) (all_asked IsOnPartition s mid (device_keeps rules s label mid step) given) run rest b.0 in
-      (c.0, λ i apart. c.1 i apart ∙ b.1 i apart ∙ a.1 i apart)
+      (c.0, λ i apart. c.1 i apart ∙ b.1 i apart)
   stays_inside (label ∷ labels) s s' old new sound given (mid, inr none, run) moves inside = absurd none

@@ -4,7 +4,6 @@ use Rattle.std.specs.Prelude.{IsPermutation}
 use Rattle.std.proofs.lemmas.List.{append-nil}
 use Rattle.std.proofs.lemmas.List.Sorted.{IsPermutation-refl}
 use Rattle.sector.specs.declared.Extent.{Extent}
-use Rattle.adapter.specs.View.{ReservesMore}
 use Rattle.adapter.proofs.Joining.{reserves_none}
 use Rattle.machine.specs.declared.Label.{Label}
 use Rattle.machine.specs.State.{State}
@@ -15,7 +14,7 @@ use Rattle.machine.proofs.Same.{IsSame-refl}
 use Rattle.io_manager.specs.declared.Answer.{Answer}
 use Rattle.io_manager.specs.declared.OpenHandle.{OpenHandle}
 use Rattle.io_manager.specs.Shown.{ManagerView, Holder}
-use Rattle.io_manager.specs.Right.{Told, tells_nothing, unless_answered, IsRightBy}
+use Rattle.io_manager.specs.Right.{Told, ReservesFor, tells_nothing, unless_answered, IsRightBy}
 
 pub none_answered : (holder : Option Holder) → holder ≡ unless_answered [] holder
 none_answered None = refl
@@ -26,19 +25,21 @@ abbrev pub tells_own : ManagerView → List Label → Told
 tells_own v own = record (tells_nothing v) { own = own }
 
 -- the machine, the labels and the handles may change, and more may be reserved
-pub right_alone : (v : ManagerView) (own : List Label) (s : State) (reserved : List Extent) (handles : List (Option OpenHandle)) (next_handle : ℕ) (labels : List Label) (answers : List Answer) (keeps : Bool)
-    → Run v.rules v.state own s → ReservesMore v.adapter (record v.adapter { reserved = reserved }) → v.adapter.labels ≡ [] → labels ≡ own → answers ≡ v.answers → keeps ≡ v.keeps
-    → IsRightBy false (tells_own v own) v
+pub right_alone : (v : ManagerView) (own : List Label) (s : State) (reserves : Option Extent) (reserved : List Extent) (handles : List (Option OpenHandle)) (next_handle : ℕ) (labels : List Label) (answers : List Answer) (keeps : Bool)
+    → Run v.rules v.state own s → ReservesFor reserves v.adapter (record v.adapter { reserved = reserved }) → v.adapter.labels ≡ [] → labels ≡ own → answers ≡ v.answers → keeps ≡ v.keeps
+    → IsRightBy false (record (tells_own v own) { reserves = reserves }) v
     (record v { state = s; adapter = record v.adapter { reserved = reserved }; handles = handles; next_handle = next_handle; labels = labels; answers = answers; keeps = keeps })
-right_alone v own s reserved handles next_handle labels answers keeps run moves none_recorded told waits kept = record {
+right_alone v own s reserves reserved handles next_handle labels answers keeps run before none_recorded told waits kept = record {
   in_order = told ∙ sym (append-nil own) ∙ sym (append-nil (own ++ [])) ∙ sym (append-nil ((own ++ []) ++ []));
   rising = tt;
   same_rules = refl;
   same_keeps = kept;
   run = subst (λ told. Run v.rules v.state told s) (sym told) run;
   adapter = record {
+    first = record v.adapter { reserved = reserved };
+    before = before;
     moved = record v.adapter { reserved = reserved };
-    moves = moves;
+    moves = refl;
     taken = ap (λ recorded. record v.adapter { reserved = reserved; labels = recorded }) none_recorded;
   };
   outside = λ sector apart. refl;
@@ -49,7 +50,7 @@ right_alone v own s reserved handles next_handle labels answers keeps run moves 
 -- nothing is told, and nothing changes
 pub IsRightBy-unmoved : (v : ManagerView) → v.labels ≡ [] → v.adapter.labels ≡ [] → IsRightBy false (tells_nothing v) v v
 IsRightBy-unmoved v none_told none_recorded =
-    right_alone v [] v.state v.adapter.reserved v.handles v.next_handle v.labels v.answers v.keeps (IsSame-refl v.state) (reserves_none v.adapter) none_recorded none_told refl refl
+    right_alone v [] v.state None v.adapter.reserved v.handles v.next_handle v.labels v.answers v.keeps (IsSame-refl v.state) refl none_recorded none_told refl refl
 
 pub none_reserved : (v : DeviceView) → Reserves v v
 none_reserved v = record { same = refl; adapter = reserves_none v.adapter }

@@ -9,7 +9,6 @@ use Rattle.slab.specs.Slab.{Slab}
 use Rattle.srb.specs.declared.DeviceLabel.{DeviceLabel}
 use Rattle.srb.specs.declared.DeviceLabel.TheVariants.{Start, Act, Fault, Return}
 use Rattle.adapter.specs.View.{AdapterView, MovesByAll}
-use Rattle.adapter.proofs.Joining.{reserves_none}
 use Rattle.machine.specs.declared.Label.{Label}
 use Rattle.machine.specs.declared.Label.TheVariants.{Pause, Resume, Remove, Surprise}
 use Rattle.machine.specs.Rules.{Rules}
@@ -252,7 +251,7 @@ module _ (limits : Limits) (below : DeviceView) (tables : Tables) (old : Manager
     }
 
     still : (below1 : DeviceView) → IsBeside below below1 → MovesByAll below.adapter [] below1.adapter
-    still below1 beside = subst (MovesByAll below.adapter []) (sym beside.same_adapter) (reserves_none below.adapter)
+    still below1 beside = beside.same_adapter
 
     -- the device's labels come only where something has ended or may start
     valid_kept : (event : Event) (below1 : DeviceView) (limits' : Limits) (below2 : DeviceView) (tables2 : Tables) → next event tables.state ≡ Some p → IsBeside below below1
@@ -263,7 +262,7 @@ module _ (limits : Limits) (below : DeviceView) (tables : Tables) (old : Manager
         (served below1.state [] below1 step asks beside.same_rules (IsSame-refl _) (ap (λ (a : AdapterView). a.labels) beside.same_adapter ∙ kept.none_recorded))
         limits' below2 tables2 (still below1 beside) same sound c (record {
           valid = ap (next event) (state_is tables.state below.state kept.sound.in_state) ∙ valid;
-          tells = record { own = refl; holders = ap (λ (t : Tables). (view_of limits below t).holders) moved.after };
+          tells = record { own = refl; holders = ap (λ (t : Tables). (view_of limits below t).holders) moved.after; reserves_none = refl };
           no_device = none;
           handles = same_handles below1 below2 tables2 c;
         })
@@ -347,7 +346,7 @@ module _ (limits : Limits) (below : DeviceView) (tables : Tables) (old : Manager
         (record { is_paused = resumes.resumes.is_paused; after = shown_same tables.next_request false resumes.resumed _ resumes.resumes.after }) resumed_asks resumes.moves.same_rules resumes.moves.run
         (labels_moved below.adapter resumes.starts below1.adapter resumes.moves.adapter ∙ ap (λ before. before ++ resumes.starts) kept.none_recorded))
         limits' below2 tables2 resumes.moves.adapter same sound c (
-          recalled (view_of limits below2 tables2) _ (record { own = refl; holders = ap (λ (t : Tables). (view_of limits below t).holders) moved.after }) (All-append IsStart resumes.starts c.starts resumes.only_starts c.only_starts),
+          recalled (view_of limits below2 tables2) _ (record { own = refl; holders = ap (λ (t : Tables). (view_of limits below t).holders) moved.after; reserves_none = refl }) (All-append IsStart resumes.starts c.starts resumes.only_starts c.only_starts),
           same_handles Started Resume tables1 moved (ap is_gone was) refl below1 below2 tables2 c,
         )
 

@@ -1,13 +1,15 @@
 -- From the moves of the device below, and what was collected after them, to a right step of the manager.
-use Rattle.std.proofs.Common.{◌≡◌, inl, ℕ, Bool, true, false, List, [], ◌++◌, None, refl, sym, ◌∙◌, ap, subst, map, length, arith}
+use Rattle.std.proofs.Common.{◌≡◌, inl, ℕ, Bool, true, false, List, [], ◌++◌, Option, None, refl, sym, ◌∙◌, ap, subst, map, length, arith}
 use Rattle.std.specs.Prelude.{IsPermutation, All, option_map, slice_index_or}
 use Rattle.std.proofs.Math.ListN.{get_or-map}
 use Rattle.std.proofs.lemmas.List.{map-append}
 use Rattle.std.proofs.lemmas.List.Sorted.{All-permutation, IsPermutation-sym}
 use Rattle.std.proofs.lemmas.List.Elements.{All-weaker}
 use Rattle.slab.specs.Slab.{Slab}
+use Rattle.sector.specs.declared.Extent.{Extent}
 use Rattle.srb.specs.declared.DeviceLabel.{DeviceLabel}
 use Rattle.adapter.specs.View.{AdapterView, MovesByAll}
+use Rattle.adapter.proofs.Joining.{moves_joined}
 use Rattle.machine.specs.declared.Label.{Label}
 use Rattle.machine.specs.Rules.{Rules}
 use Rattle.machine.specs.State.{OpenRequest, State}
@@ -23,13 +25,12 @@ use Rattle.io_manager.specs.declared.Limits.{Limits}
 use Rattle.io_manager.specs.declared.tables.OpenRequest.{OpenRequest as OpenEntry}
 use Rattle.io_manager.specs.declared.tables.Tables.{Tables}
 use Rattle.io_manager.specs.inside.Inside.{AllWriteInside}
-use Rattle.io_manager.specs.Right.{as_answer, labels_of, end_labels, Told, AdapterMoves, IsRightBy, unless_answered}
+use Rattle.io_manager.specs.Right.{as_answer, labels_of, end_labels, Told, ReservesFor, AdapterMoves, IsRightBy, unless_answered}
 use Rattle.io_manager.specs.inside.Sound.{shown_state, is_gone, holder_of, holders_of, view_of, IsHeldAt, AreHeld, IsSpotted, IsInState, EndsIf, IsSound, AsksInside, Collects}
 use Rattle.io_manager.specs.Opening.{rules_of}
 use Rattle.io_manager.proofs.Over.{labels_over, answers_over}
 use Rattle.io_manager.proofs.Ordering.{Run-split}
-use Rattle.io_manager.proofs.Outside.{HasPartition, stays_inside}
-use Rattle.io_manager.proofs.AdapterJoins.{taken_joined}
+use Rattle.io_manager.proofs.Outside.{HasPartition, first_inside, stays_inside}
 use Rattle.io_manager.proofs.Askings.{KeepsAsked, asks_same, as_many, run_keeps, AreHeld-along}
 use Rattle.io_manager.proofs.Fitted.{FitsBelow-same, IsInState-fewer}
 
@@ -89,9 +90,16 @@ module _ (limits : Limits) (below : DeviceView) (tables : Tables) (own : List La
   abbrev over : Rules
   over = rules_of limits below.rules
 
-  -- what the step tells
-  abbrev pub told_by : Told
-  told_by = record { own = own; device = labels ++ c.starts; answers = c.answers; ends = c.ends; admitted = holders_of tables1.requests }
+  -- what the step tells, which reserved for these sectors first
+  abbrev pub told_by : Option Extent → Told
+  told_by reserves = record {
+    own = own;
+    device = labels ++ c.starts;
+    answers = c.answers;
+    ends = c.ends;
+    admitted = holders_of tables1.requests;
+    reserves = reserves;
+  }
 
   pub same_rules : below2.rules ≡ below.rules
   same_rules = c.same_rules ∙ h.same_rules
@@ -139,7 +147,7 @@ module _ (limits : Limits) (below : DeviceView) (tables : Tables) (own : List La
         IsSame-refl _,
       )
 
-  whole_run : IsInState tables2.state below2.state → Run over (view_of limits below tables).state (labels_of told_by) (shown_state tables1.next_request (is_gone tables2.state) below2.state)
+  whole_run : IsInState tables2.state below2.state → Run over (view_of limits below tables).state (labels_of (told_by None)) (shown_state tables1.next_request (is_gone tables2.state) below2.state)
   whole_run k =
       let a : Run over (view_of limits below tables).state (own ++ map as_label (labels ++ c.starts)) (shown1 split.0) =
       Run-append over _ own (shown1 h.opened) (map as_label (labels ++ c.starts)) (shown1 split.0) h.run device_over in
@@ -148,7 +156,7 @@ module _ (limits : Limits) (below : DeviceView) (tables : Tables) (own : List La
       Run-append over _ ((own ++ map as_label (labels ++ c.starts)) ++ map as_answer c.answers) (shown1 below2.state) (end_labels c.ends) _ b (end_run c.ends tables2.state c.removal k)
 
   -- nothing recorded was left untaken, so the labels are those of the step
-  all_labels : tables2.labels.items ≡ labels_of told_by
+  all_labels : tables2.labels.items ≡ labels_of (told_by None)
   all_labels =
       c.labels
       ∙ ap (λ own'. ((own' ++ map as_label (below1.adapter.labels ++ c.starts)) ++ map as_answer c.answers) ++ end_labels c.ends) h.own_labels
@@ -160,16 +168,16 @@ module _ (limits : Limits) (below : DeviceView) (tables : Tables) (own : List La
       ∙ c.holders slot
       ∙ ap (unless_answered c.answers) (sym (get_or-map (option_map holder_of) tables1.requests.slots slot None))
 
-  pub right_by : (reset : Bool) → AdapterMoves reset below.adapter (labels ++ c.starts) below2.adapter → KeepsOutside below.rules.partitions below.adapter below2.adapter → IsInState tables2.state below2.state
-      → IsRightBy reset told_by (view_of limits below tables) (view_of limits below2 tables2)
-  right_by reset moves outside k = record {
+  pub right_by : (reset : Bool) (reserves : Option Extent) → AdapterMoves reset reserves below.adapter (labels ++ c.starts) below2.adapter → KeepsOutside below.rules.partitions below.adapter below2.adapter → IsInState tables2.state below2.state
+      → IsRightBy reset (told_by reserves) (view_of limits below tables) (view_of limits below2 tables2)
+  right_by reset reserves moves outside k = record {
     in_order = all_labels;
     rising = c.rising;
     same_rules = ap (rules_of limits) same_rules;
     same_keeps = c.places.labels.1 ∙ h.same_keeps;
     run =
         subst (λ all. Run over (view_of limits below tables).state all (view_of limits below2 tables2).state) (sym all_labels)
-        (subst (λ n. Run over (view_of limits below tables).state (labels_of told_by) (shown_state n (is_gone tables2.state) below2.state)) (sym c.same_next_request) (whole_run k));
+        (subst (λ n. Run over (view_of limits below tables).state (labels_of (told_by None)) (shown_state n (is_gone tables2.state) below2.state)) (sym c.same_next_request) (whole_run k));
     adapter = moves;
     outside = outside;
     holders = holders_are;
@@ -177,18 +185,22 @@ module _ (limits : Limits) (below : DeviceView) (tables : Tables) (own : List La
   }
 
   -- the adapter wrote inside the partitions alone
-  pub stays : (moved : AdapterView) → IsReached over (view_of limits below tables).state → AllWriteInside below.rules.partitions below.adapter → MovesByAll below.adapter (labels ++ c.starts) moved
-      → AllWriteInside below.rules.partitions moved × KeepsOutside below.rules.partitions below.adapter moved
-  stays moved reached inside moves =
-      stays_inside over (labels ++ c.starts) (shown1 h.opened) (shown1 split.0) below.adapter moved
+  pub stays : (first moved : AdapterView) → IsReached over (view_of limits below tables).state → AllWriteInside below.rules.partitions first → MovesByAll first (labels ++ c.starts) moved
+      → AllWriteInside below.rules.partitions moved × KeepsOutside below.rules.partitions first moved
+  stays first moved reached inside moves =
+      stays_inside over (labels ++ c.starts) (shown1 h.opened) (shown1 split.0) first moved
       (IsSound-Run over _ own (shown1 h.opened) (IsSound-reached over _ reached) h.run) h.given device_over moves inside
 
   -- as it moved without a reset
-  pub IsRightBy-served : IsReached over (view_of limits below tables).state → AsksInside below → MovesByAll below.adapter labels below1.adapter → IsInState tables2.state below2.state
-      → IsRightBy false told_by (view_of limits below tables) (view_of limits below2 tables2) × AsksInside below2
-  IsRightBy-served reached inside moves k =
-      let joined : AdapterMoves false below.adapter (labels ++ c.starts) below2.adapter = taken_joined below.adapter labels below1.adapter c.starts below2.adapter moves c.adapter in
-      let both : AllWriteInside below.rules.partitions joined.moved × KeepsOutside below.rules.partitions below.adapter joined.moved = stays joined.moved reached inside joined.moves in (
-        right_by false joined (subst (KeepsOutside below.rules.partitions below.adapter) (sym joined.taken) both.1) k,
-        subst (λ (r : Rules). AllWriteInside r.partitions below2.adapter) (sym same_rules) (subst (AllWriteInside below.rules.partitions) (sym joined.taken) both.0),
+  pub IsRightBy-served : (reserves : Option Extent) (first : AdapterView) → IsReached over (view_of limits below tables).state → AsksInside below → ReservesFor reserves below.adapter first
+      → MovesByAll first labels below1.adapter → IsInState tables2.state below2.state
+      → IsRightBy false (told_by reserves) (view_of limits below tables) (view_of limits below2 tables2) × AsksInside below2
+  IsRightBy-served reserves first reached inside before moves k =
+      let on : MovesByAll below1.adapter c.starts c.adapter.moved = subst (λ v. MovesByAll v c.starts c.adapter.moved) c.adapter.before c.adapter.moves in
+      let all : MovesByAll first (labels ++ c.starts) c.adapter.moved = moves_joined first labels below1.adapter c.starts c.adapter.moved moves on in
+      let a : AllWriteInside below.rules.partitions first × KeepsOutside below.rules.partitions below.adapter first = first_inside below.rules.partitions reserves below.adapter first before inside in
+      let b : AllWriteInside below.rules.partitions c.adapter.moved × KeepsOutside below.rules.partitions first c.adapter.moved = stays first c.adapter.moved reached a.0 all in
+      let outside : KeepsOutside below.rules.partitions below.adapter (record c.adapter.moved { labels = [] }) = λ i apart. b.1 i apart ∙ a.1 i apart in (
+        right_by false reserves (record { first = first; before = before; moved = c.adapter.moved; moves = all; taken = c.adapter.taken }) (subst (KeepsOutside below.rules.partitions below.adapter) (sym c.adapter.taken) outside) k,
+        subst (λ (r : Rules). AllWriteInside r.partitions below2.adapter) (sym same_rules) (subst (AllWriteInside below.rules.partitions) (sym c.adapter.taken) b.0),
       )

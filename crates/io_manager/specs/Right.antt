@@ -11,10 +11,10 @@ use Rattle.srb.specs.declared.Completion.{Completion}
 use Rattle.srb.specs.declared.Entry.{Entry}
 use Rattle.srb.specs.declared.DeviceLabel.{DeviceLabel}
 use Rattle.srb.specs.declared.DeviceLabel.TheVariants.{Return}
-use Rattle.adapter.specs.View.{AdapterView, MovesByAll, NotesReset, ReservesMore}
+use Rattle.sector.specs.declared.Extent.{Extent}
+use Rattle.adapter.specs.View.{AdapterView, MovesByAll, NotesReset, ReservesMore, ReservesNear}
 use Rattle.adapter.specs.Calls.{IsBooked}
 use Rattle.adapter.specs.Booking.{Books}
-use Rattle.srb.specs.declared.Kind.{Kind}
 use Rattle.srb.specs.declared.Kind.TheVariants.{Write}
 use Rattle.machine.specs.declared.ClientRequest.{ClientRequest}
 use Rattle.machine.specs.declared.Label.{Label}
@@ -41,7 +41,7 @@ use Rattle.io_manager.specs.declared.Reply.TheVariants.{Handle as HandleReply, O
 use Rattle.io_manager.specs.declared.Reply.TheVariants.{Answered, Refused, Ignored}
 use Rattle.io_manager.specs.Shown.{ManagerView, Holder}
 use Rattle.io_manager.specs.Calls.{handle_limit, are_used_up, status_of_refusal, partition_of, without_bytes}
-use Rattle.io_manager.specs.Calls.{open_refusal}
+use Rattle.io_manager.specs.Calls.{open_refusal, reserved_by}
 
 -- the label of an answer
 abbrev pub as_answer : Answer → Label
@@ -72,13 +72,15 @@ pub record Updates {X : Type 0} (old new : List (Option X)) (slot : ℕ) (item :
 -- WHAT A STEP TELLS
 
 -- a step's own labels, then the device's, then the answers of requests that were open, and last whether a removal
--- ended; and the requests by slot that were open before it, with the one that it opened
+-- ended; the requests by slot that were open before it, with the one that it opened; and for which sectors of the disk
+-- it reserved, if for any
 pub record Told : Type 0 where
   pub own : List Label
   pub device : List DeviceLabel
   pub answers : List Answer
   pub ends : Bool
   pub admitted : List (Option Holder)
+  pub reserves : Option Extent
 
 -- the label of a removal that ended
 abbrev pub end_labels : Bool → List Label
@@ -89,9 +91,16 @@ end_labels false = []
 abbrev pub labels_of : Told → List Label
 labels_of told = ((told.own ++ map as_label told.device) ++ map as_answer told.answers) ++ end_labels told.ends
 
--- nothing is told, and no request came or went
+-- nothing is told, no request came or went, and nothing was reserved
 abbrev pub tells_nothing : ManagerView → Told
-tells_nothing v = record { own = []; device = []; answers = []; ends = false; admitted = v.holders }
+tells_nothing v = record {
+  own = [];
+  device = [];
+  answers = [];
+  ends = false;
+  admitted = v.holders;
+  reserves = None;
+}
 
 -- THE TABLE: for each call what is told, its reply, and what becomes of the handles
 
@@ -117,10 +126,10 @@ pub record RefusesAlone (old : ManagerView) (reason why : Refusal) (bytes : List
 -- READ, WRITE, FLUSH
 
 -- nothing happened, except that more may be reserved for a write
-pub record ReservesAlone (old : ManagerView) (kind : Kind) (new : ManagerView) (told : Told) : Type 0 where
-  pub nothing : told ≡ tells_nothing old
+pub record ReservesAlone (old : ManagerView) (q : ClientRequest) (new : ManagerView) (told : Told) : Type 0 where
+  pub nothing : told ≡ record (tells_nothing old) { reserves = reserved_by old.rules q }
   pub same_state : new.state ≡ old.state
-  pub unless_write : kind ≢ Write → new.adapter ≡ old.adapter
+  pub unless_write : q.kind ≢ Write → new.adapter ≡ old.adapter
 
 -- a call that is refused, or has no bytes, tells its two labels and no more; nothing was reserved
 pub record IsAnsweredAtOnce (old : ManagerView) (q : ClientRequest) (status : NtStatus) (new : ManagerView)
@@ -145,6 +154,7 @@ pub record IsAdmitted (old : ManagerView) (handle : Handle) (q : ClientRequest) 
   pub next_number : number ≡ old.state.next_request
   pub own : told.own ≡ Call number q ∷ []
   pub only_starts : All IsStart told.device
+  pub reserves : told.reserves ≡ reserved_by old.rules q
   pub was_free : slice_index_or old.holders slot None ≡ None
   pub in_range : IsSlotOf old.rules.open_requests slot
   pub holds : Updates old.holders told.admitted slot (Some (record { number = number; handle = handle.number }))
@@ -155,7 +165,7 @@ abbrev pub IsTurnedAway : ManagerView → ClientRequest → Refusal → ManagerV
 IsTurnedAway old q DeviceBusy new told = (are_used_up old.state.next_request ≡ true) × IsUnmoved old new told
 IsTurnedAway old q InsufficientResources new told =
     (are_used_up old.state.next_request ≡ false) × (refusal old.rules old.state q ≡ None)
-    × ReservesAlone old q.kind new told
+    × ReservesAlone old q new told
 IsTurnedAway old q _ new told = ⊥
 
 -- the reply to a read, a write or a flush with this buffer
@@ -227,6 +237,7 @@ pub record CancelsAllOf (old : ManagerView) (handle : ℕ) (told : Told) : Type 
   pub all : (number : ℕ) → IsToCancel old handle number → Contains numbers number
   pub no_device : told.device ≡ []
   pub holders : told.admitted ≡ old.holders
+  pub reserves_none : told.reserves ≡ None
 
 -- an open request becomes cancelled, if it was not, and no piece starts
 pub record CancelsOne (old : ManagerView) (number : ℕ) (told : Told) : Type 0 where
@@ -236,6 +247,7 @@ pub record CancelsOne (old : ManagerView) (number : ℕ) (told : Told) : Type 0 
   pub own : told.own ≡ (if request.cancelled then [] else Cancel number ∷ [])
   pub no_device : told.device ≡ []
   pub holders : told.admitted ≡ old.holders
+  pub reserves_none : told.reserves ≡ None
 
 -- an open handle is closed, and no other handle changes
 pub record IsClosed (old : ManagerView) (handle : Handle) (new : ManagerView) : Type 0 where
@@ -306,6 +318,7 @@ pnp_state s =
 pub record TellsOne (old : ManagerView) (label : Label) (told : Told) : Type 0 where
   pub own : told.own ≡ label ∷ []
   pub holders : told.admitted ≡ old.holders
+  pub reserves_none : told.reserves ≡ None
 
 -- the call is valid in this state, and the device tells no label
 pub record IsValid (old : ManagerView) (event : Event) (after : PnpState) (label : Label) (new : ManagerView)
@@ -373,6 +386,7 @@ pub record TellsAct (old : ManagerView) (tag : ℕ) (told : Told) : Type 0 where
   pub device : told.device ≡ label ∷ []
   pub ends_none : EndsNone told
   pub holders : told.admitted ≡ old.holders
+  pub reserves_none : told.reserves ≡ None
 
 -- the tag has no piece that could act
 pub record HasNoneFresh (old : ManagerView) (tag : ℕ) : Type 0 where
@@ -404,6 +418,7 @@ pub record TellsFinish (old : ManagerView) (tag : ℕ) (told : Told) : Type 0 wh
   pub no_own : told.own ≡ []
   pub device : told.device ≡ Return piece.number class ∷ starts
   pub holders : told.admitted ≡ old.holders
+  pub reserves_none : told.reserves ≡ None
 
 -- a return is told, or the tag is free and nothing happens
 abbrev pub FinishReplies : ManagerView → ℕ → Reply → ManagerView → Told → Type 0
@@ -424,6 +439,7 @@ pub record TellsReset (old new : ManagerView) (told : Told) : Type 0 where
   pub device : told.device ≡ map fault_of fresh
   pub ends_none : EndsNone told
   pub holders : told.admitted ≡ old.holders
+  pub reserves_none : told.reserves ≡ None
   pub handles : SameHandles old new
 
 -- A RIGHT STEP
@@ -437,28 +453,34 @@ abbrev pub unless_answered : List Answer → Option Holder → Option Holder
 unless_answered answers None = None
 unless_answered answers (Some holder) = if list_any (is_answer_of holder) answers then None else Some holder
 
+-- more may be reserved for these sectors, in runs with one of them; for none nothing is
+abbrev pub ReservesFor : Option Extent → AdapterView → AdapterView → Type 0
+ReservesFor None old new = new ≡ old
+ReservesFor (Some extent) old new = ReservesMore old new × ReservesNear old extent new
+
 -- the adapter moves by these labels, and where it was reset it notes that behind them
 abbrev pub MovesWith : Bool → AdapterView → List DeviceLabel → AdapterView → Type 0
 MovesWith false old labels new = MovesByAll old labels new
-MovesWith true old labels new =
-    (faulted noted : AdapterView) × MovesByAll old labels faulted × NotesReset faulted noted × ReservesMore noted new
+MovesWith true old labels new = (faulted : AdapterView) × MovesByAll old labels faulted × NotesReset faulted new
 
--- the adapter moves by these labels, which are then taken from its record
-pub record AdapterMoves (reset : Bool) (old : AdapterView) (labels : List DeviceLabel)
+-- the adapter reserves for these sectors, and then moves by these labels, which are then taken from its record
+pub record AdapterMoves (reset : Bool) (reserves : Option Extent) (old : AdapterView) (labels : List DeviceLabel)
     (new : AdapterView) : Type 0 where
+  pub first : AdapterView
+  pub before : ReservesFor reserves old first
   pub moved : AdapterView
-  pub moves : MovesWith reset old labels moved
+  pub moves : MovesWith reset first labels moved
   pub taken : new ≡ record moved { labels = [] }
 
 -- what is told leads from the old view to the new one: its labels are a run of the machine, and the device's labels
--- among them are all that the adapter did
+-- among them are all that the adapter did, but for what it reserved
 pub record IsRightBy (reset : Bool) (told : Told) (old new : ManagerView) : Type 0 where
   pub in_order : new.labels ≡ labels_of told
   pub rising : AreRising (map answer_number told.answers)
   pub same_rules : new.rules ≡ old.rules
   pub same_keeps : new.keeps ≡ old.keeps
   pub run : Run old.rules old.state new.labels new.state
-  pub adapter : AdapterMoves reset old.adapter told.device new.adapter
+  pub adapter : AdapterMoves reset told.reserves old.adapter told.device new.adapter
   pub outside : KeepsOutside old.rules.partitions old.adapter new.adapter
   -- an open request keeps its slot and its handle until it is answered
   pub holders : (slot : ℕ) → slice_index_or new.holders slot None

@@ -6,7 +6,7 @@ ghost use Rattle.std.specs.VecDeque.{deque_len, deque_capacity};
 ghost use Rattle.slab.specs.Slab.{slab_len};
 ghost use Rattle.srb.specs.declared.Kind.TheVariants.{Write};
 ghost use Rattle.device.specs.View.{IsBounded, room_at, whole_for};
-ghost use Rattle.device.specs.Served.{ReservesSpot, ReservesNone};
+ghost use Rattle.device.specs.Served.{ReservesSpot, ReservesNone, ReservesNear};
 ghost use Rattle.io_manager.specs.Calls.{partition_of};
 ghost use Rattle.io_manager.specs.inside.Admitting.{request_of, HasLabelBytes, IsSent, KeepsAnswers, IsAdmissible};
 ghost use Rattle.io_manager.specs.inside.Sound.{IsSound, view_of};
@@ -56,6 +56,7 @@ impl<D: Device> Parts<D> {
         ensures reserved { IfOk result
             (λ made. ReservesSpot (D.view self.old.device) made.room.spot below (D.view self.new.device)) }
         ensures refused { OnErr result (ReservesNone (D.view self.old.device) (D.view self.new.device)) }
+        ensures near { ReservesNear (D.view self.old.device) below (D.view self.new.device) }
         ensures unless_write { below.kind ≢ Write
             → (D.view self.new.device).adapter ≡ (D.view self.old.device).adapter }
         ensures tables { KeepsAnswers self.old.tables self.new.tables }

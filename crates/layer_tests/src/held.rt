@@ -13,19 +13,21 @@ use sector::Extent;
 use std::alloc::{AllocError, Global};
 use std::process::Abort;
 
-/// Cancels what is held at a spot, with at most three visits of the queue. Returns whether something was held there.
+/// Cancels what is at a spot, with at most three visits of the queue. Returns whether it was held there.
 fn cancel_held<D: Device>(filter: &mut Filter<D>, spot: usize, number: u64) -> bool
     ensures keeps { Keeps (⟦<Filter<D> as Shown>⟧.view filter.old) (⟦<Filter<D> as Shown>⟧.view filter.new) }
     ensures visits { VisitsAtMost 3 filter.old.queue_visits filter.new.queue_visits }
 {
-    filter.cancel_held(spot, number as u128)
+    let held = filter.held();
+    filter.cancel_at(spot, number as u128);
+    filter.held() < held
 }
 
 /// A layer that tells how many packets it holds, and finds one by its spot.
 pub(crate) trait Holds: Hold {
     fn count_held(&self) -> usize;
 
-    /// Cancels what is held at a spot, and returns whether something was held there.
+    /// Cancels what is at a spot, and returns whether it was held there.
     fn cancel_at_spot(&mut self, spot: usize, number: u64) -> bool
         ensures keeps { Keeps (Self.view self.old) (Self.view self.new) };
 }

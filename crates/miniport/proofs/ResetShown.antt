@@ -20,7 +20,7 @@ use Rattle.adapter.specs.Calls.{Resets, after_reset, srb_after_reset, fate_after
 use Rattle.miniport.specs.inside.Slots.{Table, piece_at, in_use_of, fate_of, tags_of, labels_by, slot_completion, slot_after_reset, progress_after_reset, failures_of_reset, labels_of_reset, with_reset}
 use Rattle.miniport.specs.Memory.{shown_of, view_of, is_unmet, due_after_reset, ResetsAll}
 use Rattle.miniport.specs.Faults.{bus_reset}
-use Rattle.adapter.proofs.Joining.{reserves_none, unspoiled}
+use Rattle.adapter.proofs.Joining.{moves_none, unspoiled}
 use Rattle.miniport.proofs.TagsInUse.{fresh_rise}
 
 -- THE FAULTS ARE MOVES
@@ -62,7 +62,7 @@ pub faults_move : (fresh others : List TagInUse) (old new : AdapterView) (tags :
     → new ≡ record old { tags = tags; failures = failures; labels = labels } → FaultsThenNotes old (map fault_of fresh) new
 faults_move [] others old new tags failures labels all before after counted are e = (
   old,
-  reserves_none old,
+  moves_none old,
   record {
     tags = tags;
     failures = failures;
@@ -94,7 +94,7 @@ faults_move (f ∷ fs) others old new tags failures labels all before after coun
     (omega (arith, counted))
     (are ∙ sym (append_assoc old.labels (Fault f.piece ∷ []) (map fault_of fs)))
     e in
-    (rest.0, (old, mid, reserves_none old, (f.tag, fault), rest.1), rest.2)
+    (rest.0, (mid, (f.tag, fault), rest.1), rest.2)
 
 -- THE TAGS
 

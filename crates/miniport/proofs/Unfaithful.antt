@@ -65,9 +65,8 @@ finish_apart old new tag None h = record { is_free = h.is_free; same = ap apart 
 finish_apart old new tag (Some back) h = finishes_apart old tag back.0 back.1 new h
 
 all_fault : (old new : AdapterView) (fresh : List TagInUse) → MovesByAll old (map fault_of fresh) new → MovesByAll (apart old) (map fault_of fresh) (apart new)
-all_fault old new [] h = reserves_apart old new h
-all_fault old new (u ∷ fresh) (before, after, reserves, (tag, fault), rest) =
-    (apart before, apart after, reserves_apart old before reserves, (tag, faults_apart before after tag u.piece fault), all_fault after new fresh rest)
+all_fault old new [] h = ap apart h
+all_fault old new (u ∷ fresh) (after, (tag, fault), rest) = (apart after, (tag, faults_apart old after tag u.piece fault), all_fault after new fresh rest)
 
 pub resets_apart : (old new : AdapterView) → Resets old new → Resets (apart old) (apart new)
 resets_apart old new h = record {

@@ -20,7 +20,6 @@ use Rattle.srb.specs.Fate.{Fresh, Acted, class_of}
 use Rattle.adapter.specs.View.{AdapterView, TagInUse, HasNotTag, IsFree, Accepts, in_use_from, acted, faulted, MayReturn, ActsOn, FaultsOn, ReturnsOn, MovesOn}
 use Rattle.adapter.specs.Performing.{Performs, CarriesOut}
 use Rattle.adapter.specs.Calls.{ActsOrFaults, ActsNot, Finishes, FinishesNot}
-use Rattle.adapter.proofs.Joining.{reserves_none}
 use Rattle.probe.specs.Exchange.{IsIdle, LooksBy, IsActOrFault, Exchanges}
 use Rattle.probe.specs.inside.Exchange.{Looks, bytes_brought, Brings, AsksOnce, Fails}
 
@@ -101,7 +100,7 @@ exchanges old first second last command sent class told looks accepts acts moves
   acts = acts;
   moves = record {
     moved = last;
-    moves = (first, second, reserves_none first, (0, moves), (second, last, reserves_none second, (0, returns), reserves_none last));
+    moves = (second, (0, moves), (last, (0, returns), refl));
     taken = refl;
   };
 }

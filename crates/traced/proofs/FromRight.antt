@@ -300,7 +300,8 @@ module _ (old : ManagerView) (event : Event) (handle : Handle) (q : ClientReques
 
   turned_away : (reply : Reply) (reason : Refusal) → OpensNone reply → IsTurnedAway old q reason new told → Gist old event reply new told
   turned_away reply DeviceBusy shut h = nothing old event reply new told shut handles h.1.nothing
-  turned_away reply InsufficientResources shut h = nothing old event reply new told shut handles h.2.nothing
+  turned_away reply InsufficientResources shut h =
+      plainly old event reply new told shut handles (subst (All IsPlain) (sym (ap (λ (t : Told). t.own) h.2.nothing)) (All-nil _)) (ap (λ (t : Told). t.admitted) h.2.nothing)
   turned_away reply InvalidHandle shut h = absurd h
   turned_away reply InvalidParameter shut h = absurd h
   turned_away reply DeletePending shut h = absurd h

@@ -29,7 +29,7 @@ use Rattle.io_manager.specs.declared.Reply.{Reply}
 use Rattle.io_manager.specs.declared.Reply.TheVariants.{Handle as HandleReply, Request as Requested, Answered, Refused}
 use Rattle.io_manager.specs.Shown.{ManagerView}
 use Rattle.io_manager.specs.Calls.{number_limit, status_of_refusal, without_bytes}
-use Rattle.io_manager.specs.Right.{Told, IsRight as IsRightCall, IsRightBy, SameHandles, CallReplies, IsAdmitted, IsAnsweredAtOnce, IsTurnedAway, TakesAnswer, tells_nothing, as_answer, end_labels}
+use Rattle.io_manager.specs.Right.{Told, IsRight as IsRightCall, IsRightBy, SameHandles, CallReplies, IsAdmitted, IsAnsweredAtOnce, IsTurnedAway, TakesAnswer, as_answer, end_labels}
 use Rattle.compose.specs.declared.Event.{Event}
 use Rattle.compose.specs.declared.Event.TheVariants.{Open, Close, Read as ReadEvent, Write as WriteEvent, Flush as FlushEvent, CancelIoEx, Mark, QueryRemove, CancelRemove, Remove, SurpriseRemove, Act, Finish, Reset}
 use Rattle.compose.specs.Right.{IsRight}
@@ -302,18 +302,17 @@ module _ (old : ManagerView) (ready : IsReady old) (q : ClientRequest) (known : 
         none_sent = rests.none_sent;
       }
 
-  turned_still : (reason : Refusal) → told ≡ tells_nothing (untraced old) → new.state ≡ old.state → HasReason old q reason → Turns old q reason (forgotten new)
-  turned_still reason nothing same why =
+  turned_still : (reason : Refusal) → told.answers ≡ [] → new.state ≡ old.state → HasReason old q reason → Turns old q reason (forgotten new)
+  turned_still reason none same why =
       let rests : Rests old.state new.state = rests_same old.state new.state ready.idle same in
-      let none : told.answers ≡ [] = ap (λ (t : Told). t.answers) nothing in
       record { leaves = leaves_rest old ready new told by handles read rests none; why = why; same_sectors = same_disk old ready new told by handles read rests none; none_sent = rests.none_sent }
 
   turned_away : (reason : Refusal) → IsTurnedAway (untraced old) q reason new told → Turns old q reason (forgotten new)
-  turned_away DeviceBusy h = turned_still DeviceBusy h.1.nothing h.1.same_state (used_up h.0)
+  turned_away DeviceBusy h = turned_still DeviceBusy (ap (λ (t : Told). t.answers) h.1.nothing) h.1.same_state (used_up h.0)
     where
       used_up : nat_le number_limit old.state.next_request ≡ true → number_limit ≤ old.state.next_request
       used_up h = grind (arith, nat_tests)
-  turned_away InsufficientResources h = turned_still InsufficientResources h.2.nothing h.2.same_state (in_bounds old.rules old.state q h.1)
+  turned_away InsufficientResources h = turned_still InsufficientResources (ap (λ (t : Told). t.answers) h.2.nothing) h.2.same_state (in_bounds old.rules old.state q h.1)
   turned_away InvalidHandle h = absurd h
   turned_away InvalidParameter h = absurd h
   turned_away DeletePending h = absurd h

@@ -1,6 +1,6 @@
 -- What the manager's tables and the device below say of each other between two calls.
 use Rattle.std.specs.Prelude.{◌≡◌, ◌≢◌, ◌<◌, ◌≤◌, ℕ, ◌+◌, ◌^◌, ◌⊎◌, Bool, true, false, List, [], ◌++◌, Option, Some}
-use Rattle.std.specs.Prelude.{option_map, is_some, map, length, IsTrue, IsFalse, All, Contains}
+use Rattle.std.specs.Prelude.{None, option_map, is_some, map, length, IsTrue, IsFalse, All, Contains}
 use Rattle.std.specs.Prelude.{IsPermutation}
 use Rattle.std.specs.VecDeque.{deque_len, deque_capacity}
 use Rattle.slab.specs.Slab.{Slab, get, slab_len}
@@ -215,7 +215,7 @@ pub record Collects (below : DeviceView) (tables : Tables) (below' : DeviceView)
   pub same_rules : below'.rules ≡ below.rules
   pub same_rooms : SameRooms below.rooms below'.rooms
   pub run : Run below.rules below.state (map as_label starts ++ map as_answer answers) below'.state
-  pub adapter : AdapterMoves false below.adapter starts below'.adapter
+  pub adapter : AdapterMoves false None below.adapter starts below'.adapter
   pub labels : tables'.labels.items ≡ ((tables.labels.items ++ map as_label (below.adapter.labels ++ starts))
       ++ map as_answer answers) ++ end_labels ends
   pub untaken : IsPermutation tables'.untaken.items (answers ++ tables.untaken.items)

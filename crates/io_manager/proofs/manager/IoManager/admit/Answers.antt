@@ -3,7 +3,7 @@ use Rattle.slab.specs.Slab.{slab_len}
 use Rattle.srb.specs.declared.Kind.TheVariants.{Write}
 use Rattle.machine.specs.declared.Request.{Request}
 use Rattle.device.specs.View.{IsBounded, room_at, whole_for}
-use Rattle.device.specs.Served.{SetsRoom}
+use Rattle.device.specs.Served.{SetsRoom, ReservesNear}
 use Rattle.io_manager.specs.declared.Limits.{Limits}
 use Rattle.io_manager.specs.declared.Reply.TheVariants.{Request as Requested}
 use Rattle.io_manager.specs.Shown.{ManagerView}
@@ -31,6 +31,7 @@ turned_away g c =
     turned_away_kept c.self.inside.parts.limits (g.D.Shown.view c.self.inside.parts.device) c.self.inside.parts.tables c.args.self.now c.args.handle c.args.request c.args.buffer
     c.self.invariant.kept c.self.view_is c.requires.admissible c.requires.taken c.requires.is_call
     c.reserve.new.self.limits (g.D.Shown.view c.reserve.new.self.device) c.reserve.new.self.tables c.refused.result c.reserve.ensures.limits c.in_default.ensures.refused.reserves
+    (subst (λ (r : Request). ReservesNear (g.D.Shown.view c.self.inside.parts.device) r (g.D.Shown.view c.reserve.new.self.device)) c.request_below-below.ensures c.reserve.ensures.near)
     (λ other. c.reserve.ensures.unless_write (subst (λ (r : Request). r.kind ≢ Write) (sym c.request_below-below.ensures) other)) c.reserve.ensures.tables c.refused.ensures
 
 pub invariant_of-self : goal.invariant_of-self
@@ -94,7 +95,10 @@ admitted g c =
     c.self.invariant.kept c.self.view_is c.requires.admissible c.requires.taken c.requires.is_call
     (g.D.Shown.view c.reserve.new.self.device) c.reserve.new.self.tables c.in-Ok.prepared.copies c.in-Ok.prepared.room.spot (g.D.Shown.view c.send-id.new.self.device) c.send-id.new.self.tables
     c.collect.new.self.limits (g.D.Shown.view c.collect.new.self.device) c.collect.new.self.tables c.send-id.result
-    c.in-Ok.ensures.reserved.reserves c.reserve.ensures.tables (made g c) (sent g c) c.send-id.ensures.number
+    c.in-Ok.ensures.reserved.reserves
+    (subst (λ (r : Request). ReservesNear (g.D.Shown.view c.self.inside.parts.device) r (g.D.Shown.view c.reserve.new.self.device)) c.request_below-below.ensures c.reserve.ensures.near)
+    (λ other. c.reserve.ensures.unless_write (subst (λ (r : Request). r.kind ≢ Write) (sym c.request_below-below.ensures) other)) c.reserve.ensures.tables
+    (made g c) (sent g c) c.send-id.ensures.number
     (c.collect.ensures.limits ∙ c.send-id.ensures.limits ∙ c.reserve.ensures.limits) c.collect.ensures.sound c.collect.ensures.collects
 
 pub invariant_of-self-2 : goal.invariant_of-self-2
