@@ -22,10 +22,10 @@ use crate::failing::{fail, failure, transfer};
 use crate::journal_room::{give_back, next_request, refused, reserve};
 use crate::name::Naming;
 use crate::noting;
+use crate::records::{Beside, Records};
 use crate::settling::{arm_tag, settle_all};
 use crate::tags::Tags;
 use crate::taken::Taken;
-use cancel_marks::Marks;
 use chronicle::{Claims, History};
 use compose::{Answer, Event, Reply};
 use disk::Medium;
@@ -35,7 +35,7 @@ use sector_journal::{Entered, Journal, OfEntries};
 use srb::Completion;
 use std::alloc::{AllocError, Global};
 use std::marker::Model;
-use std::sync::{Mutex, Wait, ledger};
+use std::sync::{Wait, ledger};
 use traced::{Row, Share, TraceEntry, Traced};
 
 /// A stack that many threads share under a lock, with its trace, and what was booked of the journal's entries.
@@ -56,6 +56,12 @@ impl<N: Naming> Model for Book<N> {
     ghost view = { λ b. book_of b.traced b.taken };
 
     ghost invariant = { λ b. IsKept N.rules N.start b.traced b.taken b.tags };
+}
+
+/// A call that would open a request, which lies at this extent of the disk.
+struct Opening {
+    event: Event,
+    extent: Extent,
 }
 
 /// Whether an event may start or end a piece.
@@ -174,43 +180,41 @@ impl<N: Naming> Book<N> {
 
 // Steps. Each of these is called with the book's lock held, and those that are handed a journal with its lock too.
 impl<N: Naming> Book<N> {
-    fn look(&mut self, alloc: Global, history: &History<TraceEntry, N>, marks: &Marks)
-        requires marks { marks.now ≡ (N.marks, N.slots) }
+    fn look(&mut self, records: &Records<N>)
         ensures looked { AreLooked N.slots self.old.traced self.new.traced }
         ensures taken { self.new.taken ≡ self.old.taken }
     {
-        noting::look(&mut self.traced, &mut self.tags, alloc, history, marks);
+        noting::look(&mut self.traced, &mut self.tags, records);
     }
 
     // Books all entries that are there. Returns the tag of the last, if there was one.
     fn book_entries<M: Medium>(
         &mut self,
-        alloc: Global,
-        history: &History<TraceEntry, N>,
-        marks: &Marks,
+        records: &Records<N>,
         journal: &mut Journal<M, N>,
-        words: &sector_journal::History<N>,
     ) -> Option<u8>
-        requires marks { marks.now ≡ (N.marks, N.slots) }
         ensures books { (count : ℕ) × HasBooked result count self.old self.new }
     {
         book_all(
             &mut self.traced,
             &mut self.taken,
             &mut self.tags,
-            alloc,
-            history,
-            marks,
+            records,
             journal,
-            words,
         )
     }
 
     // Tells the journal which pieces may act, and which requests were answered.
-    fn settle<M: Medium>(&mut self, journal: &mut Journal<M, N>, words: &sector_journal::History<N>)
+    fn settle<M: Medium>(&mut self, records: &Records<N>, journal: &mut Journal<M, N>)
         ensures { self.new ≡ self.old }
     {
-        settle_all(&self.traced, &mut self.tags, journal, words, self.seen);
+        settle_all(
+            &self.traced,
+            &mut self.tags,
+            journal,
+            records.words,
+            self.seen,
+        );
         self.seen = self.traced.len();
     }
 
@@ -218,8 +222,8 @@ impl<N: Naming> Book<N> {
     // it did before.
     fn failure_of<M: Medium>(
         &mut self,
+        records: &Records<N>,
         journal: &mut Journal<M, N>,
-        words: &sector_journal::History<N>,
         tag: u8,
         failed: Option<Completion>,
     ) -> Completion
@@ -233,79 +237,55 @@ impl<N: Naming> Book<N> {
         if has_acted(journal, self.taken.len(), tag) {
             return failure(None);
         }
-        arm_tag(&self.traced, &mut self.tags, journal, words, tag);
-        failure(transfer(&self.traced, journal, words, tag))
+        arm_tag(&self.traced, &mut self.tags, journal, records.words, tag);
+        failure(transfer(&self.traced, journal, records.words, tag))
     }
 
-    fn call_alone(
-        &mut self,
-        alloc: Global,
-        history: &History<TraceEntry, N>,
-        marks: &Marks,
-        share: &mut Share<N>,
-        event: Event,
-    ) -> Reply
-        requires marks { marks.now ≡ (N.marks, N.slots) }
+    fn call_alone(&mut self, records: &Records<N>, share: &mut Share<N>, event: Event) -> Reply
         requires call { is_call_event event ≡ true }
         ensures served { IsServed share.old.client self.old.traced event result self.new.traced }
         ensures counted { HasCounted self.old.traced share.old share.new self.new.traced }
         ensures taken { self.new.taken ≡ self.old.taken }
     {
-        noting::call(
-            &mut self.traced,
-            &mut self.tags,
-            alloc,
-            history,
-            marks,
-            share,
-            event,
-        )
+        noting::call(&mut self.traced, &mut self.tags, records, share, event)
     }
 
-    // Carries out a call, once the journal has room for its acts.
+    // Carries out a call that would open a request, once the journal has room for its acts.
     fn call_reserved<M: Medium>(
         &mut self,
-        alloc: Global,
-        history: &History<TraceEntry, N>,
-        marks: &Marks,
+        records: &Records<N>,
         journal: &mut Journal<M, N>,
         share: &mut Share<N>,
-        event: Event,
-        extent: Extent,
+        call: Opening,
     ) -> Reply
-        requires marks { marks.now ≡ (N.marks, N.slots) }
-        requires call { is_call_event event ≡ true }
-        ensures served { IsServed share.old.client self.old.traced event result self.new.traced }
+        requires call { is_call_event call.event ≡ true }
+        ensures served { IsServed share.old.client self.old.traced call.event result self.new.traced }
         ensures counted { HasCounted self.old.traced share.old share.new self.new.traced }
         ensures taken { self.new.taken ≡ self.old.taken }
     {
+        let Opening { event, extent } = call;
         if reserve(&self.traced, journal, &event, extent).is_err() {
-            return refused(alloc, event);
+            return refused(records.alloc, event);
         }
         let number = next_request(&self.traced);
-        let reply = self.call_alone(alloc, history, marks, share, event);
+        let reply = self.call_alone(records, share, event);
         give_back(journal, number, &reply);
         reply
     }
 
     fn call_in<M: Medium>(
         &mut self,
-        alloc: Global,
-        history: &History<TraceEntry, N>,
-        marks: &Marks,
+        records: &Records<N>,
         journal: &mut Journal<M, N>,
-        words: &sector_journal::History<N>,
         share: &mut Share<N>,
-        event: Event,
-        extent: Extent,
+        call: Opening,
     ) -> Reply
-        requires marks { marks.now ≡ (N.marks, N.slots) }
-        requires call { is_call_event event ≡ true }
-        ensures { CallsAfter share.old share.new self.old event result self.new }
+        requires call { is_call_event call.event ≡ true }
+        ensures { CallsAfter share.old share.new self.old call.event result self.new }
     {
-        self.book_entries(alloc, history, marks, journal, words);
-        let reply = self.call_reserved(alloc, history, marks, journal, share, event, extent);
-        self.settle(journal, words);
+        self.book_entries(records, journal);
+        let reply = self.call_reserved(records, journal, share, call);
+        self.settle(records, journal);
         reply
     }
 
@@ -319,155 +299,94 @@ impl<N: Naming> Book<N> {
     fn call<M: Medium, R: Wait>(
         &mut self,
         rt: &R,
-        alloc: Global,
-        history: &History<TraceEntry, N>,
-        marks: &Marks,
-        journal: &Mutex<Journal<M, N>>,
-        words: &sector_journal::History<N>,
+        beside: &Beside<M, N>,
         share: &mut Share<N>,
         event: Event,
     ) -> Reply
-        requires marks { marks.now ≡ (N.marks, N.slots) }
         requires call { is_call_event event ≡ true }
         ensures { CallsAfter share.old share.new self.old event result self.new }
     {
         let Some(extent) = self.would_open(&event) else {
-            return self.call_alone(alloc, history, marks, share, event);
+            return self.call_alone(&beside.records, share, event);
         };
-        let mut journal = journal.lock(rt);
-        self.call_in(
-            alloc,
-            history,
-            marks,
-            &mut journal,
-            words,
-            share,
-            event,
-            extent,
-        )
+        let mut journal = beside.journal.lock(rt);
+        let call = Opening { event, extent };
+        self.call_in(&beside.records, &mut journal, share, call)
     }
 
-    fn serve_alone(
-        &mut self,
-        alloc: Global,
-        history: &History<TraceEntry, N>,
-        marks: &Marks,
-        event: Event,
-    ) -> Reply
-        requires marks { marks.now ≡ (N.marks, N.slots) }
+    fn serve_alone(&mut self, records: &Records<N>, event: Event) -> Reply
         requires no_handle { is_handle_event event ≡ false }
         requires no_call { is_call_event event ≡ false }
         requires no_act { IsNoAct event }
         ensures served { IsServed 0 self.old.traced event result self.new.traced }
         ensures taken { self.new.taken ≡ self.old.taken }
     {
-        noting::serve(
-            &mut self.traced,
-            &mut self.tags,
-            alloc,
-            history,
-            marks,
-            event,
-        )
+        noting::serve(&mut self.traced, &mut self.tags, records, event)
     }
 
-    fn fail(
-        &mut self,
-        alloc: Global,
-        history: &History<TraceEntry, N>,
-        marks: &Marks,
-        tag: u8,
-        completion: Completion,
-    ) -> Reply
-        requires marks { marks.now ≡ (N.marks, N.slots) }
+    fn fail(&mut self, records: &Records<N>, tag: u8, completion: Completion) -> Reply
         requires bad { class_of completion ≡ Bad completion }
         ensures serves { (held : TracedView) × HoldsFailure self.old.traced (Act tag) held × IsServed 0 held (Act tag) result self.new.traced }
         ensures taken { self.new.taken ≡ self.old.taken }
     {
-        fail(
-            &mut self.traced,
-            &mut self.tags,
-            alloc,
-            history,
-            marks,
-            tag,
-            completion,
-        )
+        fail(&mut self.traced, &mut self.tags, records, tag, completion)
     }
 
     // Carries out the act of a tag: its piece acts in the journal, unless it failed there before, and what is entered
     // is booked.
     fn act_in<M: Medium>(
         &mut self,
-        alloc: Global,
-        history: &History<TraceEntry, N>,
-        marks: &Marks,
+        records: &Records<N>,
         journal: &mut Journal<M, N>,
-        words: &sector_journal::History<N>,
         tag: u8,
         failed: Option<Completion>,
     ) -> Reply
-        requires marks { marks.now ≡ (N.marks, N.slots) }
         requires bad { IfSome failed (λ completion. class_of completion ≡ Bad completion) }
         ensures { ServesAfter self.old (Act tag) result self.new }
     {
-        let completion = self.failure_of(journal, words, tag, failed);
-        let last = self.book_entries(alloc, history, marks, journal, words);
+        let completion = self.failure_of(records, journal, tag, failed);
+        let last = self.book_entries(records, journal);
         if last == Some(tag) {
-            self.settle(journal, words);
+            self.settle(records, journal);
             return Reply::Ok;
         }
-        let reply = self.fail(alloc, history, marks, tag, completion);
-        self.settle(journal, words);
+        let reply = self.fail(records, tag, completion);
+        self.settle(records, journal);
         reply
     }
 
     fn serve_in<M: Medium>(
         &mut self,
-        alloc: Global,
-        history: &History<TraceEntry, N>,
-        marks: &Marks,
+        records: &Records<N>,
         journal: &mut Journal<M, N>,
-        words: &sector_journal::History<N>,
         event: Event,
     ) -> Reply
-        requires marks { marks.now ≡ (N.marks, N.slots) }
         requires no_handle { is_handle_event event ≡ false }
         requires no_call { is_call_event event ≡ false }
         requires no_act { IsNoAct event }
         ensures { ServesAfter self.old event result self.new }
     {
-        self.book_entries(alloc, history, marks, journal, words);
-        let reply = self.serve_alone(alloc, history, marks, event);
-        self.settle(journal, words);
+        self.book_entries(records, journal);
+        let reply = self.serve_alone(records, event);
+        self.settle(records, journal);
         reply
     }
 
     // Carries out any event but a call. It takes the journal's lock where the event may start or end a piece.
-    fn serve<M: Medium, R: Wait>(
-        &mut self,
-        rt: &R,
-        alloc: Global,
-        history: &History<TraceEntry, N>,
-        marks: &Marks,
-        journal: &Mutex<Journal<M, N>>,
-        words: &sector_journal::History<N>,
-        event: Event,
-    ) -> Reply
-        requires marks { marks.now ≡ (N.marks, N.slots) }
+    fn serve<M: Medium, R: Wait>(&mut self, rt: &R, beside: &Beside<M, N>, event: Event) -> Reply
         requires no_handle { is_handle_event event ≡ false }
         requires no_call { is_call_event event ≡ false }
         ensures { ServesAfter self.old event result self.new }
     {
         if let Event::Act { tag } = event {
-            let mut journal = journal.lock(rt);
-            return self.act_in(alloc, history, marks, &mut journal, words, tag, None);
+            let mut journal = beside.journal.lock(rt);
+            return self.act_in(&beside.records, &mut journal, tag, None);
         }
         if !moves_pieces(&event) {
-            return self.serve_alone(alloc, history, marks, event);
+            return self.serve_alone(&beside.records, event);
         }
-        let mut journal = journal.lock(rt);
-        self.serve_in(alloc, history, marks, &mut journal, words, event)
+        let mut journal = beside.journal.lock(rt);
+        self.serve_in(&beside.records, &mut journal, event)
     }
 
     /// Carries out an event, any but an open and a close. First it looks once at each slot that has an open request,
@@ -481,25 +400,20 @@ impl<N: Naming> Book<N> {
     pub fn step<M: Medium, R: Wait>(
         &mut self,
         rt: &R,
-        alloc: Global,
-        history: &History<TraceEntry, N>,
-        marks: &Marks,
-        journal: &Mutex<Journal<M, N>>,
-        words: &sector_journal::History<N>,
+        beside: &Beside<M, N>,
         share: Option<&mut Share<N>>,
         event: Event,
     ) -> Reply
-        requires marks { marks.now ≡ (N.marks, N.slots) }
         requires no_handle { is_handle_event event ≡ false }
         requires share { FitsHandle (call_handle event) share }
         ensures stepped { IsStepped N.slots share.entry share.exit self.old event result self.new }
         ensures memory { (bytes : List ℕ) → result ≡ RefusedReply InsufficientResources bytes → may_want event ≡ true }
     {
         compose::steps_take_no_memory();
-        self.look(alloc, history, marks);
+        self.look(&beside.records);
         match share {
-            Some(share) => self.call(rt, alloc, history, marks, journal, words, share, event),
-            None => self.serve(rt, alloc, history, marks, journal, words, event),
+            Some(share) => self.call(rt, beside, share, event),
+            None => self.serve(rt, beside, event),
         }
     }
 
@@ -508,42 +422,21 @@ impl<N: Naming> Book<N> {
     pub fn act_failed<M: Medium, R: Wait>(
         &mut self,
         rt: &R,
-        alloc: Global,
-        history: &History<TraceEntry, N>,
-        marks: &Marks,
-        journal: &Mutex<Journal<M, N>>,
-        words: &sector_journal::History<N>,
+        beside: &Beside<M, N>,
         tag: u8,
         completion: Completion,
     ) -> Reply
-        requires marks { marks.now ≡ (N.marks, N.slots) }
         requires bad { class_of completion ≡ Bad completion }
         ensures { (marked : TracedView) × AreLooked N.slots self.old.traced marked × ServesAfter (book_of marked self.old.taken) (Act tag) result self.new }
     {
-        self.look(alloc, history, marks);
-        let mut journal = journal.lock(rt);
-        self.act_in(
-            alloc,
-            history,
-            marks,
-            &mut journal,
-            words,
-            tag,
-            Some(completion),
-        )
+        self.look(&beside.records);
+        let mut journal = beside.journal.lock(rt);
+        self.act_in(&beside.records, &mut journal, tag, Some(completion))
     }
 
     /// Books all entries that are there: what was booked is then the front of the journal's. The caller holds both
     /// locks.
-    pub fn book_rest<M: Medium>(
-        &mut self,
-        alloc: Global,
-        history: &History<TraceEntry, N>,
-        marks: &Marks,
-        journal: &mut Journal<M, N>,
-        words: &sector_journal::History<N>,
-    )
-        requires marks { marks.now ≡ (N.marks, N.slots) }
+    pub fn book_rest<M: Medium>(&mut self, records: &Records<N>, journal: &mut Journal<M, N>)
         ensures books { (count : ℕ) × AreBooked count self.old self.new }
         ensures front { BeginsWith journal.old.entered self.new.taken }
         ensures same { journal.new ≡ journal.old }
@@ -552,13 +445,10 @@ impl<N: Naming> Book<N> {
             &mut self.traced,
             &mut self.taken,
             &mut self.tags,
-            alloc,
-            history,
-            marks,
+            records,
             journal,
-            words,
         );
-        self.taken.check(journal, words);
+        self.taken.check(journal, records.words);
     }
 
     /// The trace, the rows of all clients, and the receipts of the entries of its acts, numbered from 0.

@@ -9,16 +9,15 @@ ghost use Rattle.book.specs.Staying.{ArmedStays};
 
 use crate::name::Naming;
 use crate::noting::serve;
+use crate::records::Records;
 use crate::tags::Tags;
 use crate::taken::Taken;
-use cancel_marks::Marks;
 use compose::Event;
 use disk::Medium;
 use miniport::BookedAdapter;
 use sector_journal::Journal;
 use srb::Booked;
-use std::alloc::Global;
-use traced::{TraceEntry, Traced};
+use traced::Traced;
 
 /// The laws that the act of an entry goes by.
 fn laws_of_acts()
@@ -104,13 +103,9 @@ pub(crate) fn book_next<M: Medium, N: Naming>(
     traced: &mut Traced<BookedAdapter, N>,
     taken: &mut Taken<N>,
     tags: &mut Tags<N>,
-    alloc: Global,
-    history: &chronicle::History<TraceEntry, N>,
-    marks: &Marks,
+    records: &Records<N>,
     journal: &mut Journal<M, N>,
-    words: &sector_journal::History<N>,
 ) -> Option<u8>
-    requires marks { marks.now ≡ (N.marks, N.slots) }
     requires kept { IsKept N.rules N.start traced.old taken.old tags.old }
     ensures kept { IsKept N.rules N.start traced.new taken.new tags.new }
     ensures books { MatchOption result (IsSameBook traced.old taken.old traced.new taken.new) (λ tag. BooksOne tag (book_of traced.old taken.old) (book_of traced.new taken.new)) }
@@ -121,13 +116,13 @@ pub(crate) fn book_next<M: Medium, N: Naming>(
     traced.shows_whole();
     traced.shows_stack();
     let number = taken.len();
-    if !may_book(traced, tags, journal, words, number) {
+    if !may_book(traced, tags, journal, records.words, number) {
         return None;
     }
     let tag = book_entry(traced, journal, number);
     traced.shows_stack();
-    serve(traced, tags, alloc, history, marks, Event::Act { tag });
-    taken.add(journal, words);
+    serve(traced, tags, records, Event::Act { tag });
+    taken.add(journal, records.words);
     Some(tag)
 }
 
@@ -136,20 +131,16 @@ pub(crate) fn book_all<M: Medium, N: Naming>(
     traced: &mut Traced<BookedAdapter, N>,
     taken: &mut Taken<N>,
     tags: &mut Tags<N>,
-    alloc: Global,
-    history: &chronicle::History<TraceEntry, N>,
-    marks: &Marks,
+    records: &Records<N>,
     journal: &mut Journal<M, N>,
-    words: &sector_journal::History<N>,
 ) -> Option<u8>
-    requires marks { marks.now ≡ (N.marks, N.slots) }
     requires kept { IsKept N.rules N.start traced.old taken.old tags.old }
     ensures kept { IsKept N.rules N.start traced.new taken.new tags.new }
     ensures books { (count : ℕ) × HasBooked result count (book_of traced.old taken.old) (book_of traced.new taken.new) }
     ensures journal { journal.new ≡ journal.old }
 {
     let mut last = None;
-    while let Some(tag) = book_next(traced, taken, tags, alloc, history, marks, journal, words) {
+    while let Some(tag) = book_next(traced, taken, tags, records, journal) {
         last = Some(tag);
     }
     last

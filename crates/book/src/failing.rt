@@ -15,17 +15,15 @@ ghost use Rattle.book.specs.Staying.{ArmedStays};
 
 use crate::name::Naming;
 use crate::noting::serve;
+use crate::records::Records;
 use crate::tags::Tags;
-use cancel_marks::Marks;
-use chronicle::History;
 use compose::{Event, Reply};
 use disk::Medium;
 use miniport::BookedAdapter;
 use ntstatus::Sense;
 use sector_journal::Journal;
 use srb::{Booked, Completion};
-use std::alloc::Global;
-use traced::{TraceEntry, Traced};
+use traced::Traced;
 
 /// How a piece that the journal doesn't let act fails: HARDWARE ERROR (SPC, "Sense key and sense code definitions").
 const HARDWARE_ERROR: Completion = Completion {
@@ -90,13 +88,10 @@ fn book_failure<N: Naming>(traced: &mut Traced<BookedAdapter, N>, tag: u8, compl
 pub(crate) fn fail<N: Naming>(
     traced: &mut Traced<BookedAdapter, N>,
     tags: &mut Tags<N>,
-    alloc: Global,
-    history: &History<TraceEntry, N>,
-    marks: &Marks,
+    records: &Records<N>,
     tag: u8,
     completion: Completion,
 ) -> Reply
-    requires marks { marks.now ≡ (N.marks, N.slots) }
     requires bad { class_of completion ≡ Bad completion }
     ensures serves { (held : TracedView) × HoldsFailure traced.old (Act tag) held × IsServed 0 held (Act tag) result traced.new }
     ensures kept { StaysKept N.rules N.start traced.old tags.old traced.new tags.new }
@@ -106,7 +101,7 @@ pub(crate) fn fail<N: Naming>(
     traced.shows_stack();
     book_failure(traced, tag, completion);
     traced.shows_stack();
-    serve(traced, tags, alloc, history, marks, Event::Act { tag })
+    serve(traced, tags, records, Event::Act { tag })
 }
 
 /// Returns how a piece that made no entry fails: as it failed in the journal, or because it may not act there.

@@ -11,13 +11,11 @@ ghost use Rattle.book.specs.Book.{IsKept, StaysKept};
 ghost use Rattle.book.specs.Staying.{ArmedStays, HaveNotedAll};
 
 use crate::name::Naming;
+use crate::records::Records;
 use crate::tags::Tags;
-use cancel_marks::Marks;
-use chronicle::History;
 use compose::{Event, Reply};
 use miniport::BookedAdapter;
-use std::alloc::Global;
-use traced::{Share, TraceEntry, Traced};
+use traced::{Share, Traced};
 
 /// The laws that steps with no entry go by.
 fn laws_of_others()
@@ -48,17 +46,14 @@ pub(crate) fn catch_up<N: Naming>(
 pub(crate) fn look<N: Naming>(
     traced: &mut Traced<BookedAdapter, N>,
     tags: &mut Tags<N>,
-    alloc: Global,
-    history: &History<TraceEntry, N>,
-    marks: &Marks,
+    records: &Records<N>,
 )
-    requires marks { marks.now ≡ (N.marks, N.slots) }
     ensures looked { AreLooked N.slots traced.old traced.new }
     ensures kept { StaysKept N.rules N.start traced.old tags.old traced.new tags.new }
 {
     laws_of_others();
     let from = traced.len();
-    traced.look(alloc, history, marks);
+    traced.look(records.alloc, records.history, records.marks);
     catch_up(traced, tags, from);
 }
 
@@ -66,12 +61,9 @@ pub(crate) fn look<N: Naming>(
 pub(crate) fn serve<N: Naming>(
     traced: &mut Traced<BookedAdapter, N>,
     tags: &mut Tags<N>,
-    alloc: Global,
-    history: &History<TraceEntry, N>,
-    marks: &Marks,
+    records: &Records<N>,
     event: Event,
 ) -> Reply
-    requires marks { marks.now ≡ (N.marks, N.slots) }
     requires no_handle { is_handle_event event ≡ false }
     requires no_call { is_call_event event ≡ false }
     ensures served { IsServed 0 traced.old event result traced.new }
@@ -80,7 +72,7 @@ pub(crate) fn serve<N: Naming>(
 {
     laws_of_others();
     let from = traced.len();
-    let reply = traced.serve(alloc, history, marks, event);
+    let reply = traced.serve(records.alloc, records.history, records.marks, event);
     catch_up(traced, tags, from);
     reply
 }
@@ -89,13 +81,10 @@ pub(crate) fn serve<N: Naming>(
 pub(crate) fn call<N: Naming>(
     traced: &mut Traced<BookedAdapter, N>,
     tags: &mut Tags<N>,
-    alloc: Global,
-    history: &History<TraceEntry, N>,
-    marks: &Marks,
+    records: &Records<N>,
     share: &mut Share<N>,
     event: Event,
 ) -> Reply
-    requires marks { marks.now ≡ (N.marks, N.slots) }
     requires call { is_call_event event ≡ true }
     ensures served { IsServed share.old.client traced.old event result traced.new }
     ensures counted { HasCounted traced.old share.old share.new traced.new }
@@ -103,7 +92,7 @@ pub(crate) fn call<N: Naming>(
 {
     laws_of_others();
     let from = traced.len();
-    let reply = traced.call(alloc, history, marks, share, event);
+    let reply = traced.call(records.alloc, records.history, records.marks, share, event);
     catch_up(traced, tags, from);
     reply
 }

@@ -13,13 +13,13 @@ use crate::expect::same;
 use crate::opened::Opened as Ready;
 use crate::orders::{Order, step};
 use crate::texts;
-use book::{Book, Naming};
+use book::{Beside, Book, Naming, Records};
 use cancel_marks::{Marks, Seat};
 use chronicle::{History, Opened};
 use compose::{Refusal, Reply};
 use disk::Medium;
 use miniport::BookedAdapter;
-use sector_journal::Journal;
+use sector_journal::{Journal, OfArmings, OfEntries};
 use srb::Completion;
 use std::alloc::{AllocError, Global};
 use std::process::Abort;
@@ -38,6 +38,22 @@ pub(crate) enum Row<'a> {
     LaneFails(u8, &'a str),
     /// No piece of the tag may act in the journal, this one neither.
     Rests(u8, u128),
+    /// The journal has room for the acts of this many requests.
+    Room(usize),
+}
+
+/// A book, and what stands beside it.
+#[derive(Drop)]
+pub(crate) struct Desk<'a, M: Medium, N: Naming>
+where
+    OfArmings<N>: chronicle::Naming,
+    OfEntries<N>: chronicle::Naming,
+{
+    pub alloc: Global,
+    pub book: Book<N>,
+    pub beside: Beside<'a, M, N>,
+    /// The history of the journal.
+    pub words: &'a sector_journal::History<N>,
 }
 
 // The piece that may act in the journal on a tag.
@@ -49,32 +65,31 @@ fn armed_piece<M: Medium, N: Naming>(journal: &Journal<M, N>, tag: u8) -> Option
 // The piece of a tag acts in the journal, under its lock alone.
 fn act<M: Medium, N: Naming, R: Wait + Abort>(
     rt: &R,
-    journal: &Mutex<Journal<M, N>>,
-    words: &sector_journal::History<N>,
+    desk: &Desk<M, N>,
     tag: u8,
 ) -> Result<u64, Completion>
     ensures bad { IfErr result (λ completion. class_of completion ≡ Bad completion) }
 {
-    let mut journal = journal.lock(rt);
+    let mut journal = desk.beside.journal.lock(rt);
     let Some(piece) = armed_piece(&journal, tag) else {
         panic!(rt; "nothing may act on tag {tag}")
     };
-    match journal.act(words, tag, piece) {
+    match journal.act(desk.words, tag, piece) {
         Some(done) => done,
         None => panic!(rt; "the piece of tag {tag} didn't act"),
     }
 }
 
-fn rests<M: Medium, N: Naming, R: Wait + Abort>(
-    rt: &R,
-    journal: &Mutex<Journal<M, N>>,
-    words: &sector_journal::History<N>,
-    tag: u8,
-    piece: u128,
-) {
-    let mut journal = journal.lock(rt);
+fn rests<M: Medium, N: Naming, R: Wait + Abort>(rt: &R, desk: &Desk<M, N>, tag: u8, piece: u128) {
+    let mut journal = desk.beside.journal.lock(rt);
     assert!(rt; journal.armed(tag).is_none(), "tag {tag}");
-    assert!(rt; journal.act(words, tag, piece).is_none(), "tag {tag}");
+    assert!(rt; journal.act(desk.words, tag, piece).is_none(), "tag {tag}");
+}
+
+// The journal has room for this many requests.
+fn has_room<M: Medium, N: Naming, R: Wait + Abort>(rt: &R, desk: &Desk<M, N>, requests: usize) {
+    let journal = desk.beside.journal.lock(rt);
+    assert!(rt; journal.reservations() == requests);
 }
 
 // Whether memory was refused.
@@ -91,82 +106,54 @@ fn is_refused_for_memory(reply: &Reply) -> bool {
 // Checks that a step has just this reply. Where it was refused for want of memory, the trace has not grown.
 fn go<M: Medium, N: Naming, R: Wait + Abort>(
     rt: &R,
-    alloc: Global,
-    book: &mut Book<N>,
-    history: &History<TraceEntry, N>,
-    marks: &Marks,
-    journal: &Mutex<Journal<M, N>>,
-    words: &sector_journal::History<N>,
+    desk: &mut Desk<M, N>,
     share: &mut Share<N>,
     order: Order,
     want: &str,
-) -> Result<(), AllocError>
-    requires marks { marks.now ≡ (N.marks, N.slots) }
-{
-    let before = book.len();
-    let reply = step(
-        rt, alloc, book, history, marks, journal, words, share, order,
-    )?;
+) -> Result<(), AllocError> {
+    let before = desk.book.len();
+    let reply = step(rt, desk, share, order)?;
     if is_refused_for_memory(&reply) {
-        assert!(rt; book.len() == before);
+        assert!(rt; desk.book.len() == before);
         return Err(AllocError);
     }
-    same(rt, &texts::reply(alloc, &reply)?.as_str(), &want);
+    same(rt, &texts::reply(desk.alloc, &reply)?.as_str(), &want);
     Ok(())
 }
 
 // The piece of a tag fails in the journal, and then in the book.
 fn fail<M: Medium, N: Naming, R: Wait + Abort>(
     rt: &R,
-    alloc: Global,
-    book: &mut Book<N>,
-    history: &History<TraceEntry, N>,
-    marks: &Marks,
-    journal: &Mutex<Journal<M, N>>,
-    words: &sector_journal::History<N>,
+    desk: &mut Desk<M, N>,
     tag: u8,
     want: &str,
-) -> Result<(), AllocError>
-    requires marks { marks.now ≡ (N.marks, N.slots) }
-{
-    let Err(completion) = act(rt, journal, words, tag) else {
+) -> Result<(), AllocError> {
+    let Err(completion) = act(rt, desk, tag) else {
         panic!(rt; "the piece of tag {tag} didn't fail")
     };
-    let reply = book.act_failed(rt, alloc, history, marks, journal, words, tag, completion);
-    same(rt, &texts::reply(alloc, &reply)?.as_str(), &want);
+    let reply = desk.book.act_failed(rt, &desk.beside, tag, completion);
+    same(rt, &texts::reply(desk.alloc, &reply)?.as_str(), &want);
     Ok(())
 }
 
 /// The rows of a test one by one.
 pub(crate) fn play<M: Medium, N: Naming, R: Wait + Abort>(
     rt: &R,
-    alloc: Global,
-    book: &mut Book<N>,
-    history: &History<TraceEntry, N>,
-    marks: &Marks,
-    journal: &Mutex<Journal<M, N>>,
-    words: &sector_journal::History<N>,
+    desk: &mut Desk<M, N>,
     shares: (&mut Share<N>, &mut Share<N>),
     rows: &[Row],
-) -> Result<(), AllocError>
-    requires marks { marks.now ≡ (N.marks, N.slots) }
-{
+) -> Result<(), AllocError> {
     let (first, second) = shares;
     for row in rows {
         match *row {
-            Row::Step(0, order, want) => go(
-                rt, alloc, book, history, marks, journal, words, first, order, want,
-            )?,
-            Row::Step(_, order, want) => go(
-                rt, alloc, book, history, marks, journal, words, second, order, want,
-            )?,
+            Row::Step(0, order, want) => go(rt, desk, first, order, want)?,
+            Row::Step(_, order, want) => go(rt, desk, second, order, want)?,
             Row::Lane(tag, number) => {
-                assert!(rt; act(rt, journal, words, tag) == Ok(number), "tag {tag}");
+                assert!(rt; act(rt, desk, tag) == Ok(number), "tag {tag}");
             }
-            Row::LaneFails(tag, want) => fail(
-                rt, alloc, book, history, marks, journal, words, tag, want,
-            )?,
-            Row::Rests(tag, piece) => rests(rt, journal, words, tag, piece),
+            Row::LaneFails(tag, want) => fail(rt, desk, tag, want)?,
+            Row::Rests(tag, piece) => rests(rt, desk, tag, piece),
+            Row::Room(requests) => has_room(rt, desk, requests),
         }
     }
     Ok(())
@@ -212,19 +199,12 @@ fn ask<N: Naming>(rt: &impl Abort, book: &mut Book<N>, run: &Run)
 // Books what is left of the entries.
 fn book_rest<M: Medium, N: Naming, R: Wait + Abort>(
     rt: &R,
-    alloc: Global,
-    book: &mut Book<N>,
-    history: &History<TraceEntry, N>,
-    marks: &Marks,
-    journal: &Mutex<Journal<M, N>>,
-    words: &sector_journal::History<N>,
+    desk: &mut Desk<M, N>,
     want: &str,
-) -> Result<(), AllocError>
-    requires marks { marks.now ≡ (N.marks, N.slots) }
-{
-    let mut journal = journal.lock(rt);
-    book.book_rest(alloc, history, marks, &mut journal, words);
-    let entries = texts::entries(alloc, journal.entries())?;
+) -> Result<(), AllocError> {
+    let mut journal = desk.beside.journal.lock(rt);
+    desk.book.book_rest(&desk.beside.records, &mut journal);
+    let entries = texts::entries(desk.alloc, journal.entries())?;
     same(rt, &entries.as_str(), &want);
     Ok(())
 }
@@ -271,29 +251,20 @@ pub(crate) fn carry_out<M: Medium, N: Naming, R: Wait + Abort>(
     let mut first = Share::new(0, handles[0], all.split_off(1, 0));
     let mut second = Share::new(1, handles[1], all.split_off(1, 0));
     let traced = Traced::new(alloc, stack, whole, owner, tally, 2, 64, sizes)?;
-    let mut book = Book::new(alloc, traced, &mut journal, &words)?;
+    let book = Book::new(alloc, traced, &mut journal, &words)?;
     let journal = Mutex::new(journal);
-    play(
-        rt,
+    let mut desk = Desk {
         alloc,
-        &mut book,
-        &history,
-        &marks,
-        &journal,
-        &words,
-        (&mut first, &mut second),
-        run.rows,
-    )?;
-    book_rest(
-        rt,
-        alloc,
-        &mut book,
-        &history,
-        &marks,
-        &journal,
-        &words,
-        run.entries,
-    )?;
+        book,
+        beside: Beside {
+            records: Records::new(alloc, &history, &marks, &words),
+            journal: &journal,
+        },
+        words: &words,
+    };
+    play(rt, &mut desk, (&mut first, &mut second), run.rows)?;
+    book_rest(rt, &mut desk, run.entries)?;
+    let Desk { mut book, .. } = desk;
     claim_first(&mut book, &history);
     ask(rt, &mut book, run);
     all.merge(first.into_part());
