@@ -4,7 +4,7 @@ use Rattle.std.specs.Prelude.{IsPermutation, All, Contains, slice_get}
 use Rattle.std.proofs.lemmas.List.{append-nil, length-take-le}
 use Rattle.std.proofs.lemmas.List.Sorted.{IsPermutation-sym, IsPermutation-map, All-permutation, Contains-permutation}
 use Rattle.std.proofs.lemmas.List.Elements.{All-nil, All-cons, All-head, All-tail, All-append, All-contains, All-weaker, Contains-get_or}
-use Rattle.adapter.proofs.Joining.{moves_joined, reserves_none}
+use Rattle.adapter.proofs.Joining.{moves_joined, moves_none}
 use Rattle.srb.specs.declared.DeviceLabel.{DeviceLabel}
 use Rattle.device.specs.inside.Out.{Ticket}
 use Rattle.device.specs.declared.climbing.Climb.{Climb}
@@ -174,7 +174,7 @@ module _ (v0 : DeviceView)
     starts = [];
     goes = record {
       only_starts = All-nil IsStart;
-      adapter = reserves_none v0.adapter;
+      adapter = moves_none v0.adapter;
       same_rules = refl;
       same_most = refl;
       same_last = refl;

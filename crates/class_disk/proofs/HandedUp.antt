@@ -14,7 +14,7 @@ use Rattle.irp.specs.declared.Payload.{Payload}
 use Rattle.irp.specs.declared.Payload.TheVariants.{Buffer, Srb as Packed, Sent as AtAdapter}
 use Rattle.device.specs.Climbing.{Climbs}
 use Rattle.irp.specs.Climb.{above as locations_above}
-use Rattle.adapter.proofs.Joining.{reserves_none}
+use Rattle.adapter.proofs.Joining.{moves_none}
 use Rattle.srb.specs.declared.Kind.{Kind}
 use Rattle.srb.specs.declared.Kind.TheVariants.{Read, Write, Flush}
 use Rattle.machine.specs.declared.ClientRequest.{ClientRequest}
@@ -289,7 +289,7 @@ module _ (v : DeviceView) (b : TableView) (h : IsInHand v b) (ordered : IsOrderl
         same_submitted = refl;
         same_most = refl;
         run = IsSame-refl _;
-        adapter = reserves_none v.adapter;
+        adapter = moves_none v.adapter;
       };
       started_stay = λ n d low started. Contains-get_or _ n d low;
       still = λ none. (refl, refl);

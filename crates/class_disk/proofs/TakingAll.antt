@@ -1,7 +1,7 @@
 -- Packets that have ended are taken one after the other, until none is left.
 use Rattle.std.proofs.Common.{List, [], ◌++◌, refl, sym, ◌∙◌, subst, append_assoc, append-nil}
 use Rattle.std.proofs.lemmas.List.Elements.{All-nil, All-append}
-use Rattle.adapter.proofs.Joining.{reserves_none, moves_joined}
+use Rattle.adapter.proofs.Joining.{moves_none, moves_joined}
 use Rattle.srb.specs.declared.DeviceLabel.{DeviceLabel}
 use Rattle.machine.specs.State.{OpenRequest, State}
 use Rattle.machine.specs.Sending.{IsStart}
@@ -21,7 +21,7 @@ pub record TakesSome (Is : OpenRequest → Type 0)
 pub stays_there : (v : DeviceView) (b : TableView) → GoesOn v b [] v b
 stays_there v b = record {
   only_starts = All-nil IsStart;
-  adapter = reserves_none v.adapter;
+  adapter = moves_none v.adapter;
   same_rules = refl;
   same_most = refl;
   same_last = refl;
