@@ -33,14 +33,14 @@ impl<D: Device> IoManager<D> {
         self.parts.tables.untaken.remove(at)
     }
 
-    /// An empty queue with places for the labels of a step.
+    /// An empty queue with places for the labels of a step, and no more.
     ///
     /// # Errors
     ///
     /// [`AllocError`] where memory for these was refused.
     pub fn spare_labels(alloc: Global) -> Result<VecDeque<Label>, AllocError>
         ensures empty { IfOk result (λ spare. spare.items ≡ []) }
-        ensures places { IfOk result (λ spare. 256 ≤ deque_capacity spare) }
+        ensures places { IfOk result (λ spare. deque_capacity spare ≡ 256) }
     {
         VecDeque::with_capacity(alloc, LABEL_PLACES)
     }

@@ -10,7 +10,7 @@ use std::collections::VecDeque;
 use std::marker::Model;
 use std::mem;
 
-/// What was told, in order.
+/// What was told, in order. The queue holds it where memory keeps it, and else nothing.
 #[derive(Drop)]
 pub(crate) struct LabelQueue<T: Drop> {
     pub(crate) queue: VecDeque<T>,
@@ -19,7 +19,7 @@ pub(crate) struct LabelQueue<T: Drop> {
 }
 
 impl<T: Drop> Model for LabelQueue<T> {
-    ghost use Rattle.std.specs.Prelude.{◌≡◌, IsTrue};
+    ghost use Rattle.std.specs.Prelude.{◌≡◌, [], IsTrue, IsFalse};
     ghost use Rattle.std.specs.VecDeque.{deque_capacity};
     ghost use Rattle.io_manager.specs.inside.Queue.{QueueView};
 
@@ -27,7 +27,10 @@ impl<T: Drop> Model for LabelQueue<T> {
 
     ghost view = { λ q. record { items = q.told.items; places = deque_capacity q.queue; keeps = q.keeps } };
 
-    ghost invariant = { λ q. IsTrue q.keeps → q.queue.items ≡ q.told.items };
+    ghost invariant = { λ q. record {
+      kept : IsTrue q.keeps → q.queue.items ≡ q.told.items;
+      quiet : IsFalse q.keeps → q.queue.items ≡ [];
+    } };
 }
 
 impl<T: Drop> LabelQueue<T> {

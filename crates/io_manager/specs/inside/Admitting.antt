@@ -1,6 +1,7 @@
 -- A call as it comes in: how it is answered at once, and the request and the packet of one that is admitted.
 use Rattle.std.specs.Prelude.{◌≡◌, ◌<◌, ◌≤◌, ℕ, true, false, Bool, ◌+◌, ◌/◌, max, nat_le, List, [], ◌∷◌, ◌++◌}
-use Rattle.std.specs.Prelude.{Option, Some, None, MatchOption, IsFalse, length, slice_index, slice_set, if◌then◌else◌}
+use Rattle.std.specs.Prelude.{Option, Some, None, MatchOption, IsTrue, IsFalse, length, slice_index, slice_set}
+use Rattle.std.specs.Prelude.{if◌then◌else◌}
 use Rattle.std.specs.VecDeque.{deque_len, deque_capacity}
 use Rattle.slab.specs.Slab.{get, slab_len, Updates}
 use Rattle.ntstatus.specs.declared.NtStatus.{NtStatus}
@@ -91,9 +92,9 @@ request_of sector_size q = record {
   through = q.through;
 }
 
--- where labels are kept, there is a copy of the bytes that are told of a call
+-- just where labels are kept, there is a copy of the bytes that are told of a call
 abbrev pub IsCopied : Bool → CallBytes → Type 0
-IsCopied keeps bytes = MatchOption bytes.copy (IsFalse keeps) (λ copy. copy ≡ bytes.told.items)
+IsCopied keeps bytes = MatchOption bytes.copy (IsFalse keeps) (λ copy. IsTrue keeps × (copy ≡ bytes.told.items))
 
 -- how many bytes the label of an answer has room for: as many as a read's buffer has, and none for other kinds
 abbrev pub answer_room_of : Kind → ℕ → ℕ
