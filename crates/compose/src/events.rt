@@ -56,7 +56,7 @@ pub(crate) fn step<D: Hold>(manager: &mut IoManager<D>, alloc: Global, event: Ev
     reply
 }
 
-/// Carries out one event as [`step`] does, and forgets its labels: none is kept, and no bytes are made for them.
+/// Carries out one event as [`step`] does, and forgets its labels: none is kept, and no bytes are copied for them.
 pub(crate) fn step_untraced<D: Hold>(
     manager: &mut IoManager<D>,
     alloc: Global,

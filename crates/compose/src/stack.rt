@@ -81,7 +81,7 @@ impl<A: Adapter> Stack<A> {
         events::step(&mut self.manager, alloc, event)
     }
 
-    /// Carries out one event as [`Stack::step`] does, and forgets its labels: no bytes are made for them.
+    /// Carries out one event as [`Stack::step`] does, and forgets its labels: no bytes are copied for them.
     pub fn step_untraced(&mut self, alloc: Global, event: Event) -> Reply
         requires taken { self.old.labels ≡ [] }
         ensures untraced { StepsUntraced self.old event result self.new }

@@ -2,13 +2,13 @@
 //! plug and play calls of its removal. Calls and adapter steps go in; answers, bytes and labels come out.
 //!
 //! Each call promises, by its clause `right`, that what it tells is a run of the sector machine of the topmost device,
-//! with open requests counted; that the adapter moved by just the device labels among them; and that the call's row of
-//! the table (`specs/Right`) holds. [`IoManager::shows_whole`] says what holds between two calls: what is shown is
-//! settled, and fits together. It is proved over any device that holds (`Hold`) and takes packets with a buffer. All
-//! that a request needs is made before it is admitted: its packet (WDK: IoAllocateIrp), its room in the device below,
-//! and the buffers and places of its labels and its answer. Where no labels are kept
-//! ([`IoManager::keep_labels`]) contracts alone read them. It does not promise that a request completes, nor an order
-//! between requests that overlap.
+//! with open requests counted; that the adapter moved by just the device labels among them, behind what the call of a
+//! write reserved; and that the call's row of the table (`specs/Right`) holds. [`IoManager::shows_whole`] says what
+//! holds between two calls: what is shown is settled, and fits together. It is proved over any device that holds
+//! (`Hold`) and takes packets with a buffer. All that a request needs is made before it is admitted: its packet (WDK:
+//! IoAllocateIrp), its room in the device below, and the buffers and places of its labels and its answer. Where no
+//! labels are kept ([`IoManager::keep_labels`]) contracts alone read them. It does not promise that a request
+//! completes, nor an order between requests that overlap.
 #![tactic(auto)]
 
 mod admission;

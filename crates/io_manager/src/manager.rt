@@ -107,8 +107,8 @@ impl<D: Device> IoManager<D> {
     }
 
     /// Writes these bytes from byte `offset` of the handle's partition on, past volatile caches if `through` (WDK:
-    /// IRP_MJ_WRITE, SL_WRITE_THROUGH). Refused as [`IoManager::read`]. Where memory was refused, a part of the write
-    /// may be reserved at the adapter.
+    /// IRP_MJ_WRITE, SL_WRITE_THROUGH). Refused as [`IoManager::read`]. It reserves runs at the adapter that have a
+    /// sector of its own, also where memory was refused behind that; no other call reserves any.
     pub fn write(
         &mut self,
         alloc: Global,
@@ -280,7 +280,7 @@ impl<D: Device> IoManager<D> {
         self.parts.tell_device();
     }
 
-    /// From now on the labels of each step are kept until they are taken. Or else none is kept and no bytes are made
+    /// From now on the labels of each step are kept until they are taken. Or else none is kept and no bytes are copied
     /// for them, and contracts alone read them.
     pub fn keep_labels(&mut self, keep: bool)
         requires taken { self.old.labels ≡ [] }
