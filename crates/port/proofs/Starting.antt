@@ -43,7 +43,7 @@ use Rattle.port.proofs.Places.{distinct_same}
 use Rattle.port.specs.inside.Releases.{begun_of, Releases, AreLowerInUse}
 use Rattle.port.proofs.Lists.{splice_whole, second_front, contains_behind, contains_through}
 use Rattle.port.proofs.Tags.{others_same, free_leaves}
-use Rattle.adapter.proofs.Joining.{moves_one, moves_joined, reserves_none}
+use Rattle.adapter.proofs.Joining.{moves_none, moves_one, moves_joined}
 use Rattle.port.proofs.Sizing.{whole_write, places_some, places_short, same_command, asks_empty}
 use Rattle.port.proofs.Codes.{write_code, clash}
 use Rattle.port.proofs.Opening.{Any-map, untouched_all, all_unsent, started_by, ended_started, true_false}
@@ -359,7 +359,7 @@ pub releases_none : (b : TableView) (v : AdapterView) → Releases b v b v
 releases_none b v = record {
   starts = [];
   only_starts = All-nil IsStart;
-  moves = record { same_rules = refl; same_packets = IsPermutation-refl _; same_rooms = λ _. refl; same_submitted = refl; same_most = refl; run = IsSame-refl _; adapter = reserves_none v };
+  moves = record { same_rules = refl; same_packets = IsPermutation-refl _; same_rooms = λ _. refl; same_submitted = refl; same_most = refl; run = IsSame-refl _; adapter = moves_none v };
   stay = All-contains_itself (begun_of b v);
   full = λ all. (refl, refl);
 }

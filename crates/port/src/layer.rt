@@ -7,6 +7,7 @@ ghost use Rattle.srb.specs.declared.Kind.TheVariants.{Write};
 ghost use Rattle.machine.specs.declared.Request.{Request};
 ghost use Rattle.port.specs.inside.TableView.{books_of, visits_of};
 ghost use Rattle.port.specs.inside.Cancelling.{CancelsQueued, CancelsAt, CancelsNotAt, CancelsNoStarted};
+ghost use Rattle.device.specs.Served.{CancelsAt as ShownCancelsAt};
 ghost use Rattle.port.specs.inside.TableCalls.{WithdrawsNotAt};
 ghost use Rattle.linked.specs.Queue.{VisitsAtMost};
 ghost use Rattle.port.specs.inside.Invariant.{IsInHand, PortKept};
@@ -80,7 +81,7 @@ impl<A: Adapter> Parts<A> {
 
     /// Cancels the packet that waits at this spot, where it has this number; false where none does. At most three
     /// entries of the queue are visited.
-    pub fn cancel_queued(&mut self, spot: usize, number: u128) -> bool
+    fn cancel_queued(&mut self, spot: usize, number: u128) -> bool
         requires in_order { (rooms : List Request)
             × IsInHand (books_of self.old.queues) (A.view self.old.adapter) rooms }
         ensures rooms { (rooms : List Request) → IsInHand (books_of self.old.queues) (A.view self.old.adapter) rooms
@@ -98,6 +99,7 @@ impl<A: Adapter> Parts<A> {
     fn cancel_on_tag(&mut self, tag: u8, number: u128) -> bool
         requires { tag < length (books_of self.old.queues).started }
         ensures adapter { A.view self.new.adapter ≡ A.view self.old.adapter }
+        ensures visits { visits_of self.new.queues ≡ visits_of self.old.queues }
         ensures cancels { MatchBool result
             (CancelsAt (books_of self.old.queues) (A.view self.old.adapter) tag number (books_of self.new.queues))
             (CancelsNotAt (books_of self.old.queues) (A.view self.old.adapter) tag number (books_of self.new.queues)) }
@@ -109,6 +111,7 @@ impl<A: Adapter> Parts<A> {
     fn cancel_started(&mut self, number: u128) -> bool
         requires { (rooms : List Request) × IsInHand (books_of self.old.queues) (A.view self.old.adapter) rooms }
         ensures adapter { A.view self.new.adapter ≡ A.view self.old.adapter }
+        ensures visits { visits_of self.new.queues ≡ visits_of self.old.queues }
         ensures cancels { MatchBool result
             ((tag : ℕ)
             × CancelsAt (books_of self.old.queues) (A.view self.old.adapter) tag number (books_of self.new.queues))
@@ -217,7 +220,11 @@ impl<A: Adapter> Device for Port<A> {
         self.parts.queues.cancel_done(number);
     }
 
-    fn cancel_at(&mut self, spot: usize, number: u128) {
+    /// At most three entries of the queue are visited.
+    fn cancel_at(&mut self, spot: usize, number: u128)
+        ensures cancels { ShownCancelsAt self.old.shown spot number self.new.shown }
+        ensures visits { VisitsAtMost 3 self.old.visits self.new.visits }
+    {
         if self.parts.cancel_queued(spot, number) {
             return;
         }

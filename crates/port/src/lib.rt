@@ -5,16 +5,14 @@
 //! (`IsSending`); the front one starts on the lowest free tag. A busy return ends its packet as DEVICE_BUSY, a packet
 //! that is cancelled while it waits ends as REQUEST_FLUSHED, and one that waits at a removal as NO_DEVICE. Each goes up
 //! with the cancel routine that it came with (`brings_routine`). By its spot a packet that waits is found in a few
-//! steps ([`Port::cancel_queued`]). No call but `reserve` takes memory.
+//! steps, also in a long queue (`visits` of [`Port::cancel_at`](Device::cancel_at)). No call but `reserve` takes memory.
 //!
 //! It doesn't promise that a packet at the adapter ever comes back, nor that packets end in the order in which they
 //! came.
 #![tactic(auto)]
 
-ghost use Rattle.std.specs.Prelude.{[], ◌≡◌, IfOk, MatchBool};
-ghost use Rattle.linked.specs.Queue.{VisitsAtMost};
+ghost use Rattle.std.specs.Prelude.{◌≡◌, IfOk};
 ghost use Rattle.port.specs.Opening.{IsFresh, opening_view};
-ghost use Rattle.port.specs.Over.{CancelsWaiting, CancelsNoneWaiting};
 
 mod layer;
 mod queues;
@@ -66,7 +64,6 @@ impl<A: Adapter> Port<A> {
     pub fn new(alloc: Global, adapter: A) -> Result<Port<A>, AllocError>
         requires { IsFresh (A.view adapter) }
         ensures opening { IfOk result (λ port. port.shown ≡ opening_view (A.view adapter)) }
-        ensures none_waits { IfOk result (λ port. port.waiting ≡ []) }
     {
         let sizes = Sizes {
             sector_size: adapter.sector_size(),
@@ -78,15 +75,5 @@ impl<A: Adapter> Port<A> {
         let queues = Queues::new(alloc, sizes)?;
         let parts = Parts { adapter, queues };
         Ok(Port { parts })
-    }
-
-    /// Cancels the packet that waits at this spot, where it has this number, as `cancel` does. False where no packet
-    /// waits there under this number; nothing changes then but visits. At most three entries of the queue are visited.
-    pub fn cancel_queued(&mut self, spot: usize, number: u128) -> bool
-        ensures cancels { MatchBool result (CancelsWaiting self.old spot number self.new)
-            (CancelsNoneWaiting self.old spot number self.new) }
-        ensures visits { VisitsAtMost 3 self.old.visits self.new.visits }
-    {
-        self.parts.cancel_queued(spot, number)
     }
 }

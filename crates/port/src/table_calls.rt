@@ -314,16 +314,18 @@ impl Queues {
     /// The packet on this tag is cancelled, where it has this number and is not cancelled yet.
     pub fn cancel_on(&mut self, tag: u8, number: u128) -> bool
         requires { tag < length (books_of self.old).started }
-        ensures { MatchBool result (CancelsOn (books_of self.old) tag number (books_of self.new))
+        ensures cancels { MatchBool result (CancelsOn (books_of self.old) tag number (books_of self.new))
             (CancelsNotOn (books_of self.old) tag number (books_of self.new)) }
+        ensures visits { visits_of self.new ≡ visits_of self.old }
     {
         cancel_in(&mut self.started[tag as usize], number)
     }
 
     /// The packet of this number is cancelled, where it has ended and is not cancelled yet.
     pub fn cancel_done(&mut self, number: u128) -> bool
-        ensures { MatchBool result (CancelsEnded (books_of self.old) number (books_of self.new))
+        ensures cancels { MatchBool result (CancelsEnded (books_of self.old) number (books_of self.new))
             (CancelsNoEnded (books_of self.old) number (books_of self.new)) }
+        ensures visits { visits_of self.new ≡ visits_of self.old }
     {
         let Some(index) = self.find_done(number) else {
             return false;

@@ -4,7 +4,7 @@ use Rattle.port.proofs.Marking.{none_started, cancels_first, none_to_here}
 use Rattle.port.proofs.Parts.cancel_started.Goals as goal
 
 pub loop-tag-init : goal.loop-tag-init
-loop-tag-init g c = record { adapter = refl; queues = refl; none = λ lower below here. absurd (omega arith) }
+loop-tag-init g c = record { adapter = refl; visits = refl; queues = refl; none = λ lower below here. absurd (omega arith) }
 
 pub cancel_on_tag-requires : goal.cancel_on_tag-requires
 cancel_on_tag-requires g c =
@@ -21,6 +21,7 @@ returns-then-cancel_on_tag-clause-cancels g c = (c.loop-tag.tag, cancels_first _
 pub loop-tag-preserved : goal.loop-tag-preserved
 loop-tag-preserved g c = record {
   adapter = c.cancel_on_tag.ensures.adapter ∙ c.loop-tag.invariant.adapter;
+  visits = c.cancel_on_tag.ensures.visits ∙ c.loop-tag.invariant.visits;
   queues = c.if-cancel_on_tag.ensures.cancels.same ∙ c.loop-tag.invariant.queues;
   none = none_to_here _ _ _ _ _ _ _ c.loop-tag.invariant.queues c.loop-tag.invariant.adapter c.if-cancel_on_tag.ensures.cancels c.loop-tag.invariant.none;
 }
@@ -30,3 +31,9 @@ returns-clause-adapter g c = c.loop-tag.invariant.adapter
 
 pub returns-clause-cancels : goal.returns-clause-cancels
 returns-clause-cancels g c = none_started (books_of c.args.self.now.queues) _ (g.A.Adapter.view c.args.self.now.adapter) _ _ c.loop-tag.tag c.requires.1 (omega arith) c.loop-tag.invariant.none c.loop-tag.invariant.queues
+
+pub returns-then-cancel_on_tag-clause-visits : goal.returns-then-cancel_on_tag-clause-visits
+returns-then-cancel_on_tag-clause-visits g c = c.cancel_on_tag.ensures.visits ∙ c.loop-tag.invariant.visits
+
+pub returns-clause-visits : goal.returns-clause-visits
+returns-clause-visits g c = c.loop-tag.invariant.visits

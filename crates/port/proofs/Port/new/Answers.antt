@@ -1,5 +1,3 @@
-use Rattle.std.proofs.Common.{ap, map}
-use Rattle.port.specs.Shown.{packet, of_waiting}
 use Rattle.port.proofs.Fresh.{opens_seen, sizes_are}
 use Rattle.port.proofs.Sound.{sound_opens}
 use Rattle.port.specs.inside.TableView.{books_of}
@@ -8,9 +6,7 @@ use Rattle.port.proofs.Port.new.Goals as goal
 pub invariant_of-result : goal.invariant_of-result
 invariant_of-result g c = sound_opens (books_of c.in_ok-queues.queues) (g.A.Adapter.view c.args.adapter) _ (sizes_are (g.A.Adapter.view c.args.adapter) _ _ _ _ _ c.sector_size.ensures.exact c.sectors.ensures.exact c.max_transfer.ensures.exact c.depth.ensures.exact c.is_faithful.ensures) c.in_ok-queues.ensures c.requires c.depth.ensures.order
 
-pub returns-clause-none_waits : goal.returns-clause-none_waits
-returns-clause-none_waits g c = ap (map (of_waiting packet)) c.in_ok-queues.ensures.waiting
-
-pub returns-clause-opening : goal.returns-clause-opening
-returns-clause-opening g c =
-    opens_seen _ _ _ (sizes_are (g.A.Adapter.view c.args.adapter) _ _ _ _ _ c.sector_size.ensures.exact c.sectors.ensures.exact c.max_transfer.ensures.exact c.depth.ensures.exact c.is_faithful.ensures) c.in_ok-queues.ensures c.requires
+pub returns : goal.returns
+returns g c = record {
+  opening = opens_seen _ _ _ (sizes_are (g.A.Adapter.view c.args.adapter) _ _ _ _ _ c.sector_size.ensures.exact c.sectors.ensures.exact c.max_transfer.ensures.exact c.depth.ensures.exact c.is_faithful.ensures) c.in_ok-queues.ensures c.requires;
+}

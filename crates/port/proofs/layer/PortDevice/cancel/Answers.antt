@@ -16,7 +16,7 @@ invariant_of-self-then-cancel_started g c =
 
 pub invariant_of-self-2 : goal.invariant_of-self-2
 invariant_of-self-2 g c =
-    sound_on (books_of c.self.inside.parts.queues) (books_of c.cancel_done.new.self) (g.A.Adapter.view c.self.inside.parts.adapter) (g.A.Adapter.view c.cancel_started.new.self.adapter) (same_cancelled (books_of c.self.inside.parts.queues) (books_of c.cancel_done.new.self) (g.A.Adapter.view c.self.inside.parts.adapter) (g.A.Adapter.view c.cancel_started.new.self.adapter) c.args.number (hand_cancelled_last (books_of c.self.inside.parts.queues) (books_of c.withdraw.new.self) (books_of c.cancel_started.new.self.queues) (books_of c.cancel_done.new.self) (g.A.Adapter.view c.self.inside.parts.adapter) (g.A.Adapter.view c.cancel_started.new.self.adapter) _ c.args.number c.cancel_done.result c.self.invariant c.if-withdraw.ensures c.cancel_started.ensures.adapter c.if-cancel_started.ensures.cancels c.cancel_done.ensures).cancels) ((hand_cancelled_last (books_of c.self.inside.parts.queues) (books_of c.withdraw.new.self) (books_of c.cancel_started.new.self.queues) (books_of c.cancel_done.new.self) (g.A.Adapter.view c.self.inside.parts.adapter) (g.A.Adapter.view c.cancel_started.new.self.adapter) _ c.args.number c.cancel_done.result c.self.invariant c.if-withdraw.ensures c.cancel_started.ensures.adapter c.if-cancel_started.ensures.cancels c.cancel_done.ensures).rooms (reserved_of (books_of c.self.inside.parts.queues).rooms) c.self.invariant)
+    sound_on (books_of c.self.inside.parts.queues) (books_of c.cancel_done.new.self) (g.A.Adapter.view c.self.inside.parts.adapter) (g.A.Adapter.view c.cancel_started.new.self.adapter) (same_cancelled (books_of c.self.inside.parts.queues) (books_of c.cancel_done.new.self) (g.A.Adapter.view c.self.inside.parts.adapter) (g.A.Adapter.view c.cancel_started.new.self.adapter) c.args.number (hand_cancelled_last (books_of c.self.inside.parts.queues) (books_of c.withdraw.new.self) (books_of c.cancel_started.new.self.queues) (books_of c.cancel_done.new.self) (g.A.Adapter.view c.self.inside.parts.adapter) (g.A.Adapter.view c.cancel_started.new.self.adapter) _ c.args.number c.cancel_done.result c.self.invariant c.if-withdraw.ensures c.cancel_started.ensures.adapter c.if-cancel_started.ensures.cancels c.cancel_done.ensures.cancels).cancels) ((hand_cancelled_last (books_of c.self.inside.parts.queues) (books_of c.withdraw.new.self) (books_of c.cancel_started.new.self.queues) (books_of c.cancel_done.new.self) (g.A.Adapter.view c.self.inside.parts.adapter) (g.A.Adapter.view c.cancel_started.new.self.adapter) _ c.args.number c.cancel_done.result c.self.invariant c.if-withdraw.ensures c.cancel_started.ensures.adapter c.if-cancel_started.ensures.cancels c.cancel_done.ensures.cancels).rooms (reserved_of (books_of c.self.inside.parts.queues).rooms) c.self.invariant)
 
 pub returns-then-withdraw : goal.returns-then-withdraw
 returns-then-withdraw g c =
@@ -28,4 +28,4 @@ returns-then-cancel_started g c =
 
 pub returns : goal.returns
 returns g c =
-    rw (← shown_is c.self.view_is) (record { cancels = (hand_cancelled_last (books_of c.self.inside.parts.queues) (books_of c.withdraw.new.self) (books_of c.cancel_started.new.self.queues) (books_of c.cancel_done.new.self) (g.A.Adapter.view c.self.inside.parts.adapter) (g.A.Adapter.view c.cancel_started.new.self.adapter) _ c.args.number c.cancel_done.result c.self.invariant c.if-withdraw.ensures c.cancel_started.ensures.adapter c.if-cancel_started.ensures.cancels c.cancel_done.ensures).cancels })
+    rw (← shown_is c.self.view_is) (record { cancels = (hand_cancelled_last (books_of c.self.inside.parts.queues) (books_of c.withdraw.new.self) (books_of c.cancel_started.new.self.queues) (books_of c.cancel_done.new.self) (g.A.Adapter.view c.self.inside.parts.adapter) (g.A.Adapter.view c.cancel_started.new.self.adapter) _ c.args.number c.cancel_done.result c.self.invariant c.if-withdraw.ensures c.cancel_started.ensures.adapter c.if-cancel_started.ensures.cancels c.cancel_done.ensures.cancels).cancels })

@@ -3,8 +3,8 @@ use Rattle.port.specs.inside.TableView.{books_of}
 use Rattle.port.proofs.Searching.{cancels_ended, cancels_no_ended}
 use Rattle.port.proofs.queues.Queues.cancel_done.Goals as goal
 
-pub returns-in_default : goal.returns-in_default
-returns-in_default c = cancels_no_ended (books_of c.args.self.now) _ c.in_default.ensures
+pub returns-in_default-clause-cancels : goal.returns-in_default-clause-cancels
+returns-in_default-clause-cancels c = cancels_no_ended (books_of c.args.self.now) _ c.in_default.ensures
 
-pub returns : goal.returns
-returns c = cancels_ended (books_of c.args.self.now) _ _ _ c.in-Some-get_mut.ended.now _ _ c.in-Some.ensures c.in-Some-get_mut.ensures.value (c.mark_cancelled.ensures.entry _ _) c.mark_cancelled.ensures.payload refl refl refl
+pub returns-clause-cancels : goal.returns-clause-cancels
+returns-clause-cancels c = cancels_ended (books_of c.args.self.now) _ _ _ c.in-Some-get_mut.ended.now _ _ c.in-Some.ensures c.in-Some-get_mut.ensures.value (c.mark_cancelled.ensures.entry _ _) c.mark_cancelled.ensures.payload refl refl refl
