@@ -20,6 +20,5 @@ mod session;
 #[cfg(test)]
 mod steps;
 #[cfg(test)]
-mod waiting;
 #[cfg(test)]
 mod windows;

@@ -4,7 +4,6 @@ use crate::layers::port;
 use crate::session::try_all;
 use crate::steps::Step;
 use crate::steps::Told::{Acts, Bad, Busy, Faults, Good, Starts};
-use crate::waiting::try_all_queued;
 use device::Kind;
 use irp::Driver;
 use ntstatus::NtStatus;
@@ -120,23 +119,23 @@ fn cancels_at_a_spot_used_again(rt: HostRuntime) -> Result<(), Fail> {
 
 // The first two are at the adapter. The third waits, and is cancelled once, by its own spot and number alone.
 #[test]
-fn tells_whether_one_waited(rt: HostRuntime) -> Result<(), Fail> {
-    let port = port(rt.alloc(), 4, &[3], 2)?;
-    let steps = [
-        Step::Submit(0, Kind::Read, 0, 1, 0xA5),
-        Step::Submit(0, Kind::Read, 1, 1, 0xA5),
-        Step::Submit(0, Kind::Read, 2, 1, 0xA5),
-        Step::CancelWaiting(1, 1, false),
-        Step::CancelWaiting(3, 2, false),
-        Step::CancelWaiting(2, 3, false),
-        Step::NoneDone,
-        Step::CancelWaiting(3, 3, true),
-        Step::CancelWaiting(3, 3, false),
-        Step::Done(3, NtStatus::Cancelled),
-        Step::NoneDone,
-    ];
-    let whole = [Extent { first: 0, count: 4 }];
-    try_all_queued(&rt, rt.alloc(), port, &whole, &steps)?;
+fn cancels_at_its_own_spot(rt: HostRuntime) -> Result<(), Fail> {
+    run(
+        &rt,
+        rt.alloc(),
+        &[
+            Step::Submit(0, Kind::Read, 0, 1, 0xA5),
+            Step::Submit(0, Kind::Read, 1, 1, 0xA5),
+            Step::Submit(0, Kind::Read, 2, 1, 0xA5),
+            Step::CancelAt(2, 3),
+            Step::CancelAt(1, 1),
+            Step::NoneDone,
+            Step::CancelAt(3, 3),
+            Step::CancelAt(3, 3),
+            Step::Done(3, NtStatus::Cancelled),
+            Step::NoneDone,
+        ],
+    )?;
     Ok(())
 }
 

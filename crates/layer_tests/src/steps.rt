@@ -70,8 +70,6 @@ pub(crate) enum Step<'a> {
     Resume,
     /// A cancel as in `CancelAt`, if the packet is held.
     CancelHeld(u64, u64, bool),
-    /// A cancel as in `CancelAt`, if the packet waits in a port's queue.
-    CancelWaiting(u64, u64, bool),
 }
 
 /// A request of these sectors.
