@@ -93,16 +93,7 @@ fn carry_call<M: Medium, N: Naming, R: Wait>(
     book.shows_whole();
     let from = book.len();
     let event = call.on(share.handle());
-    let reply = book.step(
-        rt,
-        host.alloc,
-        &host.history,
-        &host.table.marks,
-        &host.journal,
-        &host.words,
-        Some(share),
-        event,
-    );
+    let reply = book.step(rt, &host.beside(), Some(share), event);
     book.shows_whole();
     let place = find_call(book, from);
     (reply, place)

@@ -14,7 +14,7 @@ use crate::account::Account;
 use crate::client::Client;
 use crate::host::{Host, Keeper};
 use crate::name::Naming;
-use book::Book;
+use book::{Book, Records};
 use chronicle::{Claims, History};
 use disk::Medium;
 use sector_journal::{Entered, OfEntries};
@@ -114,7 +114,8 @@ impl<M: Medium, N: Naming> Host<M, N> {
         disk.shows_disk();
         let mut book = book.into_inner();
         let mut journal = journal.into_inner();
-        book.book_rest(alloc, &history, &table.marks, &mut journal, &words);
+        let records = Records::new(alloc, &history, &table.marks, &words);
+        book.book_rest(&records, &mut journal);
         let Keeper {
             part: mut all,
             mut told,

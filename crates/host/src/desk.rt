@@ -116,16 +116,7 @@ impl<M: Medium, N: Naming> Host<M, N> {
         requires { class_of completion ≡ Bad completion }
     {
         let from = book.len();
-        book.act_failed(
-            rt,
-            self.alloc,
-            &self.history,
-            &self.table.marks,
-            &self.journal,
-            &self.words,
-            tag,
-            completion,
-        );
+        book.act_failed(rt, &self.beside(), tag, completion);
         Concerned::since(book, from)
     }
 }

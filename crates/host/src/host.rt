@@ -17,7 +17,7 @@ use crate::desk::Board;
 use crate::name::Naming;
 use crate::opened::{HostFault, Opened};
 use crate::shared::{Disk, Door, Table};
-use book::Book;
+use book::{Beside, Book, Records};
 use cancel_marks::Seat;
 use chronicle::{Claims, History, Whole};
 use compose::{Event, Handle, Reply};
@@ -234,22 +234,21 @@ impl<M: Medium, N: Naming> Host<M, N> {
         self.step(rt, Event::Reset)
     }
 
+    // What stands beside the book.
+    pub(crate) fn beside(&self) -> Beside<M, N> {
+        Beside {
+            records: Records::new(self.alloc, &self.history, &self.table.marks, &self.words),
+            journal: &self.journal,
+        }
+    }
+
     // The part of a step that holds the book's lock.
     pub(crate) fn step_in<R: Wait>(&self, rt: &R, book: &mut Book<N>, event: Event) -> Reply
         requires { (is_handle_event event ≡ false) × (call_handle event ≡ None) }
         ensures stepped { IsStepped N.slots None (inl tt) book.old event result book.new }
         ensures reply { IsReplyTo event result }
     {
-        book.step(
-            rt,
-            self.alloc,
-            &self.history,
-            &self.table.marks,
-            &self.journal,
-            &self.words,
-            Share::none(),
-            event,
-        )
+        book.step(rt, &self.beside(), Share::none(), event)
     }
 
     // Carries out the step, and tells whom it concerns.
