@@ -20,5 +20,4 @@ mod session;
 #[cfg(test)]
 mod steps;
 #[cfg(test)]
-#[cfg(test)]
 mod windows;
