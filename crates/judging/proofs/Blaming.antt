@@ -10,7 +10,7 @@ use Rattle.script.specs.Script.{IsFaultOf}
 use Rattle.startup.specs.Reading.{AreRead, IsAllOf}
 use Rattle.judging.specs.declared.faults.Error.{Error}
 use Rattle.judging.specs.declared.faults.Error.TheVariants.{Script}
-use Rattle.judging.specs.inside.Checked.{IsOutputFault}
+use Rattle.judging.specs.Checked.{IsOutputFault}
 use Rattle.judging.specs.Recorded.{AreGiven, IsRecordFault, IsUnreadScript}
 
 -- A SCRIPT

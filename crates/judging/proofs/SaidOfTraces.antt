@@ -2,7 +2,7 @@
 use Rattle.std.proofs.Common.{◌≡◌, ◌==◌, ◌++◌, ◌∷◌, ℕ, List, [], Option, None, Some, Result, Ok, Err, Bool, true, false, inl, inr, refl, subst, sym, ◌∙◌, ap, codes, cond, decimal, string_bytes, IfErr, IfOk, IsUtf8}
 use Rattle.std.specs.Str.{is_utf8}
 use Rattle.std.specs.Str.Lines.{lines}
-use Rattle.std.specs.Io.KnownBytes.{Appends, prepend_known}
+use Rattle.std.specs.Io.KnownBytes.{prepend_known}
 use Rattle.std.specs.Io.Buffered.{reader_buffer, reader_capacity, reader_inner, reader_remaining}
 use Rattle.std.specs.declared.io.buffered.BufReader.{BufReader}
 use Rattle.std.proofs.lemmas.Str.{IsUtf8-from_is_utf8}
@@ -13,9 +13,9 @@ use Rattle.settings.specs.declared.Config.{Config}
 use Rattle.startup.specs.Reading.{AreRead, IsAllOf}
 use Rattle.startup.specs.declared.ending.Verdict.{Verdict}
 use Rattle.startup.specs.declared.ending.Verdict.TheVariants.{Passed, Failed}
-use Rattle.judging.specs.Checked.{IsCheckFault, PrintsVerdict, Says, arrays_of, legal_line, refused_line}
+use Rattle.judging.specs.Checked.{IsCheckFault, IsOutputFault, PrintsVerdict, Says, arrays_of, legal_line, refused_line}
 use Rattle.judging.specs.Told.{AreTold}
-use Rattle.judging.specs.inside.Checked.{IsCourseOf, IsFaultBy, IsFaultOf, IsOutputFault, PrintsBy, SaysOf, tally_line}
+use Rattle.judging.specs.inside.Checked.{IsCourseOf, IsFaultBy, IsFaultOf, PrintsBy, SaysOf, tally_line}
 use Rattle.judging.specs.inside.Course.{HasTried}
 use Rattle.judging.specs.inside.Reading.{IsUnreadTrace}
 use Rattle.judging.specs.declared.course.Course.{Course}
@@ -23,7 +23,6 @@ use Rattle.judging.specs.declared.course.Course.TheVariants.{Legal, Broken, Bad,
 use Rattle.judging.specs.declared.course.Trial.{Trial}
 use Rattle.judging.specs.declared.opened.Standard.{Standard}
 use Rattle.judging.specs.declared.faults.Error.{Error}
-use Rattle.judging.specs.declared.faults.Error.TheVariants.{BadLine, OutputFailed}
 use Rattle.judging.proofs.Stopping.{is_run}
 
 -- the bytes of an input behind an empty buffer

@@ -102,3 +102,11 @@ IsCheckFault config trace (BadLine line column) = (settings : Config) × AreRead
 IsCheckFault config trace (Script fault) = ⊥
 IsCheckFault config trace OutputFailed = (settings : Config) × AreRead config settings × ((text : List ℕ) × IsAllOf trace text × (labels : List Label) × (numbers : List ℕ) × AreTold (lines text) labels numbers)
 IsCheckFault config trace NoMemory = Unit {0}
+
+-- the output failed, or memory was refused
+abbrev pub IsOutputFault : Error → Type 0
+IsOutputFault fault = (fault ≡ OutputFailed) ⊎ (fault ≡ NoMemory)
+
+-- nothing was written, unless the output failed or memory was refused
+abbrev pub IsUntold : Option (List ℕ) → Option (List ℕ) → Error → Type 0
+IsUntold old new fault = IsOutputFault fault ⊎ (new ≡ old)

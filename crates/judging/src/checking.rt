@@ -2,7 +2,7 @@
 
 ghost use Rattle.std.specs.Prelude.{false, true, IfErr, IfOk, OnOk, string_bytes};
 ghost use Rattle.std.specs.Io.KnownBytes.{Appends};
-ghost use Rattle.judging.specs.Checked.{IsCheckFault, PrintsVerdict, refused_line};
+ghost use Rattle.judging.specs.Checked.{IsCheckFault, IsUntold, PrintsVerdict, refused_line};
 ghost use Rattle.judging.specs.inside.Checked.{IsCourseOf, IsFaultBy, IsFaultOf, PrintsBy, SaysOf, tally_line};
 ghost use Rattle.judging.specs.inside.Reading.{IsUnreadTrace};
 
@@ -28,7 +28,7 @@ const BUFFER: usize = 65_536;
 ///
 /// The first of these that fits: the settings can't be read, or are refused; the trace can't be read, or has a bad
 /// line; `out` failed. Where memory was refused, or a count of the trace is full, [`Error::NoMemory`] stands in place
-/// of any of them.
+/// of any of them. Of settings or a trace that are blamed, `out` has nothing.
 pub fn check<C: Read + Drop, T: Read + Drop, O: Write, W: Write>(
     alloc: Global,
     config: C,
@@ -38,6 +38,7 @@ pub fn check<C: Read + Drop, T: Read + Drop, O: Write, W: Write>(
 ) -> Result<Verdict, Error>
     ensures printed { IfOk result (PrintsVerdict false (C.remaining config) (T.remaining trace) (O.contents out.old) (O.contents out.new)) }
     ensures fault { IfErr result (IsCheckFault (C.remaining config) (T.remaining trace)) }
+    ensures untold { IfErr result (IsUntold (O.contents out.old) (O.contents out.new)) }
 {
     let standard = Standard {
         config: read_settings(alloc, config)?,
@@ -61,6 +62,7 @@ pub fn check_any_cut<C: Read + Drop, T: Read + Drop, O: Write, W: Write>(
 ) -> Result<Verdict, Error>
     ensures printed { IfOk result (PrintsVerdict true (C.remaining config) (T.remaining trace) (O.contents out.old) (O.contents out.new)) }
     ensures fault { IfErr result (IsCheckFault (C.remaining config) (T.remaining trace)) }
+    ensures untold { IfErr result (IsUntold (O.contents out.old) (O.contents out.new)) }
 {
     let standard = Standard {
         config: read_settings(alloc, config)?,
@@ -79,6 +81,7 @@ fn check_by<T: Read + Drop, O: Write, W: Write>(
 ) -> Result<Verdict, Error>
     ensures printed { IfOk result (PrintsBy standard.now (T.remaining trace) (O.contents out.old) (O.contents out.new)) }
     ensures fault { IfErr result (IsFaultBy standard.now (T.remaining trace)) }
+    ensures untold { IfErr result (IsUntold (O.contents out.old) (O.contents out.new)) }
 {
     let Ok(mut input) = BufReader::with_capacity(alloc, BUFFER, trace) else {
         return Err(Error::NoMemory);
@@ -119,6 +122,7 @@ fn course_of<B: BufRead, W: Write>(
 fn say_verdict<O: Write>(course: &Course, out: &mut O) -> Result<Verdict, Error>
     ensures said { IfOk result (SaysOf course.now (O.contents out.old) (O.contents out.new)) }
     ensures fault { IfErr result (IsFaultOf course.now) }
+    ensures untold { IfErr result (IsUntold (O.contents out.old) (O.contents out.new)) }
 {
     match course {
         Course::Legal(trial) => {

@@ -1,10 +1,10 @@
 //! The trace of a script, as labels one a line.
 
-ghost use Rattle.std.specs.Prelude.{◌≡◌, ◌⊎◌, ◌++◌, IfErr, OnOk};
+ghost use Rattle.std.specs.Prelude.{◌≡◌, IfErr, OnOk};
 ghost use Rattle.std.specs.Io.KnownBytes.{Appends};
 ghost use Rattle.script.specs.Events.{AreNamed};
 ghost use Rattle.script.specs.Trace.{IsAllTaken, IsCarriedOut, Prints, left_by, without_labels};
-ghost use Rattle.judging.specs.inside.Checked.{IsOutputFault};
+ghost use Rattle.judging.specs.Checked.{IsOutputFault};
 ghost use Rattle.judging.specs.Recorded.{IsLineRecorded, IsRecord, lines_text};
 
 use crate::Error;

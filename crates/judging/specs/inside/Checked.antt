@@ -1,5 +1,5 @@
 -- How a trace is judged as a whole, and why it can't be.
-use Rattle.std.specs.Prelude.{◌≡◌, ◌⊎◌, ◌++◌, ◌∷◌, ℕ, List, [], Option, IsUtf8, codes, string_bytes}
+use Rattle.std.specs.Prelude.{◌≡◌, ◌++◌, ◌∷◌, ℕ, List, [], Option, IsUtf8, codes, string_bytes}
 use Rattle.std.specs.Fmt.{decimal}
 use Rattle.std.specs.Io.KnownBytes.{Appends}
 use Rattle.std.specs.Str.Lines.{lines}
@@ -11,9 +11,9 @@ use Rattle.judging.specs.declared.course.Course.{Course}
 use Rattle.judging.specs.declared.course.Course.TheVariants.{Legal, Broken, Bad, NotText}
 use Rattle.judging.specs.declared.course.Tally.{Tally}
 use Rattle.judging.specs.declared.faults.Error.{Error}
-use Rattle.judging.specs.declared.faults.Error.TheVariants.{BadLine, OutputFailed, NoMemory}
+use Rattle.judging.specs.declared.faults.Error.TheVariants.{BadLine}
 use Rattle.judging.specs.inside.Course.{IsCourse}
-use Rattle.judging.specs.Checked.{IsCheckFault, PrintsVerdict, refused_line}
+use Rattle.judging.specs.Checked.{IsCheckFault, IsOutputFault, PrintsVerdict, refused_line}
 
 -- what all lines of an input come to
 pub record IsCourseOf (standard : Standard) (trace : Option (List ℕ)) (course : Course) : Type 0 where
@@ -35,10 +35,6 @@ SaysOf (Broken stop) old new Passed = ⊥
 SaysOf (Broken stop) old new Failed = Appends old new (refused_line stop.line (string_bytes stop.sentence))
 SaysOf (Bad line column) old new verdict = ⊥
 SaysOf NotText old new verdict = ⊥
-
--- the output failed, or memory was refused
-abbrev pub IsOutputFault : Error → Type 0
-IsOutputFault fault = (fault ≡ OutputFailed) ⊎ (fault ≡ NoMemory)
 
 -- why nothing is said of the lines of a trace
 abbrev pub IsFaultOf : Course → Error → Type 0
