@@ -1,5 +1,5 @@
 -- Events, replies, labels and answers of a stack as C tells them and is told them.
-use Rattle.std.specs.Prelude.{◌≡◌, ℕ, ◌+◌, ◌%◌, ◌/◌, ◌^◌, List, [], ◌∷◌, length, min, replicate, slice_get, take, if◌then◌else◌, Option, Some, None}
+use Rattle.std.specs.Prelude.{◌≡◌, ℕ, ◌+◌, ◌%◌, ◌/◌, ◌^◌, List, [], ◌∷◌, drop, length, min, replicate, slice_get, take, if◌then◌else◌, Option, Some, None}
 use Rattle.std.specs.Option.{option_map}
 use Rattle.ntstatus.specs.Codes.{value_of}
 use Rattle.srb.specs.declared.Class.{Class}
@@ -89,10 +89,11 @@ shown_reply Ignored = replied 5 0 0 0
 
 -- LABELS
 
--- bytes stand at the head of a buffer, as many as have room there
+-- bytes stand at the head of a buffer, as many as have room there, and what is behind them is as it was
 pub record AreToldIn (before bytes after : List ℕ) : Type 0 where
   pub long : length after ≡ length before
   pub told : take (min (length bytes) (length before)) after ≡ take (min (length bytes) (length before)) bytes
+  pub behind : drop (min (length bytes) (length before)) after ≡ drop (min (length bytes) (length before)) before
 
 -- a label that tells its kind alone
 abbrev pub label_of_kind : ℕ → StackLabel

@@ -1,6 +1,6 @@
 //! Bytes that come from C and go to it.
 
-ghost use Rattle.std.specs.Prelude.{◌≡◌, IfOk, length, min, replicate, take};
+ghost use Rattle.std.specs.Prelude.{◌≡◌, IfOk, drop, length, min, replicate, take};
 
 use sector::Bytes;
 use std::alloc::{AllocError, Global};
@@ -35,6 +35,7 @@ pub(crate) fn zeros(alloc: Global, count: u64) -> Result<Bytes, AllocError>
 pub(crate) fn put(buffer: &mut [u8], bytes: &[u8]) -> u64
     ensures count { result ≡ length bytes.now }
     ensures put { take (min (length bytes.now) (length buffer.old)) buffer.new ≡ take (min (length bytes.now) (length buffer.old)) bytes.now }
+    ensures behind { drop (min (length bytes.now) (length buffer.old)) buffer.new ≡ drop (min (length bytes.now) (length buffer.old)) buffer.old }
 {
     let room = bytes.len().min(buffer.len());
     buffer[..room].copy_from_slice(&bytes[..room]);

@@ -9,6 +9,9 @@
 //! - [`saddlemug_read`] (`reads`, `as_it_was`): a read that succeeds has put just the bytes of the partition into the
 //!   buffer, and one that fails leaves the buffer as it was.
 //! - [`saddlemug_write`] (`writes`): a write that succeeds has replaced just its bytes.
+//! - [`saddlemug_stack_step`], [`saddlemug_stack_take_label`], [`saddlemug_stack_take_answer`] and
+//!   [`saddlemug_over_armed`] (`as_it_was`): where nothing is told, what would hold it is as it was. So is a buffer
+//!   behind the bytes that were put into it.
 //! - Each number that is not 0 is the number of the status that says why a call did not succeed.
 //!
 //! Nothing checks that C keeps what a call requires: the cell holds what the call is for, and no two arguments share

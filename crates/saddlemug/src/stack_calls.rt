@@ -1,6 +1,6 @@
 //! What C calls on a whole stack.
 
-ghost use Rattle.std.specs.Prelude.{◌≡◌, ◌⊎◌, None, Some, MatchBool, nat_eq};
+ghost use Rattle.std.specs.Prelude.{◌≡◌, ◌⊎◌, None, Some, MatchBool, nat_eq, true};
 ghost use Rattle.saddlemug.specs.Holding.{HoldsAnyStack, HoldsStack, places_held};
 ghost use Rattle.saddlemug.specs.Opened.{IsNewStack, IsStackStatus};
 ghost use Rattle.saddlemug.specs.Statuses.{IsNumberOfStatus};
@@ -43,6 +43,7 @@ pub extern "C" fn saddlemug_stack_step(
     ensures held { HoldsAnyStack cell.new.held }
     ensures steps { HoldsStack (λ old. HoldsStack (λ new. MatchBool (nat_eq result 0) (Steps old event.now bytes.now reply.new new) (IsNotStepped old new)) cell.new.held) cell.old.held }
     ensures status { (result ≡ 0) ⊎ IsNumberOfStatus (IsStepStatus event.now bytes.now) result }
+    ensures as_it_was { (result ≡ 0) ⊎ (reply.new ≡ reply.old) }
     ensures places { places_held cell.new.held ≡ places_held cell.old.held }
 {
     let mut held = cell.take(alloc);
@@ -58,7 +59,7 @@ pub extern "C" fn saddlemug_stack_step(
 }
 
 /// Takes the earliest label of the last step that was not taken yet, if there is one. Its bytes go into the buffer, as
-/// many as have room.
+/// many as have room. Where there is none, label and buffer are as they were.
 #[unsafe(no_mangle)]
 pub extern "C" fn saddlemug_stack_take_label(
     alloc: Global,
@@ -69,6 +70,7 @@ pub extern "C" fn saddlemug_stack_take_label(
     requires { HoldsAnyStack cell.old.held }
     ensures held { HoldsAnyStack cell.new.held }
     ensures told { HoldsStack (λ old. HoldsStack (TellsLabel old buffer.old (told_if result label.new) buffer.new) cell.new.held) cell.old.held }
+    ensures as_it_was { (result ≡ true) ⊎ (label.new ≡ label.old) }
     ensures places { places_held cell.new.held ≡ places_held cell.old.held }
 {
     let mut held = cell.take(alloc);
@@ -84,7 +86,7 @@ pub extern "C" fn saddlemug_stack_take_label(
 }
 
 /// Takes the waiting answer with the lowest number, if there is one. Its bytes go into the buffer, as many as have
-/// room.
+/// room. Where there is none, answer and buffer are as they were.
 #[unsafe(no_mangle)]
 pub extern "C" fn saddlemug_stack_take_answer(
     alloc: Global,
@@ -95,6 +97,7 @@ pub extern "C" fn saddlemug_stack_take_answer(
     requires { HoldsAnyStack cell.old.held }
     ensures held { HoldsAnyStack cell.new.held }
     ensures told { HoldsStack (λ old. HoldsStack (TellsAnswer old buffer.old (told_if result answer.new) buffer.new) cell.new.held) cell.old.held }
+    ensures as_it_was { (result ≡ true) ⊎ (answer.new ≡ answer.old) }
     ensures places { places_held cell.new.held ≡ places_held cell.old.held }
 {
     let mut held = cell.take(alloc);
