@@ -1,4 +1,5 @@
 pub mod Bookable
+pub mod Booked
 pub mod Carried
 pub mod Counting
 pub mod Covered

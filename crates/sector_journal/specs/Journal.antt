@@ -1,5 +1,5 @@
 -- What a journal shows, and what its calls do.
-use Rattle.std.specs.Prelude.{◌≡◌, ◌≢◌, ◌≤◌, ◌<◌, ◌^◌, ℕ, ◌+◌, ◌-◌, Bool, true, List, [], ◌∷◌, ◌++◌, length, map, All, Option, Some, None, Result, Ok, Err, MatchOption, replicate, slice_get, slice_set}
+use Rattle.std.specs.Prelude.{◌≡◌, ◌≢◌, ◌≤◌, ◌<◌, ◌^◌, ℕ, ◌+◌, ◌-◌, min, Bool, true, List, [], ◌∷◌, ◌++◌, length, map, All, Option, Some, None, Result, Ok, Err, MatchOption, replicate, slice_get, slice_set}
 use Rattle.std.specs.List.{list_any, position, remove, sum_by}
 use Rattle.srb.specs.declared.Srb.{Srb}
 use Rattle.srb.specs.declared.Kind.{Kind}
@@ -14,7 +14,7 @@ use Rattle.sector_journal.specs.declared.slots.Armed.{Armed}
 use Rattle.sector_journal.specs.declared.reservation.Reservation.{Reservation}
 use Rattle.sector_journal.specs.Arming.{AskTheSame}
 use Rattle.sector_journal.specs.Entering.{Names, Enters, Refuses}
-use Rattle.sector_journal.specs.Slots.{armed_at, armed_count, IsFree}
+use Rattle.sector_journal.specs.Slots.{armed_at, armed_count, armed_with, IsFree}
 use Rattle.sector_journal.specs.Reserving.{covers, is_of, pieces_of, pieces_with}
 use Rattle.sector_journal.specs.Stocking.{ShelfView, pieces_at}
 
@@ -98,8 +98,15 @@ pub record Admits (old : JournalView) (reservation : Reservation) (new : Journal
 abbrev pub without : ℕ → List Reservation → List Reservation → Type 0
 without request old new = MatchOption (position (is_of request) old) (new ≡ old) (λ at. new ≡ remove old at)
 
+-- how many pieces of this length the open requests have, those that acted among them
+abbrev pub pieces_open : JournalView → ℕ → ℕ
+pieces_open journal long = sum_by (pieces_with journal.medium.sector_size long) journal.reservations
+
+-- the reservation is gone. Of the buffers of each length as many stay as the other requests may yet need
 pub record Releases (old : JournalView) (request : ℕ) (new : JournalView) : Type 0 where
   pub gone : without request old.reservations new.reservations
+  pub kept : (long : ℕ) → min (pieces_at old.room long) (pieces_open new long - armed_with new.slots long) ≤ pieces_at new.room long
+  pub no_more : (long : ℕ) → pieces_at new.room long ≤ pieces_at old.room long
   pub after : new ≡ record old { reservations = new.reservations; room = new.room }
 
 -- a piece may be armed on the tag by this SRB
@@ -125,9 +132,10 @@ pub record Arms (old : JournalView) (tag piece : ℕ) (srb : Srb) (new : Journal
   pub same_room : (long : ℕ) → long ≢ length srb.data → pieces_at new.room long ≡ pieces_at old.room long
   pub after : new ≡ record old { slots = slice_set old.slots tag (Some armed); armings = old.armings ++ armed ∷ []; room = new.room }
 
--- no piece may act on the tag
+-- no piece may act on the tag. The buffer of its piece is there again, where open requests may need one more
 pub record Disarms (old : JournalView) (tag : ℕ) (new : JournalView) : Type 0 where
   pub no_less : (long : ℕ) → pieces_at old.room long ≤ pieces_at new.room long
+  pub back : (armed : Armed) → armed_at old.slots tag ≡ Some armed → min (pieces_at old.room (length armed.srb.data) + 1) (pieces_open old (length armed.srb.data)) ≤ pieces_at new.room (length armed.srb.data)
   pub after : new ≡ record old { slots = slice_set old.slots tag None; room = new.room }
 
 -- an entry, with the number of its arming

@@ -2,6 +2,7 @@
 use Rattle.std.specs.Prelude.{◌≡◌, ◌≢◌, ◌<◌, ℕ, List, length, Option, Some, None, get_or, slice_set}
 use Rattle.std.specs.List.{sum_by}
 use Rattle.sector_journal.specs.declared.slots.Armed.{Armed}
+use Rattle.sector_journal.specs.Reserving.{of_length}
 
 -- the piece that may act on a tag
 abbrev pub armed_at : List (Option Armed) → ℕ → Option Armed
@@ -14,6 +15,14 @@ one_if_armed None = 0
 -- the number of pieces that may act
 abbrev pub armed_count : List (Option Armed) → ℕ
 armed_count slots = sum_by one_if_armed slots
+
+abbrev pub one_if_long : ℕ → Option Armed → ℕ
+one_if_long long (Some armed) = of_length 1 (length armed.srb.data) long
+one_if_long long None = 0
+
+-- the number of pieces of this length that may act
+abbrev pub armed_with : List (Option Armed) → ℕ → ℕ
+armed_with slots long = sum_by (one_if_long long) slots
 
 -- the tag isn't armed for this piece
 abbrev pub HasNone : List (Option Armed) → ℕ → ℕ → Type 0

@@ -16,7 +16,7 @@ ghost use Rattle.sector_journal.specs.Arming.{IsCopy};
 ghost use Rattle.sector_journal.specs.Journal.{Acts, Admits, AreOfArmings, Arms, Disarms, GainsRoom, HoldsNear, IsNew, MayArm, Releases, entries_in, entries_of};
 ghost use Rattle.sector_journal.specs.Reserving.{covers, is_of, of_length};
 ghost use Rattle.sector_journal.specs.Slots.{HasNone, armed_at};
-ghost use Rattle.sector_journal.specs.Stocking.{pieces_at};
+ghost use Rattle.sector_journal.specs.Stocking.{pieces_at, promised_at};
 ghost use Rattle.sector_journal.specs.inside.Stocking.{IsOfLength};
 
 use crate::acted::Entered;
@@ -52,9 +52,10 @@ pub struct Journal<M: Medium, N: Naming> {
 }
 
 impl<M: Medium, N: Naming> Model for Journal<M, N> {
-    ghost use Rattle.std.specs.Prelude.{◌≡◌, length, vec_capacity};
+    ghost use Rattle.std.specs.Prelude.{◌≡◌, ℕ, length, vec_capacity};
     ghost use Rattle.std.specs.List.{sum_by};
-    ghost use Rattle.sector_journal.specs.Reserving.{pieces_of};
+    ghost use Rattle.sector_journal.specs.Reserving.{pieces_of, pieces_with};
+    ghost use Rattle.sector_journal.specs.Stocking.{promised_at};
     ghost use Rattle.sector_journal.specs.Journal.{JournalView};
     ghost use Rattle.sector_journal.specs.inside.Journal.{JournalKept};
 
@@ -76,6 +77,7 @@ impl<M: Medium, N: Naming> Model for Journal<M, N> {
       numbers : j.armings ≡ length j.armed;
       promised : j.promised ≡ sum_by pieces_of j.reservations.items;
       entered : j.entered ≡ j.entries.items;
+      booked : (long : ℕ) → promised_at j.stock long ≡ sum_by (pieces_with (M.view j.medium).sector_size long) j.reservations.items;
     } };
 }
 
@@ -128,13 +130,15 @@ fn hold<M: Medium>(medium: &mut M, kind: Kind, extent: Extent) -> Result<(), All
 }
 
 /// Makes the buffers of these pieces, or of none.
-fn promise(stock: &mut Stock, slots: &Slots, batches: (Batch, Batch)) -> Result<(), AllocError>
+fn promise(stock: &mut Stock, batches: (Batch, Batch)) -> Result<(), AllocError>
     ensures made { OnOk result ((long : ℕ) → pieces_at stock.new long ≡ pieces_at stock.old long + (of_length batches.0.pieces batches.0.length long + of_length batches.1.pieces batches.1.length long)) }
     ensures refused { OnErr result ((long : ℕ) → pieces_at stock.new long ≡ pieces_at stock.old long) }
+    ensures booked { OnOk result ((long : ℕ) → promised_at stock.new long ≡ promised_at stock.old long + (of_length batches.0.pieces batches.0.length long + of_length batches.1.pieces batches.1.length long)) }
+    ensures unbooked { OnErr result ((long : ℕ) → promised_at stock.new long ≡ promised_at stock.old long) }
 {
     let (full, last) = batches;
-    stock.promise(full, slots.armed_with(full.length))?;
-    if stock.promise(last, slots.armed_with(last.length)).is_err() {
+    stock.promise(full)?;
+    if stock.promise(last).is_err() {
         stock.forget(full);
         return Err(AllocError);
     }
@@ -296,7 +300,7 @@ impl<M: Medium, N: Naming> Journal<M, N> {
         };
         self.entries.reserve(wanted)?;
         hold(&mut self.medium, kind, extent)?;
-        promise(&mut self.stock, &self.slots, batches)?;
+        promise(&mut self.stock, batches)?;
         self.promised = wanted;
         self.reservations.push_reserved(reservation);
         Ok(())
@@ -357,9 +361,10 @@ impl<M: Medium, N: Naming> Journal<M, N> {
     pub fn disarm(&mut self, tag: u8)
         ensures { Disarms self.old tag self.new }
     {
-        if let Some(armed) = self.slots.clear(tag) {
-            self.stock.put(armed.srb.data);
-        }
+        let Some(armed) = self.slots.clear(tag) else {
+            return;
+        };
+        self.stock.put(armed.srb.data);
     }
 
     /// Lets the piece of a tag act. Returns the number of its entry, or how it failed. It may not act again. `None`,

@@ -3,7 +3,7 @@
 ghost use Rattle.std.specs.Prelude.{◌≡◌, ◌≤◌, ◌<◌, None, Some, IfOk, MatchOption, length, replicate, slice_set};
 ghost use Rattle.std.specs.Bool.{Decides};
 ghost use Rattle.std.specs.Option.{option_copied};
-ghost use Rattle.sector_journal.specs.Slots.{HasNone, IsFree, Takes, armed_at, armed_count};
+ghost use Rattle.sector_journal.specs.Slots.{HasNone, IsFree, Takes, armed_at, armed_count, armed_with, one_if_long};
 
 use srb::Srb;
 use std::alloc::{AllocError, Global};
@@ -64,14 +64,10 @@ impl Slots {
     }
 
     /// Returns how many pieces with this many bytes may act.
-    pub fn armed_with(&self, length: usize) -> usize {
-        let mut count = 0;
-        for slot in self.tags.as_slice() {
-            if is_armed_with(slot, length) {
-                count += 1;
-            }
-        }
-        count
+    pub fn armed_with(&self, length: usize) -> usize
+        ensures { result ≡ armed_with self.now length }
+    {
+        count_long(self.tags.as_slice(), length)
     }
 
     /// Whether there is such a tag, and no piece may act on it.
@@ -125,9 +121,22 @@ impl Slots {
     }
 }
 
-fn is_armed_with(slot: &Option<Armed>, length: usize) -> bool {
+fn count_long(slots: &[Option<Armed>], length: usize) -> usize
+    ensures { result ≡ armed_with slots.now length }
+{
+    let mut count = 0;
+    for slot in slots {
+        count += one_if_long(slot, length);
+    }
+    count
+}
+
+/// One where a piece of this many bytes may act, else none.
+fn one_if_long(slot: &Option<Armed>, length: usize) -> usize
+    ensures { result ≡ one_if_long length slot.now }
+{
     match slot {
-        Some(armed) => armed.srb.data.len() == length,
-        None => false,
+        Some(armed) if armed.srb.data.len() == length => 1,
+        _ => 0,
     }
 }

@@ -9,4 +9,5 @@ IsOfLength buffer long = length buffer ≡ long
 -- the buffer of one piece is taken
 pub record TakesOne (old new : ShelfView) : Type 0 where
   pub same : new.bytes ≡ old.bytes
+  pub booked : new.promised ≡ old.promised
   pub less : new.pieces + 1 ≡ old.pieces

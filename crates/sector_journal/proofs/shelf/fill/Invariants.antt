@@ -1,4 +1,4 @@
-use Rattle.std.proofs.Common.{◌≡◌, ◌+◌, All, length}
+use Rattle.std.proofs.Common.{◌≡◌, ◌≤◌, ◌+◌, All, length, vec_capacity}
 use Rattle.sector_journal.specs.inside.Stocking.{IsOfLength}
 use Rattle.sector_journal.proofs.shelf.fill.Given as goal
 
@@ -6,4 +6,5 @@ abbrev pub invariant-loop : goal.invariant-loop
 invariant-loop l = record {
   long : All (λ buffer. IsOfLength buffer l.fn.long) l.free.items;
   made : length l.free.items ≡ length l.initial.free.items + l.counter;
+  places : vec_capacity l.initial.free ≤ vec_capacity l.free;
 }

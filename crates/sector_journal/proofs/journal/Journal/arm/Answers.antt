@@ -3,6 +3,7 @@ use Rattle.std.specs.List.{list_any}
 use Rattle.sector_journal.specs.Reserving.{covers}
 use Rattle.sector_journal.specs.Slots.{IsFree, armed_count}
 use Rattle.sector_journal.specs.Stocking.{pieces_at}
+use Rattle.sector_journal.proofs.Booked.{still_booked}
 use Rattle.sector_journal.proofs.Covered.{AlwaysNames, can_enter, may_arm, arms, one_longer}
 use Rattle.sector_journal.proofs.Kept.{armed_kept}
 use Rattle.sector_journal.proofs.journal.Journal.arm.Goals as goal
@@ -19,6 +20,7 @@ invariant_of-self-2 g c =
       numbers = one_longer _ _ _ _ c.self.invariant.numbers c.add.ensures;
       promised = c.self.invariant.promised;
       entered = c.self.invariant.entered;
+      booked = still_booked (g.M.Medium.view c.self.inside.medium).sector_size _ c.self.inside.reservations.items _ c.self.inside.stock _ c.self.invariant.booked refl refl c.take.ensures.booked;
     }
 
 pub returns-clause-decides : goal.returns-clause-decides

@@ -1,7 +1,10 @@
-use Rattle.std.proofs.Common.{rules, ◌≡◌, ◌+◌, ◌∷◌, ◌++◌, [], refl, sym, ap, ◌∙◌, le_refl}
+use Rattle.std.proofs.Common.{rules, ◌≡◌, ℕ, ◌+◌, ◌∷◌, ◌++◌, [], refl, sym, ap, ◌∙◌, le_refl}
 use Rattle.std.specs.List.{sum_by}
-use Rattle.sector_journal.specs.Reserving.{pieces_of}
+use Rattle.sector_journal.specs.Reserving.{of_length, pieces_of, pieces_with}
+use Rattle.disk.specs.Medium.{MediumView}
+use Rattle.sector_journal.specs.Stocking.{promised_at}
 use Rattle.sector_journal.specs.Journal.{IsHeld}
+use Rattle.sector_journal.proofs.Booked.{more_booked, still_booked}
 use Rattle.sector_journal.proofs.Kept.{roomier_kept, admitted_kept}
 use Rattle.sector_journal.proofs.Reserved.{reserves_none, near_seen, none_near, on_err, gains, admitted}
 use Rattle.sector_journal.proofs.journal.Journal.reserve.Goals as goal
@@ -20,6 +23,7 @@ invariant_of-self-in_err-hold g c = record {
   numbers = c.self.invariant.numbers;
   promised = c.self.invariant.promised ∙ ap (sum_by pieces_of) (sym c.reserve.ensures.items);
   entered = c.self.invariant.entered ∙ sym c.reserve-2.ensures.items;
+  booked = still_booked (g.M.Medium.view c.self.inside.medium).sector_size _ c.self.inside.reservations.items _ c.self.inside.stock _ c.self.invariant.booked (ap (λ (v : MediumView). v.sector_size) c.hold.ensures.reserves.after) c.reserve.ensures.items (λ long. refl);
 }
 
 pub invariant_of-self-in_err-promise : goal.invariant_of-self-in_err-promise
@@ -28,6 +32,9 @@ invariant_of-self-in_err-promise g c = record {
   numbers = c.self.invariant.numbers;
   promised = c.self.invariant.promised ∙ ap (sum_by pieces_of) (sym c.reserve.ensures.items);
   entered = c.self.invariant.entered ∙ sym c.reserve-2.ensures.items;
+  booked =
+      let same : (long : ℕ) → promised_at c.promise.new.stock long ≡ promised_at c.self.inside.stock long = search rules in
+      still_booked (g.M.Medium.view c.self.inside.medium).sector_size _ c.self.inside.reservations.items _ c.self.inside.stock _ c.self.invariant.booked (ap (λ (v : MediumView). v.sector_size) c.hold.ensures.reserves.after) c.reserve.ensures.items same;
 }
 
 pub invariant_of-self-2 : goal.invariant_of-self-2
@@ -42,6 +49,12 @@ invariant_of-self-2 g c =
           admitted c.self.inside.reservations.items _ _ (record { request = c.args.request; kind = c.args.kind; extent = c.args.extent; max_transfer = c.args.max_transfer }) c.self.inside.promised c.pieces_in.result _ _
           c.self.invariant.promised c.pieces_in.ensures c.batches-batches.ensures.together wanted c.reserve.ensures.items c.push_reserved.ensures.items;
       entered = c.self.invariant.entered ∙ sym c.reserve-2.ensures.items;
+      booked =
+          let more : (long : ℕ) → promised_at c.promise.new.stock long ≡ promised_at c.self.inside.stock long + (of_length c.batches-batches.result.0.pieces c.batches-batches.result.0.length long + of_length c.batches-batches.result.1.pieces c.batches-batches.result.1.length long) = search rules in
+          more_booked _ _ _ _ _ (record { request = c.args.request; kind = c.args.kind; extent = c.args.extent; max_transfer = c.args.max_transfer }) _ _
+          (λ long. of_length c.batches-batches.result.0.pieces c.batches-batches.result.0.length long + of_length c.batches-batches.result.1.pieces c.batches-batches.result.1.length long)
+          c.self.invariant.booked (ap (λ (v : MediumView). v.sector_size) c.hold.ensures.reserves.after) c.reserve.ensures.items c.push_reserved.ensures.items
+          (λ long. c.batches-batches.ensures.lengths long ∙ ap (λ (n : ℕ). pieces_with n long (record { request = c.args.request; kind = c.args.kind; extent = c.args.extent; max_transfer = c.args.max_transfer })) c.sector_size.ensures) more;
     }
 
 pub returns-in_default-clause-refused : goal.returns-in_default-clause-refused

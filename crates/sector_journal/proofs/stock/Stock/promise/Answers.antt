@@ -1,14 +1,23 @@
 use Rattle.std.proofs.Common.{◌+◌, ap, ◌∙◌}
 use Rattle.sector_journal.specs.Reserving.{of_length}
 use Rattle.sector_journal.specs.Stocking.{ShelfView}
-use Rattle.sector_journal.proofs.Shelves.{made_more_in, on_made}
+use Rattle.sector_journal.proofs.Shelves.{booked, stocked, made_more_in, on_made}
 use Rattle.sector_journal.proofs.stock.Stock.promise.Goals as goal
 
 pub returns-clause-made : goal.returns-clause-made
 returns-clause-made c =
     on_made c.promise.result
     (λ made long.
-    made_more_in c.self.inside.shelves.items c.find_or_add.new.self c.args.batch.length c.in_ok-at.at c.index_mut.result.now c.promise.new.self c.args.batch.pieces c.self.view_is c.in_ok-at.ensures.found
+    made_more_in stocked c.self.inside.shelves.items c.find_or_add.new.self c.args.batch.length c.in_ok-at.at c.index_mut.result.now c.promise.new.self c.args.batch.pieces c.self.view_is c.in_ok-at.ensures.found
     c.index_mut.ensures.value (ap (λ (r : ShelfView). r.bytes) made) (ap (λ (r : ShelfView). r.pieces) made) long
     ∙ ap (λ n. n + of_length c.args.batch.pieces c.args.batch.length long) (c.find_or_add.ensures.same long))
+    c.promise.ensures.made
+
+pub returns-clause-booked : goal.returns-clause-booked
+returns-clause-booked c =
+    on_made c.promise.result
+    (λ made long.
+    made_more_in booked c.self.inside.shelves.items c.find_or_add.new.self c.args.batch.length c.in_ok-at.at c.index_mut.result.now c.promise.new.self c.args.batch.pieces c.self.view_is c.in_ok-at.ensures.found
+    c.index_mut.ensures.value (ap (λ (r : ShelfView). r.bytes) made) (ap (λ (r : ShelfView). r.promised) made) long
+    ∙ ap (λ n. n + of_length c.args.batch.pieces c.args.batch.length long) (c.find_or_add.ensures.booked long))
     c.promise.ensures.made

@@ -1,5 +1,6 @@
-use Rattle.std.proofs.Common.{sym, ◌∙◌}
-use Rattle.sector_journal.proofs.Shelves.{is_there_in, put_more_in}
+use Rattle.std.proofs.Common.{sym, ap, ◌∙◌}
+use Rattle.sector_journal.specs.Stocking.{ShelfView}
+use Rattle.sector_journal.proofs.Shelves.{booked, stocked, is_there_in, put_more_in, kept_count_in, came_back_in}
 use Rattle.sector_journal.proofs.stock.Stock.put.Goals as goal
 
 pub put-requires : goal.put-requires
@@ -7,7 +8,18 @@ put-requires c =
     let there = is_there_in c.self.inside.shelves.items c.args.self.now c.len.result c.in-Some.at c.index_mut.result.now c.self.view_is (sym c.find.ensures ∙ c.in-Some.is) c.index_mut.ensures.value in
     sym c.len.ensures ∙ sym there.1
 
-pub returns-in-Some : goal.returns-in-Some
-returns-in-Some c =
+pub returns-in-Some-clause-no_less : goal.returns-in-Some-clause-no_less
+returns-in-Some-clause-no_less c =
     let there = is_there_in c.self.inside.shelves.items c.args.self.now c.len.result c.in-Some.at c.index_mut.result.now c.self.view_is (sym c.find.ensures ∙ c.in-Some.is) c.index_mut.ensures.value in
-    put_more_in c.self.inside.shelves.items c.args.self.now c.in-Some.at c.index_mut.result.now c.put.new.self c.self.view_is there.0 c.index_mut.ensures.value c.put.ensures.same c.put.ensures.no_less
+    put_more_in stocked c.self.inside.shelves.items c.args.self.now c.in-Some.at c.index_mut.result.now c.put.new.self c.self.view_is there.0 c.index_mut.ensures.value (ap (λ (r : ShelfView). r.bytes) c.put.ensures.same) c.put.ensures.no_less
+
+pub returns-in-Some-clause-booked : goal.returns-in-Some-clause-booked
+returns-in-Some-clause-booked c =
+    kept_count_in booked c.self.inside.shelves.items c.args.self.now c.len.result c.in-Some.at c.index_mut.result.now c.put.new.self c.self.view_is (sym c.find.ensures ∙ c.in-Some.is) c.index_mut.ensures.value
+    (ap (λ (r : ShelfView). r.bytes) c.put.ensures.same) (ap (λ (r : ShelfView). r.promised) c.put.ensures.same)
+
+pub returns-in-Some-clause-back : goal.returns-in-Some-clause-back
+returns-in-Some-clause-back c =
+    rw (sym c.len.ensures)
+    (came_back_in c.self.inside.shelves.items c.args.self.now c.len.result c.in-Some.at c.index_mut.result.now c.put.new.self c.self.view_is (sym c.find.ensures ∙ c.in-Some.is) c.index_mut.ensures.value
+    (ap (λ (r : ShelfView). r.bytes) c.put.ensures.same) c.put.ensures.back)
