@@ -1,5 +1,7 @@
 //! What stands beside a book.
 
+ghost use Rattle.std.specs.Prelude.{◌≡◌};
+
 use crate::name::Naming;
 use cancel_marks::Marks;
 use chronicle::History;
