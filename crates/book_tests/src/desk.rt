@@ -86,10 +86,10 @@ fn rests<M: Medium, N: Naming, R: Wait + Abort>(rt: &R, desk: &Desk<M, N>, tag: 
     assert!(rt; journal.act(desk.words, tag, piece).is_none(), "tag {tag}");
 }
 
-// The journal has room for this many requests.
-fn has_room<M: Medium, N: Naming, R: Wait + Abort>(rt: &R, desk: &Desk<M, N>, requests: usize) {
+// Of how many requests the journal has room for the acts.
+fn reservations<M: Medium, N: Naming, R: Wait>(rt: &R, desk: &Desk<M, N>) -> usize {
     let journal = desk.beside.journal.lock(rt);
-    assert!(rt; journal.reservations() == requests);
+    journal.reservations()
 }
 
 // Whether memory was refused.
@@ -103,7 +103,8 @@ fn is_refused_for_memory(reply: &Reply) -> bool {
     )
 }
 
-// Checks that a step has just this reply. Where it was refused for want of memory, the trace has not grown.
+// Checks that a step has just this reply. Where it was refused for want of memory, the trace has not grown, and what
+// was reserved for it was given back.
 fn go<M: Medium, N: Naming, R: Wait + Abort>(
     rt: &R,
     desk: &mut Desk<M, N>,
@@ -111,10 +112,10 @@ fn go<M: Medium, N: Naming, R: Wait + Abort>(
     order: Order,
     want: &str,
 ) -> Result<(), AllocError> {
-    let before = desk.book.len();
+    let before = (desk.book.len(), reservations(rt, desk));
     let reply = step(rt, desk, share, order)?;
     if is_refused_for_memory(&reply) {
-        assert!(rt; desk.book.len() == before);
+        assert!(rt; (desk.book.len(), reservations(rt, desk)) == before);
         return Err(AllocError);
     }
     same(rt, &texts::reply(desk.alloc, &reply)?.as_str(), &want);
@@ -153,7 +154,9 @@ pub(crate) fn play<M: Medium, N: Naming, R: Wait + Abort>(
             }
             Row::LaneFails(tag, want) => fail(rt, desk, tag, want)?,
             Row::Rests(tag, piece) => rests(rt, desk, tag, piece),
-            Row::Room(requests) => has_room(rt, desk, requests),
+            Row::Room(requests) => {
+                assert!(rt; reservations(rt, desk) == requests);
+            }
         }
     }
     Ok(())

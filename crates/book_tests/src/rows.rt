@@ -107,12 +107,16 @@ const LATER_LANE_FIRST: Run = Run {
     rows: &[
         Row::Step(0, Order::Write(0, 512, 0x01), "request 1 at 0"),
         Row::Step(1, Order::Write(512, 512, 0x02), "request 2 at 1"),
+        Row::Room(2),
         Row::Lane(1, 0),
         Row::Lane(0, 1),
         Row::Step(0, Order::Act(0), "ok"),
         Row::Step(0, Order::Act(1), "ignored"),
+        Row::Room(2),
         Row::Step(0, Order::Finish(0), "ok"),
+        Row::Room(1),
         Row::Step(0, Order::Finish(1), "ok"),
+        Row::Room(0),
     ],
     trace: "call 1 of 0 / start 1 / call 2 of 1 / start 2 / act 2 02 / act 1 01 / return 1 / answer 1 SUCCESS of 0 / return 2 / answer 2 SUCCESS of 1",
     entries: "write 2049 02 / write 2048 01",
@@ -128,12 +132,15 @@ const NO_LANE: Run = Run {
         Row::Step(0, Order::Write(512, 512, 0xA5), "request 1 at 0"),
         Row::Step(0, Order::Act(0), "ok"),
         Row::Step(0, Order::Finish(0), "ok"),
+        Row::Room(0),
         Row::Step(1, Order::Read(512, 512), "request 2 at 0"),
         Row::Step(0, Order::Flush, "request 3 at 1"),
         Row::Step(1, Order::Act(0), "ok"),
         Row::Lane(1, 2),
         Row::Step(1, Order::Finish(0), "ok"),
+        Row::Room(1),
         Row::Step(1, Order::Finish(1), "ok"),
+        Row::Room(0),
     ],
     trace: "call 1 of 0 / start 1 / act 1 a5 / return 1 / answer 1 SUCCESS of 0 / call 2 of 1 / start 2 / call 3 of 0 / start 3 / act 2 a5 / act 3 / return 2 / answer 2 SUCCESS of 1 / return 3 / answer 3 SUCCESS of 0",
     entries: "write 2049 a5 / read 2049 a5 / flush",
@@ -150,7 +157,9 @@ const RESET: Run = Run {
         Row::Step(0, Order::Reset, "ok"),
         Row::Rests(0, 2),
         Row::Step(0, Order::Act(0), "ignored"),
+        Row::Room(1),
         Row::Step(0, Order::Finish(0), "ok"),
+        Row::Room(0),
     ],
     trace: "call 1 of 0 / start 1 / fault 1 / return 1 / answer 1 IO_DEVICE_ERROR of 0",
     entries: "",
@@ -166,7 +175,9 @@ const BAD_SECTOR: Run = Run {
         Row::Step(0, Order::Read(0, 512), "request 1 at 0"),
         Row::Step(1, Order::Write(512, 512, 0x05), "request 2 at 1"),
         Row::LaneFails(0, "ok"),
+        Row::Room(2),
         Row::Step(0, Order::Finish(0), "ok"),
+        Row::Room(1),
         Row::Step(0, Order::Read(0, 512), "request 3 at 0"),
         Row::Step(0, Order::Act(0), "ok"),
         Row::Step(1, Order::Act(1), "ok"),
@@ -176,6 +187,31 @@ const BAD_SECTOR: Run = Run {
     first: &[0, 6, 7],
     second: &[2],
     answered: Some(6),
+    transferred: 0,
+};
+
+// A read beyond the partition is refused, and needs no room.
+const REFUSED: Run = Run {
+    rows: &[
+        Row::Step(
+            0,
+            Order::Read(1024 * 512, 512),
+            "refused InvalidParameter 512",
+        ),
+        Row::Room(0),
+        Row::Step(1, Order::Flush, "request 2 at 0"),
+        Row::Step(
+            0,
+            Order::Read(1024 * 512, 512),
+            "refused InvalidParameter 512",
+        ),
+        Row::Room(1),
+    ],
+    trace: "call 1 of 0 / answer 1 INVALID_PARAMETER of 0 / call 2 of 1 / start 1 / call 3 of 0 / answer 3 INVALID_PARAMETER of 0",
+    entries: "",
+    first: &[0, 1, 4, 5],
+    second: &[2],
+    answered: Some(1),
     transferred: 0,
 };
 
@@ -204,6 +240,7 @@ fn books_in_the_order_of_entries(rt: HostRuntime) -> Result<(), Fail> {
 
 #[test]
 fn fails_what_did_not_act(rt: HostRuntime) -> Result<(), Fail> {
+    run_on_disk(&rt, rt.alloc(), &[], &REFUSED)?;
     run_on_disk(&rt, rt.alloc(), &[], &RESET)?;
     run_on_disk(&rt, rt.alloc(), &[2048], &BAD_SECTOR)?;
     Ok(())
