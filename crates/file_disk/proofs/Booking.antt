@@ -92,11 +92,11 @@ sent_named tag piece srb (ReadCapacity16 allocation) m = tt
 
 -- WHAT A TASK CAME TO
 
-moved_by : (offset : ℕ) (sent bytes : List ℕ) (task : Task) (calls : List Call) → Does offset sent task (Ok bytes) calls ⊎ LacksMemory (Ok bytes) calls → HasMoved sent task bytes
+moved_by : (offset : ℕ) (sent bytes : List ℕ) (task : Task) (calls : List Call) → Does offset sent task (Ok bytes) calls ⊎ ((task ≡ ReadTask) × LacksMemory (Ok bytes) calls) → HasMoved sent task bytes
 moved_by offset sent bytes ReadTask calls (inl h) = h.0
 moved_by offset sent bytes (WriteTask through) calls (inl h) = h.0
 moved_by offset sent bytes FlushTask calls (inl h) = h.0
-moved_by offset sent bytes task calls (inr h) = absurd (let e : ◌≡◌ {A = Result (List ℕ) Completion} (Ok bytes) (Err hardware_fault) = h.0 in cc)
+moved_by offset sent bytes task calls (inr h) = absurd (let e : ◌≡◌ {A = Result (List ℕ) Completion} (Ok bytes) (Err hardware_fault) = h.1.0 in cc)
 
 write_bad : (why : Failure) → class_of (write_fault why) ≡ Bad (write_fault why)
 write_bad Protected = refl
@@ -105,15 +105,15 @@ write_bad Failed = refl
 same_bad : (one completion : Completion) → completion ≡ one → class_of one ≡ Bad one → class_of completion ≡ Bad completion
 same_bad one completion is bad = subst (λ (c : Completion). class_of c ≡ Bad c) (sym is) bad
 
-failed_bad : (offset : ℕ) (sent : List ℕ) (task : Task) (completion : Completion) (calls : List Call) → Does offset sent task (Err completion) calls ⊎ LacksMemory (Err completion) calls → class_of completion ≡ Bad completion
-failed_bad offset sent ReadTask completion calls (inl h) = same_bad read_fault completion h.0 refl
+failed_bad : (offset : ℕ) (sent : List ℕ) (task : Task) (completion : Completion) (calls : List Call) → Does offset sent task (Err completion) calls ⊎ ((task ≡ ReadTask) × LacksMemory (Err completion) calls) → class_of completion ≡ Bad completion
+failed_bad offset sent ReadTask completion calls (inl h) = same_bad read_fault completion h.1 refl
 failed_bad offset sent (WriteTask false) completion calls (inl h) = same_bad (write_fault h.1.0) completion h.1.1 (write_bad h.1.0)
 failed_bad offset sent (WriteTask true) completion calls (inl h) = elim h.1 [
   | inl w ↦ same_bad (write_fault w.0) completion w.1 (write_bad w.0)
   | inr s ↦ same_bad hardware_fault completion s.1 refl
 ]
 failed_bad offset sent FlushTask completion calls (inl h) = same_bad hardware_fault completion h.1.1 refl
-failed_bad offset sent task completion calls (inr h) = same_bad hardware_fault completion (let e : ◌≡◌ {A = Result (List ℕ) Completion} (Err completion) (Err hardware_fault) = h.0 in cc) refl
+failed_bad offset sent task completion calls (inr h) = same_bad hardware_fault completion (let e : ◌≡◌ {A = Result (List ℕ) Completion} (Err completion) (Err hardware_fault) = h.1.0 in cc) refl
 
 -- WHAT COMES OF A PIECE
 

@@ -38,8 +38,8 @@ module _ (old now new : List Call) (offset count done asked : ℕ) (buffer part 
           ∙ ap (λ (l : List ℕ). l ++ take n (drop done (take done buffer ++ part))) (take_at (take done buffer) part done (length-take-le done buffer (omega arith)))
           ∙ ap (λ (l : List ℕ). take done buffer ++ take n l) (drop_at (take done buffer) part done (length-take-le done buffer (omega arith)))
 
-  pub stops_reading : (gave : Result (List ℕ) Failure) → GaveNothing gave → new ≡ ReadAt (offset + done) asked gave ∷ now → Since old new (StopsReading offset count)
-  stops_reading gave nothing noted = record {
+  pub stops_reading : (gave : Result (List ℕ) Failure) (why : Failure) → GaveNothing gave why → new ≡ ReadAt (offset + done) asked gave ∷ now → Since old new (StopsReading offset count why)
+  stops_reading gave why nothing noted = record {
     calls = ReadAt (offset + done) asked gave ∷ since.calls;
     after = noted ∙ ap (λ (calls : List Call). ReadAt (offset + done) asked gave ∷ calls) since.after;
     made = (take done buffer, at_is, asked_is, nothing, since.made);

@@ -1,9 +1,9 @@
 -- Calls of one piece, put together.
-use Rattle.std.proofs.Common.{◌≡◌, ◌⊎◌, inl, inr, ℕ, Bool, true, false, List, [], ◌∷◌, ◌++◌, length, Some, None, Result, Ok, Err, refl, sym, ap, subst, ◌∙◌, append_assoc}
+use Rattle.std.proofs.Common.{◌≡◌, ◌⊎◌, inl, inr, ℕ, Bool, true, false, List, [], ◌∷◌, ◌++◌, length, Some, None, Result, Ok, Err, refl, sym, ap, ◌∙◌, append_assoc}
 use Rattle.srb.specs.declared.Completion.{Completion}
 use Rattle.file_disk.specs.declared.storage.Failure.{Failure}
 use Rattle.file_disk.specs.declared.file_disk.Task.{Task}
-use Rattle.file_disk.specs.declared.file_disk.Task.TheVariants.{Write as WriteTask, Flush as FlushTask}
+use Rattle.file_disk.specs.declared.file_disk.Task.TheVariants.{Read as ReadTask, Write as WriteTask, Flush as FlushTask}
 use Rattle.file_disk.specs.Calls.{Call, Sync, Since, ReadsAll, StopsReading, StopsWriting, WritesAll}
 use Rattle.file_disk.specs.Transfers.{Does, LacksMemory, ReadsBytes, Syncs, WritesBytes, hardware_fault, read_fault, write_fault}
 
@@ -50,9 +50,9 @@ pub read_done : (old new : List Call) (offset count : ℕ) (bytes : List ℕ) �
     → Since old new (λ calls. ReadsBytes offset count (Ok bytes) calls ⊎ LacksMemory (Ok bytes) calls)
 read_done old new offset count bytes long since = record { calls = since.calls; after = since.after; made = inl (long, since.made) }
 
-pub read_failed : (old new : List Call) (offset count : ℕ) (completion : Completion) → completion ≡ read_fault → Since old new (StopsReading offset count)
+pub read_failed : (old new : List Call) (offset count : ℕ) (why : Failure) (completion : Completion) → completion ≡ read_fault → Since old new (StopsReading offset count why)
     → Since old new (λ calls. ReadsBytes offset count (Err completion) calls ⊎ LacksMemory (Err completion) calls)
-read_failed old new offset count completion is since = record { calls = since.calls; after = since.after; made = inl (is, since.made) }
+read_failed old new offset count why completion is since = record { calls = since.calls; after = since.after; made = inl (why, is, since.made) }
 
 pub lacked : (calls : List Call) (offset count : ℕ) (completion : Completion) → completion ≡ hardware_fault
     → Since calls calls (λ c. ReadsBytes offset count (Err completion) c ⊎ LacksMemory (Err completion) c)
@@ -62,7 +62,20 @@ lacked calls offset count completion is = record { calls = []; after = refl; mad
 
 module _ (old new : List Call) (offset : ℕ) (bytes : List ℕ) where
   abbrev Did : Task → Result (List ℕ) Completion → Type 0
-  Did task moved = Since old new (λ calls. Does offset bytes task moved calls ⊎ LacksMemory moved calls)
+  Did task moved = Since old new (λ calls. Does offset bytes task moved calls ⊎ ((task ≡ ReadTask) × LacksMemory moved calls))
+
+  at_read : {A B : Type 0} → A ⊎ B → A ⊎ ((ReadTask ≡ ReadTask) × B)
+  at_read (inl a) = inl a
+  at_read (inr b) = inr (refl, b)
+
+  pub did_read : (moved : Result (List ℕ) Completion) → Since old new (λ calls. ReadsBytes offset (length bytes) moved calls ⊎ LacksMemory moved calls) → Did ReadTask moved
+  did_read moved since = record { calls = since.calls; after = since.after; made = at_read since.made }
+
+  pub read_out : (got : List ℕ) → Since old new (λ calls. ReadsBytes offset (length bytes) (Ok got) calls ⊎ LacksMemory (Ok got) calls) → Did ReadTask (Ok got)
+  read_out got since = did_read (Ok got) since
+
+  pub read_not : (completion : Completion) → Since old new (λ calls. ReadsBytes offset (length bytes) (Err completion) calls ⊎ LacksMemory (Err completion) calls) → Did ReadTask (Err completion)
+  read_not completion since = did_read (Err completion) since
 
   pub wrote : (through : Bool) (x : Unit {0}) → Since old new (WritesBytes {X = Unit {0}} through offset bytes (Ok x)) → Did (WriteTask through) (Ok bytes)
   wrote false x since = record { calls = since.calls; after = since.after; made = inl (refl, since.made) }

@@ -1,6 +1,7 @@
 -- The calls that move a piece's bytes, and what they gave.
 use Rattle.std.specs.Prelude.{◌≡◌, ℕ, ◌+◌, ◌-◌, List, [], ◌∷◌, ◌++◌, length, take, drop, Option, Result, Ok, Err}
 use Rattle.file_disk.specs.declared.storage.Failure.{Failure}
+use Rattle.file_disk.specs.declared.storage.Failure.TheVariants.{Failed}
 
 -- a call, and what came of it
 pub data Call : Type 0 where
@@ -34,15 +35,16 @@ Reads offset count got (_ ∷ calls) = ⊥
 abbrev pub ReadsAll : ℕ → List ℕ → List Call → Type 0
 ReadsAll offset bytes calls = Reads offset (length bytes) bytes calls
 
-abbrev pub GaveNothing : Result (List ℕ) Failure → Type 0
-GaveNothing (Ok gave) = gave ≡ []
-GaveNothing (Err why) = Unit {0}
+-- a call gave nothing: it failed like this, or gave 0 bytes, which is told as a failure
+abbrev pub GaveNothing : Result (List ℕ) Failure → Failure → Type 0
+GaveNothing (Ok gave) why = (gave ≡ []) × (why ≡ Failed)
+GaveNothing (Err said) why = why ≡ said
 
 -- the newest call asked for what was left, and gave nothing
-abbrev pub StopsReading : ℕ → ℕ → List Call → Type 0
-StopsReading offset count (ReadAt at asked gave ∷ calls) =
-    (before : List ℕ) × (at ≡ offset + length before) × (asked ≡ count - length before) × GaveNothing gave × Reads offset count before calls
-StopsReading offset count _ = ⊥
+abbrev pub StopsReading : ℕ → ℕ → Failure → List Call → Type 0
+StopsReading offset count why (ReadAt at asked gave ∷ calls) =
+    (before : List ℕ) × (at ≡ offset + length before) × (asked ≡ count - length before) × GaveNothing gave why × Reads offset count before calls
+StopsReading offset count why _ = ⊥
 
 -- WRITES
 
@@ -57,9 +59,9 @@ Writes offset bytes taken (_ ∷ calls) = ⊥
 abbrev pub WritesAll : ℕ → List ℕ → List Call → Type 0
 WritesAll offset bytes calls = Writes offset bytes (length bytes) calls
 
--- a call took nothing: it failed like this, or took 0 bytes
+-- a call took nothing: it failed like this, or took 0 bytes, which is told as a failure
 abbrev pub TookNothing : Result ℕ Failure → Failure → Type 0
-TookNothing (Ok took) why = took ≡ 0
+TookNothing (Ok took) why = (took ≡ 0) × (why ≡ Failed)
 TookNothing (Err said) why = why ≡ said
 
 -- the newest call was told what was left, and took nothing

@@ -64,7 +64,7 @@ hardware_fault = error 4 0x00 0x00
 -- this many bytes were read from this one on, or a call gave nothing
 abbrev pub ReadsBytes : ℕ → ℕ → Result (List ℕ) Completion → List Call → Type 0
 ReadsBytes offset count (Ok bytes) calls = (length bytes ≡ count) × ReadsAll offset bytes calls
-ReadsBytes offset count (Err completion) calls = (completion ≡ read_fault) × StopsReading offset count calls
+ReadsBytes offset count (Err completion) calls = (why : Failure) × (completion ≡ read_fault) × StopsReading offset count why calls
 
 -- the storage was synced, or the sync failed
 abbrev pub Syncs : {X : Type 0} → Result X Completion → List Call → Type 0
@@ -154,10 +154,10 @@ Fits disk srb command = Passes (record { sector_size = disk.sector_size; sectors
 abbrev pub FailsByRow : DiskView → Srb → Completion → Type 0
 FailsByRow disk srb completion = IsRefused (record { sector_size = disk.sector_size; sectors = disk.sectors; write_protected = disk.write_protected }) srb completion
 
--- a task of these sectors was carried out by calls of its own, or a call failed it
+-- a task of these sectors was carried out by calls of its own, or a call failed it; only a read may lack memory
 abbrev pub Carries : DiskView → Task → Extent → List ℕ → Result (List ℕ) Completion → DiskView → Type 0
 Carries old task extent bytes moved new =
-    Since old.calls new.calls (λ calls. Does (extent.first * old.sector_size) bytes task moved calls ⊎ LacksMemory moved calls)
+    Since old.calls new.calls (λ calls. Does (extent.first * old.sector_size) bytes task moved calls ⊎ ((task ≡ ReadTask) × LacksMemory moved calls))
 
 -- the command that the SRB asks for was carried out
 pub record CarriesOut (old : DiskView) (tag piece : ℕ) (srb : Srb) (what : Result Entry Completion) (new : DiskView) : Type 0 where

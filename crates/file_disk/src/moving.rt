@@ -12,7 +12,7 @@ use crate::storage::{Failure, Storage};
 /// The failure of the call that failed, or [`Failure::Failed`] where one gave nothing.
 pub fn read_all<S: Storage>(storage: &mut S, offset: u64, buffer: &mut [u8]) -> Result<(), Failure>
     requires { offset + length buffer.old < 2 ^ 64 }
-    ensures { MatchResult result (λ _. Since (S.calls storage.old) (S.calls storage.new) (ReadsAll offset buffer.new)) (λ why. Since (S.calls storage.old) (S.calls storage.new) (StopsReading offset (length buffer.old))) }
+    ensures { MatchResult result (λ _. Since (S.calls storage.old) (S.calls storage.new) (ReadsAll offset buffer.new)) (λ why. Since (S.calls storage.old) (S.calls storage.new) (StopsReading offset (length buffer.old) why)) }
 {
     let mut done = 0;
     while done < buffer.len() {

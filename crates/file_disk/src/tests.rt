@@ -138,6 +138,10 @@ fn each_failure_has_its_completion(rt: HostRuntime) -> Result<(), Fail> {
     let short = MemoryFile::new(vec![in alloc; 7; 700]?);
     let read = fails_with(&rt, short, &READ, 64, 512)?;
     same(&rt, &read, &Err(medium));
+    // The bytes end within sector 1, and a call takes nothing behind them.
+    let short = MemoryFile::new(vec![in alloc; 7; 700]?);
+    let written = fails_with(&rt, short, &WRITE, 128, 512)?;
+    same(&rt, &written, &Err(checked(3, 0x0C)));
     let written = fails_with(&rt, sevens(alloc)?.failing(5), &WRITE, 128, 512)?;
     same(&rt, &written, &Err(checked(3, 0x0C)));
     let written = fails_with(&rt, sevens(alloc)?.write_protected(), &WRITE, 128, 512)?;

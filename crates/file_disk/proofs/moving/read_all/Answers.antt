@@ -28,7 +28,7 @@ returns-in_err-count g c =
     let i = c.loop-done.invariant in
     let given : c.from_residual.result ≡ Err c.in_err-count.field-0.0 = search rules in
     let whole : length c.read_at.new.buffer ≡ length c.args.buffer.now - c.loop-done.done = search (rules, places) in
-    rw given (stops_reading _ _ _ c.args.offset (length c.args.buffer.now) c.loop-done.done _ c.loop-done.buffer c.read_at.new.buffer i.long i.within whole (search (rules, places)) i.reads _ tt c.in_err-count.ensures.noted)
+    rw given (stops_reading _ _ _ c.args.offset (length c.args.buffer.now) c.loop-done.done _ c.loop-done.buffer c.read_at.new.buffer i.long i.within whole (search (rules, places)) i.reads (Err c.in_err-count.field-0.0) c.in_err-count.field-0.0 refl c.in_err-count.ensures.noted)
 
 pub returns-then-count-eq0 : goal.returns-then-count-eq0
 returns-then-count-eq0 g c =
@@ -37,7 +37,7 @@ returns-then-count-eq0 g c =
     let whole : length c.read_at.new.buffer ≡ length c.args.buffer.now - c.loop-done.done = search (rules, places) in
     let nothing : take c.in_ok-count.count c.read_at.new.buffer ≡ [] = ap (λ (n : ℕ). take n c.read_at.new.buffer) zero in
     stops_reading _ _ _ c.args.offset (length c.args.buffer.now) c.loop-done.done _ c.loop-done.buffer c.read_at.new.buffer i.long i.within whole (search (rules, places)) i.reads
-    (Ok (take c.in_ok-count.count c.read_at.new.buffer)) nothing c.in_ok-count.ensures.noted
+    (Ok (take c.in_ok-count.count c.read_at.new.buffer)) _ (nothing, refl) c.in_ok-count.ensures.noted
 
 pub returns : goal.returns
 returns g c =

@@ -22,7 +22,7 @@ returns-in_err-count g c =
 
 pub returns-then-count-eq0 : goal.returns-then-count-eq0
 returns-then-count-eq0 g c =
-    stops_writing _ _ _ c.args.offset c.loop-done.done c.args.bytes.now _ (rest_is c.loop-done.done c.args.bytes.now) c.loop-done.invariant.writes (Ok c.in_ok-count.count) _ (search rules) c.in_ok-count.ensures.noted
+    stops_writing _ _ _ c.args.offset c.loop-done.done c.args.bytes.now _ (rest_is c.loop-done.done c.args.bytes.now) c.loop-done.invariant.writes (Ok c.in_ok-count.count) _ (search rules, refl) c.in_ok-count.ensures.noted
 
 pub returns : goal.returns
 returns g c = writes_whole _ _ c.args.offset c.loop-done.done c.args.bytes.now (omega (arith, c.loop-done.invariant.within)) c.loop-done.invariant.writes
