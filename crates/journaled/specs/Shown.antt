@@ -3,7 +3,10 @@ use Rattle.std.specs.Prelude.{◌≡◌, ◌≤◌, ℕ, List, IsFalse, All, len
 use Rattle.sector.specs.Extents.{IsSector}
 use Rattle.machine.specs.Map.{IsMap}
 use Rattle.io_manager.specs.Shown.{ManagerView}
-use Rattle.sector_journal.specs.Journal.{JournalView}
+use Rattle.machine.specs.declared.Label.{Label}
+use Rattle.machine.specs.declared.Label.TheVariants.{Answer}
+use Rattle.sector_journal.specs.declared.reservation.Reservation.{Reservation}
+use Rattle.sector_journal.specs.Journal.{JournalView, without}
 
 pub record JournaledView : Type 0 where
   pub stack : ManagerView
@@ -35,6 +38,11 @@ pub record JournaledKept (opening : List (List ℕ)) (stack : ManagerView) (jour
 pub record IsAsLarge (old new : JournalView) : Type 0 where
   pub sector_size : new.medium.sector_size ≡ old.medium.sector_size
   pub sectors : length new.medium.sectors ≡ length old.medium.sectors
+
+-- the room of a request is given back with the label of its answer, and with no other
+abbrev pub GivesBack : Label → List Reservation → List Reservation → Type 0
+GivesBack (Answer number status information bytes) old new = without number old new
+GivesBack _ old new = new ≡ old
 
 -- nothing was entered
 pub record KeepsEntries (old new : JournalView) : Type 0 where

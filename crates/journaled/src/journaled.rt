@@ -1,6 +1,6 @@
 //! The stack and its journal: what their user calls.
 
-ghost use Rattle.std.specs.Prelude.{◌≡◌, ◌≤◌, [], List, ℕ};
+ghost use Rattle.std.specs.Prelude.{◌≡◌, ◌≤◌, [], List, ℕ, MatchOption};
 ghost use Rattle.srb.specs.Replaying.{Replays};
 ghost use Rattle.machine.specs.Settled.{Settled, IsFinished};
 ghost use Rattle.machine_laws.specs.Reached.{IsReached};
@@ -8,7 +8,7 @@ ghost use Rattle.sector_journal.specs.Journal.{entries_in};
 ghost use Rattle.io_manager.specs.Right.{FitsTogether, TakesAnswer, TakesLabel as TakesFirst};
 ghost use Rattle.journaled.specs.Opening.{IsStarted, IsUnused};
 ghost use Rattle.journaled.specs.Right.{IsServed};
-ghost use Rattle.journaled.specs.Shown.{StandsIn};
+ghost use Rattle.journaled.specs.Shown.{GivesBack, StandsIn};
 ghost use Rattle.journaled.specs.Told.{IsTold, RunsFaithfully, StaysTold, TellsOn};
 
 use crate::acting::act;
@@ -131,6 +131,7 @@ impl<M: Medium, N: Naming> Journaled<M, N> {
         ensures stack { self.new.stack ≡ self.old.stack }
         ensures told { StaysTold self.old self.new }
         ensures entries { self.new.journal.entered ≡ self.old.journal.entered }
+        ensures room { GivesBack label.now self.old.journal.reservations self.new.journal.reservations }
     {
         match label {
             Label::Call { number, .. } => self.next_request = number.saturating_add(1),
@@ -139,11 +140,13 @@ impl<M: Medium, N: Naming> Journaled<M, N> {
         }
     }
 
-    /// Takes the earliest label of the last step that was not taken yet.
+    /// Takes the earliest label of the last step that was not taken yet. With the label of an answer the room of its
+    /// request is given back.
     pub fn take_label(&mut self) -> Option<Label>
         ensures taken { TakesFirst self.old.stack result self.new.stack }
         ensures told { StaysTold self.old self.new }
         ensures entries { self.new.journal.entered ≡ self.old.journal.entered }
+        ensures room { MatchOption result (self.new.journal ≡ self.old.journal) (λ label. GivesBack label self.old.journal.reservations self.new.journal.reservations) }
     {
         let label = self.stack.take_label()?;
         self.note(&label);
