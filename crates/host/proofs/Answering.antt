@@ -154,7 +154,7 @@ distinct_none = tt
 none_owed : (s : State) → IsOpening s → IsNone s.owed
 none_owed s opens = subst (λ (t : State). IsNone t.owed) (sym opens) refl
 
-distinct_at_first : (s : State) → IsOpening s → AreDistinct s
+pub distinct_at_first : (s : State) → IsOpening s → AreDistinct s
 distinct_at_first s opens = subst AreDistinct (sym opens) (record {
   requests = distinct_none;
   given = All-nil _;

@@ -9,6 +9,8 @@ use Rattle.srb.specs.declared.Kind.{Kind}
 use Rattle.srb.specs.declared.Kind.TheVariants.{Read as ReadKind, Write as WriteKind, Flush as FlushKind}
 use Rattle.machine.specs.declared.Label.{Label}
 use Rattle.machine.specs.declared.Label.TheVariants.{Call as CallLabel, Answer as AnswerLabel}
+use Rattle.machine.specs.Numbers.{AreDistinct}
+use Rattle.machine.specs.Rules.{Rules}
 use Rattle.machine.specs.Step.{as_label}
 use Rattle.io_manager.specs.declared.Handle.{Handle}
 use Rattle.io_manager.specs.declared.OpenHandle.{OpenHandle}
@@ -19,18 +21,20 @@ use Rattle.compose.specs.declared.Event.TheVariants.{Read as ReadEvent, Write as
 use Rattle.io_manager.specs.declared.Reply.{Reply}
 use Rattle.io_manager.specs.declared.Reply.TheVariants.{Handle as HandleReply, Ok as OkReply, Request as Requested, Answered, Refused, Ignored}
 use Rattle.io_manager.specs.Calls.{are_used_up, bytes_called, call_on, partition_at, partition_of, status_of_refusal, without_bytes, IsWant}
-use Rattle.io_manager.specs.Right.{IsRight, CallReplies, IsAdmitted, IsAnsweredAtOnce as AnswersAtOnce, IsSlotOf, IsTurnedAway, Told, TransferReplies, as_answer, end_labels, labels_of}
+use Rattle.io_manager.specs.Right.{IsRight, IsRightBy, CallReplies, IsAdmitted, IsAnsweredAtOnce as AnswersAtOnce, IsSlotOf, IsTurnedAway, Told, TransferReplies, as_answer, end_labels, labels_of}
 use Rattle.io_manager.specs.Shown.{ManagerView}
 use Rattle.traced.specs.declared.TraceEntry.{TraceEntry}
 use Rattle.traced.specs.Entries.{entry, is_call, owner_of, row_of}
 use Rattle.traced.specs.Pages.{PagesView, noted, noted_all}
 use Rattle.traced.specs.Told.{AreNoCalls}
+use Rattle.traced.specs.Serving.{open_at}
 use Rattle.traced.specs.Shares.{ShareView}
 use Rattle.traced.specs.Opening.{IsOpenOn}
 use Rattle.traced.specs.Traced.{TracedView, HasCounted as Counts, IsServed, IsWanting, bytes_of, pages_of}
 use Rattle.host.specs.declared.call.Call.{Call}
 use Rattle.host.specs.declared.call.Call.TheVariants.{Read, Write, Flush}
 use Rattle.host.specs.Calls.{FindsCall, HasCounted, IsAnsweredAtOnce, IsOpened, IsTold, Stands, asked, buffer_of, event_of, request_of}
+use Rattle.host.proofs.Admitting.{holds_opened}
 use Rattle.host.proofs.Quiet.{NoCalls, Still, quiet, rest_calls_none}
 
 -- PLACES
@@ -172,6 +176,7 @@ at_once_labels old q status new told a = ap labels_of a.tells
 record Carried (client : ℕ) (mid new : TracedView) (stepped : ManagerView) : Type 0 where
   entries : new.entries ≡ (noted_all client (pages_of mid) stepped.labels).entries
   owners : new.owners ≡ (noted_all client (pages_of mid) stepped.labels).owners
+  stack : new.stack ≡ record stepped { labels = [] }
 
 counted_one : (before after : ShareView) (mid new : TracedView) → Counts mid before after new → length new.owners ≡ length mid.owners + 1 → HasCounted before 1 after
 counted_one before after mid new counts more = record { client = counts.client; handle = counts.handle; more = (let c = counts.calls in omega arith) }
@@ -194,13 +199,14 @@ unheard old mid new before after still counts entries owners (Some p) finds =
 
 module _ (slots : ℕ) (old mid new : TracedView) (before after : ShareView) (q : ClientRequest) (buffer : List ℕ) (stepped : ManagerView)
     (still : Still old mid) (next : mid.stack.state.next_request ≡ length mid.owners + 1) (rules : mid.stack.rules.open_requests ≡ Some slots)
+    (sized : 0 < mid.stack.rules.sector_size) (distinct : AreDistinct mid.stack.state)
     (carried : Carried before.client mid new stepped) (counts : Counts mid before after new) where
   -- a request was opened
-  opened : (handle : Handle) (slot number : ℕ) (told : Told) → stepped.labels ≡ labels_of told → IsAdmitted mid.stack handle q slot number told
-      → (place : Option ℕ) → FindsCall (length old.entries) new.entries place → (p : ℕ) × (place ≡ Some p) × IsOpened slots before after q new.entries slot number p
-  opened handle slot number told order a place finds =
+  opened : (handle : Handle) (slot number : ℕ) (told : Told) → IsRightBy false told mid.stack stepped → IsAdmitted mid.stack handle q slot number told
+      → (place : Option ℕ) → FindsCall (length old.entries) new.entries place → (p : ℕ) × (place ≡ Some p) × IsOpened slots before after q new slot number p
+  opened handle slot number told right a place finds =
       let number_is : number ≡ length mid.owners + 1 = a.next_number ∙ next in
-      let adds = called before.client (pages_of mid) stepped.labels ((map as_label told.device ++ map as_answer told.answers) ++ end_labels told.ends) number q (order ∙ opened_labels mid.stack handle q slot number told a) (rest_calls_none told) number_is in
+      let adds = called before.client (pages_of mid) stepped.labels ((map as_label told.device ++ map as_answer told.answers) ++ end_labels told.ends) number q (right.in_order ∙ opened_labels mid.stack handle q slot number told a) (rest_calls_none told) number_is in
       let f = found before.client old new (CallLabel number q) adds.0 refl (comes before.client old mid new stepped.labels (CallLabel number q) adds.0 still carried.entries adds.1) place finds in
       let limit = small_number mid.stack.state.next_request a.numbers_last in (
         f.0,
@@ -208,6 +214,7 @@ module _ (slots : ℕ) (old mid new : TracedView) (before after : ShareView) (q 
         record {
           counted = counted_one before after mid new counts (ap length carried.owners ∙ adds.1.owners);
           called = f.2;
+          held = ap (λ (v : ManagerView). open_at v slot) carried.stack ∙ holds_opened mid.stack stepped handle.number q slot number told sized distinct a.not_refused a.next_number a.own a.only_starts a.holds.there right;
           in_range = slot_small mid.stack.rules.open_requests slots slot rules a.in_range;
           some_number = omega (arith, number_is);
           small = subst (λ (n : ℕ). n < 2 ^ 62) (sym a.next_number) limit;
@@ -244,28 +251,28 @@ module _ (slots : ℕ) (old mid new : TracedView) (before after : ShareView) (q 
   turned_away InvalidDeviceRequest stepped' told t = absurd t
   turned_away NotFound stepped' told t = absurd t
 
-  told_place : (reply : Reply) (p : ℕ) (place : Option ℕ) → place ≡ Some p → IsTold slots before after q buffer new.entries reply (Some p) → IsTold slots before after q buffer new.entries reply place
-  told_place reply p place is t = subst (IsTold slots before after q buffer new.entries reply) (sym is) t
+  told_place : (reply : Reply) (p : ℕ) (place : Option ℕ) → place ≡ Some p → IsTold slots before after q buffer new reply (Some p) → IsTold slots before after q buffer new reply place
+  told_place reply p place is t = subst (IsTold slots before after q buffer new reply) (sym is) t
 
-  by_reply : (handle : Handle) (reply : Reply) (told : Told) → stepped.labels ≡ labels_of told → TransferReplies mid.stack handle q buffer reply stepped told
-      → (place : Option ℕ) → FindsCall (length old.entries) new.entries place → IsTold slots before after q buffer new.entries reply place
-  by_reply handle (Requested id) told order r place finds = let o = opened handle id.slot id.number told order r place finds in told_place (Requested id) o.0 place o.1 o.2
-  by_reply handle (Answered answer) told order r place finds =
-      let o = at_once Success stepped told order r.0 place finds in
+  by_reply : (handle : Handle) (reply : Reply) (told : Told) → IsRightBy false told mid.stack stepped → TransferReplies mid.stack handle q buffer reply stepped told
+      → (place : Option ℕ) → FindsCall (length old.entries) new.entries place → IsTold slots before after q buffer new reply place
+  by_reply handle (Requested id) told right r place finds = let o = opened handle id.slot id.number told right r place finds in told_place (Requested id) o.0 place o.1 o.2
+  by_reply handle (Answered answer) told right r place finds =
+      let o = at_once Success stepped told right.in_order r.0 place finds in
       told_place (Answered answer) o.0 place o.1
       (subst (λ a. IsAnsweredAtOnce before after q new.entries a.number (as_answer a) o.0) (sym r.1) o.2)
-  by_reply handle (Refused reason bytes) told order r place finds = refused r.1
+  by_reply handle (Refused reason bytes) told right r place finds = refused r.1
     where
       refused : AnswersAtOnce mid.stack q (status_of_refusal reason) stepped told ⊎ IsTurnedAway mid.stack q reason stepped told → IsTold slots before after q buffer new.entries (Refused reason bytes) place
-      refused (inl a) = let o = at_once (status_of_refusal reason) stepped told order a place finds in told_place (Refused reason bytes) o.0 place o.1 (r.0, (mid.stack.state.next_request, o.2))
+      refused (inl a) = let o = at_once (status_of_refusal reason) stepped told right.in_order a place finds in told_place (Refused reason bytes) o.0 place o.1 (r.0, (mid.stack.state.next_request, o.2))
       refused (inr t) =
           let away = turned_away reason stepped told t in
-          let same = no_labels (order ∙ away.0) in
+          let same = no_labels (right.in_order ∙ away.0) in
           let u = unheard old mid new before after still counts same.0 same.1 place finds in
           subst (IsTold slots before after q buffer new.entries (Refused reason bytes)) (sym u.0) (r.0, away.1, u.1)
-  by_reply handle (HandleReply given) told order r place finds = absurd r
-  by_reply handle OkReply told order r place finds = absurd r
-  by_reply handle Ignored told order r place finds = absurd r
+  by_reply handle (HandleReply given) told right r place finds = absurd r
+  by_reply handle OkReply told right r place finds = absurd r
+  by_reply handle Ignored told right r place finds = absurd r
 
 same_number : (n : ℕ) → (n == n) ≡ true
 same_number n = grind (arith, nat_tests)
@@ -282,12 +289,15 @@ asked_on v handle partition kind offset buffer through is =
 -- what is told of a call that the book served
 module _ (slots partition : ℕ) (old mid new : TracedView) (before after : ShareView) (reply : Reply) (place : Option ℕ)
     (still : Still old mid) (next : old.stack.state.next_request ≡ length old.owners + 1) (rules : old.stack.rules.open_requests ≡ Some slots)
-    (is : IsOpenOn old.stack.handles before.handle partition) (counts : Counts mid before after new) (finds : FindsCall (length old.entries) new.entries place) where
+    (sized : 0 < old.stack.rules.sector_size) (distinct : AreDistinct old.stack.state) (is : IsOpenOn old.stack.handles before.handle partition) (counts : Counts mid before after new) (finds : FindsCall (length old.entries) new.entries place) where
   next_mid : mid.stack.state.next_request ≡ length mid.owners + 1
   next_mid = still.next ∙ next ∙ ap (λ (os : List ℕ). length os + 1) (sym still.owners)
 
   rules_mid : mid.stack.rules.open_requests ≡ Some slots
   rules_mid = ap (λ r. r.open_requests) still.rules ∙ rules
+
+  sized_mid : 0 < mid.stack.rules.sector_size
+  sized_mid = subst (λ (r : Rules). 0 < r.sector_size) (sym still.rules) sized
 
   is_mid : IsOpenOn mid.stack.handles before.handle partition
   is_mid = ap (λ hs. slice_index_or hs before.handle.slot None) still.handles ∙ is
@@ -295,29 +305,30 @@ module _ (slots partition : ℕ) (old mid new : TracedView) (before after : Shar
   -- it was carried out
   carried_out : (kind : Kind) (offset : ℕ) (buffer : List ℕ) (through : Bool) (stepped : ManagerView) → Carried before.client mid new stepped
       → IsRight (CallReplies mid.stack before.handle (call_on mid.stack before.handle kind offset buffer through) buffer reply stepped) mid.stack stepped
-      → IsTold slots before after (asked partition kind offset buffer through) buffer new.entries reply place
+      → IsTold slots before after (asked partition kind offset buffer through) buffer new reply place
   carried_out kind offset buffer through stepped carried r =
-      subst (λ (q : ClientRequest). IsTold slots before after q buffer new.entries reply place) (asked_on mid.stack before.handle partition kind offset buffer through is_mid)
-      (by_reply slots old mid new before after (call_on mid.stack before.handle kind offset buffer through) buffer stepped still next_mid rules_mid carried counts before.handle reply r.told r.by.in_order r.replies.replies place finds)
+      subst (λ (q : ClientRequest). IsTold slots before after q buffer new reply place) (asked_on mid.stack before.handle partition kind offset buffer through is_mid)
+      (by_reply slots old mid new before after (call_on mid.stack before.handle kind offset buffer through) buffer stepped still next_mid rules_mid sized_mid (still.distinct distinct) carried counts before.handle reply r.told r.by r.replies.replies place finds)
 
   -- or memory was refused
-  wanting : (event : Event) (q : ClientRequest) → IsWanting mid event reply new → IsTold slots before after q (bytes_of event) new.entries reply place
+  wanting : (event : Event) (q : ClientRequest) → IsWanting mid event reply new → IsTold slots before after q (bytes_of event) new reply place
   wanting event q w =
       let u = unheard old mid new before after still counts (ap (λ b. b.entries) w.same) (ap (λ b. b.owners) w.same) place finds in
-      subst (λ (r : Reply). IsTold slots before after q (bytes_of event) new.entries r place) (sym w.replies)
-      (subst (IsTold slots before after q (bytes_of event) new.entries (Refused InsufficientResources (bytes_of event))) (sym u.0) (refl, tt, u.1))
+      subst (λ (r : Reply). IsTold slots before after q (bytes_of event) new r place) (sym w.replies)
+      (subst (IsTold slots before after q (bytes_of event) new (Refused InsufficientResources (bytes_of event))) (sym u.0) (refl, tt, u.1))
 
-  by_call : (call : Call) → IsServed before.client mid (event_of before.handle call) reply new → IsTold slots before after (request_of partition call) (buffer_of call) new.entries reply place
-  by_call (Read offset buffer) (inl c) = carried_out ReadKind offset buffer false c.stepped (record { entries = c.entries; owners = c.owners }) c.right
+  by_call : (call : Call) → IsServed before.client mid (event_of before.handle call) reply new → IsTold slots before after (request_of partition call) (buffer_of call) new reply place
+  by_call (Read offset buffer) (inl c) = carried_out ReadKind offset buffer false c.stepped (record { entries = c.entries; owners = c.owners; stack = c.stack }) c.right
   by_call (Read offset buffer) (inr w) = wanting (ReadEvent before.handle offset buffer) (request_of partition (Read offset buffer)) w
-  by_call (Write offset bytes through) (inl c) = carried_out WriteKind offset bytes through c.stepped (record { entries = c.entries; owners = c.owners }) c.right
+  by_call (Write offset bytes through) (inl c) = carried_out WriteKind offset bytes through c.stepped (record { entries = c.entries; owners = c.owners; stack = c.stack }) c.right
   by_call (Write offset bytes through) (inr w) = wanting (WriteEvent before.handle offset bytes through) (request_of partition (Write offset bytes through)) w
-  by_call Flush (inl c) = carried_out FlushKind 0 [] false c.stepped (record { entries = c.entries; owners = c.owners }) c.right
+  by_call Flush (inl c) = carried_out FlushKind 0 [] false c.stepped (record { entries = c.entries; owners = c.owners; stack = c.stack }) c.right
   by_call Flush (inr w) = wanting (FlushEvent before.handle) (request_of partition Flush) w
 
 pub told_call : (slots partition : ℕ) (call : Call) (old mid new : TracedView) (before after : ShareView) (reply : Reply) (place : Option ℕ)
-    → Still old mid → old.stack.state.next_request ≡ length old.owners + 1 → old.stack.rules.open_requests ≡ Some slots → IsOpenOn old.stack.handles before.handle partition
+    → Still old mid → old.stack.state.next_request ≡ length old.owners + 1 → old.stack.rules.open_requests ≡ Some slots → 0 < old.stack.rules.sector_size → AreDistinct old.stack.state
+    → IsOpenOn old.stack.handles before.handle partition
     → IsServed before.client mid (event_of before.handle call) reply new → Counts mid before after new → FindsCall (length old.entries) new.entries place
-    → IsTold slots before after (request_of partition call) (buffer_of call) new.entries reply place
-told_call slots partition call old mid new before after reply place still next rules is served counts finds =
-    by_call slots partition old mid new before after reply place still next rules is counts finds call served
+    → IsTold slots before after (request_of partition call) (buffer_of call) new reply place
+told_call slots partition call old mid new before after reply place still next rules sized distinct is served counts finds =
+    by_call slots partition old mid new before after reply place still next rules sized distinct is counts finds call served

@@ -1,17 +1,23 @@
 -- A call that was taken in, and its receipt.
 use Rattle.std.proofs.Common.{◌≡◌, ℕ, ◌-◌, ◌<◌, ◌≤◌, List, [], ◌∷◌, ◌++◌, length, Option, Some, sym, ap, ◌∙◌, subst}
-use Rattle.std.specs.Prelude.{slice_get}
+use Rattle.std.specs.Prelude.{IfOk, Result, Ok, Err, slice_get}
 use Rattle.std.proofs.lemmas.Option.{slice_get_within}
 use Rattle.machine.specs.declared.ClientRequest.{ClientRequest}
 use Rattle.machine.specs.declared.Label.{Label}
 use Rattle.machine.specs.declared.Label.TheVariants.{Call as CallLabel}
+use Rattle.machine.specs.Rules.{Rules}
+use Rattle.machine.specs.State.{State}
 use Rattle.io_manager.specs.declared.OpenHandle.{OpenHandle}
+use Rattle.book.specs.Book.{BookView}
 use Rattle.chronicle.specs.Claims.{AllStand}
 use Rattle.traced.specs.declared.TraceEntry.{TraceEntry}
 use Rattle.traced.specs.Shares.{ShareView}
+use Rattle.traced.specs.Traced.{TracedView, IsTraced}
 use Rattle.host.specs.Receipts.{Receipt, ReceiptsView, AreBelow, Answers, receipt}
 use Rattle.host.specs.Accounts.{AccountKept}
 use Rattle.host.specs.Calls.{HasCounted, Stands}
+use Rattle.host.specs.Tickets.{HoldsRequest, TicketView, WasOpen}
+use Rattle.host.specs.declared.call.Refusal.{Refusal}
 use Rattle.host.proofs.Keeping.{below_more, below_stand}
 use Rattle.host.proofs.Accounts.{account_answered, account_called, receipt_is}
 
@@ -57,6 +63,17 @@ received handles partitions share share' called checked noted answered answered'
 -- where something stands, there is an entry
 pub stands_within : (es es' : List TraceEntry) (place : ℕ) (label : Label) (client : ℕ) → es' ≡ es → Stands es place label client → place < length es'
 stands_within es es' place label client same stands = subst (λ (xs : List TraceEntry). place < length xs) (sym same) (slice_get_within es place _ stands)
+
+-- what was noted stands in the book
+pub stands_noted : (old new : BookView) (place : ℕ) (claim : List Receipt) → new ≡ old → IsNoted old.traced.entries place claim → AllStand new.traced.entries claim
+stands_noted old new place claim same noted =
+    subst (λ (b : BookView). AllStand b.traced.entries claim) (sym same) (subst (AllStand old.traced.entries) (sym noted.2) (noted.1, tt))
+
+-- a ticket of a whole book in which its call stands, and whose slot holds its request
+pub was_open : (rules : Rules) (start : State) (partitions : List ℕ) (handles : List (Option OpenHandle)) (book : TracedView) (issued : Result TicketView Refusal) → IsTraced rules start partitions handles book
+    → IfOk issued (λ t. AllStand book.entries t.call) → IfOk issued (λ t. HoldsRequest book.stack t.slot t.number) → IfOk issued (λ t. WasOpen rules start partitions handles t)
+was_open rules start partitions handles book (Ok t) whole stands held = record { book = book; whole = whole; called = stands; held = held }
+was_open rules start partitions handles book (Err e) whole stands held = tt
 
 -- an answer's receipt
 pub record IsAnswerReceived (handles : List (Option OpenHandle)) (partitions : List ℕ) (client : ℕ) (share' : ShareView) (called answered answered' claim : List Receipt) (place : ℕ) (label : Label) : Type 0 where

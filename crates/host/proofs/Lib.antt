@@ -1,4 +1,5 @@
 pub mod Quiet
+pub mod Admitting
 pub mod Calling
 pub mod Answering
 pub mod Keeping

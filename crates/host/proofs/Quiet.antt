@@ -5,7 +5,9 @@ use Rattle.std.proofs.lemmas.List.{append-nil}
 use Rattle.srb.specs.declared.DeviceLabel.{DeviceLabel}
 use Rattle.machine.specs.declared.Label.{Label}
 use Rattle.machine.specs.declared.Label.TheVariants.{Call, Device, Answer as AnswerLabel, Cancel, Pause, Resume, Remove, Surprise, Removed}
+use Rattle.machine.specs.Numbers.{AreDistinct}
 use Rattle.machine.specs.Step.{as_label}
+use Rattle.machine.proofs.Numbers.{AreDistinct-Run}
 use Rattle.machine_laws.specs.NumberLaws.{CallsCount, call_numbers}
 use Rattle.io_manager.specs.declared.Answer.{Answer}
 use Rattle.io_manager.specs.declared.Reply.{Reply}
@@ -127,6 +129,7 @@ pub record Still (old new : TracedView) : Type 0 where
   pub handles : new.stack.handles ≡ old.stack.handles
   pub rules : new.stack.rules ≡ old.stack.rules
   pub next : new.stack.state.next_request ≡ old.stack.state.next_request
+  pub distinct : AreDistinct old.stack.state → AreDistinct new.stack.state
 
 still_same : (old new : TracedView) → new.entries ≡ old.entries → new.owners ≡ old.owners → new.stack ≡ old.stack → Still old new
 still_same old new entries owners stack = record {
@@ -137,6 +140,7 @@ still_same old new entries owners stack = record {
   handles = ap (λ v. v.handles) stack;
   rules = ap (λ v. v.rules) stack;
   next = ap (λ v. v.state.next_request) stack;
+  distinct = subst (λ (v : ManagerView). AreDistinct v.state) (sym stack);
 }
 
 still_then : (a b c : TracedView) → Still a b → Still b c → Still a c
@@ -148,6 +152,7 @@ still_then a b c x y = record {
   handles = y.handles ∙ x.handles;
   rules = y.rules ∙ x.rules;
   next = y.next ∙ x.next;
+  distinct = λ d. y.distinct (x.distinct d);
 }
 
 mark_own : (old : ManagerView) (number : ℕ) (told : Told) → CancelsOne old number told → AreNoCalls told.own
@@ -181,6 +186,7 @@ still_marked count old number reply new c =
       handles = ap (λ v. v.handles) c.stack ∙ m.1;
       rules = ap (λ v. v.rules) c.stack ∙ c.right.by.same_rules;
       next = ap (λ v. v.state.next_request) c.stack ∙ next;
+      distinct = λ d. subst (λ (v : ManagerView). AreDistinct v.state) (sym c.stack) (AreDistinct-Run old.stack.rules old.stack.state c.stepped.labels c.stepped.state d c.right.by.run);
     }
 
 still_looked : CallsCount → (slot : ℕ) (old new : TracedView) → IsLooked slot old new → Still old new
@@ -190,7 +196,7 @@ still_looked count slot old new l = go l.seen l.carries
     go None e = still_same old new (ap (λ b. b.entries) e) (ap (λ b. b.owners) e) (ap (λ b. b.stack) e)
     go (Some number) c =
         let s = still_marked count (record old { marks = l.looked }) number c.0 new c.1 in
-        record { more = s.more; entries = s.entries; none = s.none; owners = s.owners; handles = s.handles; rules = s.rules; next = s.next }
+        record { more = s.more; entries = s.entries; none = s.none; owners = s.owners; handles = s.handles; rules = s.rules; next = s.next; distinct = s.distinct }
 
 pub still_all : CallsCount → (slots : ℕ) (old new : TracedView) → AreLooked slots old new → Still old new
 still_all count zero old new e = still_same old new (ap (λ b. b.entries) e) (ap (λ b. b.owners) e) (ap (λ b. b.stack) e)
@@ -217,6 +223,8 @@ still_acted count old booked new acts =
       handles = ap (λ (v : ManagerView). v.handles) c.stack ∙ c.right.replies.1.handles ∙ ap (λ (v : ManagerView). v.handles) stack;
       rules = ap (λ (v : ManagerView). v.rules) c.stack ∙ c.right.by.same_rules ∙ ap (λ (v : ManagerView). v.rules) stack;
       next = ap (λ (v : ManagerView). v.state.next_request) c.stack ∙ next ∙ ap (λ (v : ManagerView). v.state.next_request) stack;
+      distinct = λ d. subst (λ (v : ManagerView). AreDistinct v.state) (sym c.stack)
+          (AreDistinct-Run held.stack.rules held.stack.state c.stepped.labels c.stepped.state (subst (λ (v : ManagerView). AreDistinct v.state) (sym stack) d) c.right.by.run);
     }
 
 still_booked : CallsCount → (many : ℕ) (old new : BookView) → AreBooked many old new → Still old.traced new.traced

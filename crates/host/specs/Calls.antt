@@ -15,7 +15,9 @@ use Rattle.compose.specs.declared.Event.{Event}
 use Rattle.compose.specs.declared.Event.TheVariants.{Read as ReadEvent, Write as WriteEvent, Flush as FlushEvent}
 use Rattle.traced.specs.declared.TraceEntry.{TraceEntry}
 use Rattle.traced.specs.Entries.{entry, is_call}
+use Rattle.traced.specs.Serving.{open_at}
 use Rattle.traced.specs.Shares.{ShareView}
+use Rattle.traced.specs.Traced.{TracedView}
 use Rattle.host.specs.declared.call.Call.{Call}
 use Rattle.host.specs.declared.call.Call.TheVariants.{Read, Write, Flush}
 
@@ -64,10 +66,11 @@ pub record HasCounted (old : ShareView) (calls : ℕ) (new : ShareView) : Type 0
   pub handle : new.handle ≡ old.handle
   pub more : new.calls ≡ old.calls + calls
 
--- the call opened a request
-pub record IsOpened (slots : ℕ) (old new : ShareView) (q : ClientRequest) (entries : List TraceEntry) (slot number place : ℕ) : Type 0 where
+-- the call opened a request, which its slot holds
+pub record IsOpened (slots : ℕ) (old new : ShareView) (q : ClientRequest) (book : TracedView) (slot number place : ℕ) : Type 0 where
   pub counted : HasCounted old 1 new
-  pub called : Stands entries place (CallLabel number q) old.client
+  pub called : Stands book.entries place (CallLabel number q) old.client
+  pub held : open_at book.stack slot ≡ Some number
   pub in_range : slot < slots
   pub some_number : 0 < number
   pub small : number < 2 ^ 62
@@ -78,14 +81,14 @@ pub record IsAnsweredAtOnce (old new : ShareView) (q : ClientRequest) (entries :
   pub called : Stands entries place (CallLabel number (without_bytes q)) old.client
   pub answered : Stands entries (place + 1) answer old.client
 
--- what the trace tells of a call, by its reply and the place of its label
-abbrev pub IsTold : ℕ → ShareView → ShareView → ClientRequest → List ℕ → List TraceEntry → Reply → Option ℕ → Type 0
-IsTold slots old new q buffer entries (Requested id) (Some place) = IsOpened slots old new q entries id.slot id.number place
-IsTold slots old new q buffer entries (Answered answer) (Some place) = IsAnsweredAtOnce old new q entries answer.number (as_answer answer) place
-IsTold slots old new q buffer entries (Refused reason bytes) (Some place) =
-    (bytes ≡ buffer) × ((number : ℕ) × IsAnsweredAtOnce old new q entries number (AnswerLabel number (status_of_refusal reason) 0 []) place)
-IsTold slots old new q buffer entries (Refused reason bytes) None = (bytes ≡ buffer) × IsWant reason × HasCounted old 0 new
-IsTold slots old new q buffer entries _ _ = ⊥
+-- what the book tells of a call, by its reply and the place of its label
+abbrev pub IsTold : ℕ → ShareView → ShareView → ClientRequest → List ℕ → TracedView → Reply → Option ℕ → Type 0
+IsTold slots old new q buffer book (Requested id) (Some place) = IsOpened slots old new q book id.slot id.number place
+IsTold slots old new q buffer book (Answered answer) (Some place) = IsAnsweredAtOnce old new q book.entries answer.number (as_answer answer) place
+IsTold slots old new q buffer book (Refused reason bytes) (Some place) =
+    (bytes ≡ buffer) × ((number : ℕ) × IsAnsweredAtOnce old new q book.entries number (AnswerLabel number (status_of_refusal reason) 0 []) place)
+IsTold slots old new q buffer book (Refused reason bytes) None = (bytes ≡ buffer) × IsWant reason × HasCounted old 0 new
+IsTold slots old new q buffer book _ _ = ⊥
 
 -- WHAT IS TOLD OF AN ANSWER
 

@@ -2,6 +2,13 @@
 use Rattle.std.specs.Prelude.{◌≡◌, ◌<◌, ◌^◌, ℕ, ◌+◌, List, Option, Some, None}
 use Rattle.machine.specs.declared.ClientRequest.{ClientRequest}
 use Rattle.machine.specs.declared.Label.TheVariants.{Call as CallLabel}
+use Rattle.machine.specs.Rules.{Rules}
+use Rattle.machine.specs.State.{State}
+use Rattle.io_manager.specs.declared.OpenHandle.{OpenHandle}
+use Rattle.io_manager.specs.Shown.{ManagerView}
+use Rattle.chronicle.specs.Claims.{AllStand}
+use Rattle.traced.specs.Serving.{open_at}
+use Rattle.traced.specs.Traced.{TracedView, IsTraced}
 use Rattle.io_manager.specs.declared.Answer.{Answer}
 use Rattle.io_manager.specs.Right.{as_answer}
 use Rattle.host.specs.Receipts.{Receipt, receipt}
@@ -29,3 +36,15 @@ pub record TicketKept (slots client number place : ℕ) (claim : List Receipt) (
   pub request : ClientRequest
   pub receipt_is : claim ≡ receipt place (CallLabel number request) client
   pub stage : IsStage slots client number place slot early
+
+-- a slot, where there is one, holds the request of this number
+abbrev pub HoldsRequest : ManagerView → Option ℕ → ℕ → Type 0
+HoldsRequest stack None number = Unit {0}
+HoldsRequest stack (Some slot) number = open_at stack slot ≡ Some number
+
+-- at one moment the ticket's call stood in the trace, and its slot held just its request
+pub record WasOpen (rules : Rules) (opening : State) (partitions : List ℕ) (handles : List (Option OpenHandle)) (t : TicketView) : Type 0 where
+  pub book : TracedView
+  pub whole : IsTraced rules opening partitions handles book
+  pub called : AllStand book.entries t.call
+  pub held : HoldsRequest book.stack t.slot t.number

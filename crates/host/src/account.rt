@@ -1,6 +1,7 @@
 //! What a client has called and was answered.
 
 ghost use Rattle.std.specs.Prelude.{◌≡◌, ◌<◌, ◌≤◌, ◌+◌, ◌-◌, ◌^◌, ◌++◌, ◌↔◌, ℕ, [], IfErr, IfOk, IfSome, IfNone, IsTrue, OnOk, length, slice_index_or};
+ghost use Rattle.chronicle.specs.Claims.{AllStand};
 ghost use Rattle.machine.specs.declared.ClientRequest.{ClientRequest};
 ghost use Rattle.machine.specs.declared.Label.TheVariants.{Call as CallLabel};
 ghost use Rattle.machine_laws.specs.NumberLaws.{CallsCount};
@@ -9,6 +10,7 @@ ghost use Rattle.traced.specs.Opening.{IsOpenOn};
 ghost use Rattle.host.specs.Accounts.{IsCalled, IsTaken, IsTurnedDown};
 ghost use Rattle.host.specs.Calls.{AnswerLaws, FindsCall, IsTold, Stands, buffer_of, request_of};
 ghost use Rattle.host.specs.Receipts.{none_yet, receipt};
+ghost use Rattle.host.specs.Tickets.{HoldsRequest, WasOpen};
 ghost use Rattle.host.specs.Opening.{IsHandleFor};
 
 use crate::bells::Concerned;
@@ -86,7 +88,7 @@ fn carry_call<M: Medium, N: Naming, R: Wait>(
     requires open { IsOpenOn N.handles share.old.handle (slice_index_or N.partitions share.old.client 0) }
     ensures late { IfSome result.1 (λ place. length book.old.traced.entries ≤ place) }
     ensures fits { IfSome result.1 (λ place. place + 1 < 2 ^ 64) }
-    ensures told { IsTold N.slots share.old share.new (request_of (slice_index_or N.partitions share.old.client 0) call) (buffer_of call) book.new.traced.entries result.0 result.1 }
+    ensures told { IsTold N.slots share.old share.new (request_of (slice_index_or N.partitions share.old.client 0) call) (buffer_of call) book.new.traced result.0 result.1 }
 {
     laws_of_numbers();
     host.table.shows_opening();
@@ -195,6 +197,8 @@ impl<N: Naming> Account<N> {
     ) -> Result<Ticket<N>, Refusal>
         requires room { (0 < self.old.called.room) × (0 < self.old.answered.room) }
         ensures issued { IfOk result (λ t. IsCalled (slice_index_or N.partitions self.old.share.client 0) self.old t call self.new) }
+        ensures stands { IfOk result (λ t. AllStand book.new.traced.entries t.call) }
+        ensures held { IfOk result (λ t. HoldsRequest book.new.traced.stack t.slot t.number) }
         ensures refused { IfErr result (λ r. IsTurnedDown (slice_index_or N.partitions self.old.share.client 0) self.old call r self.new) }
     {
         self.called.check(&host.history, book);
@@ -258,10 +262,12 @@ impl<N: Naming> Account<N> {
     ) -> (Result<Ticket<N>, Refusal>, Concerned)
         requires room { (0 < self.old.called.room) × (0 < self.old.answered.room) }
         ensures issued { IfOk result.0 (λ t. IsCalled (slice_index_or N.partitions self.old.share.client 0) self.old t call self.new) }
+        ensures was_open { IfOk result.0 (λ t. WasOpen N.rules N.start N.partitions N.handles t) }
         ensures refused { IfErr result.0 (λ r. IsTurnedDown (slice_index_or N.partitions self.old.share.client 0) self.old call r self.new) }
     {
         let from = book.len();
         let issued = self.issue_in(rt, host, book, call);
+        book.shows_whole();
         (issued, Concerned::since(book, from))
     }
 

@@ -4,6 +4,7 @@ ghost use Rattle.std.specs.Prelude.{◌≡◌, ◌-◌, IfErr, IfOk, slice_index
 ghost use Rattle.remove_lock.specs.Answers.{IsHeld};
 ghost use Rattle.host.specs.Clients.{HasNoHold, IsIssued, IsMarked, IsRefused, IsWaited};
 ghost use Rattle.host.specs.Receipts.{places_of};
+ghost use Rattle.host.specs.Tickets.{WasOpen};
 
 use crate::account::Account;
 use crate::call::{Answered, Call, Reason, Refusal};
@@ -108,6 +109,7 @@ impl<N: Naming> Client<N> {
         call: Call,
     ) -> Result<Ticket<N>, Refusal>
         ensures issued { IfOk result (λ t. IsIssued (slice_index_or N.partitions self.old.client 0) self.old t call self.new) }
+        ensures was_open { IfOk result (λ t. WasOpen N.rules N.start N.partitions N.handles t) }
         ensures refused { IfErr result (λ r. IsRefused (slice_index_or N.partitions self.old.client 0) self.old call r self.new) }
     {
         let Ok(()) = self.account.make_places(self.out) else {

@@ -5,19 +5,21 @@
 //!
 //! Each client has a part of a ledger that nobody can copy, a pass of the remove lock, a seat at the cancel marks, and
 //! receipts. A receipt is of a call or an answer that the client was told of: its place in the trace, and the entry
-//! there. The keeper has receipts of each pause and of the removal's end. A receipt outlives the lock.
+//! there. The keeper has receipts of each pause, of a removal and of its end. A receipt outlives the lock.
 //!
 //! It promises to the crate above:
 //! - an `issue` that gives a ticket adds one receipt, of this client's call with the request that was handed in, at a
 //!   place above all of its calls before, and the ticket holds the remove lock until it was waited for (`issued` of
-//!   [`Client::issue`]); a refusal has the caller's bytes, and says whether the call reached the book (`refused`);
+//!   [`Client::issue`]); there was a moment when the ticket's slot held just its request (`was_open`); a refusal has the
+//!   caller's bytes, and says whether the call reached the book (`refused`);
 //! - `wait` spends the ticket and gives the answer of its request, which stands behind its call, with its receipt
 //!   (`waited` of [`Client::wait`]);
 //! - `mark_cancel` marks the ticket's request and no other (`marked` of [`Client::mark_cancel`]);
 //! - a query that is accepted gives the keeper one more receipt, of the query's pause (`told` of
 //!   [`Host::query_remove`]);
 //! - a removal that is accepted returns once the remove lock was closed and seen drained, so that no ticket is out, and
-//!   with one more receipt, of the removal's end (`drained`, `told` of [`Host::remove`]);
+//!   with two more receipts, of the removal, orderly or not, and of its end (`drained`, `told` of [`Host::remove`] and
+//!   [`Host::surprise_remove`]); one that is refused leaves the remove lock as it was (`refused`);
 //! - once all threads are done, [`Host::close`] gives the trace, which is a run of the sector machine from the state
 //!   that the host was opened with, and a row for each client, in which all its receipts stand: the calls of a row are
 //!   just its client's, in its order (`closed`); and the keeper's receipts stand in the trace (`told`), where nothing is

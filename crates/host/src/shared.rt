@@ -1,6 +1,6 @@
 //! What the threads of a host share beside the locks: the table of marks, the gate, and what is known of the disk.
 
-ghost use Rattle.std.specs.Prelude.{◌≡◌, Some};
+ghost use Rattle.std.specs.Prelude.{◌≡◌, ◌<◌, Some};
 ghost use Rattle.host.specs.Opening.{IsDiskOf, IsOpening};
 
 use crate::name::Naming;
@@ -15,6 +15,7 @@ pub(crate) struct Table<N: Naming> {
     pub of: PhantomData<N>,
     pub ghost is: { marks ≡ (N.marks, N.slots) },
     pub ghost slots: { N.rules.open_requests ≡ Some N.slots },
+    pub ghost bytes: { 0 < N.rules.sector_size },
     pub ghost opening: { IsOpening N.start },
 }
 
@@ -30,6 +31,7 @@ impl<N: Naming> Table<N> {
     /// Shows the caller what is known of the names.
     pub(crate) fn shows_opening(&self)
         ensures slots { N.rules.open_requests ≡ Some N.slots }
+        ensures bytes { 0 < N.rules.sector_size }
         ensures opening { IsOpening N.start }
     {}
 }

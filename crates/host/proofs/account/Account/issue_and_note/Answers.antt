@@ -1,0 +1,7 @@
+use Rattle.host.proofs.Issuing.{was_open}
+use Rattle.host.proofs.account.Account.issue_and_note.Goals as goal
+
+pub returns-clause-was_open : goal.returns-clause-was_open
+returns-clause-was_open g c =
+    was_open g.N.Naming-3.rules g.N.Naming-3.start g.N.Naming-3.partitions g.N.Naming-3.handles c.issue_in-issued.new.book.traced c.issue_in-issued.result c.shows_whole.ensures
+    c.issue_in-issued.ensures.stands c.issue_in-issued.ensures.held
