@@ -1,14 +1,18 @@
--- A keeper, and its receipts: of each pause, and of the end of a removal.
-use Rattle.std.specs.Prelude.{◌≡◌, ◌≢◌, ◌≤◌, ℕ, Bool, true, false, List, [], ◌∷◌, ◌++◌, Option, Some, None, slice_get}
+-- A keeper, and its receipts: of each pause, of a removal, and of its end.
+use Rattle.std.specs.Prelude.{◌≡◌, ◌≢◌, ◌<◌, ◌≤◌, ℕ, Bool, true, false, List, [], ◌∷◌, ◌++◌, Option, Some, None, slice_get}
 use Rattle.machine.specs.declared.Label.{Label}
-use Rattle.machine.specs.declared.Label.TheVariants.{Pause as PauseLabel, Removed as RemovedLabel}
+use Rattle.machine.specs.declared.Label.TheVariants.{Pause as PauseLabel, Remove as RemoveLabel, Surprise as SurpriseLabel, Removed as RemovedLabel}
 use Rattle.remove_lock.specs.declared.rule.View.{View as PassView}
 use Rattle.io_manager.specs.declared.Reply.{Reply}
 use Rattle.io_manager.specs.declared.Reply.TheVariants.{Ok as OkReply}
+use Rattle.compose.specs.declared.Event.{Event}
+use Rattle.compose.specs.declared.Event.TheVariants.{QueryRemove as QueryEvent, Remove as RemoveEvent, SurpriseRemove as SurpriseEvent}
 use Rattle.traced.specs.declared.TraceEntry.{TraceEntry}
 use Rattle.traced.specs.Entries.{entry}
 use Rattle.host.specs.declared.notice.Notice.{Notice}
-use Rattle.host.specs.declared.notice.Notice.TheVariants.{Pause, Removed}
+use Rattle.host.specs.declared.notice.Notice.TheVariants.{Pause, Remove, Surprise, Removed}
+use Rattle.host.specs.declared.notice.Minor.{Minor}
+use Rattle.host.specs.declared.notice.Minor.TheVariants.{QueryRemove, Remove as RemoveDevice, SurpriseRemove}
 use Rattle.host.specs.Receipts.{Receipt, AreBelow}
 
 -- what a keeper knows of the gate, and its receipts
@@ -18,6 +22,8 @@ pub record KeeperView : Type 0 where
 
 abbrev pub label_of : Notice → Label
 label_of Pause = PauseLabel
+label_of Remove = RemoveLabel
+label_of Surprise = SurpriseLabel
 label_of Removed = RemovedLabel
 
 abbrev pub is_pause : Label → Bool
@@ -28,10 +34,31 @@ abbrev pub is_removed : Label → Bool
 is_removed RemovedLabel = true
 is_removed _ = false
 
+abbrev pub is_remove : Label → Bool
+is_remove RemoveLabel = true
+is_remove _ = false
+
+abbrev pub is_surprise : Label → Bool
+is_surprise SurpriseLabel = true
+is_surprise _ = false
+
 -- the label is this notice's
 abbrev pub is_notice : Notice → Label → Bool
 is_notice Pause label = is_pause label
+is_notice Remove label = is_remove label
+is_notice Surprise label = is_surprise label
 is_notice Removed label = is_removed label
+
+-- a keeper's call as an event, and the label that it tells first where it is accepted
+abbrev pub event_of : Minor → Event
+event_of QueryRemove = QueryEvent
+event_of RemoveDevice = RemoveEvent
+event_of SurpriseRemove = SurpriseEvent
+
+abbrev pub notice_of : Minor → Notice
+notice_of QueryRemove = Pause
+notice_of RemoveDevice = Remove
+notice_of SurpriseRemove = Surprise
 
 -- no such label stands at a place from this one on
 abbrev pub HasNone : Notice → ℕ → List TraceEntry → Type 0
@@ -57,4 +84,17 @@ pub record HasNoted (label : Label) (old new : List Receipt) : Type 0 where
 -- there is one more receipt where a keeper's call was accepted, else none
 pub record HasNotedIfOk (label : Label) (reply : Reply) (old new : List Receipt) : Type 0 where
   pub accepted : reply ≡ OkReply → HasNoted label old new
+  pub otherwise : reply ≢ OkReply → new ≡ old
+
+-- there are two more receipts: of the label of a removal, at a place above all before, and of its end behind that
+pub record HasRemoved (label : Label) (old new : List Receipt) : Type 0 where
+  pub begun : ℕ
+  pub ended : ℕ
+  pub above : AreBelow begun old
+  pub behind : begun < ended
+  pub adds : new ≡ old ++ (begun, entry label None) ∷ (ended, entry RemovedLabel None) ∷ []
+
+-- there are two more receipts where a removal was accepted, else none
+pub record HasRemovedIfOk (label : Label) (reply : Reply) (old new : List Receipt) : Type 0 where
+  pub accepted : reply ≡ OkReply → HasRemoved label old new
   pub otherwise : reply ≢ OkReply → new ≡ old

@@ -1,11 +1,13 @@
 //! The labels of which a keeper has receipts.
 
-ghost use Rattle.std.specs.Prelude.{◌≡◌, IfNone, IfSome};
-ghost use Rattle.host.specs.Keepers.{FindsNotice, HasNone, IsNoticed, is_notice, label_of};
+ghost use Rattle.std.specs.Prelude.{◌≡◌, ◌<◌, ◌≤◌, ◌+◌, ◌^◌, IfNone, IfSome};
+ghost use Rattle.host.specs.Keepers.{FindsNotice, HasNone, IsNoticed, event_of, is_notice, label_of, notice_of};
+ghost use Rattle.host.specs.Receipts.{AreBelow};
 
 use crate::name::Naming;
 use book::Book;
 use chronicle::{Claims, History};
+use compose::Event;
 use machine::Label;
 use traced::TraceEntry;
 
@@ -13,7 +15,41 @@ use traced::TraceEntry;
 #[derive(Debug, Clone, Copy)]
 pub(crate) enum Notice {
     Pause,
+    Remove,
+    Surprise,
     Removed,
+}
+
+/// A call of a keeper that may take the device away (WDK: minor functions of IRP_MJ_PNP).
+#[derive(Debug, Clone, Copy)]
+pub(crate) enum Minor {
+    QueryRemove,
+    Remove,
+    SurpriseRemove,
+}
+
+impl Minor {
+    /// The call as an event.
+    pub(crate) fn event(self) -> Event
+        ensures { result ≡ event_of self }
+    {
+        match self {
+            Minor::QueryRemove => Event::QueryRemove,
+            Minor::Remove => Event::Remove,
+            Minor::SurpriseRemove => Event::SurpriseRemove,
+        }
+    }
+
+    /// The label that it tells first where it is accepted.
+    pub(crate) fn notice(self) -> Notice
+        ensures { result ≡ notice_of self }
+    {
+        match self {
+            Minor::QueryRemove => Notice::Pause,
+            Minor::Remove => Notice::Remove,
+            Minor::SurpriseRemove => Notice::Surprise,
+        }
+    }
 }
 
 impl Notice {
@@ -23,6 +59,8 @@ impl Notice {
     {
         match self {
             Notice::Pause => matches!(label, Label::Pause),
+            Notice::Remove => matches!(label, Label::Remove),
+            Notice::Surprise => matches!(label, Label::Surprise),
             Notice::Removed => matches!(label, Label::Removed),
         }
     }
@@ -30,7 +68,8 @@ impl Notice {
 
 // The place of the first such label from a place of the trace on.
 fn find_notice<N: Naming>(book: &Book<N>, notice: Notice, from: usize) -> Option<usize>
-    ensures { FindsNotice notice from book.now.traced.entries result }
+    ensures finds { FindsNotice notice from book.now.traced.entries result }
+    ensures fits { IfSome result (λ place. place + 1 < 2 ^ 64) }
 {
     for place in from..book.len() {
         if notice.is(&book.entry(place).label) {
@@ -40,18 +79,21 @@ fn find_notice<N: Naming>(book: &Book<N>, notice: Notice, from: usize) -> Option
     None
 }
 
-/// A claim on the first such label from a place of the trace on, if there is one.
+/// A claim on the first such label from a place of the trace on, if there is one, and its place.
 pub(crate) fn claim_notice<N: Naming>(
     history: &History<TraceEntry, N>,
     book: &mut Book<N>,
     notice: Notice,
     from: usize,
-) -> Option<Claims<TraceEntry, N>>
+) -> Option<(usize, Claims<TraceEntry, N>)>
     ensures same { book.new ≡ book.old }
-    ensures noticed { IfSome result (λ claim. IsNoticed from (label_of notice) claim) }
+    ensures noticed { IfSome result (λ r. IsNoticed from (label_of notice) r.1) }
+    ensures place { IfSome result (λ r. (from ≤ r.0) × AreBelow (r.0 + 1) r.1) }
+    ensures fits { IfSome result (λ r. r.0 + 1 < 2 ^ 64) }
     ensures none { IfNone result (HasNone notice from book.old.traced.entries) }
 {
     book.shows_whole();
     let place = find_notice(book, notice, from)?;
-    Some(book.claim(history, place))
+    let claim = book.claim(history, place);
+    Some((place, claim))
 }

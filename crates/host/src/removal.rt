@@ -1,12 +1,11 @@
 //! Removal of the device under the clients of a host.
 
-ghost use Rattle.std.specs.Prelude.{◌≡◌, None, false, true, length};
+ghost use Rattle.std.specs.Prelude.{◌≡◌, ◌≢◌, None, true, length};
 ghost use mathlib.Core.Logic.{inl};
-ghost use Rattle.machine.specs.declared.Label.TheVariants.{Pause as PauseLabel, Removed as RemovedLabel};
+ghost use Rattle.machine.specs.declared.Label.TheVariants.{Pause as PauseLabel, Remove as RemoveLabel, Removed as RemovedLabel, Surprise as SurpriseLabel};
 ghost use Rattle.io_manager.specs.declared.Reply.TheVariants.{Ok as OkReply};
-ghost use Rattle.book.specs.Book.{IsStepped, call_handle};
-ghost use Rattle.traced.specs.Serving.{is_handle_event};
-ghost use Rattle.host.specs.Keepers.{HasNoted, HasNotedIfOk, IsNoticed};
+ghost use Rattle.book.specs.Book.{IsStepped};
+ghost use Rattle.host.specs.Keepers.{HasNoted, HasNotedIfOk, HasRemovedIfOk, IsNoticed, event_of, label_of, notice_of};
 ghost use Rattle.host.specs.Receipts.{AreBelow};
 ghost use Rattle.host.specs.Replies.{IsReplyTo};
 ghost use Rattle.compose.specs.declared.Event.TheVariants.{CancelRemove, QueryRemove, Remove, SurpriseRemove};
@@ -15,7 +14,7 @@ use crate::account::laws_of_numbers;
 use crate::bells::Concerned;
 use crate::host::{Host, Keeper};
 use crate::name::Naming;
-use crate::notice::{Notice, claim_notice};
+use crate::notice::{Minor, Notice, claim_notice};
 use crate::shared::Door;
 use book::Book;
 use chronicle::Claims;
@@ -53,81 +52,67 @@ impl<N: Naming> Keeper<N> {
 }
 
 impl<M: Medium, N: Naming> Host<M, N> {
-    // The part of a keeper's step that holds the book's lock. Its labels stand from the place on that it returns, which
-    // is above all receipts.
+    // Carries out a keeper's call. Its labels stand from the place on that it returns, which is above all receipts.
     fn begin<R: Wait>(
         &self,
         rt: &R,
         book: &mut Book<N>,
         told: &mut Claims<TraceEntry, N>,
-        event: Event,
+        minor: Minor,
     ) -> (Reply, usize)
-        requires { (is_handle_event event ≡ false) × (call_handle event ≡ None) }
         ensures same { told.new ≡ told.old }
         ensures above { AreBelow result.1 told.old }
         ensures from { result.1 ≡ length book.old.traced.entries }
-        ensures stepped { IsStepped N.slots None (inl tt) book.old event result.0 book.new }
-        ensures reply { IsReplyTo event result.0 }
+        ensures stepped { IsStepped N.slots None (inl tt) book.old (event_of minor) result.0 book.new }
+        ensures reply { IsReplyTo (event_of minor) result.0 }
     {
         book.check(&self.history, told);
         let from = book.len();
-        let reply = self.step_in(rt, book, event);
+        let reply = self.step_in(rt, book, minor.event());
         (reply, from)
     }
 
-    // Begins the step, and tells whom it concerns.
-    fn begin_and_note<R: Wait>(
+    // The part of a keeper's call that holds the book's lock. Where it is accepted there is a receipt of the label that
+    // it tells first. All receipts are below the place that it returns.
+    fn ask_in<R: Wait>(
         &self,
         rt: &R,
         book: &mut Book<N>,
         told: &mut Claims<TraceEntry, N>,
-        event: Event,
-    ) -> (Reply, usize, Concerned)
-        requires { (is_handle_event event ≡ false) × (call_handle event ≡ None) }
-        ensures same { told.new ≡ told.old }
-        ensures above { AreBelow result.1 told.old }
-        ensures from { result.1 ≡ length book.old.traced.entries }
-        ensures stepped { IsStepped N.slots None (inl tt) book.old event result.0 book.new }
-        ensures reply { IsReplyTo event result.0 }
-    {
-        let (reply, from) = self.begin(rt, book, told, event);
-        (reply, from, Concerned::since(book, from))
-    }
-
-    // The part of a query that holds the book's lock.
-    fn query_in<R: Wait>(
-        &self,
-        rt: &R,
-        book: &mut Book<N>,
-        told: &mut Claims<TraceEntry, N>,
-    ) -> Reply
-        ensures told { HasNotedIfOk PauseLabel result told.old told.new }
-        ensures reply { IsReplyTo QueryRemove result }
+        minor: Minor,
+    ) -> (Reply, usize)
+        ensures told { HasNotedIfOk (label_of (notice_of minor)) result.0 told.old told.new }
+        ensures above { AreBelow result.1 told.new }
+        ensures reply { IsReplyTo (event_of minor) result.0 }
     {
         laws_of_numbers();
-        let (reply, from) = self.begin(rt, book, told, Event::QueryRemove);
+        let (reply, from) = self.begin(rt, book, told, minor);
         if let Reply::Ok = reply {
-            let Some(claim) = claim_notice(&self.history, book, Notice::Pause, from) else {
+            let Some((place, claim)) = claim_notice(&self.history, book, minor.notice(), from)
+            else {
                 unreachable!()
             };
             told.join(&self.history, claim);
+            return (reply, place + 1);
         }
-        reply
+        (reply, from)
     }
 
-    // Makes the query, and tells whom it concerns.
-    fn query_and_note<R: Wait>(
+    // Makes the call, and tells whom it concerns.
+    fn ask<R: Wait>(
         &self,
         rt: &R,
         book: &mut Book<N>,
         told: &mut Claims<TraceEntry, N>,
-    ) -> (Reply, Concerned)
-        ensures told { HasNotedIfOk PauseLabel result.0 told.old told.new }
-        ensures reply { IsReplyTo QueryRemove result.0 }
+        minor: Minor,
+    ) -> (Reply, usize, Concerned)
+        ensures told { HasNotedIfOk (label_of (notice_of minor)) result.0 told.old told.new }
+        ensures above { AreBelow result.1 told.new }
+        ensures reply { IsReplyTo (event_of minor) result.0 }
     {
         let from = book.len();
-        let reply = self.query_in(rt, book, told);
-        (reply, Concerned::since(book, from))
+        let (reply, above) = self.ask_in(rt, book, told, minor);
+        (reply, above, Concerned::since(book, from))
     }
 
     // Waits until the removal has ended: its label stands at a place from this one on.
@@ -137,7 +122,8 @@ impl<M: Medium, N: Naming> Host<M, N> {
         let mut from = from;
         let mut book = self.book.lock(rt);
         for _ in rt.forever() {
-            if let Some(claim) = claim_notice(&self.history, &mut book, Notice::Removed, from) {
+            let found = claim_notice(&self.history, &mut book, Notice::Removed, from);
+            if let Some((_place, claim)) = found {
                 return claim;
             }
             from = from.max(book.len());
@@ -158,21 +144,21 @@ impl<M: Medium, N: Naming> Host<M, N> {
     }
 
     // Removes the device, by either kind of removal.
-    fn take_out<R: Wait>(&self, rt: &R, keeper: &mut Keeper<N>, event: Event) -> Reply
-        requires { (is_handle_event event ≡ false) × (call_handle event ≡ None) }
-        ensures reply { IsReplyTo event result }
+    fn take_out<R: Wait>(&self, rt: &R, keeper: &mut Keeper<N>, minor: Minor) -> Reply
+        ensures reply { IsReplyTo (event_of minor) result }
         ensures drained { result ≡ OkReply → keeper.new.pass.saw_drained ≡ true }
-        ensures told { HasNotedIfOk RemovedLabel result keeper.old.told keeper.new.told }
+        ensures refused { result ≢ OkReply → keeper.new.pass ≡ keeper.old.pass }
+        ensures told { HasRemovedIfOk (label_of (notice_of minor)) result keeper.old.told keeper.new.told }
     {
-        let (reply, from, concerned) = self.begin_and_note(
+        let (reply, above, concerned) = self.ask(
             rt,
             &mut self.book.lock(rt),
             &mut keeper.told,
-            event,
+            minor,
         );
         self.bells.ring(rt, concerned);
         if let Reply::Ok = reply {
-            self.end_removal(rt, keeper, from);
+            self.end_removal(rt, keeper, above);
         }
         reply
     }
@@ -184,7 +170,12 @@ impl<M: Medium, N: Naming> Host<M, N> {
         ensures pass { keeper.new.pass ≡ keeper.old.pass }
         ensures told { HasNotedIfOk PauseLabel result keeper.old.told keeper.new.told }
     {
-        let (reply, concerned) = self.query_and_note(rt, &mut self.book.lock(rt), &mut keeper.told);
+        let (reply, _, concerned) = self.ask(
+            rt,
+            &mut self.book.lock(rt),
+            &mut keeper.told,
+            Minor::QueryRemove,
+        );
         self.bells.ring(rt, concerned);
         reply
     }
@@ -198,21 +189,24 @@ impl<M: Medium, N: Naming> Host<M, N> {
     }
 
     /// Removes the device after a query (WDK: IRP_MN_REMOVE_DEVICE). Where it is accepted the gate is closed, and the
-    /// call returns once every ticket was waited for and the removal has ended, of which the keeper has a receipt then.
+    /// call returns once every ticket was waited for and the removal has ended. The keeper has receipts then of the
+    /// removal and of its end. Where it is refused the gate stays as it was.
     pub fn remove<R: Wait>(&self, rt: &R, keeper: &mut Keeper<N>) -> Reply
         ensures reply { IsReplyTo Remove result }
         ensures drained { result ≡ OkReply → keeper.new.pass.saw_drained ≡ true }
-        ensures told { HasNotedIfOk RemovedLabel result keeper.old.told keeper.new.told }
+        ensures refused { result ≢ OkReply → keeper.new.pass ≡ keeper.old.pass }
+        ensures told { HasRemovedIfOk RemoveLabel result keeper.old.told keeper.new.told }
     {
-        self.take_out(rt, keeper, Event::Remove)
+        self.take_out(rt, keeper, Minor::Remove)
     }
 
     /// Notes that the device was pulled out (WDK: IRP_MN_SURPRISE_REMOVAL); the rest is as for [`Host::remove`].
     pub fn surprise_remove<R: Wait>(&self, rt: &R, keeper: &mut Keeper<N>) -> Reply
         ensures reply { IsReplyTo SurpriseRemove result }
         ensures drained { result ≡ OkReply → keeper.new.pass.saw_drained ≡ true }
-        ensures told { HasNotedIfOk RemovedLabel result keeper.old.told keeper.new.told }
+        ensures refused { result ≢ OkReply → keeper.new.pass ≡ keeper.old.pass }
+        ensures told { HasRemovedIfOk SurpriseLabel result keeper.old.told keeper.new.told }
     {
-        self.take_out(rt, keeper, Event::SurpriseRemove)
+        self.take_out(rt, keeper, Minor::SurpriseRemove)
     }
 }
