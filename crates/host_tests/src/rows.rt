@@ -116,8 +116,38 @@ const MARKED: Run = Run {
     },
 };
 
+// The second client marks its write of two pieces, beside a read of the first. The write is in another slot than the
+// read.
+const MARKED_BESIDE: Run = Run {
+    rows: &[
+        Row::By(0, Deed::Read(0, 512), "request 1"),
+        Row::By(1, Deed::Write(0, 65_536, 0xA5), "request 2"),
+        Row::By(1, Deed::Mark, "Marked"),
+        Row::Host(Drive::Act(0), "ok"),
+        Row::By(1, Deed::Mark, "Already"),
+        Row::Host(Drive::Finish(0), "ok"),
+        Row::By(0, Deed::Mark, "Gone"),
+        Row::By(0, Deed::Wait, "answer 1 SUCCESS 512 00*512 at 0, 7"),
+        Row::Host(Drive::Act(1), "ok"),
+        Row::Host(Drive::Finish(1), "ok"),
+        Row::By(1, Deed::Mark, "Gone"),
+        Row::By(1, Deed::Wait, "answer 2 CANCELLED 0 none at 2, 10"),
+    ],
+    trace: "call 1 of 0 / start 1 / call 2 of 1 / start 2 / cancel 2 / act 1 / return 1 / answer 1 SUCCESS of 0 / act 2 / return 2 / answer 2 CANCELLED of 1",
+    first: Part {
+        calls: &[0],
+        answers: &[7],
+        row: &[0, 7],
+    },
+    second: Part {
+        calls: &[2],
+        answers: &[10],
+        row: &[2, 10],
+    },
+};
+
 // Calls that are answered at once, a flush with no lane and one on a lane, and a removal, after which no call reaches
-// the trace.
+// the trace. Calls still do after a removal that is refused.
 const REMOVED: Run = Run {
     rows: &[
         Row::By(0, Deed::Read(524_288, 512), "InvalidParameter 512 at 0, 1"),
@@ -137,21 +167,23 @@ const REMOVED: Run = Run {
         Row::Host(Drive::QueryRemove, "ok"),
         Row::Host(Drive::CancelRemove, "ok"),
         Row::Host(Drive::Remove, "InvalidDeviceRequest"),
+        Row::By(1, Deed::Read(0, 0), "request 5"),
+        Row::By(1, Deed::Wait, "answer 5 SUCCESS 0 none at 16, 17"),
         Row::Host(Drive::QueryRemove, "ok"),
         Row::Host(Drive::Remove, "ok"),
         Row::Lane(0, Step::Ended),
         Row::By(1, Deed::Read(0, 512), "DeletePending 512"),
     ],
-    trace: "call 1 of 0 / answer 1 INVALID_PARAMETER of 0 / call 2 of 1 / answer 2 SUCCESS of 1 / call 3 of 1 / start 1 / act 1 / return 1 / answer 3 SUCCESS of 1 / call 4 of 1 / start 2 / act 2 / return 2 / answer 4 SUCCESS of 1 / pause / resume / pause / remove / removed",
+    trace: "call 1 of 0 / answer 1 INVALID_PARAMETER of 0 / call 2 of 1 / answer 2 SUCCESS of 1 / call 3 of 1 / start 1 / act 1 / return 1 / answer 3 SUCCESS of 1 / call 4 of 1 / start 2 / act 2 / return 2 / answer 4 SUCCESS of 1 / pause / resume / call 5 of 1 / answer 5 SUCCESS of 1 / pause / remove / removed",
     first: Part {
         calls: &[0],
         answers: &[1],
         row: &[0, 1],
     },
     second: Part {
-        calls: &[2, 4, 9],
-        answers: &[3, 8, 13],
-        row: &[2, 3, 4, 8, 9, 13],
+        calls: &[2, 4, 9, 16],
+        answers: &[3, 8, 13, 17],
+        row: &[2, 3, 4, 8, 9, 13, 16, 17],
     },
 };
 
@@ -234,6 +266,7 @@ fn writes_past_caches(rt: HostRuntime) -> Result<(), Fail> {
 #[test]
 fn cancels_what_was_marked(rt: HostRuntime) -> Result<(), Fail> {
     run_on_disk(&rt, rt.alloc(), &MARKED)?;
+    run_on_disk(&rt, rt.alloc(), &MARKED_BESIDE)?;
     Ok(())
 }
 
