@@ -23,7 +23,7 @@ use miniport::{BookedAdapter, MemAdapter};
 use ntstatus::Sense;
 use sector::Extent;
 use sector_journal::{Entered, History, Journal, Naming, Opened};
-use srb::{Completion, Kind};
+use srb::{Completion, Kind, Srb};
 use std::alloc::{AllocError, Global};
 use std::marker::Brand;
 use std::process::Abort;
@@ -389,6 +389,21 @@ fn a_piece_comes_back_as_its_failure_was_booked(rt: HostRuntime) -> Result<(), F
     Ok(())
 }
 
+/// The room of a request stays as another of the same length is released, and that of a piece as it is disarmed.
+fn arm_twice<N: Naming>(
+    rt: &impl Abort,
+    journal: &mut Journal<VecDisk, N>,
+    history: &History<N>,
+    piece: (u128, &Srb),
+) {
+    journal.release(1);
+    assert!(rt; journal.reservations() == 1);
+    let (number, srb) = piece;
+    assert!(rt; journal.arm(history, 0, number, srb));
+    journal.disarm(0);
+    assert!(rt; journal.arm(history, 0, number, srb));
+}
+
 /// A reset meets a piece that may act in the journal.
 fn reset_armed<A: Adapter, N: Naming>(
     rt: &impl Abort,
@@ -406,17 +421,21 @@ fn reset_armed<A: Adapter, N: Naming>(
         count: 1,
     };
     journal.reserve(1, Kind::Read, extent, 2)?;
+    assert!(rt; journal.sectors() == 4096);
+    journal.reserve(2, Kind::Read, extent, 2)?;
     show_step(alloc, stack, Step::Read(FIRST, 0, 512))?;
     let Some((piece, srb)) = stack.armed(0) else {
         // The read was refused for want of memory.
         return Err(AllocError);
     };
-    assert!(rt; journal.arm(history, 0, piece, srb));
+    arm_twice(rt, journal, history, (piece, srb));
     show_step(alloc, stack, Step::Reset)?;
     assert!(rt; stack.armed(0).is_none());
     journal.disarm(0);
     assert!(rt; journal.act(history, 0, piece).is_none());
     assert!(rt; journal.entries().is_empty());
+    journal.release(2);
+    assert!(rt; journal.reservations() == 0);
     Ok(())
 }
 
