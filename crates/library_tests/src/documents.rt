@@ -358,23 +358,31 @@ fn gives_adapters(rt: HostRuntime) -> Result<(), Fail> {
     Ok(())
 }
 
-/// Sector 0 as the layout of a partition table has it: type, first sector and count of the entry at 446, the signature
-/// at 510, and zeros behind it.
+/// The first 4,096 bytes of a disk as a partition table is laid out: the type, the first sector and the count of the
+/// entry at 446, the signature at 510, and zeros.
+fn table_of_one() -> [u8; 4096] {
+    let mut bytes = [0; 4096];
+    bytes[450] = 131;
+    bytes[454..462].copy_from_slice(&[0, 8, 0, 0, 1, 4, 0, 0]);
+    bytes[510..512].copy_from_slice(&[0x55, 0xAA]);
+    bytes
+}
+
+/// Compares sector 0 of settings with sectors of this size, which is the beginning of these bytes.
+fn gives_sector(rt: &impl Abort, alloc: Global, size: usize, wanted: &[u8]) -> Result<(), Fail> {
+    let text = format!(in alloc;
+        "sector_size = {size}\n{DISK}[[partition]]\nfirst = 2048\ncount = 1025\ntype = 131\n"
+    )?;
+    let sector = table_sector(alloc, &config(alloc, text.as_str())?)?;
+    same(rt, &sector.len(), &size);
+    assert!(rt; wanted.starts_with(sector.as_slice()));
+    Ok(())
+}
+
 #[test]
 fn gives_sector_0(rt: HostRuntime) -> Result<(), Fail> {
     let alloc = rt.alloc();
-    for size in [512usize, 4096] {
-        let text = format!(in alloc;
-            "sector_size = {size}\n{DISK}[[partition]]\nfirst = 2048\ncount = 1025\ntype = 131\n"
-        )?;
-        let sector = table_sector(alloc, &config(alloc, text.as_str())?)?;
-        let bytes = sector.as_slice();
-        same(&rt, &bytes.len(), &size);
-        same(&rt, &bytes[450], &131);
-        same(&rt, &&bytes[454..462], &&[0, 8, 0, 0, 1, 4, 0, 0][..]);
-        same(&rt, &&bytes[510..512], &&[0x55, 0xAA][..]);
-        assert!(rt; bytes[462..510].iter().all(|byte| *byte == 0));
-        assert!(rt; bytes[512..].iter().all(|byte| *byte == 0));
-    }
-    Ok(())
+    let wanted = table_of_one();
+    gives_sector(&rt, alloc, 512, &wanted)?;
+    gives_sector(&rt, alloc, 4096, &wanted)
 }
