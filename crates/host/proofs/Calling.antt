@@ -263,13 +263,13 @@ module _ (slots : ℕ) (old mid new : TracedView) (before after : ShareView) (q 
       (subst (λ a. IsAnsweredAtOnce before after q new.entries a.number (as_answer a) o.0) (sym r.1) o.2)
   by_reply handle (Refused reason bytes) told right r place finds = refused r.1
     where
-      refused : AnswersAtOnce mid.stack q (status_of_refusal reason) stepped told ⊎ IsTurnedAway mid.stack q reason stepped told → IsTold slots before after q buffer new.entries (Refused reason bytes) place
+      refused : AnswersAtOnce mid.stack q (status_of_refusal reason) stepped told ⊎ IsTurnedAway mid.stack q reason stepped told → IsTold slots before after q buffer new (Refused reason bytes) place
       refused (inl a) = let o = at_once (status_of_refusal reason) stepped told right.in_order a place finds in told_place (Refused reason bytes) o.0 place o.1 (r.0, (mid.stack.state.next_request, o.2))
       refused (inr t) =
           let away = turned_away reason stepped told t in
           let same = no_labels (right.in_order ∙ away.0) in
           let u = unheard old mid new before after still counts same.0 same.1 place finds in
-          subst (IsTold slots before after q buffer new.entries (Refused reason bytes)) (sym u.0) (r.0, away.1, u.1)
+          subst (IsTold slots before after q buffer new (Refused reason bytes)) (sym u.0) (r.0, away.1, u.1)
   by_reply handle (HandleReply given) told right r place finds = absurd r
   by_reply handle OkReply told right r place finds = absurd r
   by_reply handle Ignored told right r place finds = absurd r

@@ -1,6 +1,6 @@
 -- A call that was taken in, and its receipt.
 use Rattle.std.proofs.Common.{◌≡◌, ℕ, ◌-◌, ◌<◌, ◌≤◌, List, [], ◌∷◌, ◌++◌, length, Option, Some, sym, ap, ◌∙◌, subst}
-use Rattle.std.specs.Prelude.{IfOk, Result, Ok, Err, slice_get}
+use Rattle.std.specs.Prelude.{IfOk, Result, Ok, Err, slice_get, slice_index_or}
 use Rattle.std.proofs.lemmas.Option.{slice_get_within}
 use Rattle.machine.specs.declared.ClientRequest.{ClientRequest}
 use Rattle.machine.specs.declared.Label.{Label}
@@ -14,9 +14,10 @@ use Rattle.traced.specs.declared.TraceEntry.{TraceEntry}
 use Rattle.traced.specs.Shares.{ShareView}
 use Rattle.traced.specs.Traced.{TracedView, IsTraced}
 use Rattle.host.specs.Receipts.{Receipt, ReceiptsView, AreBelow, Answers, receipt}
-use Rattle.host.specs.Accounts.{AccountKept}
+use Rattle.host.specs.Accounts.{AccountKept, AccountView, IsCalled}
 use Rattle.host.specs.Calls.{HasCounted, Stands}
 use Rattle.host.specs.Tickets.{HoldsRequest, TicketView, WasOpen}
+use Rattle.host.specs.declared.call.Call.{Call}
 use Rattle.host.specs.declared.call.Refusal.{Refusal}
 use Rattle.host.proofs.Keeping.{below_more, below_stand}
 use Rattle.host.proofs.Accounts.{account_answered, account_called, receipt_is}
@@ -68,6 +69,10 @@ stands_within es es' place label client same stands = subst (λ (xs : List Trace
 pub stands_noted : (old new : BookView) (place : ℕ) (claim : List Receipt) → new ≡ old → IsNoted old.traced.entries place claim → AllStand new.traced.entries claim
 stands_noted old new place claim same noted =
     subst (λ (b : BookView). AllStand b.traced.entries claim) (sym same) (subst (AllStand old.traced.entries) (sym noted.2) (noted.1, tt))
+
+-- the same account
+pub called_view : (partitions : List ℕ) (v w : AccountView) (t : TicketView) (call : Call) (new : AccountView) → v ≡ w → IsCalled (slice_index_or partitions v.share.client 0) v t call new → IsCalled (slice_index_or partitions w.share.client 0) w t call new
+called_view partitions v w t call new same is = subst (λ (x : AccountView). IsCalled (slice_index_or partitions x.share.client 0) x t call new) same is
 
 -- a ticket of a whole book in which its call stands, and whose slot holds its request
 pub was_open : (rules : Rules) (start : State) (partitions : List ℕ) (handles : List (Option OpenHandle)) (book : TracedView) (issued : Result TicketView Refusal) → IsTraced rules start partitions handles book

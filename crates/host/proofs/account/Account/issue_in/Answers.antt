@@ -17,7 +17,7 @@ use Rattle.host.specs.Calls.{IsTold, buffer_of, request_of}
 use Rattle.host.specs.Tickets.{TicketView}
 use Rattle.host.specs.declared.call.Reason.TheVariants.{Refused}
 use Rattle.host.specs.declared.call.Refusal.{Refusal}
-use Rattle.host.proofs.Issuing.{answer_received, received, stands_noted, stands_within}
+use Rattle.host.proofs.Issuing.{answer_received, called_view, received, stands_noted, stands_within}
 use Rattle.host.proofs.account.Account.issue_in.Goals as goal
 
 pub invariant_of-self-in-Request : goal.invariant_of-self-in-Request
@@ -109,7 +109,7 @@ returns-in-Request-clause-issued g c =
     let r = received g.N.Naming-3.handles P share share' c.self.inside.called c.check.new.self c.note-claim.new.self c.self.inside.answered c.check-2.new.self c.note-claim.result c.args.book.now.traced.entries c.check.new.book.traced.entries c.check-2.new.book.traced.entries es place c.in-Request.id.number q
     c.self.invariant c.check.ensures.stand (ap (λ (b : BookView). b.traced.entries) c.check.ensures.same.0) c.check.ensures.same.1 c.check-2.ensures.stand (ap (λ (b : BookView). b.traced.entries) c.check-2.ensures.same.0) c.check-2.ensures.same.1 late told.called told.counted c.note-claim.ensures.entry c.note-claim.ensures.noted in
     let new : AccountView = record { share = share'; called = c.note-claim.new.self; answered = c.check-2.new.self } in
-    subst (λ (v : AccountView). IsCalled (slice_index_or P v.share.client 0) v _ c.args.call new) c.self.view_is
+    called_view P _ _ _ c.args.call new c.self.view_is
     (record { client = c.client-client.ensures.number; receipt_is = r.claim_is; above_calls = r.above_calls; above_answers = r.above_answers; same_client = told.counted.client; called = r.list; answered = c.check-2.ensures.same.1 })
 
 pub returns-in-Request-clause-stands : goal.returns-in-Request-clause-stands

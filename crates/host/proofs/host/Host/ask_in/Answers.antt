@@ -16,8 +16,8 @@ unreachable-requires g c =
     begun_stands c.args.minor c.args.book.now.traced before.mid new c.begin-reply.result.0 before.still before.served c.in-Ok.is
     (subst (λ (n : ℕ). HasNone (notice_of c.args.minor) n new.entries) c.begin-reply.ensures.from none)
 
-pub returns-in-Some-clause-told : goal.returns-in-Some-clause-told
-returns-in-Some-clause-told g c =
+pub returns-in-Ok-clause-told : goal.returns-in-Ok-clause-told
+returns-in-Ok-clause-told g c =
     let same : c.join.new.self ≡ c.args.told.now ++ c.in-Some.claim = c.join.ensures ∙ ap (λ (cs : List Receipt). cs ++ c.in-Some.claim) c.begin-reply.ensures.same in
     let noticed = subst (λ (n : Notice). IsNoticed c.begin-reply.result.1 (label_of n) c.in-Some.claim) c.notice.ensures c.in-Some.ensures.noticed in
     record {
@@ -25,7 +25,7 @@ returns-in-Some-clause-told g c =
       otherwise = λ not. absurd (not c.in-Ok.is);
     }
 
-pub returns-in-Some-clause-above : goal.returns-in-Some-clause-above
-returns-in-Some-clause-above g c =
+pub returns-in-Ok-clause-above : goal.returns-in-Ok-clause-above
+returns-in-Ok-clause-above g c =
     let same : c.join.new.self ≡ c.args.told.now ++ c.in-Some.claim = c.join.ensures ∙ ap (λ (cs : List Receipt). cs ++ c.in-Some.claim) c.begin-reply.ensures.same in
     below_noted c.begin-reply.result.1 c.in-Some.place c.args.told.now c.in-Some.claim c.join.new.self c.begin-reply.ensures.above c.in-Some.ensures.place.0 c.in-Some.ensures.place.1 same

@@ -15,7 +15,7 @@ returns-clause-above g c =
     subst (λ (n : ℕ). AreBelow n c.args.told.now) (sym from) (below_stand c.args.book.now.traced.entries c.args.told.now c.check.ensures.stand)
 
 pub step_in-reply-requires : goal.step_in-reply-requires
-step_in-reply-requires g c = (is_keepers c.args.minor c.event.result c.event.ensures).1
+step_in-reply-requires g c = let k = is_keepers c.args.minor c.event.result c.event.ensures in (k.1, k.2)
 
 pub returns-clause-stepped : goal.returns-clause-stepped
 returns-clause-stepped g c =

@@ -1,10 +1,16 @@
-use Rattle.std.proofs.Common.{◌≡◌}
-use Rattle.host.specs.Keepers.{label_of, notice_of}
+use Rattle.std.proofs.Common.{◌≡◌, List, ap, subst}
+use Rattle.machine.specs.declared.Label.{Label}
+use Rattle.host.specs.Keepers.{HasNoted, KeeperView, label_of, notice_of}
+use Rattle.host.specs.Receipts.{Receipt}
 use Rattle.host.proofs.Noticing.{removed_after}
 use Rattle.host.proofs.host.Host.take_out.Goals as goal
 
 pub returns-in-Ok-clause-told : goal.returns-in-Ok-clause-told
-returns-in-Ok-clause-told g c = record {
-  accepted = λ ok. removed_after (label_of (notice_of c.args.minor)) _ _ _ (c.ask-reply.ensures.told.accepted c.in-Ok.is) c.end_removal.ensures.told;
-  otherwise = λ not. absurd (not c.in-Ok.is);
-}
+returns-in-Ok-clause-told g c =
+    let label : Label = label_of (notice_of c.args.minor) in
+    let was : c.keeper.inside.told ≡ c.args.keeper.now.told = ap (λ (k : KeeperView). k.told) c.keeper.view_is in
+    record {
+      accepted = λ ok. removed_after label c.args.keeper.now.told c.ask-reply.new.told c.end_removal.new.keeper.told
+          (subst (λ (rs : List Receipt). HasNoted label rs c.ask-reply.new.told) was (c.ask-reply.ensures.told.accepted c.in-Ok.is)) c.end_removal.ensures.told;
+      otherwise = λ not. absurd (not c.in-Ok.is);
+    }
