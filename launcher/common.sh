@@ -8,6 +8,18 @@ make_scratch() {
     trap 'rm -rf "$scratch"' EXIT
 }
 
+# Ends the check that `rt try` starts beside the try, as its child: it gives a hint on names alone, and takes as long again.
+end_hint() {
+    while kill -0 "$1" 2> /dev/null && ! pkill -P "$1" -x rattle 2> /dev/null; do sleep 0.2; done
+}
+
+# Runs `rt try` without that check.
+try_alone() (
+    tried=$BASHPID
+    end_hint "$tried" &
+    exec rt try "$@"
+)
+
 # Says every ten seconds what a call is at, until it is ended or the launcher has gone. The function that is named sets `doing`.
 tell_every_ten_seconds() {
     local doing=

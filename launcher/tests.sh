@@ -25,7 +25,7 @@ count() {
 # Runs the tests of a crate.
 try_tests() {
     local passed failed
-    (cd "$top/crates/$1" && rt try --test) > "$scratch/$1.out" 2> "$scratch/$1.said" < /dev/null || true
+    (cd "$top/crates/$1" && try_alone --test) > "$scratch/$1.out" 2> "$scratch/$1.said" < /dev/null || true
     passed=$(grep -c '^test .* \.\.\. ok$' "$scratch/$1.out" || true)
     failed=$(grep -c '^test .* \.\.\. FAILED$' "$scratch/$1.out" || true)
     if [ "$failed" = 0 ] && ! tail -n 1 "$scratch/$1.said" | grep -q '^run=ended status=0 '; then failed=1; fi
