@@ -7,14 +7,15 @@ disk: nbd_disk over a disk in a file, beside nbdkit's file plugin and qemu-nbd o
 nbdkit, over a disk in memory, beside nbdkit's memory plugin.
 
 Reads and writes of 4 and 128 KiB at depth 1 and 16 by fio, and sequential copies both ways by nbdcopy over one
-connection. The servers take turns; of each the best round counts. Prints MiB a second and the processor time that the
-server took for a MiB, user's and system's, and the ratio of each to the better of the others: above 1 where the first is
-faster, or takes less."""
+connection. The servers take turns; of each the median of the rounds counts, since some vary by half. Prints MiB a second
+and the processor time that the server took for a MiB, user's and system's, and the ratio of each to the better of the
+others, above 1 where the first is faster, or takes less; and at last the ratio by the best rounds."""
 
 import json
 import os
 import shutil
 import socket
+import statistics
 import subprocess
 import sys
 import tempfile
@@ -22,7 +23,7 @@ import threading
 import time
 
 WHICH, PROGRAM = sys.argv[1:]
-ROUNDS = int(os.environ.get("ROUNDS", "3"))
+ROUNDS = int(os.environ.get("ROUNDS", "5"))
 SECONDS = os.environ.get("SECONDS_EACH", "2")
 MEBIBYTES = 512
 SECTORS = MEBIBYTES * 2048
@@ -147,8 +148,8 @@ def measured(server, measure):
 
 
 def rounds(here):
-    """Returns the best of each measure and server, by time and by processor time."""
-    best = {}
+    """Returns all rounds of each measure and server, by time and by processor time."""
+    found = {}
     for turn in range(ROUNDS):
         for name, start in servers(os.path.join(here, "image")).items():
             path = os.path.join(here, f"socket.{turn}.{name[:5].strip()}")
@@ -157,21 +158,27 @@ def rounds(here):
             if WHICH == "plugin" or turn == 0 and name == "nbd_disk":
                 by_copy(["source", uri])
             for what, measure in measures(uri).items():
-                found = measured(server, measure)
-                best[what, name] = [max(*pair) for pair in zip(found, best.get((what, name), (0, 0)))]
+                found.setdefault((what, name), []).append(measured(server, measure))
             server.stop()
-    return best
+    return found
 
 
-def show(best):
+def to_the_better(figures):
+    """Returns the ratio of the first to the better of the others."""
+    return f"{figures[0] / max(figures[1:]):.2f}"
+
+
+def show(found):
     """Prints a row for each measure."""
     names = list(servers(""))
-    print(f"| MiB a second | {' | '.join(names)} | ratio | ms a MiB: {' | '.join(names)} | ratio |")
-    print("|---|---|---|---|---|---|---|---|---|")
+    print(f"| MiB a second | {' | '.join(names)} | ratio | ms a MiB: {' | '.join(names)} | ratio | by best rounds |")
+    print("|---" * (2 * len(names) + 4) + "|")
     for what in measures(""):
-        rates, thrift = zip(*(best[what, name] for name in names))
-        cells = [f"{x:.0f}" for x in rates] + [f"{rates[0] / max(rates[1:]):.2f}"]
-        cells += [f"{1000 / x:.2f}" for x in thrift] + [f"{thrift[0] / max(thrift[1:]):.2f}"]
+        of_each = [list(zip(*found[what, name])) for name in names]
+        rates, thrift = zip(*([statistics.median(it) for it in pair] for pair in of_each))
+        cells = [f"{x:.0f}" for x in rates] + [to_the_better(rates)]
+        cells += [f"{1000 / x:.2f}" for x in thrift] + [to_the_better(thrift)]
+        cells.append(to_the_better([max(rounds_of) for rounds_of, _ in of_each]))
         print(f"| {what} | {' | '.join(cells)} |")
 
 
