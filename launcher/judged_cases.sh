@@ -11,6 +11,12 @@ be_judge() {
     mkdir -p "$scratch"
 }
 
+# Sets `lasting` to the words of a check of a second or two, with its files.
+make_lasting_check() {
+    awk 'BEGIN { for (k = 0; k < 10000; k++) print "pause\nresume" }' > "$scratch/lasting"
+    lasting=(--data "config=$crate/data/config.toml" --data "trace=$scratch/lasting" -- check config trace)
+}
+
 # Each folder whose script runs to its end.
 recorded_folders() {
     local folder

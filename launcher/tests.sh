@@ -40,10 +40,10 @@ try_tests() {
 # Tests a crate, and notes that this came to an end.
 test_crate() {
     case $1 in
-        stackrun) try_cases make_cases count_all_cases ;;
+        stackrun) try_cases make_cases count_all_cases make_lasting_run ;;
         stackjudge) (
             be_judge
-            try_cases make_judge_cases count_judge_cases
+            try_cases make_judge_cases count_judge_cases make_lasting_check
         ) ;;
         *) try_tests "$1" ;;
     esac
