@@ -2,10 +2,10 @@
 //!
 //! It promises to the crate above, by the contract of [`serve`] (`IsSession` of `specs/Handshake`): the client's stream
 //! began with the bytes of its flags, of some options and of some requests. What was written is the greeting and then
-//! just their replies, in order. The array moved by just these requests, one after the other, each by its command or
-//! not at all. No request was served but behind an option that leads to requests. A request is a whole one: its 28
-//! bytes, and the bytes of a write behind it, also where it is refused. The stream also has the bytes that ended the
-//! session.
+//! just their replies, in order. The array moved by just these requests, one after the other: each by its command, or
+//! not at all, or as the array may fail it. No request was served but behind an option that leads to requests. A
+//! request is a whole one: its 28 bytes, and the bytes of a write behind it, also where it is refused. The stream also
+//! has the bytes that ended the session.
 //!
 //! [`parse_request`], [`command_of`], [`parse_option`], [`write_reply`] and [`write_replies`] promise what the bytes of
 //! requests and options mean, and what the bytes of replies are. [`one_spelling`] says that a request has one spelling.
