@@ -1,7 +1,7 @@
 /* The static library of the crate `saddlemug`: a disk behind the proved storage stack, for C, in memory or over storage of
  * the program's own.
  *
- * Link libsaddlemug.a, and behind it the toolchain's c/liblibc_c.a, through which the library calls `malloc`, `realloc` and
+ * Link libsaddlemug.a, and behind one that isn't installed the toolchain's c/liblibc_c.a, through which the library calls `malloc`, `realloc` and
  * `free`. The library has no state of its own: what it keeps stands behind a room that the caller owns. One room is used by
  * one call at a time, on one thread; rooms do not share anything. No call may be made from a signal handler.
  *
@@ -47,7 +47,7 @@ struct saddlemug {
 
 struct saddlemug_sizes {
 	uint64_t sector_size; /* bytes of a sector, 512 or 4096 */
-	uint64_t sectors;     /* of the partition, 1 to 2^40 */
+	uint64_t sectors;     /* of the partition, 1 to 2^32 - 1 */
 };
 
 /* Opens partition `partition`, counted from 0, of a new disk, into an empty room. `settings` is a TOML document in UTF-8 of
@@ -62,7 +62,7 @@ uint32_t saddlemug_open(struct saddlemug *room, const uint8_t *settings, size_t 
 struct saddlemug_sizes saddlemug_sizes(struct saddlemug *volume);
 
 /* Reads `length` bytes from byte `offset` of the partition on: whole sectors, at most 65,536 of them. A call of no bytes
- * succeeds.
+ * there succeeds.
  *
  * INVALID_PARAMETER just where they are no whole sectors of the partition, or too many; INSUFFICIENT_RESOURCES where memory
  * for a copy of them was refused; DEVICE_BUSY once 2^62 - 1 requests were made; any other status is the device's. The buffer
@@ -211,7 +211,7 @@ void saddlemug_stack_close(struct saddlemug_stack *stack);
  * themselves are made as all others: one at a time on a room.
  *
  * The three calls that are only here look at their pointers: where one is null they answer INVALID_PARAMETER, and
- * INVALID_HANDLE where the room is empty. Where they call the library, it is by `saddlemug_over_open`, `saddlemug_over_armed`
+ * the last two INVALID_HANDLE where the room is empty. Where they call the library, it is by `saddlemug_over_open`, `saddlemug_over_armed`
  * and `saddlemug_over_book`, for which the rules at the head of this file hold. */
 
 struct saddlemug_disk {
@@ -285,7 +285,7 @@ saddlemug_stack_armed(struct saddlemug_stack *stack, uint8_t tag, struct saddlem
 
 /* How a command failed. */
 struct saddlemug_completion {
-	uint8_t srb_status;  /* WDK: SRB_STATUS. 0x84 for an error with sense data; neither success (1) nor busy (5) */
+	uint8_t srb_status;  /* WDK: SRB_STATUS. 0x84 for an error with sense data; its low six bits are neither success (1) nor busy (5) */
 	uint8_t scsi_status; /* SAM: STATUS. 2, CHECK CONDITION, where there are sense data */
 	bool has_sense;
 	uint8_t key;         /* SPC: the sense key, the additional sense code and its qualifier */
