@@ -1,4 +1,5 @@
-//! A file of the system as a storage. Each method makes a call of the system, and then notes it with what it gave.
+//! A file of the system as a storage. Each method makes a call of the system, again where a signal interrupted it, and
+//! then notes it once with what it gave.
 
 ghost use Rattle.std.specs.Prelude.{◌≡◌, ◌≤◌, [], length, IfOk};
 
@@ -23,7 +24,7 @@ pub struct DiskFile {
 }
 
 impl DiskFile {
-    /// A storage in an open file, of which nothing was asked yet.
+    /// A storage in an open file.
     pub fn new(file: File) -> DiskFile {
         DiskFile {
             file,

@@ -273,8 +273,9 @@ impl<S: Storage + Drop> FileDisk<S> {
     /// # Errors
     ///
     /// The first row that fits of the table of the adapter in memory, such as ILLEGAL REQUEST or WRITE PROTECTED, where
-    /// the SRB asks for what a disk doesn't carry out. MEDIUM ERROR where a read or a write failed, HARDWARE ERROR
-    /// where a sync failed or memory was refused.
+    /// the SRB asks for what a disk doesn't carry out; SRB_STATUS_INVALID_REQUEST for a READ CAPACITY, which only
+    /// a start sends. MEDIUM ERROR where a read or a write failed, or DATA PROTECT where the file can't be
+    /// written; HARDWARE ERROR where a sync failed or memory for a read was refused.
     pub fn transfer(&mut self, tag: u8, piece: u128, srb: &Srb) -> Result<Moved, Completion>
         ensures transfers { Transfers self.old tag piece srb.now (entry_moved tag piece srb.now result) self.new }
         ensures suits { Suits self.old.sector_size self.old.sectors srb.now (entry_moved tag piece srb.now result) }

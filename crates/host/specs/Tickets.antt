@@ -13,7 +13,8 @@ use Rattle.io_manager.specs.declared.Answer.{Answer}
 use Rattle.io_manager.specs.Right.{as_answer}
 use Rattle.host.specs.Receipts.{Receipt, receipt}
 
--- its client, its request's number, the place of its call, its slot while it is open, and the receipt of its call
+-- its client, its request's number, the place of its call, its slot where its call opened a request, and the receipt of
+-- its call
 pub record TicketView : Type 0 where
   pub client : ℕ
   pub number : ℕ

@@ -99,9 +99,9 @@ impl<N: Naming> Client<N> {
     ///
     /// # Errors
     ///
-    /// As the stack refuses calls, with the places of both labels where it has them. Before the book is asked:
-    /// `InsufficientResources` where memory for the receipts was refused, `DeletePending` where the gate is closed, and
-    /// [`Reason::TooManyTickets`] with 64 tickets out.
+    /// As the stack refuses calls. A call that reached the trace is refused with the places of its two labels. With
+    /// none: `DeletePending` where the gate is closed, [`Reason::TooManyTickets`] with 64 tickets out,
+    /// `InsufficientResources` where any memory for it was refused, and `DeviceBusy` once numbers are used up.
     pub fn issue<M: Medium, R: Wait>(
         &mut self,
         rt: &R,
@@ -151,7 +151,8 @@ impl<N: Naming> Client<N> {
         answered
     }
 
-    /// Marks the ticket's request for cancellation, with no lock: `Gone` where it was answered.
+    /// Marks the ticket's request for cancellation, with no lock: `Gone` where it was answered. The next step that
+    /// looks under the book's lock carries it out; the mark itself makes none.
     pub fn mark_cancel<M: Medium>(&mut self, host: &Host<M, N>, ticket: &Ticket<N>) -> Marking
         ensures marked { IsMarked ticket.now.slot ticket.now.number self.old.seat result self.new.seat }
         ensures same { self.new ≡ record self.old { seat = self.new.seat } }

@@ -87,7 +87,7 @@ impl<M: Medium, N: Naming> Host<M, N> {
     ///
     /// Beside them what acts did: the acts of the trace, in order, are the first entries, and all entries, replayed
     /// from the sectors that the journal was opened with, give the sectors of the medium. So the trace is a run whose
-    /// acts read and write these sectors.
+    /// acts read and write sectors, from those that the journal was opened with on.
     pub fn close(self, keeper: Keeper<N>, clients: Vec<Client<N>>) -> (Closed<N>, M)
         requires parts { N.parts ≡ length N.partitions + 1 }
         requires all { AreNumbered (length N.partitions) clients.items }

@@ -213,7 +213,8 @@ impl<M: Medium, N: Naming> Host<M, N> {
         Ok((host, keeper, clients))
     }
 
-    /// Has the adapter carry out the command of the piece on a tag, or fail it; `Ignored` where there is none.
+    /// Has the adapter carry out the command of the piece on a tag, or fail it; `Ignored` where no piece there could
+    /// act.
     pub fn act<R: Wait>(&self, rt: &R, tag: u8) -> Reply
         ensures reply { IsReplyTo (Act tag) result }
     {

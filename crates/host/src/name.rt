@@ -5,7 +5,8 @@ ghost use Rattle.chronicle.specs.History.{no_table};
 
 use std::marker::Brand;
 
-/// Names one host, for contracts alone: its book, and its gate. Each call of a program picks it.
+/// Names one host, for contracts alone: its book, and its gate. A function that is generic in it requires that what it
+/// is handed is the one named; its caller passes `Brand`.
 pub trait Naming: book::Naming {
     ghost gate: { TableId };
 }

@@ -163,8 +163,9 @@ impl<M: Medium, N: Naming> Host<M, N> {
         reply
     }
 
-    /// Asks whether the device may go; where it may, requests are held from now on, and the keeper has a receipt of the
-    /// pause (WDK: IRP_MN_QUERY_REMOVE_DEVICE).
+    /// Asks whether the device may go. It may, whatever is open: requests are held from now on, and the keeper has a
+    /// receipt of the pause (WDK: IRP_MN_QUERY_REMOVE_DEVICE). Refused as `InvalidDeviceRequest` unless the device is
+    /// started, and as `InsufficientResources` where memory for its labels was refused.
     pub fn query_remove<R: Wait>(&self, rt: &R, keeper: &mut Keeper<N>) -> Reply
         ensures reply { IsReplyTo QueryRemove result }
         ensures pass { keeper.new.pass ≡ keeper.old.pass }
@@ -180,7 +181,8 @@ impl<M: Medium, N: Naming> Host<M, N> {
         reply
     }
 
-    /// Takes the query back, and held requests go on (WDK: IRP_MN_CANCEL_REMOVE_DEVICE).
+    /// Takes the query back, and held requests go on (WDK: IRP_MN_CANCEL_REMOVE_DEVICE). With no query pending it does
+    /// nothing. Refused as `InvalidDeviceRequest` once the device is being removed.
     pub fn cancel_remove<R: Wait>(&self, rt: &R, _keeper: &mut Keeper<N>) -> Reply
         ensures reply { IsReplyTo CancelRemove result }
         ensures same { _keeper.new ≡ _keeper.old }
@@ -190,7 +192,8 @@ impl<M: Medium, N: Naming> Host<M, N> {
 
     /// Removes the device after a query (WDK: IRP_MN_REMOVE_DEVICE). Where it is accepted the gate is closed, and the
     /// call returns once every ticket was waited for and the removal has ended. The keeper has receipts then of the
-    /// removal and of its end. Where it is refused the gate stays as it was.
+    /// removal and of its end. Unless a query is pending it is refused as `InvalidDeviceRequest`, and the gate stays as
+    /// it was.
     pub fn remove<R: Wait>(&self, rt: &R, keeper: &mut Keeper<N>) -> Reply
         ensures reply { IsReplyTo Remove result }
         ensures drained { result ≡ OkReply → keeper.new.pass.saw_drained ≡ true }
@@ -200,7 +203,9 @@ impl<M: Medium, N: Naming> Host<M, N> {
         self.take_out(rt, keeper, Minor::Remove)
     }
 
-    /// Notes that the device was pulled out (WDK: IRP_MN_SURPRISE_REMOVAL); the rest is as for [`Host::remove`].
+    /// Notes that the device was pulled out, and removes it (WDK: IRP_MN_SURPRISE_REMOVAL and the IRP_MN_REMOVE_DEVICE
+    /// behind it, in one); the rest is as for [`Host::remove`]. Refused as `InvalidDeviceRequest` once the device is
+    /// being removed.
     pub fn surprise_remove<R: Wait>(&self, rt: &R, keeper: &mut Keeper<N>) -> Reply
         ensures reply { IsReplyTo SurpriseRemove result }
         ensures drained { result ≡ OkReply → keeper.new.pass.saw_drained ≡ true }

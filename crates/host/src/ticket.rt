@@ -9,8 +9,8 @@ use std::marker::Model;
 use traced::TraceEntry;
 
 /// A call that was issued and is not waited for yet. It can't be copied, and `wait` spends it; it holds the gate until
-/// then. Contracts see it as its client, its request's number, the place of its call, its slot while it is open, and
-/// the receipt of its call.
+/// then. One that is dropped keeps its hold, so that a removal never ends. Contracts see it as its client, its
+/// request's number, the place of its call, its slot where its call opened a request, and the receipt of its call.
 #[derive(Drop)]
 pub struct Ticket<N: Naming> {
     pub(crate) client: usize,

@@ -80,8 +80,9 @@ impl<M: Medium, N: Naming> Journaled<M, N> {
         }
     }
 
-    /// Carries one event out, as [`Stack::step`]. Where it would open a request the journal has room for its acts
-    /// first.
+    /// Carries one event out, as [`Stack::step`]. Where it would open a request the journal is first asked for room for
+    /// its acts. Where memory for that was refused the call is refused as `InsufficientResources`, with its bytes, no
+    /// label and no number. A piece that the journal can't arm fails.
     pub fn step(&mut self, alloc: Global, event: Event) -> Reply
         requires taken { self.old.stack.labels ≡ [] }
         ensures right { IsServed self.old event result self.new }

@@ -31,12 +31,12 @@ pub struct Request {
 /// What a request asks an array for, in its bounds.
 #[derive(Debug, Clone, Copy, PartialEq, Eq)]
 pub enum Command {
-    /// A read of `count` bytes from byte `offset` on, [`LONGEST`] at most.
+    /// A read of `count` bytes from byte `offset` on, 32 MiB at most.
     Read {
         offset: u64,
         count: u32,
     },
-    /// A write of the `count` bytes behind the request, from byte `offset` on, [`LONGEST`] at most; with `through`,
+    /// A write of the `count` bytes behind the request, from byte `offset` on, 32 MiB at most; with `through`,
     /// past volatile caches.
     Write {
         offset: u64,

@@ -45,7 +45,9 @@ impl<A: Adapter> Volume<A> {
         }
     }
 
-    /// Opens a partition, counted from 0, of a stack on which nothing is open. It takes no memory.
+    /// Opens a partition, counted from 0, of a stack on which no request is open, no query is pending and no removal
+    /// under way, with all labels and answers taken, and whose acts read and write the sectors that it shows. It takes
+    /// no memory.
     ///
     /// # Errors
     ///

@@ -138,7 +138,7 @@ impl<A: Adapter> Volume<A> {
         }
     }
 
-    /// Closes the handle, and gives the stack back with nothing open.
+    /// Closes the handle, and gives the stack back with no request open. No clause says that the handle is closed.
     pub fn close(self, alloc: Global) -> Stack<A>
         ensures ready { IsReady result }
         ensures same { content_of result self.partition ≡ self.content }
