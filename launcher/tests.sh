@@ -1,4 +1,4 @@
-# Runs the tests by unproved builds, several crates at once.
+# Runs the tests by unproved builds, several crates at once. With --built: the cases of both programs, by those built.
 
 # The crates with tests, and both programs, whose cases are tests too: those that stand on most come first, since they take
 # longest.

@@ -38,8 +38,7 @@ use irp::{Irp, Payload};
 use sector::LabelRoom;
 use std::alloc::AllocError;
 
-/// The packet that is finished: one of the class driver's own has no completion routine above (the WDK's has one, which
-/// returns STATUS_MORE_PROCESSING_REQUIRED); `take_done` brings it.
+/// The packet that is finished: one of the class driver's own has no completion routine above.
 fn finished(climb: Climb) -> Box<Irp>
     requires { (irp : Box Irp) × (climb ≡ Finished irp) }
     ensures { climb ≡ Finished result }

@@ -1,4 +1,4 @@
--- What is printed of clients, whether they all succeeded, and why nothing is printed.
+-- What is printed of clients, whether they all succeeded, and why no tally is printed.
 use Rattle.std.specs.Prelude.{◌≡◌, ◌≤◌, ◌⊎◌, ℕ, ◌*◌, ◌==◌, ◌&&◌, ◌++◌, ◌∷◌, [], IsSomeAnd, List, Option, codes, if◌then◌else◌, slice_get}
 use Rattle.std.specs.Fmt.{decimal}
 use Rattle.std.specs.Io.KnownBytes.{Appends}
@@ -39,7 +39,7 @@ pub record HasRoom (c : Config) (threads : ℕ) : Type 0 where
 abbrev pub IsOutputFault : Error → Type 0
 IsOutputFault fault = (fault ≡ Script OutputFailed) ⊎ (fault ≡ NoMemory)
 
--- why nothing is printed of this many clients. Settings are looked at first, then a stack is started, and then there
+-- why no tally is printed of this many clients. Settings are looked at first, then a stack is started, and then there
 -- has to be room for the clients
 abbrev pub IsClientsFault : Option (List ℕ) → ℕ → Error → Type 0
 IsClientsFault config threads Usage = ⊥

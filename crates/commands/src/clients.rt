@@ -31,7 +31,8 @@ use traced::StackSizes;
 ///
 /// The first of these that fits: the settings can't be read, or are refused; no stack of the settings could be started;
 /// there is no partition, or more clients than sectors of partition 0 or than requests may be open; `out` failed.
-/// Where memory was refused or a thread could not be started, [`Error::NoMemory`] stands in place of any of them.
+/// Where memory was refused or a thread could not be started, a step's error for want of memory stands in place of any
+/// of them.
 pub fn clients<C: Read + Drop, O: Write, R: Threads + Wait + Sync>(
     rt: &R,
     alloc: Global,

@@ -16,7 +16,7 @@ use std::fmt;
 pub enum Error {
     /// The words of the command line ask for no command, or for help.
     Usage,
-    /// There is no stack of the settings.
+    /// There are no settings, or no stack of them.
     Startup(startup::Error),
     /// The script can't be opened, or can't be read to its end.
     ScriptUnreadable,

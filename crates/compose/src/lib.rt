@@ -88,9 +88,9 @@ pub enum Event {
     CancelRemove,
     /// The device is removed after a query (WDK: IRP_MN_REMOVE_DEVICE).
     Remove,
-    /// The device was pulled out (WDK: IRP_MN_SURPRISE_REMOVAL and the IRP_MN_REMOVE_DEVICE behind it, in one).
+    /// The device was pulled out (WDK: IRP_MN_SURPRISE_REMOVAL).
     SurpriseRemove,
-    /// The adapter carries out the command of the piece on a tag, or fails it. Tags count from 0.
+    /// The adapter carries out the command of the piece on a tag, or fails it. Tags count from 0 (WDK: HwStorStartIo).
     Act {
         tag: u8,
     },

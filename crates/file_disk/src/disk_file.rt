@@ -1,5 +1,5 @@
-//! A file of the system as a storage. Each method makes a call of the system, again where a signal interrupted it, and
-//! then notes it once with what it gave.
+//! A file of the system as a storage. Each method makes a call of the system, a read or a write again where a signal
+//! interrupted it, and then notes it once with what it gave.
 
 ghost use Rattle.std.specs.Prelude.{◌≡◌, ◌≤◌, [], length, IfOk};
 
@@ -10,7 +10,7 @@ use std::io;
 use std::io::ErrorKind;
 use std::os::unix::fs::FileExt;
 
-/// How often a call that a signal interrupts is made again at most.
+/// How often a call that signals interrupt is made at most.
 const TRIES: u32 = 16;
 
 /// EBADF of Linux: a descriptor that isn't open for what is asked of it.

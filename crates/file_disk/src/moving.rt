@@ -5,7 +5,7 @@ ghost use Rattle.file_disk.specs.Calls.{ReadsAll, StopsReading, WritesAll, Stops
 
 use crate::storage::{Failure, Storage};
 
-/// Fills the buffer from byte `offset` on.
+/// Fills the buffer from byte `offset` on, to an end below 2^64.
 ///
 /// # Errors
 ///
@@ -25,7 +25,7 @@ pub fn read_all<S: Storage>(storage: &mut S, offset: u64, buffer: &mut [u8]) -> 
     Ok(())
 }
 
-/// Writes all bytes from byte `offset` on.
+/// Writes all bytes from byte `offset` on, to an end below 2^64.
 ///
 /// # Errors
 ///

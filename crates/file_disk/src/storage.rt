@@ -22,8 +22,8 @@ pub trait Storage {
     /// Each call so far with what it gave, the newest first.
     ghost calls: { Self → List Call };
 
-    /// Reads into the first bytes of the buffer, from byte `offset` on, and returns how many. With 0 none are left
-    /// there.
+    /// Reads into the first bytes of a buffer that has some, from byte `offset` on, and returns how many. With 0 none
+    /// are left there.
     ///
     /// # Errors
     ///
@@ -33,7 +33,8 @@ pub trait Storage {
         ensures count { IfOk result (λ n. n ≤ length buffer.old) }
         ensures noted { calls self.new ≡ ReadAt offset (length buffer.old) (given result buffer.new) ∷ calls self.old };
 
-    /// Writes the first of these bytes from byte `offset` on, and returns how many. With 0 the storage takes no more.
+    /// Writes the first of these bytes, of which there are some, from byte `offset` on, and returns how many. With 0
+    /// the storage takes no more.
     ///
     /// # Errors
     ///

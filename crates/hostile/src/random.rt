@@ -169,7 +169,7 @@ fn acts_first(dice: &mut Dice, layout: &Layout) -> bool {
     }
 }
 
-/// Pieces of the longest request that dice make: three whole ones and a part.
+/// More pieces than the longest request that dice make has.
 const PIECES: u32 = 5;
 
 /// Held requests go on, and then each tag acts and is finished as often as there can be pieces: one piece may be out

@@ -78,7 +78,7 @@ impl AtOnce {
 }
 
 impl Refusal {
-    /// The NTSTATUS that stands for the refusal, and in the answer's label where the refused call has labels.
+    /// The status of the answer's label.
     pub fn status(self) -> NtStatus
         ensures { result ≡ status_of_refusal self }
     {

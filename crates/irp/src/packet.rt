@@ -74,7 +74,7 @@ impl Irp {
 
     /// Before the current driver passes the packet on, it marks its own location: its routine is called when the packet
     /// comes back as a success, as an error, or as a cancelled packet with whichever status. The other control flags
-    /// of its own location are cleared, where IoSetCompletionRoutine of the WDK clears those of the next.
+    /// are cleared (WDK: IoSetCompletionRoutine).
     pub fn set_completion(&mut self, on_success: bool, on_error: bool, on_cancel: bool)
         requires { 0 < array_vec_len self.old.locations }
         ensures locations { (higher : List StackLocation) (own : StackLocation)

@@ -21,7 +21,8 @@ pub enum ReplayFault {
     /// A read gives other bytes than its entry has, or other sectors stand there in the end.
     #[error("the entries replay to something else")]
     Differs,
-    /// An entry names sectors that aren't there or are bad, more than 64 of them, or bytes of another length.
+    /// Sectors that aren't there or are bad, or more than 64; a write's bytes of another length; sectors not of 512
+    /// bytes.
     #[error("an entry can't be replayed")]
     Unfit,
 }

@@ -15,7 +15,7 @@ pub record JournaledView : Type 0 where
 abbrev pub over : ManagerView → JournalView → JournaledView
 over stack journal = record { stack = stack; journal = journal }
 
--- the stack's adapter moves no sectors, and the journal has as many, as long
+-- the stack's adapter moves no sectors, and the journal has as many as the stack, of the same size
 pub record StandsIn (stack : ManagerView) (journal : JournalView) : Type 0 where
   pub apart : IsFalse stack.adapter.faithful
   pub sector_size : journal.medium.sector_size ≡ stack.rules.sector_size

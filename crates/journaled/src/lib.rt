@@ -7,11 +7,11 @@
 //!
 //! What it is for ([`Journaled::shows_run`]): all labels that were shown are a run of the machine whose acts read and
 //! write its arrays, from the sectors that the journal was opened with to those that it has now, though the stack
-//! itself never saw a sector. So whatever holds of a stack over a disk in memory holds of this one.
+//! itself has no sector but a copy of the first. So whatever holds of the runs of that machine holds of these labels.
 //!
 //! Promised besides, by the contract of [`Journaled::step`]: each event is a right step of the stack, from where its
-//! act was booked (`right`), and act n of all labels is that of entry n (`told`). Not promised: that a request
-//! completes, nor which completion a piece comes back with that the journal failed.
+//! act was booked, or is refused for want of memory (`right`), and act n of all labels is that of entry n (`told`). Not
+//! promised: that a request completes, nor which completion a piece comes back with that the journal failed.
 #![tactic(auto)]
 
 mod acting;

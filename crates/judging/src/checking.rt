@@ -22,13 +22,13 @@ const BUFFER: usize = 65_536;
 
 /// Judges a trace by the machine of some settings, and writes what it is: `legal` with its numbers, or the number of
 /// the first line that no step of the machine allows, a rule that it breaks, and what was open and at the adapter
-/// there. Meanwhile `progress` is told how far the check came, of which `out` has nothing.
+/// there. Meanwhile `progress` is told how far the check came, of which `out` has nothing. `out` is not flushed.
 ///
 /// # Errors
 ///
 /// The first of these that fits: the settings can't be read, or are refused; the trace can't be read, or has a bad
-/// line; `out` failed. Where memory was refused, or a count of the trace is full, [`Error::NoMemory`] stands in place
-/// of any of them. Of settings or a trace that are blamed, `out` has nothing.
+/// line; `out` failed. Where memory was refused, or a count of the trace is full, [`Error::NoMemory`], or the settings'
+/// own error for it, stands in place of any of them. Of settings or a trace that are blamed, `out` has nothing.
 pub fn check<C: Read + Drop, T: Read + Drop, O: Write, W: Write>(
     alloc: Global,
     config: C,

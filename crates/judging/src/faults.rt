@@ -24,6 +24,7 @@ pub enum Error {
     /// The script can't be opened, or can't be read to its end.
     ScriptUnreadable,
     /// The line of a trace, counted from 1, tells no label: reading stopped at the word that begins in this column.
+    /// Line 1, column 1 where the trace is not UTF-8.
     BadLine { line: u64, column: u64 },
     /// The script has a bad line, or its text could not be printed whole.
     Script(ScriptFault),

@@ -3,8 +3,8 @@
 //!
 //! [`write_line`] promises to the crate above, by its clauses `text` and `spelled`, that a label is written as its line
 //! and nothing else. [`read_line`] promises, by `spelled`, `only`, `again` and `fault`, that a line is read as the one
-//! label whose line it is, and refused only where no label has this line. What is written is therefore read as the
-//! label that it was, and what is read would be written as the line that it was.
+//! label whose line it is, and refused only where no label has this line or memory was refused. What is written is
+//! therefore read as the label that it was, and what is read would be written as the line that it was.
 //!
 //! The crate does not promise that labels are a run of the machine, or that a writer takes all.
 #![tactic(auto)]

@@ -34,7 +34,7 @@ pub enum ArrayFault {
     Failed,
 }
 
-/// Bytes that are read and written in whole blocks.
+/// Bytes that are read and written in whole blocks inside the array: at least one, and 32 MiB at most.
 pub trait Array {
     ghost content: { Self → Content };
 

@@ -11,11 +11,12 @@
 //! requests and options mean, and what the bytes of replies are. [`one_spelling`] says that a request has one spelling.
 //!
 //! How an array may fail is a relation of its own (`fails` of [`Array`]). A failure is told only where a call of the
-//! array failed, by the error of that fault; or as ENOMEM where memory was refused before the call, and then nothing
-//! was done (`Fails` of `specs/Carrying`).
+//! array failed, by the error of that fault; or as ENOMEM where memory was refused before the call, which was then not
+//! made; of zeros, earlier pieces may stand (`Fails`, `StopsClearing` of `specs/Carrying`).
 //!
-//! Where a reader or a writer doesn't tell its bytes, only what became of the array is promised. The crate doesn't
-//! promise that a flush and a write past caches reach the array as such; tests show that.
+//! Where a reader or a writer doesn't tell its bytes, only what became of the array is promised; and of a session that
+//! ends by a failed writer ([`End::Output`]), nothing of what was written. The crate doesn't promise that a flush and a
+//! write past caches reach the array as such; tests show that.
 //!
 //! No contract says when replies are passed on. [`serve`] passes each on at once. [`serve_over`] may pass several on
 //! together, but does so before it waits for more bytes of the client.
@@ -52,7 +53,7 @@ pub use waiting::Ahead;
 pub enum End {
     /// The client left by the protocol: NBD_OPT_ABORT or NBD_CMD_DISC.
     Left,
-    /// The client's bytes are not the protocol, or ask for an export that isn't there.
+    /// The client's bytes are not the protocol, or NBD_OPT_EXPORT_NAME names an export that isn't there.
     Malformed,
     /// No more bytes came, or reading failed.
     Input,

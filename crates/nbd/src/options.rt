@@ -95,7 +95,7 @@ impl OptionError {
     }
 }
 
-/// Returns what an option of this code with these data asks for.
+/// Returns what an option of this code with these data, at most 8,192 bytes, asks for.
 pub fn parse_option(code: u32, bytes: &[u8]) -> Wish
     requires { length bytes.now ≤ LONGEST_OPTION }
     ensures { result ≡ wish_in code bytes.now }

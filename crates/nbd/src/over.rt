@@ -19,8 +19,8 @@ use std::io::{Read, Write};
 
 /// Serves a client as [`serve`](crate::serve) does, over storage whose content isn't shown.
 ///
-/// Replies are passed on together while the client's next two writes have been read ahead whole, but before `input` is
-/// asked for more bytes than it has read ahead.
+/// Replies are passed on together while the next two requests are writes without flags that were read ahead whole, but
+/// before `input` is asked for more bytes than it has read ahead.
 pub fn serve_over<R: Ahead, W: Write, B: Backing>(
     alloc: Global,
     backing: &mut B,

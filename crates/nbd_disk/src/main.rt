@@ -8,8 +8,8 @@
 //!
 //! - [`serving::serve_disk`] (`served`): what a session over a disk in memory has read and written is a session of the
 //!   NBD protocol, over the bytes of the partition of the settings' disk, which are zeros at its start.
-//! - [`serving::serve_file`]: the same over a file, with just the calls to the file that the pieces of the requests
-//!   made.
+//! - [`serving::serve_file`]: over a file the stack answered each success, with just the calls to the file that the
+//!   pieces of the requests made.
 //! - [`serving::command`]: paths and partition are those that the parser of the command line found under their names,
 //!   and only words that ask for nothing that can be served are refused.
 //! - [`Error`]'s text and [`Ending`](startup::Ending): the line and the exit status of each fault, as [`startup::say`]

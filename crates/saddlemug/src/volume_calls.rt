@@ -20,7 +20,7 @@ use std::alloc::Global;
 pub struct DiskSizes {
     /// The bytes of a sector, 512 or 4096.
     pub sector_size: u64,
-    /// The number of sectors, from 1 to 2^40.
+    /// The number of sectors, from 1 to 2^32 - 1.
     pub sectors: u64,
 }
 

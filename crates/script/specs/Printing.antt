@@ -84,7 +84,7 @@ runs_text [] = []
 runs_text (run ∷ []) = run_text run
 runs_text (run ∷ next ∷ runs) = run_text run ++ (codes "," ++ runs_text (next ∷ runs))
 
--- the line of a call; a read or a write tells its first byte and its length
+-- what stands behind a call's number; a read or a write tells its offset and its length
 abbrev pub call_text : Kind → ClientRequest → List ℕ
 call_text Read q = codes " read " ++ (decimal q.offset ++ (codes " " ++ (decimal q.length ++ line_end)))
 call_text Write q = codes " write " ++ (decimal q.offset ++ (codes " " ++ (decimal q.length ++ ((if q.through then codes " through" else []) ++ line_end))))

@@ -9,7 +9,8 @@ use compose::{Handle, Id, Reply};
 use std::alloc::{AllocError, Global};
 use std::collections::BTreeMap;
 
-/// The handles and the requests that were given so far, by their numbers.
+/// The handles and the requests that were given so far, each under its own number: all calls require that, and after an
+/// error of [`Given::keep`] it is not promised.
 #[derive(Drop)]
 pub struct Given {
     pub handles: BTreeMap<u64, Handle>,

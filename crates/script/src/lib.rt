@@ -6,8 +6,8 @@
 //!   one is named.
 //! - [`event`]: which event of a stack an order is.
 //! - [`write_reply`] and [`write_labels`]: the text of a reply, and of the labels that a stack has not given yet.
-//! - [`play`] (`text`, `fault`): what it wrote is just the text of these lines, carried out one after the other by the
-//!   stack that it was given.
+//! - [`play`] (`text`, `fault`): where it succeeds it wrote just the text of these lines, carried out one after the
+//!   other by the stack that it was given.
 //!
 //! It does not promise that a writer takes all.
 #![tactic(auto)]
@@ -90,7 +90,7 @@ pub struct Line<'a> {
 /// Why a script was not read, or not played to its end.
 #[derive(Debug, Clone, Copy, PartialEq, Eq)]
 pub enum ScriptFault {
-    /// The line of this number, from 1, is neither empty, nor a remark, nor an event.
+    /// The line of this number, from 1, is neither empty, nor a remark, nor an event; 1 of a script that isn't UTF-8.
     BadLine { line: u64 },
     /// Memory was refused.
     NoMemory,

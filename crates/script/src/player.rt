@@ -29,8 +29,8 @@ const BLOCK: usize = 65_536;
 const LONGEST: usize = 65_536 * 9;
 
 /// Carries the lines of a script out, one after the other, and writes each line, its reply and the labels of its step,
-/// in blocks. What is left of the text is written behind the last line, also where a line ends in want of memory, and
-/// then the writer is flushed.
+/// in blocks. What is left of the text is written behind the last line, also where a line ends in want of memory. The
+/// writer is flushed only where no fault came.
 ///
 /// All labels and answers of the stack have to be taken. The lines can name the handles and the requests that they
 /// open, and no others.

@@ -13,13 +13,13 @@ use std::fmt;
 pub enum Error {
     /// The words of the command line ask for nothing that can be served, or for help.
     Usage,
-    /// There is no stack of the settings.
+    /// There are no settings, or no stack of them.
     Startup(startup::Error),
     /// The settings have no such partition.
     NoPartition,
     /// The disk in a file can't be served.
     Disk(DiskFault),
-    /// The client's bytes are not the protocol, or ask for an export that isn't there.
+    /// The client's bytes are not the protocol, or NBD_OPT_EXPORT_NAME names an export that isn't there.
     Malformed,
     /// The input ended or failed before the client left by the protocol.
     InputEnded,

@@ -7,7 +7,7 @@
 //!   partition of the settings' disk, which are zeros at its start. Or nothing was read or written, and it tells why.
 //! - [`open_file`]: nothing was asked of the storage but its sector 0, whose table gives the partitions of the
 //!   settings.
-//! - [`serve_file`]: each command of the session was answered as the stack answered its request. All labels of the
+//! - [`serve_file`]: the stack answered each success of the session. All labels of the
 //!   stack are one run of the machine. The storage got just the calls of the pieces that acted there, and each piece
 //!   did in the run what its calls did.
 //! - [`put_table`]: the table was written and synced.

@@ -28,7 +28,7 @@ use settings::{Config, Partition, table_sector};
 use std::alloc::Global;
 use std::io::Write;
 
-/// Returns the bytes of the disk of some settings.
+/// Returns how many bytes the disk of some settings has.
 pub fn disk_bytes(config: &Config) -> u64
     requires { AreInRange config.now }
     ensures { result ≡ config.now.sectors * config.now.sector_size }

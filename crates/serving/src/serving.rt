@@ -22,8 +22,9 @@ use volume::OpenFault;
 /// # Errors
 ///
 /// The first of these that fits, before anything is read or written: the settings can't be read, or are refused; no
-/// stack of them could be started; there is no such partition. Where memory was refused, [`Error::NoMemory`] stands in
-/// place of any of these. Behind them comes how the session ended, where the client did not leave by the protocol.
+/// stack of them could be started; there is no such partition. Where memory was refused, the step's error for that
+/// stands in place of any of these. Behind them comes how the session ended, where the client did not leave by the
+/// protocol.
 pub fn serve_disk<C: Read + Drop, R: Read, W: Write>(
     alloc: Global,
     config: C,

@@ -2,8 +2,8 @@
 //! or draws a trace.
 //!
 //! The crates `judging` ([`command`], [`check`], [`record_script`], [`Error`]) and `startup` ([`ended`]) promise what
-//! its words ask for, what is printed, and which line and exit status a fault has. This crate has only its arguments,
-//! files and output, of which nothing is promised: no contract says what a file holds.
+//! its words ask for, what is printed (but no picture), and which line and exit status a fault has. This crate has only
+//! its arguments, files and output, of which nothing is promised: no contract says what a file holds.
 #![tactic(auto)]
 
 use judging::Error;

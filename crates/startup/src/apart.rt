@@ -16,7 +16,7 @@ use settings::{Config, new_disk};
 use std::alloc::Global;
 
 /// Makes the disk of the settings, of which nothing was asked but its first sector, and starts a stack over an adapter
-/// beside it. The adapter holds a copy of that sector, and no other.
+/// beside it. The adapter holds a copy of that sector, and no other. Neither heeds `write_protected`.
 ///
 /// # Errors
 ///

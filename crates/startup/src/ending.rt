@@ -30,7 +30,7 @@ pub trait Ending: Display + Drop {
 }
 
 /// Says why a run ended early, where it did, and returns the exit status: 0 where there was no fault and all went well,
-/// 2 where the words of the command line asked for nothing that the program does, else 1.
+/// 2 where the words of the command line asked for nothing that the program does, or for help, else 1.
 pub fn ended<F: Write, E: Ending>(outcome: Result<Verdict, E>, faults: &mut F) -> u8
     ensures status { result ≡ exit_status E.usage outcome }
     ensures silent { IfOk outcome (λ _. F.contents faults.new ≡ F.contents faults.old) }

@@ -7,10 +7,10 @@
 //! - [`start`] (`view`, `fault`) and [`open`] (`volume`, `fault`): the stack and the volume are those of the settings'
 //!   disk, which is zeros but for its partition table; or why there is none.
 //! - [`Error`]'s text: the words for each fault.
-//! - [`ended`] (`status`, `silent`) and [`say`]: the exit status, and that just the line of a fault is written.
+//! - [`ended`] (`status`, `silent`): the exit status, and that nothing is said without a fault; [`say`]: the line.
 //!
-//! An [`Input`] that can't be opened says so when it is read. The crate does not promise that there is memory, nor
-//! which of several faults is told.
+//! An [`Input`] that can't be opened says so when it is read. The crate does not promise that there is memory. Of
+//! several faults of a text the first is told (`told`, `fault`).
 #![tactic(auto)]
 
 mod apart;

@@ -2,7 +2,8 @@
 //!
 //! [`Picture::take`] is given the labels of a trace one after the other, legal or not, and keeps their numbers and no
 //! bytes. [`Picture::write_svg`] writes one self-contained SVG without scripts: labels run to the right, a row a tag
-//! with its pieces, a row a request with its call, pieces, cancel and answer, and bands for pauses and removals.
+//! with its pieces, a row a request (shared above 400 labels) with its call, pieces, cancel and answer, and bands for
+//! pauses and removals.
 //! [`Picture::write_events`] writes what Perfetto and Chrome's tracing page open.
 //!
 //! It promises to the crate above that each call returns, whatever the labels, and that want of memory is told. What is

@@ -9,6 +9,6 @@ pub struct Asked<'a> {
     pub partition: u8,
     /// The path of the file that has the disk; without one it is in memory.
     pub disk: Option<&'a str>,
-    /// Whether the file is to be made.
+    /// Whether the file is to be made. Without `disk` that is for the caller to refuse.
     pub create: bool,
 }
