@@ -18,8 +18,6 @@ mod memory;
 mod moving;
 mod record;
 mod storage;
-#[cfg(test)]
-mod tests;
 
 pub use disk_file::DiskFile;
 pub use file_disk::{FileDisk, Moved, Sizes};

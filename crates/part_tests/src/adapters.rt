@@ -51,7 +51,7 @@ fn completion_of(end: End) -> Completion {
 }
 
 /// An SRB with as many bytes of a value as are given, and room for as many in its label.
-fn srb(
+pub(crate) fn srb_of(
     alloc: Global,
     function: SrbFunction,
     flags: u8,
@@ -178,7 +178,7 @@ fn completes(
 ) -> Result<(), Fail> {
     for (flags, block, count, end) in cases {
         assert!(rt; *count <= 1536);
-        let srb = srb(alloc, function, *flags, block, *count, 0xA5)?;
+        let srb = srb_of(alloc, function, *flags, block, *count, 0xA5)?;
         let told = carried_out(rt, alloc, protected, srb)?;
         let failures = if let Good = *end { 0 } else { 1 };
         same_at(rt, &told, &(completion_of(*end), failures), block);
@@ -390,7 +390,7 @@ fn brought<A: Adapter>(
     requires place { length (A.view adapter.old).labels ≡ 0 }
     requires long { count < 2 ^ 40 }
 {
-    let srb = srb(alloc, SrbFunction::ExecuteScsi, 0x40, block, count, 0xA5)?;
+    let srb = srb_of(alloc, SrbFunction::ExecuteScsi, 0x40, block, count, 0xA5)?;
     put(rt, adapter, 1, piece, srb)?;
     act(rt, adapter, 1);
     let (srb, completion) = finish(adapter, 1)?;
@@ -589,7 +589,7 @@ use Step::{Act, AllReset, Back, Free, Read, Write};
 fn one_sector(alloc: Global, flags: u8, code: u8, sector: u8, byte: u8) -> Result<Srb, Fail>
     ensures { IfOk result (λ s. length s.data ≤ s.for_label) }
 {
-    srb(
+    srb_of(
         alloc,
         SrbFunction::ExecuteScsi,
         flags,
@@ -921,7 +921,7 @@ fn comes_back(
     let (flags, block, count) = asked;
     let mut entry = entry(alloc, done)?;
     let mut adapter = booked_adapter(alloc)?;
-    let srb = srb(alloc, SCSI, flags, block, count, 0xA5)?;
+    let srb = srb_of(alloc, SCSI, flags, block, count, 0xA5)?;
     put(rt, &mut adapter, 0, 1, srb)?;
     book(rt, &mut adapter, &mut entry, how);
     act(rt, &mut adapter, 0);
@@ -1129,7 +1129,7 @@ fn is_looked_at(
     assert!(rt; data.len() <= 512);
     let mut adapter = booked_adapter(alloc)?;
     assert!(rt; !adapter.is_faithful() && adapter.sectors() == 4);
-    let srb = srb(alloc, SCSI, 0x40, block, data.len(), 0)?;
+    let srb = srb_of(alloc, SCSI, 0x40, block, data.len(), 0)?;
     put(rt, &mut adapter, 0, 0, srb)?;
     act(rt, &mut adapter, 0);
     let (srb, completion) = finish(&mut adapter, 0)?;

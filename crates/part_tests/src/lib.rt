@@ -1,5 +1,6 @@
 //! Tests of the parts below the layers and beside them, by their public calls: statuses, sectors, command blocks, SRBs,
-//! IRPs, disks, adapters, queues, partition tables, the probe, removal, the gate, marks, histories and lanes.
+//! IRPs, disks, adapters, a disk in a file, queues, partition tables, the probe, removal, the gate, marks, histories and
+//! lanes.
 #![tactic(auto)]
 
 #[cfg(test)]
@@ -14,6 +15,8 @@ mod disks;
 mod expect;
 #[cfg(test)]
 mod extents;
+#[cfg(test)]
+mod files;
 #[cfg(test)]
 mod gates;
 #[cfg(test)]

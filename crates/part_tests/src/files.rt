@@ -2,16 +2,24 @@
 
 ghost use Rattle.std.specs.Prelude.{◌<◌, ◌^◌};
 
-use crate::{DiskFile, FileDisk, MemoryFile, Moved, Sizes, Storage, read_all, write_all};
-use arrayvec::ArrayVec;
+use crate::adapters::srb_of;
+use crate::expect::same;
+use file_disk::{
+    DiskFile,
+    Failure,
+    FileDisk,
+    MemoryFile,
+    Moved,
+    Sizes,
+    Storage,
+    read_all,
+    write_all,
+};
 use ntstatus::Sense;
-use sector::Bytes;
-use srb::{CommandBlock, Completion, Srb, SrbFlags, SrbFunction};
+use srb::{Completion, Srb, SrbFunction};
 use std::alloc::Global;
-use std::fmt::Debug;
 use std::fs;
 use std::fs::OpenOptions;
-use std::process::Abort;
 use std::test::Fail;
 
 /// READ(10), WRITE(10) and SYNCHRONIZE CACHE(10) of sector 1. The second write has FUA.
@@ -45,27 +53,11 @@ const fn checked(key: u8, asc: u8) -> Completion {
     }
 }
 
-fn same<T: PartialEq + Debug>(rt: &impl Abort, got: &T, wanted: &T) {
-    assert_eq!(rt; got, wanted);
-}
-
 /// An SRB with this many bytes of 9.
 fn srb(alloc: Global, block: &[u8; 10], flags: u8, count: usize) -> Result<Srb, Fail>
     requires { count < 2 ^ 20 }
 {
-    let mut bytes = ArrayVec::new();
-    bytes
-        .try_extend_from_slice(block)
-        .ok()
-        .ok_or("a long block")?;
-    Ok(Srb {
-        function: SrbFunction::ExecuteScsi,
-        flags: SrbFlags(flags),
-        block: CommandBlock::new(bytes),
-        data: Bytes::new(vec![in alloc; 9; count]?),
-        for_label: sector::LabelRoom::new(alloc, count)?,
-        sense: None,
-    })
+    srb_of(alloc, SrbFunction::ExecuteScsi, flags, block, count, 9)
 }
 
 /// Four sectors of 7, moved by 100 bytes at most.
@@ -177,7 +169,7 @@ fn a_file_has_what_was_written(rt: HostRuntime) -> Result<(), Fail> {
     same(
         &rt,
         &write_all(&mut protected, 0, &[1]),
-        &Err(crate::Failure::Protected),
+        &Err(Failure::Protected),
     );
     fs::remove_file(&rt, "disk.img")?;
     Ok(())
