@@ -5,15 +5,7 @@ ghost use Rattle.std.specs.Prelude.{◌<◌, ◌^◌};
 use crate::adapters::srb_of;
 use crate::expect::same;
 use file_disk::{
-    DiskFile,
-    Failure,
-    FileDisk,
-    MemoryFile,
-    Moved,
-    Sizes,
-    Storage,
-    read_all,
-    write_all,
+    DiskFile, Failure, FileDisk, MemoryFile, Moved, Sizes, Storage, read_all, write_all,
 };
 use ntstatus::Sense;
 use srb::{Completion, Srb, SrbFunction};
