@@ -1,5 +1,6 @@
 # The judge's cases: the trace of each script of examples/, recorded and judged; traces with a label that a wrong body of the
-# stack would show; the picture; cuts of another stack; and the words that its launcher answers by itself. They lie as the cases of `stackrun` do.
+# stack would show; the picture; cuts of another stack; and the words that its launcher answers by itself. They lie as the
+# cases of `stackrun` do.
 
 # Makes the judge the program that is tried, in a folder of its own. For a shell that ends behind its cases.
 be_judge() {
