@@ -65,7 +65,8 @@ pub trait Adapter: Drop {
         ensures exact { MatchBool result (Any (HasTag tag) (view self.now).tags) (IsFree (view self.now) tag) }
         ensures order { IsInOrder (view self.now) };
 
-    /// Puts a piece on a free tag, and records its start.
+    /// Puts a piece on a free tag below the depth, and records its start. Its room for the label holds its data; a
+    /// write that lies in the disk has its sectors reserved.
     fn accept(&mut self, tag: u8, piece: u128, srb: Srb)
         requires below { tag < (view self.old).depth }
         requires free { IsFree (view self.old) tag }
@@ -89,9 +90,9 @@ pub trait Adapter: Drop {
         ensures order { IsInOrder (view self.now) };
 
     /// Books what the act of the tag's piece did, or how it failed, where the sectors stand elsewhere; its next act is
-    /// that. Nothing changes where this piece isn't on the tag, has acted or failed, or didn't ask for what is to be
-    /// booked. No memory is taken: the bytes of a read replace those of the SRB's data, and the bytes of a write stand
-    /// there.
+    /// that. Nothing changes for piece 0, for a good or busy completion, or where this piece isn't on the tag, has
+    /// acted or failed, or didn't ask for what is to be booked. No memory is taken: the bytes of a read replace those
+    /// of the SRB's data, and the bytes of a write stand there.
     fn book(&mut self, tag: u8, piece: u128, what: Booked<'_>)
         ensures books { Books (view self.old) tag piece (handed (view self.old) tag piece what.entry) (view self.new) }
         ensures order { IsInOrder (view self.new) };

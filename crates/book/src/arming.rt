@@ -67,7 +67,8 @@ impl<N: Naming> Arming<N> {
         self.piece == piece
     }
 
-    /// Whether the entry of a number is of this arming, and so of what was armed here. The caller holds both locks.
+    /// Whether the entry of a number is of this arming, and so of what was armed here; contracts say so only of true.
+    /// The caller holds both locks.
     pub fn is_of<M: Medium>(
         &mut self,
         journal: &mut Journal<M, N>,

@@ -74,7 +74,8 @@ fn moves_pieces(event: &Event) -> bool {
 }
 
 impl<N: Naming> Book<N> {
-    /// A book of a stack of which nothing was told yet, beside a journal. `depth` is the number of tags.
+    /// A book of a stack of which nothing was told yet, beside a journal, whose tags it has. Where the journal's
+    /// sectors aren't as many and as long as the disk's, nothing is ever booked.
     ///
     /// # Errors
     ///
@@ -391,9 +392,9 @@ impl<N: Naming> Book<N> {
 
     /// Carries out an event, any but an open and a close. First it looks once at each slot that has an open request,
     /// and carries out each mark that it sees there. Where the event may start or end a piece, it then takes the
-    /// journal's lock, and books all entries that are there, in the order of their numbers. Before that, the act of an
-    /// armed tag has its piece act in the journal. A read, a write or a flush comes with the share of its handle's
-    /// client, any other event with none.
+    /// journal's lock, and books entries in the order of their numbers, up to the first that isn't of what was armed on
+    /// its tag. For an act, the tag's piece first acts in the journal, if it may. A read, a write or a flush comes with
+    /// the share of its handle's client, any other event with none.
     ///
     /// Reads, writes, flushes and query-remove are refused as `InsufficientResources`, before any step of theirs, where
     /// memory is refused for the labels that they may bring, or in the journal for their acts.

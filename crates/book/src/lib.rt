@@ -10,9 +10,9 @@
 //!   failed or came back ([`armed_stays`]).
 //!
 //! It promises to the crate above:
-//! - a step carries out the marks that it sees, then the right act of each entry that is there and was not booked, in
-//!   the order of their numbers, and then its event; where the event is the act of the last of them, that was its step
-//!   (`stepped` of [`Book::step`]);
+//! - a step carries out the marks that it sees, then right acts of the entries that follow those booked before, in the
+//!   order of their numbers (how many, no clause says), and then its event; where the event is the act of the last of
+//!   them, that was its step (`stepped` of [`Book::step`]);
 //! - want of memory, for the trace or in the journal, is answered before any step of the event, and only a read, a
 //!   write, a flush and a query-remove are refused for it (`memory`);
 //! - act n of the trace is of the entry of which receipt n is (`receipts`, `acts` of [`Book::into_rows`]), and what was

@@ -138,14 +138,15 @@ impl<N: Naming> Tags<N> {
         self.forget(piece);
     }
 
-    /// Whether there is such a tag, and nothing was armed there.
+    /// Whether there is such a tag, and nothing was armed there. Contracts say so only of true.
     pub fn is_free(&self, tag: u8) -> bool
         ensures { result ≡ true → tag < length self.now }
     {
         matches!(self.tags.get(tag as usize), Some(None))
     }
 
-    /// Whether the entry of a number is of what was armed on a tag. The caller holds both locks.
+    /// Whether the entry of a number is of what was armed on a tag; contracts say so only of true. The caller holds
+    /// both locks.
     pub fn is_of<M: Medium>(
         &mut self,
         journal: &mut Journal<M, N>,

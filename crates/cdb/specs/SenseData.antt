@@ -3,7 +3,7 @@ use Rattle.std.specs.Prelude.{◌≡◌, ◌≤◌, ◌%◌, ℕ, List, [], ◌�
 use Rattle.ntstatus.specs.declared.Sense.{Sense}
 use Rattle.cdb.specs.Meaning.{IsZeroAt}
 
--- the bytes reach to the sense code qualifier, and their response code is that of a current error
+-- the bytes reach to the additional sense code qualifier, and their response code is that of a current error
 pub record TellsOfError (bytes : List ℕ) : Type 0 where
   pub long_enough : 14 ≤ length bytes
   pub response : slice_index bytes 0 % 128 ≡ 0x70

@@ -18,7 +18,7 @@ impl Cdb {
         }
     }
 
-    /// How many blocks the command names.
+    /// How many blocks the command names; 0 of SYNCHRONIZE CACHE stands for all from there on.
     pub fn blocks(&self) -> u32
         ensures { result ≡ blocks_of self.now }
     {

@@ -73,7 +73,7 @@ fn long_count(block: &[u8]) -> u32
     BigEndian::read_u32(&block[10..])
 }
 
-/// The bit for forced unit access of a transfer (SBC: FUA). The transfer must ask for no protection information: bits 7
+/// The force unit access bit of a transfer (SBC: FUA). The transfer must ask for no protection information: bits 7
 /// to 5 of byte 1 (RDPROTECT, WRPROTECT) are 0.
 fn fua(block: &[u8]) -> Result<bool, CdbFault>
     requires { 10 ≤ length block.now }

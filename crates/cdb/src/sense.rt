@@ -6,8 +6,8 @@ ghost use Rattle.cdb.specs.SenseData.{IsSenseData, Tells, TellsOfError};
 
 use ntstatus::Sense;
 
-/// The sense data of an error: 18 bytes in the fixed format of SPC, with response code 70h. A key below 16, as all keys
-/// of the standard are, is read back (`told`); a larger one spoils the bits beside it.
+/// The sense data of an error: 18 bytes in the fixed format of SPC, with response code 70h, and VALID and INFORMATION
+/// 0. A key below 16, as all keys of the standard are, is read back (`told`); a larger one spoils the bits beside it.
 pub fn encode_sense(sense: &Sense) -> [u8; 18]
     ensures data { IsSenseData result sense.now }
     ensures told { sense.now.key < 16 → Tells result sense.now }
@@ -21,8 +21,8 @@ pub fn encode_sense(sense: &Sense) -> [u8; 18]
     bytes
 }
 
-/// The sense that these bytes hold. `None` where they end before its qualifier, or their response
-/// code isn't 70h.
+/// The sense that these bytes hold, whatever their additional length (byte 7). `None` where they end before the
+/// qualifier, or their response code isn't 70h.
 pub fn decode_sense(bytes: &[u8]) -> Option<Sense>
     ensures some { (s : Sense) → (result ≡ Some s) ↔ Tells bytes.now s }
     ensures none { IsNone result ↔ (¬ TellsOfError bytes.now) }

@@ -7,13 +7,13 @@
 //!
 //! What is promised to the crate above, of any type of entry:
 //! - only `Whole::add` changes the list, and it adds just its entry, at the end (`add`); there is one `Whole` of a
-//!   history (`one_whole`);
-//! - a claim is given on an entry that stands at its place (`claim`), and claims come from claims alone (`join`,
-//!   `again`);
+//!   history at most (`one_whole`);
+//! - a claim is given on an entry that stands at its place (`claim`), and otherwise claims come from claims alone
+//! (`join`, `again`);
 //! - whatever was claimed stands in the list whenever one looks (`check`, `claims_stand`).
 //!
 //! No call waits for another thread, and none but `Opened::new` takes memory. What is not promised: that anything is
-//! ever added. Where the [`Whole`] is dropped nothing more can be, and no claim can be checked.
+//! ever added. Once the [`Whole`] is dropped, nothing more can be added, and no claim can be checked.
 #![tactic(auto)]
 
 ghost use Rattle.std.specs.Prelude.{◌≡◌, ◌∷◌, ◌++◌, [], ◌<◌, Some, slice_get};
@@ -212,12 +212,12 @@ impl<E, N: Naming> Claims<E, N> {
     }
 }
 
-/// There is one [`Whole`] of a history.
+/// There is one [`Whole`] of a history at most.
 pub fn one_whole<E>()
     ensures { OneKeeps E }
 {}
 
-/// The entries of all claims stand at their places whenever one looks, and in every longer history too.
+/// The entries of all claims stand at their places whenever one looks, and in each history that goes on from it.
 #[tactic(auto, using(crate::proofs::Steps::stay_standing))]
 pub fn claims_stand<E>()
     ensures now { ClaimsStand E }

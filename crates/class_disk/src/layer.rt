@@ -21,7 +21,8 @@ const PACKETS: u128 = 1 << 17;
 const MOST: u128 = 1 << 63;
 
 impl<D: Device> Disk<D> {
-    /// The class driver over a port of which nothing was asked yet.
+    /// The class driver over a port of which nothing was asked yet: a device that takes SRBs, is one whole disk and
+    /// takes each request as one piece. `sector_size` is its own.
     pub fn new(alloc: Global, device: D, sector_size: u32) -> Disk<D>
         requires takes { TakesParts D.takes_srb D.stack_size }
         requires fresh { IsFreshPort (D.view device) }

@@ -38,7 +38,8 @@ use irp::{Irp, Payload};
 use sector::LabelRoom;
 use std::alloc::AllocError;
 
-/// The packet that is finished: one of the class driver's own has no completion routine above.
+/// The packet that is finished: one of the class driver's own has no completion routine above (the WDK's has one, which
+/// returns STATUS_MORE_PROCESSING_REQUIRED); `take_done` brings it.
 fn finished(climb: Climb) -> Box<Irp>
     requires { (irp : Box Irp) × (climb ≡ Finished irp) }
     ensures { climb ≡ Finished result }

@@ -44,14 +44,14 @@ StepsTakeNoMemory =
     → IsRight old event (Refused InsufficientResources bytes) new
     → IsTransferEvent event
 
--- the reply answers the call under this number, or refuses it
+-- the reply answers its call, or refuses it
 abbrev pub IsAnsweredBy : Reply → Type 0
 IsAnsweredBy (Answered answer) = Unit {0}
 IsAnsweredBy (Refused reason bytes) = Unit {0}
 IsAnsweredBy _ = ⊥
 
--- each answer of a step is the reply's own, or waits to be taken, with the status, the information and the bytes of its
--- label
+-- where the reply neither answers nor refuses, each answer of a step waits to be taken, with the status, the
+-- information and the bytes of its label
 abbrev pub StepsLeaveAnswers : Type 0
 StepsLeaveAnswers =
     (old : ManagerView) (event : Event) (reply : Reply) (new : ManagerView) (number : ℕ) (status : NtStatus)

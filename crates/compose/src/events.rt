@@ -16,7 +16,8 @@ use std::alloc::Global;
 use std::collections::VecDeque;
 
 /// Carries out one event; its labels and answers then wait to be taken. All labels of the step before have to be taken.
-/// Only a read, a write or a flush takes memory, before anything is changed.
+/// Only a read, a write or a flush takes memory, before anything is changed but what the adapter has reserved for a
+/// write.
 pub(crate) fn step<D: Hold>(manager: &mut IoManager<D>, alloc: Global, event: Event) -> Reply
     requires taken { manager.old.labels ≡ [] }
     ensures right { IsRight manager.old event result manager.new }

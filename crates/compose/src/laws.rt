@@ -14,8 +14,8 @@ pub fn steps_take_no_memory()
     ensures { StepsTakeNoMemory }
 {}
 
-/// Each answer among the labels of a step is the reply's own, or waits to be taken with the number, the status, the
-/// information and the bytes of its label.
+/// Where the reply neither answers nor refuses, each answer among the labels of a step waits to be taken, with the
+/// number, the status, the information and the bytes of its label.
 pub fn steps_leave_answers()
     ensures { StepsLeaveAnswers }
 {}
@@ -41,7 +41,7 @@ pub fn booked_acts_add_entries()
     ensures { BookedActsAddEntries }
 {}
 
-/// What suits the SRB of a piece that may act may be booked of it.
+/// Where an adapter's sectors stand elsewhere, what suits the SRB of a piece that may act may be booked of it.
 pub fn armed_may_be_booked()
     ensures { ArmedMayBeBooked }
 {}

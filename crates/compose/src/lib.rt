@@ -88,9 +88,9 @@ pub enum Event {
     CancelRemove,
     /// The device is removed after a query (WDK: IRP_MN_REMOVE_DEVICE).
     Remove,
-    /// The device was pulled out (WDK: IRP_MN_SURPRISE_REMOVAL).
+    /// The device was pulled out (WDK: IRP_MN_SURPRISE_REMOVAL and the IRP_MN_REMOVE_DEVICE behind it, in one).
     SurpriseRemove,
-    /// The adapter carries out the command of the piece on a tag, or fails it. Tags count from 0 (WDK: HwStorStartIo).
+    /// The adapter carries out the command of the piece on a tag, or fails it. Tags count from 0.
     Act {
         tag: u8,
     },

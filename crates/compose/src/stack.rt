@@ -70,7 +70,8 @@ impl<A: Adapter> Stack<A> {
     }
 
     /// Carries out one event; its labels and answers then wait to be taken. All labels of the step before have to be
-    /// taken. Only a read, a write or a flush takes memory, before anything is changed.
+    /// taken. Only a read, a write or a flush takes memory, before anything is changed but what the adapter has
+    /// reserved for a write.
     pub fn step(&mut self, alloc: Global, event: Event) -> Reply
         requires taken { self.old.labels ≡ [] }
         ensures right { IsRight self.old event result self.new }
@@ -182,7 +183,7 @@ impl<A: Adapter> Stack<A> {
     /// # Errors
     ///
     /// [`RunStopped`] where memory for the result was refused: just the first `done` events were carried out, and not
-    /// all.
+    /// all; the others are dropped, with their bytes.
     pub fn run(&mut self, alloc: Global, events: Vec<Event>) -> Result<Vec<Shown>, RunStopped>
         requires taken { self.old.labels ≡ [] }
         ensures carries { MatchResult result (λ shown. CarriesAll self.old events.items shown.items self.new)

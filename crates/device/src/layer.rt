@@ -21,7 +21,8 @@ use irp::Irp;
 use srb::{Booked, DeviceLabel, Srb};
 use std::alloc::AllocError;
 
-/// A spot reserved in a layer, for one request. Whoever has it may submit a packet there, once.
+/// A spot reserved in a layer, for one request: of one packet, where all that this needs is there (`IsReady`). After
+/// `take_done` a part may be gone; the room is then only freed.
 #[derive(Debug, Drop)]
 pub struct Room {
     pub spot: usize,
@@ -81,8 +82,9 @@ pub trait Device: Shown {
     fn most(&self) -> u128
         ensures { result ≡ (Self.view self.now).most };
 
-    /// Reserves a spot for all that the request will need, down to the adapter; no other call takes memory. The adapter
-    /// makes room for the runs of sectors that the request has a part in, and for no others.
+    /// Reserves a spot for all that a request within its volume, of `longest` sectors at most, will need down to the
+    /// adapter; no other call takes memory. For a write the adapter makes room, in no runs but those that it has a part
+    /// in.
     ///
     /// # Errors
     ///
@@ -98,7 +100,7 @@ pub trait Device: Shown {
 
     /// Takes in a packet at its room's spot (WDK: IoCallDriver). Its last stack location is the layer's own, and asks
     /// for the room's request, as its payload does. With those that the layers below need, its locations are four at
-    /// most. Its number is above all submitted before.
+    /// most. Its number is above all submitted before, fewer than `most`. It isn't cancelled, nor the layer drained.
     fn submit(&mut self, irp: Box<Irp>, room: Room)
         requires ready { IsReady (Self.view self.old).rooms room.spot }
         requires not_removing { IsFalse (Self.view self.old).state.removing }
@@ -131,12 +133,12 @@ pub trait Device: Shown {
             (λ found. IsArmed (Self.view self.now).adapter tag found.0 found.1.now) };
 
     /// Books what the act of a tag's piece did, or how it failed, with an adapter whose sectors stand elsewhere; its
-    /// next act is that. Nothing changes where this piece isn't on the tag, has acted or failed, or didn't ask for
-    /// what is to be booked.
+    /// next act is that. Nothing changes for piece 0, for a good or busy completion, or where this piece isn't on the
+    /// tag, has acted or failed, or didn't ask for what is to be booked.
     fn book(&mut self, tag: u8, piece: u128, what: Booked<'_>)
         ensures books { BooksPiece (Self.view self.old) tag piece (handed (Self.view self.old).adapter tag piece what.entry) (Self.view self.new) };
 
-    /// Takes the piece of a tag back. False where the tag is free; nothing changes then.
+    /// Takes the piece of a tag back, and starts others. False where the tag is free; nothing changes then.
     fn finish(&mut self, tag: u8) -> bool
         requires label_place { label_places (Self.view self.old) + 2 ≤ 64 }
         ensures finishes { MatchBool result (Finishes (Self.view self.old) tag (Self.view self.new))
@@ -185,7 +187,7 @@ pub trait Device: Shown {
 /// A layer that holds requests back while a removal is pending (WDK: IRP_MN_QUERY_REMOVE_DEVICE and
 /// IRP_MN_CANCEL_REMOVE_DEVICE). When to pause, and when to resume, is its caller's to know.
 pub trait Hold: Device {
-    /// Starts a pause: each new request is held, and none that is held is released.
+    /// Starts a pause, in no other and before a removal: each new request is held, and none that is held is released.
     fn pause(&mut self)
         requires not_paused { IsFalse (Self.view self.old).state.paused }
         requires not_removing { IsFalse (Self.view self.old).state.removing }

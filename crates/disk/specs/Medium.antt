@@ -17,7 +17,7 @@ pub record MediumView : Type 0 where
   pub reserved : List Extent
   -- sectors are reserved in runs of this many, counted from sector 0
   pub run : ℕ
-  -- how many calls failed
+  -- how many reads and writes failed
   pub failures : ℕ
 
 -- each sector has as many bytes as a sector of the medium

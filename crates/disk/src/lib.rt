@@ -2,7 +2,7 @@
 //!
 //! It promises to the crate above, by the contract of [`Medium`]: it is seen as a list of sectors, each of
 //! `sector_size` bytes; a read gives the bytes that stand in its extent, a write replaces the sectors of its extent
-//! alone, and a call whose extent holds a bad sector fails whole, changes nothing and is counted. No other call fails.
+//! alone, and one whose extent holds a bad sector fails, changes nothing and is counted. No other read or write fails.
 //! [`VecDisk`] keeps all sectors in one block of memory, [`SparseDisk`] only the chunks that were reserved.
 //!
 //! It doesn't promise that anything outlives the process.
@@ -51,7 +51,7 @@ pub trait Medium: Drop {
     fn sectors(&self) -> u64
         ensures { result ≡ length (view self.now).sectors };
 
-    /// The number of calls that failed.
+    /// The number of reads and writes that failed.
     fn failures(&self) -> u128
         ensures { result ≡ (view self.now).failures };
 

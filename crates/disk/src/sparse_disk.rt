@@ -41,8 +41,8 @@ impl SparseDisk {
         }
     }
 
-    /// Puts whole sectors at the disk's start before the bad list counts: they stand in
-    /// bad sectors too.
+    /// A disk with these whole sectors, as many as fit, at its start before the bad list counts: they stand in bad
+    /// sectors too.
     ///
     /// # Errors
     ///

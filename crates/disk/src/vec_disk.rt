@@ -42,8 +42,8 @@ impl VecDisk {
         VecDisk::starting_with(alloc, sector_size, sectors, &[], bad)
     }
 
-    /// Puts bytes at the disk's start before the bad list counts: they stand in bad
-    /// sectors too.
+    /// A disk of fewer than 2^64 bytes with these at its start, as many as fit, before the bad list counts: they stand
+    /// in bad sectors too.
     ///
     /// # Errors
     ///

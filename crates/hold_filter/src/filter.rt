@@ -44,7 +44,8 @@ fn most_fits<D: Device>(device: &D)
 
 impl<D: Device> Filter<D> {
     /// The filter over a device to which nothing was submitted yet and that takes packets without an SRB, with at most
-    /// `window` requests below, one at least. It takes no memory.
+    /// `window` requests below, one at least. The device has no window of its own, and nothing reserved. It takes no
+    /// memory.
     pub fn new(alloc: Global, device: D, window: usize) -> Filter<D>
         requires locations { 0 < D.stack_size }
         requires buffers { IsFalse D.takes_srb }

@@ -23,7 +23,7 @@ pub(crate) fn take_over(irp: &mut Irp) -> Option<CancelRoutine>
     routine
 }
 
-/// Restores the cancel routine that the packet came with.
+/// Restores the cancel routine that the packet came with (in the WDK always NULL).
 pub(crate) fn give_back(irp: &mut Irp, routine: Option<CancelRoutine>)
     ensures { irp.new ≡ with_cancel_routine routine irp.old }
 {
@@ -34,7 +34,8 @@ pub(crate) fn give_back(irp: &mut Irp, routine: Option<CancelRoutine>)
 }
 
 /// Passes the packet to the class driver, with a copy of the filter's own location (WDK:
-/// IoCopyCurrentIrpStackLocationToNext). The filter sets no completion routine.
+/// IoCopyCurrentIrpStackLocationToNext). The filter sets no completion routine, and counts what
+/// comes back by `take_done`.
 pub(crate) fn pass_down(irp: &mut Irp)
     requires own { 0 < array_vec_len irp.old.locations }
     requires place { array_vec_len irp.old.locations < 4 }

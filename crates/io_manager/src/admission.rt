@@ -78,7 +78,7 @@ impl AtOnce {
 }
 
 impl Refusal {
-    /// The status of the answer's label.
+    /// The NTSTATUS that stands for the refusal, and in the answer's label where the refused call has labels.
     pub fn status(self) -> NtStatus
         ensures { result ≡ status_of_refusal self }
     {

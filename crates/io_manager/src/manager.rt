@@ -108,7 +108,7 @@ impl<D: Device> IoManager<D> {
 
     /// Writes these bytes from byte `offset` of the handle's partition on, past volatile caches if `through` (WDK:
     /// IRP_MJ_WRITE, SL_WRITE_THROUGH). Refused as [`IoManager::read`]. It reserves runs at the adapter that have a
-    /// sector of its own, also where memory was refused behind that; no other call reserves any.
+    /// sector of its own, also where memory was then refused and the write with it; no other call reserves any.
     pub fn write(
         &mut self,
         alloc: Global,
@@ -149,12 +149,12 @@ impl<D: Device> IoManager<D> {
     }
 
     /// Returns what a read, a write or a flush of this many bytes, from byte `offset` of the handle's partition on,
-    /// would open if it were called now: the number of pieces that its request is cut into, and its sectors of the
-    /// disk, in order. A flush, of no bytes from the first on, has one piece, and an empty extent where the partition
-    /// begins. It takes no memory.
+    /// would open if it were called now and no memory were refused: the number of pieces that its request is cut into,
+    /// and its sectors of the disk, in order. For a flush `offset` and `length` are 0; it has one piece, and an empty
+    /// extent where the partition begins. It takes no memory.
     ///
-    /// `None` where the call would be refused or is a read or a write of no bytes, and once request numbers are used
-    /// up.
+    /// `None` where the call would be refused for another cause or is a read or a write of no bytes, and once request
+    /// numbers are used up.
     pub fn admits(
         &self,
         handle: Handle,
@@ -280,8 +280,8 @@ impl<D: Device> IoManager<D> {
         self.parts.tell_device();
     }
 
-    /// From now on the labels of each step are kept until they are taken. Or else none is kept and no bytes are copied
-    /// for them, and contracts alone read them.
+    /// From now on the labels of each step are kept until they are taken. Without `keep` none is kept and no bytes are
+    /// copied for them, and contracts alone read them.
     pub fn keep_labels(&mut self, keep: bool)
         requires taken { self.old.labels ≡ [] }
         ensures keeps { self.new ≡ record self.old { keeps = keep } }
@@ -289,7 +289,8 @@ impl<D: Device> IoManager<D> {
         self.parts.tables.keep_labels(keep);
     }
 
-    /// Takes the earliest label of the last step that was not taken yet.
+    /// Takes the earliest label of the last step that was not taken yet. Only while labels are kept
+    /// ([`IoManager::keep_labels`]).
     pub fn take_label(&mut self) -> Option<Label>
         requires kept { IsTrue self.old.keeps }
         ensures takes { TakesFirst self.old result self.new }

@@ -64,7 +64,8 @@ impl Tables {
 
 impl<D: Device> IoManager<D> {
     /// A manager over a device of which nothing was asked yet, with places for its 64 handles, its open requests and
-    /// the labels and answers of a step.
+    /// the labels and answers of a step. The device takes buffers, needs four locations at most, takes at least 2^62
+    /// requests, and has nothing reserved; `limits` are its own sizes, with 1 to 64 open requests.
     ///
     /// # Errors
     ///

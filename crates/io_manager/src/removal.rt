@@ -38,8 +38,9 @@ fn pass_down<D: Hold>(device: &mut D, request: Request)
 }
 
 impl<D: Hold> IoManager<D> {
-    /// Asks whether the device may go. It may, and new requests are then held (WDK: IRP_MN_QUERY_REMOVE_DEVICE). It
-    /// takes no memory. Unless the device is started it is refused as `InvalidDeviceRequest`, with nothing changed.
+    /// Asks whether the device may go. It may, whatever is open, and new requests are then held (WDK:
+    /// IRP_MN_QUERY_REMOVE_DEVICE). It takes no memory. Unless the device is started it is refused as
+    /// `InvalidDeviceRequest`, with nothing changed.
     pub fn query_remove(&mut self, alloc: Global) -> Reply
         requires taken { self.old.labels ≡ [] }
         ensures right { IsRight (QueryReplies self.old result self.new) self.old self.new }

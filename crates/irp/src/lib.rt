@@ -2,8 +2,8 @@
 //! back up through them.
 //!
 //! It promises to the drivers that a completed packet goes to the routine of the nearest location above that asks for
-//! this outcome, or is finished where none does (`complete` and `resume`, by `Climbs`); that each packet is completed
-//! at most once, since `complete` takes it away; and that a cancel routine is taken at most once
+//! this outcome, or is finished where none does (`complete` and `resume`, by `Climbs`); that each packet is finished
+//! at most once, since both take it away; and that a cancel routine is taken at most once
 //! (`Irp::take_cancel_routine`, by `once`). It does not promise that a driver completes the packets that it keeps.
 #![tactic(auto)]
 
@@ -98,8 +98,7 @@ pub struct CancelRoutine {
     pub driver: Driver,
 }
 
-/// A request packet (WDK: IRP). It is moved from driver to driver and never copied, and let go only together with the
-/// layer that holds it.
+/// A request packet (WDK: IRP). It is moved from driver to driver, and never copied, until it is finished.
 #[derive(Debug, Drop)]
 pub struct Irp {
     /// The maker of the packet gives it. A layer takes packets under rising numbers.

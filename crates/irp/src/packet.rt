@@ -46,7 +46,7 @@ impl Irp {
     }
 
     /// The packet goes to the next driver, with a copy of the current driver's own location in all but the control
-    /// flags (WDK: IoCopyCurrentIrpStackLocationToNext).
+    /// flags (WDK: IoCopyCurrentIrpStackLocationToNext). It has one to three.
     pub fn copy_to_next(&mut self, driver: Driver)
         requires own { 0 < array_vec_len self.old.locations }
         requires place { array_vec_len self.old.locations < 4 }
@@ -74,7 +74,7 @@ impl Irp {
 
     /// Before the current driver passes the packet on, it marks its own location: its routine is called when the packet
     /// comes back as a success, as an error, or as a cancelled packet with whichever status. The other control flags
-    /// are cleared (WDK: IoSetCompletionRoutine).
+    /// of its own location are cleared, where IoSetCompletionRoutine of the WDK clears those of the next.
     pub fn set_completion(&mut self, on_success: bool, on_error: bool, on_cancel: bool)
         requires { 0 < array_vec_len self.old.locations }
         ensures locations { (higher : List StackLocation) (own : StackLocation)

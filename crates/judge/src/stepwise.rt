@@ -158,7 +158,7 @@ impl Judge {
     }
 
     /// Returns what is left undone by the labels that were taken, which are to be all of an event: nothing where some
-    /// machine that they lead to is settled.
+    /// machine that they lead to is settled, nor after [`Refusal::NoVerdict`], which leaves no machine.
     pub fn undone(&self) -> Option<Undone>
         ensures exact { 0 < length self.now.states → (result ≡ None) ↔ Any (IsSettled self.now.rules) self.now.states }
         ensures left { IfSome result (λ what. Any (Leaves self.now.rules what) self.now.states) }

@@ -19,7 +19,7 @@ pub record OpenRequest : Type 0 where
   pub number : ℕ
   pub request : ClientRequest
   pub cancelled : Bool
-  -- held by a pause
+  -- held by a pause, or by a removal
   pub late : Bool
   pub busy_returns : ℕ
   pub marks : List Mark

@@ -20,7 +20,7 @@ use Rattle.machine_laws.specs.Reached.{IsReached}
 abbrev pub SoloReadsHold : Type 0
 SoloReadsHold = (rules : Rules) (before : State) → IsTrue rules.faithful → IsReached rules before → SoloReads rules before
 
--- a solo write that succeeds stands in the array at its answer
+-- there a solo write that succeeds stands in the array at its answer
 abbrev pub SoloWritesHold : Type 0
 SoloWritesHold = (rules : Rules) (before : State) → IsTrue rules.faithful → IsReached rules before → SoloWrites rules before
 

@@ -53,18 +53,18 @@ ghost use Rattle.machine_laws.specs.WriteLaws.{
   StepsKeepSectors,
 };
 
-/// A read that no other write meets, and that succeeds, gives the bytes of the array at its call.
+/// In a faithful machine a read that succeeds, met by no other write, gives the bytes of the array at its call.
 pub fn solo_reads()
     ensures { SoloReadsHold }
 {}
 
-/// A write that no other write meets, and that succeeds, stands in the array at its answer.
+/// In a faithful machine a write that succeeds, met by no other write, stands in the array at its answer.
 pub fn solo_writes()
     ensures { SoloWritesHold }
 {}
 
-/// A write that no other write meets, also one that failed, changes only places on which a piece of it acted before
-/// its answer; its bytes stand there, and all its other places are as they were before its call.
+/// Each place of a write that no other write meets, also of one that failed, is at its answer as before its call; or a
+/// piece of the write acted on it before, and its bytes stand there.
 pub fn failed_writes()
     ensures { FailedWritesHold }
 {}
@@ -114,8 +114,9 @@ pub fn numbers_rise()
     ensures count { CallsCount }
 {}
 
-/// In every run each call adds its number to those that wait for an answer, and each answer takes its own away. So where
-/// none waits at first, what is answered was called before; and where none waits at last, each call is answered behind it.
+/// In every run each call adds its number to those that wait for an answer, and each answer takes its own away. So
+/// where none waits at first, what is answered was called before; and where none waits at last, each call is answered
+/// behind it.
 pub fn calls_await_answers()
     ensures waiting { CallsAwait }
     ensures called { AnswersWereCalled }
@@ -123,8 +124,8 @@ pub fn calls_await_answers()
 {}
 
 /// Each label uses up one of those that are left and of those that it brings. Only a call and a pause bring any: a call
-/// the labels of its pieces and restarts, and a pause its end. So with neither no more labels come than were left. That is
-/// so where pieces begin at multiples of the longest and restarts are counted: not where any cut will do.
+/// the labels of its pieces and restarts, and a pause its end. So with neither no more labels come than were left. That
+/// is so where pieces begin at multiples of the longest and restarts are counted: not where any cut will do.
 pub fn labels_run_out()
     ensures step { StepsUseUp }
     ensures run { RunsUseUp }
@@ -156,7 +157,7 @@ pub fn runs_lift()
     ensures { RunsLift }
 {}
 
-/// Entries that are, by the labels of a trace, of its acts, are so of the acts of the run that the trace is.
+/// Entries that fit a trace's acts by its labels alone fit the acts of the run that it is, from whole arrays.
 pub fn entries_are_of_runs()
     ensures { EntriesAreOfRuns }
 {}

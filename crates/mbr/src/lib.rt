@@ -18,7 +18,7 @@ pub use reading::parse;
 use thiserror::Error;
 pub use writing::render;
 
-/// What is wrong with a partition table; of several the first in this order, and of entries the first in the table.
+/// What is wrong with a partition table; of several the first that [`parse`] meets: entry by entry, overlaps last.
 #[derive(Debug, Clone, Copy, PartialEq, Eq, Error)]
 pub enum MbrFault {
     /// There are fewer than 512 bytes.

@@ -10,8 +10,8 @@ use arrayvec::ArrayVec;
 use byteorder::{ByteOrder, LittleEndian};
 use sector::Extent;
 
-/// The first 512 bytes of sector 0 with these entries, a type and sectors each, from the first place on, with the
-/// signature, and with 0 elsewhere. Type 0 is unused. No fault is looked for.
+/// The first 512 bytes of sector 0 with these entries, four at most, each a type and sectors of numbers below 2^32,
+/// from the first place on, with the signature, and with 0 elsewhere. Type 0 is unused. No fault is looked for.
 pub fn render(entries: &[(u8, Extent)]) -> ArrayVec<u8, 512>
     requires few { length entries.now ≤ 4 }
     requires fit { All FitsEntry entries.now }

@@ -1,4 +1,4 @@
-//! An adapter that has no sectors: what its acts do is booked.
+//! An adapter that has the first sector alone: what its acts do is booked, but for piece 0.
 
 ghost use Rattle.std.specs.Prelude.{◌≡◌, ◌⊎◌, ◌≤◌, ◌^◌, true, length, IfOk};
 ghost use Rattle.miniport.specs.Memory.{MemView};
@@ -38,6 +38,10 @@ impl Model for BookedAdapter {
 impl BookedAdapter {
     /// An adapter with no piece on any of its tags, for a disk of 1 to 2^40 sectors that begins with this one, of 512
     /// or 4096 bytes. `max_transfer` is in sectors, from 1 to 65,536; `depth` is the number of tags, from 1 to 32.
+    ///
+    /// # Errors
+    ///
+    /// Where the memory for tags and labels was refused.
     pub fn new(
         alloc: Global,
         first: Vec<u8>,

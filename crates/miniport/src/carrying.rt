@@ -140,7 +140,7 @@ fn extent(lba: u64, count: u32) -> Extent
     }
 }
 
-/// The command that an SRB asks of a medium, unless it fails whatever sectors are bad.
+/// The command that an SRB asks of a medium, or the completion with which it fails whatever sectors are bad.
 pub fn check_on<M: Medium>(medium: &M, write_protected: bool, srb: &Srb) -> Result<Cdb, Completion>
     ensures { let sizes = sizes_of (M.view medium.now) write_protected in MatchResult result (Passes sizes srb.now) (IsRefused sizes srb.now) }
 {
@@ -178,7 +178,8 @@ fn perform<M: Medium>(medium: &mut M, command: Cdb, srb: Srb) -> Outcome
     }
 }
 
-/// Carries out the command of an SRB on a medium, or fails it by the first row of the table that fits.
+/// Carries out the command of an SRB on a medium, or fails it by the first row of the table that fits. The medium has a
+/// sector, and a write within it its extent reserved.
 pub fn carry_out<M: Medium>(medium: &mut M, write_protected: bool, srb: Srb) -> Outcome
     requires ready { IsReady (M.view medium.old) srb }
     requires countable { (M.view medium.old).failures < 2 ^ 120 }

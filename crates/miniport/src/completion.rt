@@ -48,7 +48,7 @@ pub(crate) fn met_reset() -> Completion
     without_sense(SrbStatus::BusReset, ScsiStatus::Good)
 }
 
-/// The device refused the command with sense data (SAM: CHECK CONDITION).
+/// The completion of a refused command with this sense, ASCQ 00h (SAM: CHECK CONDITION).
 pub fn failed_with(key: u8, asc: u8) -> Completion
     ensures { result ≡ error key asc 0 }
 {
@@ -69,7 +69,7 @@ pub(crate) fn not_decoded(fault: CdbFault) -> Completion
     }
 }
 
-/// Sense keys (SPC).
+/// The sense key MEDIUM ERROR (SPC).
 pub const MEDIUM_ERROR: u8 = 3;
 
 pub(crate) const HARDWARE_ERROR: u8 = 4;

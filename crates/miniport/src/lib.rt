@@ -2,8 +2,8 @@
 //!
 //! [`MemAdapter`] keeps the contract of [`Adapter`] over any medium. It fails a command exactly by the first row that
 //! fits of one table (`fault_of`, in `by_table` of its `act`), with that row's completion, and it counts each failure.
-//! [`BookedAdapter`] has no sectors: its acts are those that were booked. [`OnceAdapter`] is an adapter in memory of
-//! which one act fails, whatever it asks for (`once` of its `act`).
+//! [`BookedAdapter`] has the first sector alone: all acts but piece 0's are booked. [`OnceAdapter`] is an adapter in
+//! memory of which one act fails, whatever it asks for (`once` of its `act`).
 //!
 //! It doesn't promise that a piece ever acts, nor that what was written outlives the process.
 #![tactic(auto)]

@@ -26,8 +26,8 @@ use srb::{Booked, Completion, DeviceLabel, Srb};
 use std::alloc::{AllocError, Global};
 use std::marker::Model;
 
-/// An adapter over a medium. A command fails exactly where a sector of its extent is bad, the SRB doesn't fit the
-/// command, a write meets write protection, or the block asks for nothing that the disk has.
+/// An adapter over a medium. A command fails exactly where it reads or writes a bad sector or names one past the end,
+/// its SRB doesn't fit it, a write meets write protection, or the block asks for nothing that the disk has.
 pub struct MemAdapter<M: Medium> {
     medium: M,
     table: TagTable,
@@ -62,8 +62,13 @@ impl<M: Medium> MemAdapter<M> {
     ghost use Rattle.adapter.specs.Calls.{ActsOrFaults, ActsNot};
     ghost use Rattle.miniport.specs.Memory.{FailsWith};
 
-    /// An adapter with no piece on any of its tags, over a medium of 512 or 4096 bytes a sector and 1 to 2^40 sectors.
-    /// `max_transfer` is in sectors, from 1 to 65,536; `depth` is the number of tags, from 1 to 32.
+    /// An adapter with no piece on any of its tags, over a medium of 512 or 4096 bytes a sector and 1 to 2^40 sectors,
+    /// of which no read or write has failed yet. `max_transfer` is in sectors, from 1 to 65,536; `depth` is the number
+    /// of tags, from 1 to 32.
+    ///
+    /// # Errors
+    ///
+    /// Where the memory for tags and labels was refused.
     pub fn new(
         alloc: Global,
         medium: M,

@@ -60,7 +60,8 @@ impl<D: Shown> Model for Partitions<D> {
 
 impl<D: Device> Partitions<D> {
     /// The partitions of a table, each a volume by its number in the table, over a disk of which nothing was asked yet.
-    /// The extents lie in the disk, behind its first sector, and share no sector.
+    /// The extents lie in the disk, behind its first sector, and share no sector. The device's one volume is the whole
+    /// disk, and nothing is reserved there.
     pub fn new(alloc: Global, device: D, table: ArrayVec<Extent, 4>) -> Partitions<D>
         requires locations { 0 < D.stack_size }
         requires fresh { IsFreshDisk table.items (D.view device) }

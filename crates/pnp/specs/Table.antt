@@ -22,7 +22,7 @@ event_of CancelRequest = CancelRemove
 event_of RemoveRequest = Remove
 event_of SurpriseRequest = SurpriseRemove
 
--- the state after it, or none where it is invalid (WDK: State Transitions for PnP Devices)
+-- the state after it, or none where it is invalid (after the WDK's PnP states; what is invalid is own)
 abbrev pub next : Event → State → Option State
 next QueryRemove Started = Some RemovePending
 next QueryRemove _ = None

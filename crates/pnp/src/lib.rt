@@ -80,7 +80,8 @@ impl State {
         }
     }
 
-    /// Removes the device in order (WDK: IRP_MN_REMOVE_DEVICE). Refused but after a query that was granted.
+    /// Removes the device in order (WDK: IRP_MN_REMOVE_DEVICE). It is refused unless a query was granted before; in
+    /// the WDK a driver never refuses it.
     pub fn remove(self) -> Result<State, InvalidDeviceRequest>
         ensures { result_ok result ≡ next Remove self }
     {
@@ -90,8 +91,8 @@ impl State {
         }
     }
 
-    /// The device was pulled out (WDK: IRP_MN_SURPRISE_REMOVAL): it goes as after a removal in order, queried or not.
-    /// Refused where it goes already.
+    /// The device was pulled out (WDK: IRP_MN_SURPRISE_REMOVAL and the IRP_MN_REMOVE_DEVICE behind it, in one): it goes
+    /// as after a removal in order, queried or not. Refused where it goes already.
     pub fn surprise_remove(self) -> Result<State, InvalidDeviceRequest>
         ensures { result_ok result ≡ next SurpriseRemove self }
     {

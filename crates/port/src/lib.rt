@@ -3,9 +3,10 @@
 //! It promises to the layer above, by the contract of [`Device`]: one volume, which is the whole disk; a packet's SRB
 //! is the one command of its one piece. Packets wait first in, first out, and none waits while a tag is free
 //! (`IsSending`); the front one starts on the lowest free tag. A busy return ends its packet as DEVICE_BUSY, a packet
-//! that is cancelled while it waits ends as REQUEST_FLUSHED, and one that waits at a removal as NO_DEVICE. Each goes up
-//! with the cancel routine that it came with (`brings_routine`). By its spot a packet that waits is found in a few
-//! steps, also in a long queue (`visits` of [`Port::cancel_at`](Device::cancel_at)). No call but `reserve` takes memory.
+//! that is cancelled while it waits ends as CANCELLED (by SRB_STATUS_REQUEST_FLUSHED), and one that waits at a removal
+//! as NO_SUCH_DEVICE (by SRB_STATUS_NO_DEVICE). Each goes up with the cancel routine that it came with
+//! (`brings_routine`). By its spot a packet that waits is found in a few steps, also in a long queue (`visits` of
+//! [`Port::cancel_at`](Device::cancel_at)). No call but `reserve` takes memory.
 //!
 //! It doesn't promise that a packet at the adapter ever comes back, nor that packets end in the order in which they
 //! came.

@@ -100,9 +100,10 @@ fn perform<M: Medium>(medium: &mut M, command: Cdb, srb: Srb) -> Result<Bytes, C
     }
 }
 
-/// Carries out the SRB of a piece on a medium, by the table of the adapter in memory. Returns its entry, or how it
-/// failed. The entry has the very memory of the SRB's data: a read's bytes are copied once, out of the medium, and a
-/// write's once, into it.
+/// Carries out the SRB of a piece on a medium, by the table of the adapter in memory. Its block asks for a read, a
+/// write or a flush; what a write moves is reserved; the medium has counted fewer than 2^120 failures. Returns its
+/// entry, or how it failed. The entry has the very memory of the SRB's data: a read's bytes are copied once, out of the
+/// medium, and a write's once, into it.
 pub fn enter<M: Medium>(
     medium: &mut M,
     write_protected: bool,

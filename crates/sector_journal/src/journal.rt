@@ -163,7 +163,7 @@ fn find_request(reservations: &[Reservation], request: u64) -> Option<usize>
 
 impl<M: Medium, N: Naming> Journal<M, N> {
     /// A journal of these sectors, at least one, with no entry, no armed piece and no open request; and the words of
-    /// its histories. `depth` is the number of tags.
+    /// its histories. The medium has counted no failure. `depth` is the number of tags.
     ///
     /// # Errors
     ///
@@ -267,8 +267,8 @@ impl<M: Medium, N: Naming> Journal<M, N> {
     }
 
     /// Makes room for the acts of a request: for their entries beside those of all open requests, for the buffers of
-    /// its pieces, and in the medium for a write. `extent` is on the disk; that of a flush is ignored. The pieces are
-    /// cut by `max_transfer`, in sectors, at least 1. No other call takes memory.
+    /// its pieces, and in the medium for a write. `extent` lies in the disk, that of a flush too, for which no
+    /// sector is reserved. The pieces are cut by `max_transfer`, in sectors, at least 1. No other call takes memory.
     ///
     /// # Errors
     ///
@@ -357,7 +357,8 @@ impl<M: Medium, N: Naming> Journal<M, N> {
         true
     }
 
-    /// Lets no piece act on a tag any more. The room of its piece is there for another.
+    /// Disarms a tag: no piece may act there until one is armed. Its buffer is there again where open requests may need
+    /// it.
     pub fn disarm(&mut self, tag: u8)
         ensures { Disarms self.old tag self.new }
     {

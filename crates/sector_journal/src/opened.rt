@@ -47,7 +47,8 @@ fn end<E, N: chronicle::Naming>(opened: chronicle::Opened<E>)
     let (_history, _whole) = opened.named::<N>();
 }
 
-/// The words of a journal's histories, which threads share by reference. They mean nothing, and never change.
+/// The two words of memory on which a journal's histories stand, and which threads share by reference. Their values
+/// mean nothing, and never change.
 #[derive(Drop)]
 pub struct History<N: Naming>
 where

@@ -12,7 +12,7 @@ pub struct Reservation {
     /// The request, by whatever number its caller gave it.
     pub request: u64,
     pub kind: Kind,
-    /// The extent on the disk; that of a flush is ignored.
+    /// The extent on the disk; for a flush no sector of it is reserved.
     pub extent: Extent,
     /// The most sectors of a piece, at least 1.
     pub max_transfer: u32,

@@ -12,7 +12,8 @@ use std::marker::Brand;
 use std::sync::ledger::Ledger;
 
 /// Names one book, for contracts alone: its history, the ledger of its calls, the rules of its stack, the state that it
-/// was opened with, the number of its clients, and its table of marks. Each call of a program picks it.
+/// was opened with, the number of its clients, and its table of marks. A function that is generic in it requires that
+/// what it is handed is the one named; its caller passes `Brand`.
 pub trait Naming: chronicle::Naming + Ledger {
     ghost rules: { Rules };
 

@@ -8,7 +8,7 @@ use std::marker::Model;
 use std::sync::ledger;
 use std::sync::ledger::Share as Part;
 
-/// A client's number and the count of its calls, which nobody can copy. Contracts see it as both.
+/// A client's number, its handle and the count of its calls, which nobody can copy. Contracts see all three.
 #[derive(Drop)]
 pub struct Share<N: Naming> {
     client: usize,

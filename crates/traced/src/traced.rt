@@ -326,7 +326,9 @@ fn refused(alloc: Global, event: Event) -> Reply
 }
 
 impl<A: Adapter, N: Naming> Traced<A, N> {
-    /// A book of a stack on which the clients' handles are open, and nothing else.
+    /// A traced stack on which the clients' handles are open, and nothing else. `whole` is an empty history, `seat` the
+    /// owner's at a table of `slots` slots (as many as requests may be open), `tally` a ledger that counted nothing,
+    /// `clients` their number, and `sizes` the stack's.
     ///
     /// # Errors
     ///
@@ -487,8 +489,7 @@ impl<A: Adapter, N: Naming> Traced<A, N> {
         self.pages.calls()
     }
 
-    /// Shows the caller that the stack's view is settled and fits together, that a run leads to it, and that its
-    /// adapter is in order.
+    /// Shows the caller that the stack's view fits together, that a run leads to it, and that its adapter is in order.
     pub fn shows_stack(&self)
         ensures whole { FitsTogether self.now.stack }
         ensures reached { IsReached self.now.stack.rules self.now.stack.state }
