@@ -1,5 +1,5 @@
 -- A handle that is opened or closed on a stack on which nothing else is open.
-use Rattle.std.proofs.Common.{◌≡◌, ◌<◌, inl, inr, ℕ, Bool, true, false, List, [], ◌∷◌, ◌++◌, Option, Some, None, refl, sym, ◌∙◌, ap, subst, arith, length, map}
+use Rattle.std.proofs.Common.{◌≡◌, ◌<◌, inl, inr, ℕ, ◌+◌, Bool, true, false, List, [], ◌∷◌, ◌++◌, Option, Some, None, refl, sym, ◌∙◌, ap, subst, arith, length, map}
 use Rattle.std.specs.Prelude.{All, nat_le, if◌then◌else◌, ◌==◌, count_by, is_some}
 use Rattle.std.proofs.lemmas.Bool.Decides.{nat_tests}
 use Rattle.std.proofs.lemmas.List.Elements.{All-head}
@@ -27,7 +27,7 @@ use Rattle.io_manager.specs.declared.OpenHandle.{OpenHandle}
 use Rattle.io_manager.specs.Shown.{ManagerView}
 use Rattle.io_manager.specs.Calls.{are_used_up, handle_limit, open_refusal, partition_at, partition_of, status_of_refusal}
 use Rattle.io_manager.specs.Right.{Told, IsRight, IsRightBy, CloseReplies, OpenReplies, IsGiven, IsToCancel, tells_nothing, as_answer, as_cancel, end_labels}
-use Rattle.volume.specs.Shown.{content_of, extent_at, parted_at}
+use Rattle.volume.specs.Shown.{content_of, extent_at, handle_count, parted_at}
 use Rattle.volume.specs.Ready.{AreUsable, IsReady}
 use Rattle.volume.specs.Opening.{IsOpenRefusal}
 use Rattle.volume.specs.Working.{answers_of}
@@ -35,6 +35,7 @@ use Rattle.volume.proofs.Phases.{IsOver, none_in, run_over}
 use Rattle.volume.proofs.Steps.{answers_told, goes_on_reached, quiet_rest, rest_of}
 use Rattle.volume.proofs.Untraced.{untraced, forgotten}
 use Rattle.volume.proofs.Disk.{same_sectors}
+use Rattle.volume.proofs.Handles.{one_fewer}
 
 no_answers : (xs : List AnswerOf) → map as_answer xs ≡ [] → xs ≡ []
 no_answers [] e = refl
@@ -128,6 +129,16 @@ silent_close old ready handle (HandleReply given) new h = absurd h.replies
 silent_close old ready handle (Requested id) new h = absurd h.replies
 silent_close old ready handle (Answered answer) new h = absurd h.replies
 silent_close old ready handle Ignored new h = absurd h.replies
+
+-- the handle was open, and there is one fewer
+pub one_closed : (old : ManagerView) (handle : Handle) (partition : ℕ) (reply : Reply) (new : ManagerView) → partition_of old.handles handle ≡ Some partition
+    → IsRight (CloseReplies (untraced old) handle reply new) (untraced old) new → handle_count new + 1 ≡ handle_count old
+one_closed old handle partition Done new is_open h = one_fewer (untraced old) handle new h.replies.0
+one_closed old handle partition (Refused reason bytes) new is_open h = absurd (let none : None ≡ Some partition = sym h.replies.0 ∙ is_open in cc)
+one_closed old handle partition (HandleReply given) new is_open h = absurd h.replies
+one_closed old handle partition (Requested id) new is_open h = absurd h.replies
+one_closed old handle partition (Answered answer) new is_open h = absurd h.replies
+one_closed old handle partition Ignored new is_open h = absurd h.replies
 
 -- AN OPEN
 

@@ -9,5 +9,6 @@ pub mod Calling
 pub mod Bytes
 pub mod Content
 pub mod Methods
+pub mod Handles
 pub mod Closing
 pub mod Starting

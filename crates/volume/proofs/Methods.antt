@@ -1,6 +1,6 @@
 -- What a call on a volume leaves, in the words of its user.
 use Rattle.std.proofs.Common.{◌≡◌, ◌≢◌, ◌<◌, ◌≤◌, ◌⊎◌, ℕ, ◌+◌, ◌*◌, ◌/◌, ◌^◌, arith, true, false, List, [], Option, Some, refl, sym, ◌∙◌, ap, subst, length}
-use Rattle.std.specs.Prelude.{IsTrue, IsFalse, is_none, if◌then◌else◌}
+use Rattle.std.specs.Prelude.{IsTrue, IsFalse, count_by, is_none, is_some, if◌then◌else◌}
 use Rattle.std.specs.List.{concat}
 use Rattle.ntstatus.specs.declared.NtStatus.TheVariants.{Success}
 use Rattle.machine.specs.Map.{IsPartition}
@@ -15,7 +15,7 @@ use Rattle.io_manager.specs.declared.Refusal.TheVariants.{InvalidHandle, Invalid
 use Rattle.io_manager.specs.Shown.{ManagerView}
 use Rattle.io_manager.specs.Calls.{partition_of}
 use Rattle.volume.specs.declared.Sizes.{Sizes}
-use Rattle.volume.specs.Shown.{content_of, extent_at, volume_over}
+use Rattle.volume.specs.Shown.{content_of, extent_at, handle_count, volume_over}
 use Rattle.volume.specs.Ready.{VolumeKept}
 use Rattle.volume.specs.Calls.{AreInBounds, IsRefusal, IsSameDisk, Reads, Writes, WritesSome}
 use Rattle.volume.specs.Working.{Ends, HasReason, Leaves, sectors_on}
@@ -54,8 +54,17 @@ module _ (v : ManagerView) (handle : Handle) (p : ℕ) (sizes : Sizes) (kept : V
   pub has_partition : is_none q.partition ≡ false
   has_partition = ap is_none is
 
+  -- as many handles are open
+  same_count : (new : ManagerView) → Leaves v new → handle_count new ≡ handle_count v
+  same_count new leaves = ap (λ (handles : List (Option OpenHandle)). count_by is_some handles) leaves.handles.handles
+
   pub same_disk : (new : ManagerView) → Leaves v new → new.adapter.sectors ≡ v.adapter.sectors → IsSameDisk (volume_over v p) (volume_over new p)
-  same_disk new leaves same = record { content = same_content v kept.ready p kept.known q is new leaves same; partition = refl; asked = leaves.asked }
+  same_disk new leaves same = record {
+    content = same_content v kept.ready p kept.known q is new leaves same;
+    partition = refl;
+    asked = leaves.asked;
+    same_handles = same_count new leaves;
+  }
 
   -- a request that was refused
   pub refused : (reason : Refusal) → HasReason v q reason → IsTrue (is_transfer q.kind) → IsRefusal (volume_over v p) (AreInBounds (content_of v p) q.offset q.length) reason
@@ -98,7 +107,12 @@ module _ (v : ManagerView) (handle : Handle) (p : ℕ) (sizes : Sizes) (kept : V
     write_some : q.kind ≡ Write → Writes (volume_over v p) q.offset (concat (sectors_on v.rules q new.adapter.sectors)) (volume_over new p)
     write_some is_write =
         let transfer : IsTrue (is_transfer q.kind) = ap is_transfer is_write in
-        record { content = write_content v kept.ready p kept.known q is new h.leaves transfer (h.in_bounds transfer) (h.changes is_write); partition = refl; asked = h.leaves.asked }
+        record {
+          content = write_content v kept.ready p kept.known q is new h.leaves transfer (h.in_bounds transfer) (h.changes is_write);
+          partition = refl;
+          asked = h.leaves.asked;
+          same_handles = same_count new h.leaves;
+        }
 
     pub writes : q.kind ≡ Write → answer.status ≡ Success → Writes (volume_over v p) q.offset q.bytes (volume_over new p)
     writes is_write ok = subst (λ bytes. Writes (volume_over v p) q.offset bytes (volume_over new p)) (h.writes is_write ok) (write_some is_write)

@@ -19,7 +19,7 @@ use Rattle.io_manager.specs.Calls.{are_used_up, handle_limit}
 use Rattle.io_manager.specs.declared.OpenHandle.{OpenHandle}
 use Rattle.compose.specs.declared.Settings.{Settings}
 use Rattle.compose.specs.Opening.{IsFirstView, first_rules}
-use Rattle.volume.specs.Shown.{content_of, extent_at, parted_at}
+use Rattle.volume.specs.Shown.{content_of, extent_at, handle_count, parted_at}
 use Rattle.io_manager.specs.declared.Refusal.{Refusal}
 use Rattle.io_manager.specs.declared.Refusal.TheVariants.{InvalidHandle, InvalidParameter, DeletePending, DeviceBusy, InsufficientResources, InvalidDeviceRequest, NotFound}
 use Rattle.volume.specs.Opening.{IsOpenRefusal, IsRefusedOf, LacksHandle}
@@ -97,6 +97,10 @@ module _ (disk : AdapterView) (settings : Settings) (order : IsInOrder disk) (fa
       ap (λ (r : Rules). parted_at r.sector_size v.adapter.sectors (extent_at r.partitions p)) first.rules
       ∙ ap (λ xs. parted_at disk.sector_size xs (extent_at first.partitions p)) first.same_disk.sectors
 
+  -- it has no handle open
+  pub none_at_start : handle_count v ≡ 0
+  none_at_start = ap (λ (handles : List (Option OpenHandle)). count_by is_some handles) first.no_handles
+
   -- a partition that the stack doesn't have is none of the disk's
   pub refused_of : (p : ℕ) (reason : Refusal) → IsOpenRefusal v p reason → IsRefusedOf disk p reason
   refused_of p InvalidParameter h = (first.partitions, first.told, subst (λ (r : Rules). length r.partitions ≤ p) first.rules h)
@@ -104,8 +108,8 @@ module _ (disk : AdapterView) (settings : Settings) (order : IsInOrder disk) (fa
     where
       handles_left : LacksHandle v → ⊥
       handles_left (inl used) = let none : are_used_up 1 ≡ true = subst (λ next. are_used_up next ≡ true) first.first_handle used in absurd (let k : false ≡ true = none in cc)
-      handles_left (inr full) = let many : handle_limit ≤ count_by is_some v.handles = full in
-          let none : count_by is_some v.handles ≡ 0 = ap (λ (handles : List (Option OpenHandle)). count_by is_some handles) first.no_handles in omega arith
+      handles_left (inr full) = let many : handle_limit ≤ handle_count v = full in
+          let none : handle_count v ≡ 0 = none_at_start in omega arith
   refused_of p InsufficientResources h = absurd h
   refused_of p InvalidHandle h = absurd h
   refused_of p DeletePending h = absurd h

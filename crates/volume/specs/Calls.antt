@@ -24,11 +24,12 @@ IsRefusal v InBounds DeviceBusy = number_limit ≤ v.next_request
 IsRefusal v InBounds InsufficientResources = InBounds
 IsRefusal v InBounds _ = ⊥
 
--- the disk is as it was, after at most one request more
+-- the disk is as it was, with as many handles open, after at most one request more
 pub record IsSameDisk (old new : VolumeView) : Type 0 where
   pub content : new.content ≡ old.content
   pub partition : new.partition ≡ old.partition
   pub asked : new.next_request ≤ old.next_request + 1
+  pub same_handles : new.open_handles ≡ old.open_handles
 
 -- a request that was refused was not sent; one that failed was sent
 abbrev pub WasSent : VolumeView → VolumeView → Error → Type 0
@@ -49,11 +50,13 @@ IsFault v InBounds (Failed status) = InBounds × (status ≢ Success)
 
 -- WRITE
 
--- the disk has these bytes in the partition from this one on and is else as it was, after at most one request more
+-- the disk has these bytes in the partition from this one on and is else as it was, with as many handles open, after at
+-- most one request more
 pub record Writes (old : VolumeView) (offset : ℕ) (bytes : List ℕ) (new : VolumeView) : Type 0 where
   pub content : new.content ≡ record old.content { bytes = splice old.content.bytes offset bytes }
   pub partition : new.partition ≡ old.partition
   pub asked : new.next_request ≤ old.next_request + 1
+  pub same_handles : new.open_handles ≡ old.open_handles
 
 -- the bytes of a sector among others
 abbrev pub sector_of : ℕ → ℕ → List ℕ → List ℕ

@@ -1,5 +1,5 @@
 -- How a volume is opened.
-use Rattle.std.specs.Prelude.{◌≡◌, ◌<◌, ◌≤◌, ◌⊎◌, ℕ, List, Some, length, count_by, is_some, IsTrue}
+use Rattle.std.specs.Prelude.{◌≡◌, ◌<◌, ◌≤◌, ◌⊎◌, ℕ, List, Some, length, IsTrue}
 use Rattle.sector.specs.declared.Extent.{Extent}
 use Rattle.adapter.specs.View.{AdapterView}
 use Rattle.probe.specs.Probing.{HasPartitions}
@@ -12,11 +12,11 @@ use Rattle.io_manager.specs.Shown.{ManagerView}
 use Rattle.io_manager.specs.Calls.{are_used_up, handle_limit, partition_of}
 use Rattle.volume.specs.declared.OpenFault.{OpenFault}
 use Rattle.volume.specs.declared.OpenFault.TheVariants.{Start, Refused as RefusedOpen}
-use Rattle.volume.specs.Shown.{Content, extent_at, parted_at}
+use Rattle.volume.specs.Shown.{Content, extent_at, handle_count, parted_at}
 
 -- no handle is left: 64 are open, or their numbers are used up
 abbrev pub LacksHandle : ManagerView → Type 0
-LacksHandle v = IsTrue (are_used_up v.next_handle) ⊎ (handle_limit ≤ count_by is_some v.handles)
+LacksHandle v = IsTrue (are_used_up v.next_handle) ⊎ (handle_limit ≤ handle_count v)
 
 -- why a volume could not be opened: there is no such partition, or no handle is left
 abbrev pub IsOpenRefusal : ManagerView → ℕ → Refusal → Type 0

@@ -1,5 +1,5 @@
 -- What a volume shows: the bytes of one partition, and the bytes of the disk around it.
-use Rattle.std.specs.Prelude.{ℕ, ◌+◌, List, take, drop, get_or, slice_range}
+use Rattle.std.specs.Prelude.{ℕ, ◌+◌, List, take, drop, get_or, slice_range, count_by, is_some}
 use Rattle.std.specs.List.{concat}
 use Rattle.sector.specs.declared.Extent.{Extent}
 use Rattle.io_manager.specs.Shown.{ManagerView}
@@ -23,6 +23,8 @@ pub record VolumeView : Type 0 where
   pub next_request : ℕ
   -- the number of the next command that the stack sends to its device
   pub next_command : ℕ
+  -- how many handles are open on the stack, the volume's own among them
+  pub open_handles : ℕ
 
 -- the extent of a partition
 abbrev pub extent_at : List Extent → ℕ → Extent
@@ -41,6 +43,16 @@ parted_at sector_size sectors extent = record {
 abbrev pub content_of : ManagerView → ℕ → Content
 content_of v p = parted_at v.rules.sector_size v.adapter.sectors (extent_at v.rules.partitions p)
 
+-- how many handles are open on a stack
+abbrev pub handle_count : ManagerView → ℕ
+handle_count v = count_by is_some v.handles
+
 -- what a volume shows over a stack
 abbrev pub volume_over : ManagerView → ℕ → VolumeView
-volume_over v p = record { content = content_of v p; partition = p; next_request = v.state.next_request; next_command = v.state.next_piece }
+volume_over v p = record {
+  content = content_of v p;
+  partition = p;
+  next_request = v.state.next_request;
+  next_command = v.state.next_piece;
+  open_handles = handle_count v;
+}

@@ -1,7 +1,7 @@
 //! How a volume is opened.
 
-ghost use Rattle.std.specs.Prelude.{◌≡◌, IfErr, IfOk, IsTrue, MatchResult};
-ghost use Rattle.volume.specs.Shown.{content_of};
+ghost use Rattle.std.specs.Prelude.{◌≡◌, ◌+◌, IfErr, IfOk, IsTrue, MatchResult};
+ghost use Rattle.volume.specs.Shown.{content_of, handle_count};
 ghost use Rattle.volume.specs.Ready.{IsReady};
 ghost use Rattle.volume.specs.Opening.{IsOn, IsOpenFault, IsOpenRefusal, ShowsDisk};
 ghost use Rattle.probe.specs.Exchange.{IsIdle};
@@ -31,6 +31,7 @@ impl<A: Adapter> Volume<A> {
         requires faithful { IsTrue (A.view adapter).faithful }
         ensures content { IfOk result (λ volume. ShowsDisk (A.view adapter) partition volume.content) }
         ensures partition { IfOk result (λ volume. volume.partition ≡ partition) }
+        ensures handles { IfOk result (λ volume. volume.open_handles ≡ 1) }
         ensures fault { IfErr result (λ fault. IsOpenFault (A.view adapter) settings partition fault) }
     {
         // An adapter's own promise about its sizes is known once one is asked.
@@ -57,6 +58,7 @@ impl<A: Adapter> Volume<A> {
         requires ready { IsReady stack }
         ensures content { IfOk result (λ volume. volume.content ≡ content_of stack partition) }
         ensures partition { IfOk result (λ volume. volume.partition ≡ partition) }
+        ensures handles { IfOk result (λ volume. volume.open_handles ≡ handle_count stack + 1) }
         ensures why { IfErr result (IsOpenRefusal stack partition) }
     {
         let mut stack = stack;
@@ -90,6 +92,7 @@ fn open_handle<A: Adapter>(
     requires ready { IsReady stack.old }
     ensures ready { IsReady stack.new }
     ensures content { content_of stack.new partition ≡ content_of stack.old partition }
+    ensures handles { IfOk result (λ _. handle_count stack.new ≡ handle_count stack.old + 1) }
     ensures opens { MatchResult result (λ handle. IsOn stack.new handle partition) (IsOpenRefusal stack.old partition) }
 {
     let reply = step(stack, alloc, Event::Open { partition });

@@ -1,7 +1,7 @@
 //! What the user of a volume calls.
 
 ghost use Rattle.std.specs.Prelude.{◌≡◌, ◌<◌, ◌≤◌, ◌⊎◌, ◌*◌, ◌+◌, ◌^◌, ⊤, length, IfOk, IfErr, MatchResult};
-ghost use Rattle.volume.specs.Shown.{content_of};
+ghost use Rattle.volume.specs.Shown.{content_of, handle_count};
 ghost use Rattle.volume.specs.Ready.{IsReady};
 ghost use Rattle.volume.specs.Calls.{AreInBounds, IsFault, IsSameDisk, IsWriteFault, Reads, WasSent, Writes};
 
@@ -138,10 +138,11 @@ impl<A: Adapter> Volume<A> {
         }
     }
 
-    /// Closes the handle, and gives the stack back with no request open. No clause says that the handle is closed.
+    /// Closes the handle, and gives the stack back with no request open and one handle fewer.
     pub fn close(self, alloc: Global) -> Stack<A>
         ensures ready { IsReady result }
         ensures same { content_of result self.partition ≡ self.content }
+        ensures closed { handle_count result + 1 ≡ self.open_handles }
     {
         let Volume {
             mut stack,

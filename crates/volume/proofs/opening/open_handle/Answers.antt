@@ -3,9 +3,10 @@ use Rattle.machine.specs.Rules.{Rules}
 use Rattle.io_manager.specs.Calls.{partition_of}
 use Rattle.io_manager.specs.declared.Reply.TheVariants.{Handle as HandleReply}
 use Rattle.io_manager.specs.Shown.{ManagerView}
-use Rattle.volume.specs.Shown.{content_of}
+use Rattle.volume.specs.Shown.{content_of, handle_count}
 use Rattle.volume.specs.Ready.{IsReady}
 use Rattle.volume.proofs.Closing.{IsSilent, given_known, given_on, ready_still, refused_open, same_content, silent_open}
+use Rattle.volume.proofs.Handles.{one_more}
 use Rattle.volume.proofs.Untraced.{read_stepped, untraced}
 use Rattle.volume.proofs.opening.open_handle.Goals.{in-Handle, in-Refused}
 use Rattle.volume.proofs.opening.open_handle.Goals as goal
@@ -37,4 +38,15 @@ returns-clause-opens g c =
                 (given_known c.args.stack.now c.args.partition w.in-Handle.ensures.steps.right.replies.1.not_refused));
           })
       | in-Refused w ↦ rw w.result-is (refused_open c.args.stack.now c.requires.ready c.args.partition w.in-Refused.refusal w.in-Refused.ensures.steps.right.replies.0)
+    ]
+
+pub returns-clause-handles : goal.returns-clause-handles
+returns-clause-handles g c =
+    elim c.match-reply.branch [
+      | in-Handle w ↦
+          rw w.result-is (
+            ap handle_count w.in-Handle.ensures.steps.after
+            ∙ one_more (untraced c.args.stack.now) c.args.partition w.in-Handle.handle w.in-Handle.ensures.steps.stepped w.in-Handle.ensures.steps.right.replies.1
+          )
+      | in-Refused w ↦ rw w.result-is tt
     ]

@@ -1,5 +1,5 @@
-use Rattle.std.proofs.Common.{◌∙◌}
-use Rattle.volume.proofs.Starting.{content_at_start, ready_at_start, refused_of}
+use Rattle.std.proofs.Common.{ℕ, ◌+◌, ◌∙◌, ap}
+use Rattle.volume.proofs.Starting.{content_at_start, none_at_start, ready_at_start, refused_of}
 use Rattle.volume.proofs.volume.Volume.start.Goals as goal
 
 pub open-requires : goal.open-requires
@@ -20,3 +20,8 @@ pub returns-in-Err-open-clause-fault : goal.returns-in-Err-open-clause-fault
 returns-in-Err-open-clause-fault g c =
     refused_of (g.A.Adapter.view c.args.adapter) c.args.settings c.sector_size-size.ensures.order c.requires.faithful c.in-Ok.stack c.in-Ok.ensures.view c.args.partition c.in-Err-open.reason
     c.in-Err-open.ensures.why
+
+pub returns-in-Ok-open-clause-handles : goal.returns-in-Ok-open-clause-handles
+returns-in-Ok-open-clause-handles g c =
+    c.in-Ok-open.ensures.handles
+    ∙ ap (λ (n : ℕ). n + 1) (none_at_start (g.A.Adapter.view c.args.adapter) c.args.settings c.sector_size-size.ensures.order c.requires.faithful c.in-Ok.stack c.in-Ok.ensures.view)
