@@ -51,13 +51,13 @@ count_changed : (slot : ℕ) (old new : Places) → ((other : ℕ) → other ≢
     → count_by is_some new + one_of (slice_index_or old slot None) ≡ count_by is_some old + one_of (slice_index_or new slot None)
 count_changed zero old new others =
     let rests : count_by is_some (rest_of new) ≡ count_by is_some (rest_of old) =
-        count_same (rest_of old) (rest_of new) (λ k. rest_is new k ∙ others (suc k) (λ e. absurd (omega (arith, e))) ∙ sym (rest_is old k)) in
+    count_same (rest_of old) (rest_of new) (λ k. rest_is new k ∙ others (suc k) (λ e. absurd (omega (arith, e))) ∙ sym (rest_is old k)) in
     let a : count_by is_some new ≡ one_of (slice_index_or new zero None) + count_by is_some (rest_of new) = count_split new in
     let b : count_by is_some old ≡ one_of (slice_index_or old zero None) + count_by is_some (rest_of old) = count_split old in
     omega (arith, rests, a, b)
 count_changed (suc slot) old new others =
     let rests : count_by is_some (rest_of new) + one_of (slice_index_or (rest_of old) slot None) ≡ count_by is_some (rest_of old) + one_of (slice_index_or (rest_of new) slot None) =
-        count_changed slot (rest_of old) (rest_of new) (λ k apart. rest_is new k ∙ others (suc k) (λ e. apart (omega (arith, e))) ∙ sym (rest_is old k)) in
+    count_changed slot (rest_of old) (rest_of new) (λ k apart. rest_is new k ∙ others (suc k) (λ e. apart (omega (arith, e))) ∙ sym (rest_is old k)) in
     let first : one_of (slice_index_or new zero None) ≡ one_of (slice_index_or old zero None) = ap one_of (others zero (λ e. absurd (omega (arith, e)))) in
     let was : one_of (slice_index_or (rest_of old) slot None) ≡ one_of (slice_index_or old (suc slot) None) = ap one_of (rest_is old slot) in
     let is : one_of (slice_index_or (rest_of new) slot None) ≡ one_of (slice_index_or new (suc slot) None) = ap one_of (rest_is new slot) in
@@ -71,7 +71,7 @@ one_more old partition handle new h =
     let was : one_of (slice_index_or old.handles handle.slot None) ≡ 0 = ap one_of h.was_free in
     let is : one_of (slice_index_or new.handles handle.slot None) ≡ 1 = ap one_of h.opens.there in
     let change : count_by is_some new.handles + one_of (slice_index_or old.handles handle.slot None) ≡ count_by is_some old.handles + one_of (slice_index_or new.handles handle.slot None) =
-        count_changed handle.slot old.handles new.handles h.opens.others in
+    count_changed handle.slot old.handles new.handles h.opens.others in
     omega (arith, was, is, change)
 
 -- a handle stands in its place while it is open
@@ -85,5 +85,5 @@ one_fewer old handle new h =
     let was : one_of (slice_index_or old.handles handle.slot None) ≡ 1 = stands (slice_index_or old.handles handle.slot None) handle.number h.was_open in
     let is : one_of (slice_index_or new.handles handle.slot None) ≡ 0 = ap one_of h.closes.there in
     let change : count_by is_some new.handles + one_of (slice_index_or old.handles handle.slot None) ≡ count_by is_some old.handles + one_of (slice_index_or new.handles handle.slot None) =
-        count_changed handle.slot old.handles new.handles h.closes.others in
+    count_changed handle.slot old.handles new.handles h.closes.others in
     omega (arith, was, is, change)

@@ -1,6 +1,6 @@
 -- A stack before its first event is ready.
-use Rattle.std.proofs.Common.{◌≡◌, ◌≤◌, inl, inr, ℕ, ◌+◌, ◌⊎◌, true, false, List, [], Option, Some, refl, sym, ◌∙◌, ap, subst, arith, length, map, length-take, length-drop}
-use Rattle.std.specs.Prelude.{◌<◌, All, IsPermutation, IsTrue, count_by, is_some, nat_le, slice_range}
+use Rattle.std.proofs.Common.{◌≡◌, ◌≤◌, inl, inr, ℕ, ◌+◌, true, false, List, [], Option, Some, refl, sym, ◌∙◌, ap, subst, arith, length, map, length-take, length-drop}
+use Rattle.std.specs.Prelude.{All, IsPermutation, IsTrue, count_by, is_some, nat_le, slice_range}
 use Rattle.std.proofs.lemmas.Bool.{cases_lt}
 use Rattle.std.proofs.lemmas.Bool.Decides.{nat_tests}
 use Rattle.std.proofs.lemmas.List.Sorted.{IsPermutation-refl}

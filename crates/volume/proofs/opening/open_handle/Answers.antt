@@ -45,8 +45,8 @@ returns-clause-handles g c =
     elim c.match-reply.branch [
       | in-Handle w ↦
           rw w.result-is (
-            ap handle_count w.in-Handle.ensures.steps.after
-            ∙ one_more (untraced c.args.stack.now) c.args.partition w.in-Handle.handle w.in-Handle.ensures.steps.stepped w.in-Handle.ensures.steps.right.replies.1
+          ap handle_count w.in-Handle.ensures.steps.after
+          ∙ one_more (untraced c.args.stack.now) c.args.partition w.in-Handle.handle w.in-Handle.ensures.steps.stepped w.in-Handle.ensures.steps.right.replies.1
           )
       | in-Refused w ↦ rw w.result-is tt
     ]
