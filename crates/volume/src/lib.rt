@@ -6,7 +6,8 @@
 //! change nothing (`same`). A failure names its status, and says what may have changed. A request that was refused
 //! changed nothing. After a write that failed, each sector of its extent is as it was or as it was to be, and nothing
 //! else changed. No command was sent for a request that was refused; one at least was sent for a request that failed,
-//! and for a flush that succeeded (`sent`).
+//! and for a flush that succeeded (`sent`). No call but the opening and the closing changes how many handles are open;
+//! a close leaves one fewer ([`Volume::close`], `closed`).
 //!
 //! It promises nothing of power loss, nor that a call succeeds, nor that a write past caches goes as such. Its stack
 //! stands on an adapter whose acts read and write the sectors that it shows.
