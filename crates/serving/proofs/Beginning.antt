@@ -1,9 +1,9 @@
 -- A stack over a storage before its first event.
-use Rattle.std.proofs.Common.{◌≡◌, ℕ, List, [], Result, Ok, length, map, IsFalse, refl, sym, ap, subst, ◌∙◌}
+use Rattle.std.proofs.Common.{◌≡◌, ℕ, false, List, [], Result, Ok, length, map, IsFalse, refl, sym, ap, subst, ◌∙◌}
 use Rattle.std.specs.Prelude.{All}
 use Rattle.std.proofs.lemmas.List.Elements.{All-nil}
 use Rattle.sector.specs.Extents.{sectors_in}
-use Rattle.adapter.specs.View.{TagInUse}
+use Rattle.adapter.specs.View.{AdapterView, TagInUse}
 use Rattle.sector.specs.declared.Extent.{Extent}
 use Rattle.machine.specs.Rules.{Rules}
 use Rattle.machine.specs.State.{State, IsSame, opening}
@@ -14,6 +14,8 @@ use Rattle.settings.specs.declared.Config.{Config}
 use Rattle.settings.specs.Medium.{extents_of}
 use Rattle.io_manager.specs.Shown.{ManagerView}
 use Rattle.compose.specs.Journaled.{IsStartedUse}
+use Rattle.compose.specs.Opening.{first_rules}
+use Rattle.startup.specs.Started.{limits_of, rules_over}
 use Rattle.file_disk.specs.Transfers.{DiskView}
 use Rattle.serving.specs.Carried.{IsTold, StandsIn, quiet}
 use Rattle.serving.specs.OnDisk.{IsStartedOver}
@@ -40,12 +42,20 @@ module _ (c : Config) (table : List ℕ) (stack : ManagerView) (started : IsStar
   }
 
   -- where the table gives the partitions of the settings, the stack has those
-  pub partitions_at_first : told_by c.sectors table ≡ Ok (extents_of c) → stack.rules.partitions ≡ extents_of c
-  partitions_at_first told =
+  same_partitions : told_by c.sectors table ≡ Ok (extents_of c) → started.first.partitions ≡ extents_of c
+  same_partitions told =
       let found : told_by c.sectors table ≡ Ok started.first.partitions =
       ap (λ (n : ℕ). told_by n table) (sym started.sectors) ∙ ap (λ (t : List ℕ). told_by (length started.disk.sectors) t) (sym started.begins) ∙ started.first.told.told in
       let same : ◌≡◌ {A = Result (List Extent) MbrFault} (Ok (extents_of c)) (Ok started.first.partitions) = sym told ∙ found in
-      ap (λ (r : Rules). r.partitions) started.first.rules ∙ same_items (extents_of c) started.first.partitions same
+      same_items (extents_of c) started.first.partitions same
     where
       same_items : (xs ys : List Extent) → ◌≡◌ {A = Result (List Extent) MbrFault} (Ok xs) (Ok ys) → ys ≡ xs
       same_items xs ys e = cc
+
+  -- and the rules of the settings
+  pub rules_at_first : told_by c.sectors table ≡ Ok (extents_of c) → stack.rules ≡ rules_over false c
+  rules_at_first told = started.first.rules ∙ same_rules started.disk started.first.partitions started.apart started.sector_size started.sectors started.max_transfer started.depth (same_partitions told)
+    where
+      same_rules : (disk : AdapterView) (partitions : List Extent) → disk.faithful ≡ false → disk.sector_size ≡ c.sector_size → length disk.sectors ≡ c.sectors → disk.max_transfer ≡ c.max_transfer → disk.depth ≡ c.depth
+          → partitions ≡ extents_of c → first_rules disk (limits_of c) partitions ≡ rules_over false c
+      same_rules disk partitions apart sector_size sectors max_transfer depth same = cc

@@ -7,3 +7,4 @@ pub mod Carrying
 pub mod Putting
 pub mod Beginning
 pub mod Filing
+pub mod Failing

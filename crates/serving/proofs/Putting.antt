@@ -1,6 +1,6 @@
 -- A partition table in sector 0.
-use Rattle.std.proofs.Common.{◌≡◌, ◌<◌, ℕ, ◌+◌, List, [], ◌∷◌, ◌++◌, None, Result, Ok, Err, get_or, length, map, take, refl, sym, ap, subst, ◌∙◌}
-use Rattle.std.specs.Prelude.{OnOk}
+use Rattle.std.proofs.Common.{◌≡◌, ◌<◌, ℕ, ◌+◌, inl, inr, List, [], ◌∷◌, ◌++◌, Some, None, Result, Ok, Err, get_or, length, map, take, refl, sym, ap, subst, ◌∙◌}
+use Rattle.std.specs.Prelude.{IfErr, OnOk}
 use Rattle.std.specs.Result.{result_err}
 use Rattle.std.proofs.lemmas.List.{map-append, take_more}
 use Rattle.std.proofs.Math.Seq.{take-length}
@@ -10,8 +10,9 @@ use Rattle.settings.specs.Medium.{extent_of}
 use Rattle.mbr.specs.declared.MbrFault.{MbrFault}
 use Rattle.mbr.specs.Faults.{told_by}
 use Rattle.file_disk.specs.declared.storage.Failure.{Failure}
-use Rattle.file_disk.specs.Calls.{Call, Since, Sync, WritesAll}
+use Rattle.file_disk.specs.Calls.{Call, Since, StopsWriting, Sync, WritesAll}
 use Rattle.file_disk.specs.Transfers.{SyncsAfter}
+use Rattle.serving.specs.OnDisk.{StopsPutting}
 
 -- bytes that were all told, and then synced
 pub put_synced : (old mid new : List Call) (offset : ℕ) (bytes : List ℕ) → Since old mid (WritesAll offset bytes) → new ≡ Sync None ∷ mid → Since old new (SyncsAfter offset bytes None)
@@ -21,10 +22,26 @@ put_synced old mid new offset bytes writes noted = record {
   made = record { told = writes.calls; after = refl; writes = writes.made };
 }
 
+-- where they were told, the sync failed
+pub put_unsynced : (old mid new : List Call) (bytes : List ℕ) (why : Failure) → Since old mid (WritesAll 0 bytes) → new ≡ Sync (Some why) ∷ mid → Since old new (StopsPutting bytes why)
+put_unsynced old mid new bytes why writes noted = record {
+  calls = Sync (Some why) ∷ writes.calls;
+  after = noted ∙ ap (λ (calls : List Call). Sync (Some why) ∷ calls) writes.after;
+  made = inr (record { told = writes.calls; after = refl; writes = writes.made });
+}
+
+-- not all of them were told
+pub put_stopped : (old new : List Call) (bytes : List ℕ) (why : Failure) → Since old new (StopsWriting 0 bytes why) → Since old new (StopsPutting bytes why)
+put_stopped old new bytes why stops = record { calls = stops.calls; after = stops.after; made = inl stops.made }
+
 -- where they were told, a sync came to this
 pub put_so : {X : Type 0} (old mid new : List Call) (bytes : List ℕ) (result : Result X Failure) → Since old mid (WritesAll 0 bytes) → new ≡ Sync (result_err result) ∷ mid → OnOk result (Since old new (SyncsAfter 0 bytes None))
 put_so old mid new bytes (Ok done) writes noted = put_synced old mid new 0 bytes writes noted
 put_so old mid new bytes (Err why) writes noted = tt
+
+pub put_fails : {X : Type 0} (old mid new : List Call) (bytes : List ℕ) (result : Result X Failure) → Since old mid (WritesAll 0 bytes) → new ≡ Sync (result_err result) ∷ mid → IfErr result (λ why. Since old new (StopsPutting bytes why))
+put_fails old mid new bytes (Ok done) writes noted = tt
+put_fails old mid new bytes (Err why) writes noted = put_unsynced old mid new bytes why writes noted
 
 -- COMPARING
 

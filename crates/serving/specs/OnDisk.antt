@@ -1,23 +1,47 @@
 -- A session over a disk in a storage.
-use Rattle.std.specs.Prelude.{◌≡◌, ℕ, ◌*◌, List, [], get_or, length, IsFalse, Option, Ok}
+use Rattle.std.specs.Prelude.{◌≡◌, ◌≢◌, ◌<◌, ◌≤◌, ◌⊎◌, ℕ, ◌*◌, false, List, [], get_or, length, IsFalse, Option, Some, Ok}
 use Rattle.settings.specs.declared.Config.{Config}
-use Rattle.settings.specs.Medium.{extents_of}
+use Rattle.settings.specs.Medium.{extents_of, table_sector}
 use Rattle.mbr.specs.Faults.{told_by}
 use Rattle.machine.specs.declared.Label.{Label}
 use Rattle.adapter.specs.View.{AdapterView}
+use Rattle.miniport.specs.Apart.{apart as shown_apart, IsNewBooked}
+use Rattle.miniport.specs.Memory.{MemView}
 use Rattle.io_manager.specs.Shown.{ManagerView}
-use Rattle.compose.specs.declared.Settings.{Settings}
-use Rattle.compose.specs.Opening.{IsFirstView}
+use Rattle.compose.specs.declared.StartFault.{StartFault}
+use Rattle.compose.specs.Opening.{IsFirstView, IsSpent}
+use Rattle.startup.specs.declared.faults.Error.TheVariants.{Start}
+use Rattle.startup.specs.Started.{limits_of, rules_over}
 use Rattle.volume.specs.Opening.{IsOn}
 use Rattle.volume.specs.Shown.{extent_at}
 use Rattle.nbd.specs.declared.End.{End}
 use Rattle.nbd.specs.declared.arrays.Sizes.{Sizes}
 use Rattle.nbd.specs.Over.{IsSessionOver}
-use Rattle.file_disk.specs.Calls.{Call, ReadsAll, Since}
+use Rattle.file_disk.specs.declared.storage.Failure.{Failure}
+use Rattle.file_disk.specs.Calls.{Call, ReadsAll, Since, StopsReading, StopsWriting}
+use Rattle.file_disk.specs.Transfers.{SyncsAfter}
 use Rattle.serving.specs.declared.faults.Error.{Error}
+use Rattle.serving.specs.declared.faults.Error.TheVariants.{Startup, NoPartition, Disk, NoMemory}
+use Rattle.serving.specs.declared.faults.DiskFault.TheVariants.{NotCreated, Unreadable, OtherTable, BadSectors}
 use Rattle.serving.specs.Carried.{IsTold}
 use Rattle.serving.specs.Filed.{CarriesBy, FiledView}
 use Rattle.serving.specs.Serving.{fault_of_end}
+
+-- THE TABLE IS PUT
+
+-- the newest call took none of what was left of these bytes, or it was the sync behind all of them, and failed
+abbrev pub StopsPutting : List ℕ → Failure → List Call → Type 0
+StopsPutting bytes why calls = StopsWriting 0 bytes why calls ⊎ SyncsAfter 0 bytes (Some why) calls
+
+-- why the table of these settings was not put, and what was called for it
+abbrev pub IsPutFault : Config → List Call → Error → List Call → Type 0
+-- memory was refused, and nothing was called
+IsPutFault c before NoMemory after = after ≡ before
+-- a call failed, and none was made behind it
+IsPutFault c before (Disk NotCreated) after = (why : Failure) × Since before after (StopsPutting (table_sector c) why)
+IsPutFault c before _ after = ⊥
+
+-- THE TABLE IS READ
 
 -- sector 0 was read, which gives the partitions of the settings, and nothing was written
 pub record ReadsTable (c : Config) (before after : List Call) : Type 0 where
@@ -26,28 +50,89 @@ pub record ReadsTable (c : Config) (before after : List Call) : Type 0 where
   pub reads : Since before after (ReadsAll 0 table)
   pub told : told_by c.sectors table ≡ Ok (extents_of c)
 
+-- sector 0 was read, which gives other partitions than the settings, or none
+pub record ReadsOtherTable (c : Config) (before after : List Call) : Type 0 where
+  pub table : List ℕ
+  pub long : length table ≡ c.sector_size
+  pub reads : Since before after (ReadsAll 0 table)
+  pub other : told_by c.sectors table ≢ Ok (extents_of c)
+
+-- why sector 0 does not give the partitions of the settings, and what was called
+abbrev pub IsTableFault : Config → List Call → Error → List Call → Type 0
+-- memory was refused, and nothing was called
+IsTableFault c before NoMemory after = after ≡ before
+-- a call of the read gave nothing, and none was made behind it
+IsTableFault c before (Disk Unreadable) after = (why : Failure) × Since before after (StopsReading 0 c.sector_size why)
+IsTableFault c before (Disk OtherTable) after = ReadsOtherTable c before after
+IsTableFault c before _ after = ⊥
+
+-- A STACK IS STARTED
+
 -- a stack before its first event, over an adapter of the settings' sizes that holds no sectors but this first one
 pub record IsStartedOver (c : Config) (first_sector : List ℕ) (stack : ManagerView) : Type 0 where
   pub disk : AdapterView
-  pub limits : Settings
-  pub first : IsFirstView disk limits stack
+  pub first : IsFirstView disk (limits_of c) stack
   pub apart : IsFalse disk.faithful
   pub sector_size : disk.sector_size ≡ c.sector_size
   pub sectors : length disk.sectors ≡ c.sectors
+  pub max_transfer : disk.max_transfer ≡ c.max_transfer
+  pub depth : disk.depth ≡ c.depth
   pub begins : get_or disk.sectors 0 [] ≡ first_sector
+
+-- no stack could be started over such an adapter, for this reason
+pub record HasNoStack (c : Config) (first_sector : List ℕ) (fault : StartFault) : Type 0 where
+  pub adapter : MemView
+  pub new : IsNewBooked first_sector c.sectors c.max_transfer c.depth adapter
+  pub after : AdapterView
+  pub spent : IsSpent (shown_apart adapter.shown) (limits_of c) fault after
+
+-- why there is no such stack: memory was refused, or it could not be started
+abbrev pub IsNotStarted : Config → List ℕ → Error → Type 0
+IsNotStarted c first_sector NoMemory = Unit {0}
+IsNotStarted c first_sector (Startup (Start fault)) = HasNoStack c first_sector fault
+IsNotStarted c first_sector _ = ⊥
+
+-- A PARTITION IS OPENED
 
 -- a partition of these settings, over a storage of which just its partition table was read
 pub record IsOpened (c : Config) (p : ℕ) (calls : List Call) (filed : FiledView) : Type 0 where
+  pub none_bad : c.bad_sectors.items ≡ []
   pub table : ReadsTable c calls filed.carried.disk.calls
   pub block : filed.sizes.block ≡ c.sector_size
-  -- the stack's partitions are those of the settings, and the handle is on this one
-  pub partitions : filed.carried.stack.rules.partitions ≡ extents_of c
+  pub write_protected : filed.carried.disk.write_protected ≡ c.write_protected
+  -- the stack's partitions, sizes and limits are those of the settings; the handle is on this partition
+  pub rules : filed.carried.stack.rules ≡ rules_over false c
   pub on : IsOn filed.carried.stack filed.handle p
   pub bytes : filed.sizes.bytes ≡ (extent_at (extents_of c) p).count * c.sector_size
   -- what is told of the stack from here on is told of a run from its start, in which nothing acted
   pub arrays : List (List (List ℕ))
   pub trace : List Label
   pub begins : IsTold arrays trace [] filed.carried.stack
+
+-- the settings have no bad sectors, and have this partition
+abbrev pub AreServable : Config → ℕ → Type 0
+AreServable c p = (c.bad_sectors.items ≡ []) × (p < length (extents_of c))
+
+-- sector 0 was read, and no stack could be started over it
+pub record StopsStarting (c : Config) (before : List Call) (fault : StartFault) (after : List Call) : Type 0 where
+  pub read : ReadsTable c before after
+  pub stops : HasNoStack c read.table fault
+
+-- why a partition of these settings could not be opened, and what was called of the storage
+abbrev pub IsOpenFault : Config → ℕ → List Call → Error → List Call → Type 0
+-- there are bad sectors
+IsOpenFault c p before (Disk BadSectors) after = (c.bad_sectors.items ≢ []) × (after ≡ before)
+-- there are none, and no such partition
+IsOpenFault c p before NoPartition after = (c.bad_sectors.items ≡ []) × (length (extents_of c) ≤ p) × (after ≡ before)
+-- a call of the table's read gave nothing
+IsOpenFault c p before (Disk Unreadable) after = AreServable c p × IsTableFault c before (Disk Unreadable) after
+-- the table was read, and is another
+IsOpenFault c p before (Disk OtherTable) after = AreServable c p × ReadsOtherTable c before after
+-- the table was read, and no stack could be started
+IsOpenFault c p before (Startup (Start fault)) after = AreServable c p × StopsStarting c before fault after
+-- memory was refused elsewhere, before the table was read or after it
+IsOpenFault c p before NoMemory after = AreServable c p × ((after ≡ before) ⊎ ReadsTable c before after)
+IsOpenFault c p before _ after = ⊥
 
 -- a session, and what is told at its end
 pub record IsFileSession (old : FiledView) (input out : Option (List ℕ)) (told : Option Error) (new : FiledView) (after : Option (List ℕ)) : Type 0 where

@@ -1,9 +1,10 @@
 //! A session over a disk in a storage.
 
-ghost use Rattle.std.specs.Prelude.{◌≡◌, ◌≤◌, ◌<◌, ◌*◌, ◌^◌, List, [], IfOk, IsTrue, Ok, OnOk, length, map, None};
+ghost use Rattle.std.specs.Prelude.{◌≡◌, ◌≢◌, ◌≤◌, ◌<◌, ◌⊎◌, ℕ, ◌*◌, ◌^◌, List, [], IfErr, IfOk, IsFalse, IsTrue, Ok, OnOk, length, map, None};
 ghost use Rattle.std.specs.Result.{result_err};
 ghost use Rattle.machine.specs.declared.Label.{Label};
-ghost use Rattle.io_manager.specs.declared.Reply.TheVariants.{Handle as HandleReply};
+ghost use Rattle.io_manager.specs.declared.Refusal.TheVariants.{InvalidParameter};
+ghost use Rattle.io_manager.specs.declared.Reply.TheVariants.{Handle as HandleReply, Refused};
 ghost use Rattle.mbr.specs.Faults.{told_by};
 ghost use Rattle.settings.specs.InRange.{AreInRange};
 ghost use Rattle.settings.specs.Medium.{extent_of, extents_of, table_sector};
@@ -12,7 +13,8 @@ ghost use Rattle.volume.specs.Shown.{extent_at};
 ghost use Rattle.file_disk.specs.Calls.{ReadsAll, Since};
 ghost use Rattle.file_disk.specs.Transfers.{DiskView, SyncsAfter};
 ghost use Rattle.serving.specs.Carried.{StandsIn, TellsOn, quiet};
-ghost use Rattle.serving.specs.OnDisk.{IsFileSession, IsOpened, IsStartedOver};
+ghost use Rattle.serving.specs.OnDisk.{IsFileSession, IsNotStarted, IsOpenFault, IsOpened, IsPutFault, IsStartedOver, IsTableFault, StopsPutting};
+ghost use Rattle.serving.specs.declared.faults.Error.TheVariants.{NoMemory, NoPartition};
 
 use crate::faults::{DiskFault, Error};
 use crate::filed::Filed;
@@ -43,7 +45,8 @@ pub fn disk_bytes(config: &Config) -> u64
 /// [`DiskFault::NotCreated`] where a call failed; [`Error::NoMemory`].
 pub fn put_table<S: Storage>(alloc: Global, storage: &mut S, config: &Config) -> Result<(), Error>
     requires { AreInRange config.now }
-    ensures { IfOk result (λ _. Since (S.calls storage.old) (S.calls storage.new) (SyncsAfter 0 (table_sector config.now) None)) }
+    ensures synced { IfOk result (λ _. Since (S.calls storage.old) (S.calls storage.new) (SyncsAfter 0 (table_sector config.now) None)) }
+    ensures fault { IfErr result (λ fault. IsPutFault config.now (S.calls storage.old) fault (S.calls storage.new)) }
 {
     let sector = table_sector(alloc, config)?;
     match put(storage, sector.as_slice()) {
@@ -59,7 +62,8 @@ pub fn put_table<S: Storage>(alloc: Global, storage: &mut S, config: &Config) ->
 /// The failure of the call that failed.
 fn put<S: Storage>(storage: &mut S, bytes: &[u8]) -> Result<(), Failure>
     requires { length bytes.now < 2 ^ 64 }
-    ensures { OnOk result (Since (S.calls storage.old) (S.calls storage.new) (SyncsAfter 0 bytes.now None)) }
+    ensures synced { OnOk result (Since (S.calls storage.old) (S.calls storage.new) (SyncsAfter 0 bytes.now None)) }
+    ensures fault { IfErr result (λ why. Since (S.calls storage.old) (S.calls storage.new) (StopsPutting bytes.now why)) }
 {
     write_all(storage, 0, bytes)?;
     storage.sync()
@@ -80,6 +84,7 @@ fn checked_table<S: Storage>(
     ensures long { IfOk result (λ sector. length sector.items ≡ config.now.sector_size) }
     ensures reads { IfOk result (λ sector. Since (S.calls storage.old) (S.calls storage.new) (ReadsAll 0 sector.items)) }
     ensures told { IfOk result (λ sector. told_by config.now.sectors sector.items ≡ Ok (extents_of config.now)) }
+    ensures fault { IfErr result (λ fault. IsTableFault config.now (S.calls storage.old) fault (S.calls storage.new)) }
 {
     let mut sector = vec![in alloc; 0; config.sector_size as usize]?;
     let Ok(()) = read_all(storage, 0, sector.as_mut_slice()) else {
@@ -93,7 +98,8 @@ fn checked_table<S: Storage>(
 
 /// Returns whether the extents are the partitions' own, in order.
 fn are_those(extents: &[Extent], partitions: &[Partition]) -> bool
-    ensures { IsTrue result → extents.now ≡ map extent_of partitions.now }
+    ensures same { IsTrue result → extents.now ≡ map extent_of partitions.now }
+    ensures other { IsFalse result → extents.now ≢ map extent_of partitions.now }
 {
     if extents.len() != partitions.len() {
         return false;
@@ -110,7 +116,8 @@ fn are_those(extents: &[Extent], partitions: &[Partition]) -> bool
 
 /// Returns whether the extent is the partition's own.
 fn is_that(extent: Extent, partition: Partition) -> bool
-    ensures { IsTrue result → extent ≡ extent_of partition }
+    ensures same { IsTrue result → extent ≡ extent_of partition }
+    ensures other { IsFalse result → extent ≢ extent_of partition }
 {
     extent.first == partition.first as u64 && extent.count == partition.count as u64
 }
@@ -129,7 +136,8 @@ pub fn open_file<S: Storage + Drop>(
     storage: S,
 ) -> Result<Filed<S>, Error>
     requires { AreInRange config }
-    ensures { IfOk result (IsOpened config partition (S.calls storage)) }
+    ensures opened { IfOk result (IsOpened config partition (S.calls storage)) }
+    ensures fault { IfErr result (λ fault. (spent : S) × IsOpenFault config partition (S.calls storage) fault (S.calls spent)) }
 {
     if !config.bad_sectors.is_empty() {
         return Err(Error::Disk(DiskFault::BadSectors));
@@ -167,6 +175,8 @@ fn sizes_of(config: &Config, partition: u8) -> Result<Sizes, Error>
     ensures block { IfOk result (λ sizes. sizes.block ≡ config.now.sector_size) }
     ensures bytes { IfOk result (λ sizes. sizes.bytes ≡ (extent_at (extents_of config.now) partition).count * config.now.sector_size) }
     ensures few { IfOk result (λ sizes. sizes.bytes ≤ 2 ^ 63) }
+    ensures known { IfOk result (λ _. partition < length (extents_of config.now)) }
+    ensures fault { IfErr result (λ fault. (fault ≡ NoPartition) × (length (extents_of config.now) ≤ partition)) }
 {
     match config.partitions.as_slice().get(partition as usize) {
         Some(shown) => Ok(Sizes {
@@ -185,7 +195,8 @@ fn sizes_of(config: &Config, partition: u8) -> Result<Sizes, Error>
 fn started(alloc: Global, config: &Config, first: Vec<u8>) -> Result<Stack<BookedAdapter>, Error>
     requires range { AreInRange config.now }
     requires long { length first.items ≡ config.now.sector_size }
-    ensures { IfOk result (IsStartedOver config.now first.items) }
+    ensures started { IfOk result (IsStartedOver config.now first.items) }
+    ensures fault { IfErr result (IsNotStarted config.now first.items) }
 {
     let adapter = BookedAdapter::new(
         alloc,
@@ -219,6 +230,7 @@ fn opened(stack: &mut Stack<BookedAdapter>, alloc: Global, partition: u8) -> Res
     ensures stands { (disk : DiskView) → StandsIn (quiet stack.old) disk → StandsIn (quiet stack.new) disk }
     ensures told { (labels : List Label) × TellsOn (quiet stack.old) labels [] (quiet stack.new) }
     ensures on { IfOk result (λ handle. IsOn (quiet stack.new) handle partition) }
+    ensures fault { IfErr result (λ fault. (fault ≡ NoMemory) ⊎ ((fault ≡ NoPartition) × (length stack.old.rules.partitions ≤ partition))) }
 {
     laws_of_entries();
     let reply = stack.step_untraced(alloc, Event::Open { partition });
@@ -231,7 +243,8 @@ fn opened(stack: &mut Stack<BookedAdapter>, alloc: Global, partition: u8) -> Res
 ///
 /// [`Error::NoPartition`], [`Error::NoMemory`].
 fn handle_in(reply: Reply) -> Result<Handle, Error>
-    ensures { IfOk result (λ handle. reply ≡ HandleReply handle) }
+    ensures handle { IfOk result (λ handle. reply ≡ HandleReply handle) }
+    ensures fault { IfErr result (λ fault. (fault ≡ NoMemory) ⊎ ((fault ≡ NoPartition) × ((bytes : List ℕ) × (reply ≡ Refused InvalidParameter bytes)))) }
 {
     match reply {
         Reply::Handle(handle) => Ok(handle),

@@ -4,6 +4,7 @@ use Rattle.compose.specs.declared.Event.TheVariants.{Open}
 use Rattle.compose.proofs.JournaledKept.{led}
 use Rattle.serving.specs.Carried.{StandsIn, TellsOn, quiet}
 use Rattle.serving.proofs.Carrying.{on_opened, others_stand, others_told}
+use Rattle.serving.proofs.Failing.{on_refused}
 use Rattle.serving.proofs.Quiet.{quiet_after}
 use Rattle.serving.proofs.on_disk.opened.Goals as goal
 
@@ -32,4 +33,8 @@ returns-clause-rules c =
 pub returns-clause-on : goal.returns-clause-on
 returns-clause-on c =
     on_opened (quiet c.args.stack.now) c.step_untraced-reply.ensures.untraced.stepped (quiet c.step_untraced-reply.new.self) c.args.partition (quiet_after _ _ _ _ c.step_untraced-reply.ensures.untraced)
-    (returns-clause-rules c) c.step_untraced-reply.result c.handle_in.result c.step_untraced-reply.ensures.untraced.right c.handle_in.ensures
+    (returns-clause-rules c) c.step_untraced-reply.result c.handle_in.result c.step_untraced-reply.ensures.untraced.right c.handle_in.ensures.handle
+
+pub returns-clause-fault : goal.returns-clause-fault
+returns-clause-fault c =
+    on_refused (quiet c.args.stack.now) c.step_untraced-reply.ensures.untraced.stepped c.args.partition c.step_untraced-reply.result c.handle_in.result c.step_untraced-reply.ensures.untraced.right c.handle_in.ensures.fault
