@@ -1,5 +1,5 @@
 -- A partition table in sector 0.
-use Rattle.std.proofs.Common.{◌≡◌, ◌<◌, ℕ, ◌+◌, inl, inr, List, [], ◌∷◌, ◌++◌, Some, None, Result, Ok, Err, get_or, length, map, take, refl, sym, ap, subst, ◌∙◌}
+use Rattle.std.proofs.Common.{◌≡◌, ◌≢◌, ◌<◌, ℕ, ◌+◌, inl, inr, List, [], ◌∷◌, ◌++◌, Some, None, Result, Ok, Err, get_or, length, map, take, refl, sym, ap, subst, ◌∙◌}
 use Rattle.std.specs.Prelude.{IfErr, OnOk}
 use Rattle.std.specs.Result.{result_err}
 use Rattle.std.proofs.lemmas.List.{map-append, take_more}
@@ -59,8 +59,20 @@ pub same_all : (xs : List Extent) (ps : List Partition) (k : ℕ) → length xs 
 same_all xs ps k long many same =
     sym (ap (λ (n : ℕ). take n xs) (sym long) ∙ take-length xs) ∙ same ∙ ap (λ (l : List Partition). map extent_of l) (ap (λ (n : ℕ). take n ps) (sym many) ∙ take-length ps)
 
--- what the bytes of a sector give, where they were shown whole
-pub table_told : (sectors : ℕ) (shown sector : List ℕ) (found wanted : List Extent) → shown ≡ sector → ◌≡◌ {A = Result (List Extent) MbrFault} (Ok found) (told_by sectors shown) → found ≡ wanted → told_by sectors sector ≡ Ok wanted
-table_told sectors shown sector found wanted is answer same =
-    let ok : ◌≡◌ {A = Result (List Extent) MbrFault} (Ok found) (Ok wanted) = subst (λ (xs : List Extent). ◌≡◌ {A = Result (List Extent) MbrFault} (Ok found) (Ok xs)) same refl in
-    subst (λ (bytes : List ℕ). told_by sectors bytes ≡ Ok wanted) is (sym answer ∙ ok)
+-- WHAT A SECTOR GIVES
+
+module _ (sectors : ℕ) (sector : List ℕ) (wanted : List Extent) where
+  module _ (found : List Extent) (answer : ◌≡◌ {A = Result (List Extent) MbrFault} (Ok found) (told_by sectors sector)) where
+    pub gives_those : found ≡ wanted → told_by sectors sector ≡ Ok wanted
+    gives_those same =
+        let ok : ◌≡◌ {A = Result (List Extent) MbrFault} (Ok found) (Ok wanted) = subst (λ (xs : List Extent). ◌≡◌ {A = Result (List Extent) MbrFault} (Ok found) (Ok xs)) same refl in
+        sym answer ∙ ok
+
+    pub gives_others : (found ≢ wanted) → told_by sectors sector ≢ Ok wanted
+    gives_others differ = λ told. differ (same_items found wanted (answer ∙ told))
+      where
+        same_items : (xs ys : List Extent) → ◌≡◌ {A = Result (List Extent) MbrFault} (Ok xs) (Ok ys) → xs ≡ ys
+        same_items xs ys e = cc
+
+  pub gives_none : (fault : MbrFault) → ◌≡◌ {A = Result (List Extent) MbrFault} (Err fault) (told_by sectors sector) → told_by sectors sector ≢ Ok wanted
+  gives_none fault answer = λ told. absurd (let k : ◌≡◌ {A = Result (List Extent) MbrFault} (Err fault) (Ok wanted) = answer ∙ told in cc)

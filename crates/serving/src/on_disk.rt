@@ -86,13 +86,45 @@ fn checked_table<S: Storage>(
     ensures told { IfOk result (λ sector. told_by config.now.sectors sector.items ≡ Ok (extents_of config.now)) }
     ensures fault { IfErr result (λ fault. IsTableFault config.now (S.calls storage.old) fault (S.calls storage.new)) }
 {
+    let sector = first_sector(alloc, storage, config)?;
+    if gives_partitions(sector.as_slice(), config) {
+        Ok(sector)
+    } else {
+        Err(Error::Disk(DiskFault::OtherTable))
+    }
+}
+
+/// Returns sector 0 of a storage.
+///
+/// # Errors
+///
+/// [`DiskFault::Unreadable`] where a call failed; [`Error::NoMemory`].
+fn first_sector<S: Storage>(
+    alloc: Global,
+    storage: &mut S,
+    config: &Config,
+) -> Result<Vec<u8>, Error>
+    requires { AreInRange config.now }
+    ensures long { IfOk result (λ sector. length sector.items ≡ config.now.sector_size) }
+    ensures reads { IfOk result (λ sector. Since (S.calls storage.old) (S.calls storage.new) (ReadsAll 0 sector.items)) }
+    ensures fault { IfErr result (λ fault. IsTableFault config.now (S.calls storage.old) fault (S.calls storage.new)) }
+{
     let mut sector = vec![in alloc; 0; config.sector_size as usize]?;
-    let Ok(()) = read_all(storage, 0, sector.as_mut_slice()) else {
-        return Err(Error::Disk(DiskFault::Unreadable));
-    };
-    match parse(sector.as_slice(), config.sectors) {
-        Ok(found) if are_those(found.as_slice(), config.partitions.as_slice()) => Ok(sector),
-        _ => Err(Error::Disk(DiskFault::OtherTable)),
+    match read_all(storage, 0, sector.as_mut_slice()) {
+        Ok(()) => Ok(sector),
+        Err(_) => Err(Error::Disk(DiskFault::Unreadable)),
+    }
+}
+
+/// Returns whether the bytes of sector 0 give the partitions of the settings.
+fn gives_partitions(sector: &[u8], config: &Config) -> bool
+    ensures same { IsTrue result → told_by config.now.sectors sector.now ≡ Ok (extents_of config.now) }
+    ensures other { IsFalse result → told_by config.now.sectors sector.now ≢ Ok (extents_of config.now) }
+{
+    let partitions = config.partitions.as_slice();
+    match parse(sector, config.sectors) {
+        Ok(found) => are_those(found.as_slice(), partitions),
+        Err(_) => false,
     }
 }
 

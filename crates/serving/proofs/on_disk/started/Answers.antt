@@ -15,10 +15,10 @@ returns-in-Ok-start-clause-started c = record {
   depth = c.in-Ok.ensures.depth_is;
 }
 
-pub returns-in-Err-start-clause-fault : goal.returns-in-Err-start-clause-fault
-returns-in-Err-start-clause-fault c = record {
+pub returns-in-Err-clause-fault : goal.returns-in-Err-clause-fault
+returns-in-Err-clause-fault c = record {
   adapter = c.in-Ok.adapter;
   new = c.in-Ok.ensures;
-  after = apart c.in-Err-start.ensures.fault.0.shown;
-  spent = c.in-Err-start.ensures.fault.1;
+  after = apart c.in-Err.ensures.fault.0.shown;
+  spent = c.in-Err.ensures.fault.1;
 }
