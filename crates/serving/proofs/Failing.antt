@@ -5,7 +5,7 @@ use Rattle.std.proofs.lemmas.Bool.Decides.{nat_tests}
 use Rattle.ntstatus.specs.declared.NtStatus.{NtStatus}
 use Rattle.ntstatus.specs.declared.NtStatus.TheVariants.{InvalidParameter as ParameterStatus, DeletePending as PendingStatus, DeviceBusy as BusyStatus}
 use Rattle.ntstatus.specs.First.{when, first_some}
-use Rattle.sector.specs.declared.Extent.{Extent}
+use Rattle.machine.specs.Rules.{Rules}
 use Rattle.settings.specs.declared.Config.{Config}
 use Rattle.settings.specs.Medium.{extents_of}
 use Rattle.io_manager.specs.declared.Handle.{Handle}
@@ -17,6 +17,7 @@ use Rattle.io_manager.specs.Shown.{ManagerView}
 use Rattle.compose.specs.declared.Event.TheVariants.{Open}
 use Rattle.compose.specs.Right.{IsRight}
 use Rattle.startup.specs.declared.faults.Error.TheVariants.{ConfigUnreadable, Settings as WrongSettings, Start, NoMemory as LacksMemory}
+use Rattle.startup.specs.Started.{rules_over}
 use Rattle.file_disk.specs.Calls.{Call}
 use Rattle.serving.specs.declared.faults.Error.{Error}
 use Rattle.serving.specs.declared.faults.Error.TheVariants.{Usage, Startup, NoPartition, Disk, Malformed, InputEnded, OutputFailed, NoMemory}
@@ -45,6 +46,10 @@ on_refused old new partition reply (Err fault) right (inr (none, (bytes, is))) =
     inr (none, refused_past old partition (subst (λ (r : Reply). IsRight old (Open partition) r new) is right).replies.0)
 
 -- OPENING
+
+-- there is no such partition, and nothing was called
+pub no_partition : (c : Config) (p : ℕ) (calls : List Call) (fault : Error) → c.bad_sectors.items ≡ [] → (fault ≡ NoPartition) × (length (extents_of c) ≤ p) → IsOpenFault c p calls fault calls
+no_partition c p calls fault none h = subst (λ (f : Error). IsOpenFault c p calls f calls) (sym h.0) (none, h.1, refl)
 
 module _ (c : Config) (p : ℕ) (before after : List Call) (servable : AreServable c p) where
   -- sector 0 does not give the partitions of the settings
@@ -80,9 +85,9 @@ module _ (c : Config) (p : ℕ) (before after : List Call) (servable : AreServab
     fault_of_start OutputFailed h = absurd h
 
     -- no handle was given
-    pub fault_of_handle : (extents : List Extent) → extents ≡ extents_of c → (fault : Error) → (fault ≡ NoMemory) ⊎ ((fault ≡ NoPartition) × (length extents ≤ p)) → IsOpenFault c p before fault after
-    fault_of_handle extents same fault (inl lacks) = subst (λ (f : Error). IsOpenFault c p before f after) (sym lacks) (servable, inr read)
-    fault_of_handle extents same fault (inr none) =
-        let past : length (extents_of c) ≤ p = subst (λ (xs : List Extent). length xs ≤ p) same none.1 in
+    pub fault_of_handle : (rules : Rules) → rules ≡ rules_over false c → (fault : Error) → (fault ≡ NoMemory) ⊎ ((fault ≡ NoPartition) × (length rules.partitions ≤ p)) → IsOpenFault c p before fault after
+    fault_of_handle rules same fault (inl lacks) = subst (λ (f : Error). IsOpenFault c p before f after) (sym lacks) (servable, inr read)
+    fault_of_handle rules same fault (inr none) =
+        let past : length (extents_of c) ≤ p = subst (λ (r : Rules). length r.partitions ≤ p) same none.1 in
         let low : p < length (extents_of c) = servable.1 in
         absurd (omega (arith, past, low))

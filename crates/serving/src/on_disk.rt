@@ -171,7 +171,7 @@ pub fn open_file<S: Storage + Drop>(
     ensures opened { IfOk result (IsOpened config partition (S.calls storage)) }
     ensures fault { IfErr result (λ fault. (spent : S) × IsOpenFault config partition (S.calls storage) fault (S.calls spent)) }
 {
-    if !config.bad_sectors.is_empty() {
+    if has_bad_sectors(&config) {
         return Err(Error::Disk(DiskFault::BadSectors));
     }
     let mut storage = storage;
@@ -195,6 +195,14 @@ pub fn open_file<S: Storage + Drop>(
         sizes,
         kept: Vec::new(alloc),
     })
+}
+
+/// Returns whether the settings have bad sectors.
+fn has_bad_sectors(config: &Config) -> bool
+    ensures some { IsTrue result → config.now.bad_sectors.items ≢ [] }
+    ensures none { IsFalse result → config.now.bad_sectors.items ≡ [] }
+{
+    !config.bad_sectors.as_slice().is_empty()
 }
 
 /// Returns the bytes of a sector and of a partition.
