@@ -69,7 +69,7 @@ returns-in_err-stack-clause-fault g c =
 
 pub returns-in_err-handle-clause-fault : goal.returns-in_err-handle-clause-fault
 returns-in_err-handle-clause-fault g c =
-    let given : c.from_residual-in_err-handle.result ≡ Err c.in_err-handle.field-0.0 = search rules in
+    let given : c.from_residual-in_err-handle.result ≡ Err c.in_err-handle.field-0.0 = search (rules, c.from_residual-in_err-handle.ensures, c.in_err-handle.was, c.in_err-handle.is) in
     rw given
     (c.checked_table.new.storage,
     fault_of_handle c.args.config c.args.partition (g.S.Storage.calls c.args.storage) (g.S.Storage.calls c.checked_table.new.storage)
