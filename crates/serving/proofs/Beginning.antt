@@ -1,5 +1,5 @@
 -- A stack over a storage before its first event.
-use Rattle.std.proofs.Common.{◌≡◌, ℕ, false, List, [], Result, Ok, length, map, IsFalse, refl, sym, ap, subst, ◌∙◌}
+use Rattle.std.proofs.Common.{◌≡◌, ℕ, false, List, [], Result, Ok, length, map, refl, sym, ap, subst, ◌∙◌}
 use Rattle.std.specs.Prelude.{All}
 use Rattle.std.proofs.lemmas.List.Elements.{All-nil}
 use Rattle.sector.specs.Extents.{sectors_in}

@@ -1,8 +1,7 @@
 -- Why no partition of a disk in a storage was opened.
-use Rattle.std.proofs.Common.{◌≡◌, ◌<◌, ◌≤◌, ◌⊎◌, inl, inr, ℕ, Bool, true, false, List, ◌∷◌, [], Option, Some, None, Result, Ok, Err, length, refl, sym, subst, arith}
+use Rattle.std.proofs.Common.{◌≡◌, ◌<◌, ◌≤◌, ◌⊎◌, inl, inr, ℕ, Bool, true, false, List, ◌∷◌, [], Some, None, Result, Ok, Err, length, refl, sym, subst, arith}
 use Rattle.std.specs.Prelude.{IfErr, count_by, is_some, nat_le}
 use Rattle.std.proofs.lemmas.Bool.Decides.{nat_tests}
-use Rattle.ntstatus.specs.declared.NtStatus.{NtStatus}
 use Rattle.ntstatus.specs.declared.NtStatus.TheVariants.{InvalidParameter as ParameterStatus, DeletePending as PendingStatus, DeviceBusy as BusyStatus}
 use Rattle.ntstatus.specs.First.{when, first_some}
 use Rattle.machine.specs.Rules.{Rules}

@@ -15,7 +15,6 @@ use Rattle.startup.specs.Started.{limits_of, rules_over}
 use Rattle.volume.specs.Opening.{IsOn}
 use Rattle.volume.specs.Shown.{extent_at}
 use Rattle.nbd.specs.declared.End.{End}
-use Rattle.nbd.specs.declared.arrays.Sizes.{Sizes}
 use Rattle.nbd.specs.Over.{IsSessionOver}
 use Rattle.file_disk.specs.declared.storage.Failure.{Failure}
 use Rattle.file_disk.specs.Calls.{Call, ReadsAll, Since, StopsReading, StopsWriting}

@@ -53,26 +53,29 @@ returns-in_err-sizes-clause-fault g c =
 pub returns-in_err-first-clause-fault : goal.returns-in_err-first-clause-fault
 returns-in_err-first-clause-fault g c =
     let given : c.from_residual-in_err-first.result ≡ Err c.in_err-first.field-0.0 = search rules in
-    rw given
-    (c.checked_table.new.storage,
-    fault_of_table c.args.config c.args.partition (g.S.Storage.calls c.args.storage) (g.S.Storage.calls c.checked_table.new.storage)
-    (c.has_bad_sectors.ensures.none c.if-has_bad_sectors.false, c.in_ok-sizes.ensures.known) c.in_err-first.field-0.0 c.in_err-first.ensures.fault)
+    rw given (
+      c.checked_table.new.storage,
+      fault_of_table c.args.config c.args.partition (g.S.Storage.calls c.args.storage) (g.S.Storage.calls c.checked_table.new.storage)
+          (c.has_bad_sectors.ensures.none c.if-has_bad_sectors.false, c.in_ok-sizes.ensures.known) c.in_err-first.field-0.0 c.in_err-first.ensures.fault,
+    )
 
 pub returns-in_err-stack-clause-fault : goal.returns-in_err-stack-clause-fault
 returns-in_err-stack-clause-fault g c =
     let given : c.from_residual-in_err-stack.result ≡ Err c.in_err-stack.field-0.0 = search rules in
-    rw given
-    (c.checked_table.new.storage,
-    fault_of_start c.args.config c.args.partition (g.S.Storage.calls c.args.storage) (g.S.Storage.calls c.checked_table.new.storage)
-    (c.has_bad_sectors.ensures.none c.if-has_bad_sectors.false, c.in_ok-sizes.ensures.known)
-    (record { table = c.in_ok-first.first.items; long = c.in_ok-first.ensures.long; reads = c.in_ok-first.ensures.reads; told = c.in_ok-first.ensures.told }) c.in_err-stack.field-0.0 c.in_err-stack.ensures.fault)
+    rw given (
+      c.checked_table.new.storage,
+      fault_of_start c.args.config c.args.partition (g.S.Storage.calls c.args.storage) (g.S.Storage.calls c.checked_table.new.storage)
+          (c.has_bad_sectors.ensures.none c.if-has_bad_sectors.false, c.in_ok-sizes.ensures.known)
+          (record { table = c.in_ok-first.first.items; long = c.in_ok-first.ensures.long; reads = c.in_ok-first.ensures.reads; told = c.in_ok-first.ensures.told }) c.in_err-stack.field-0.0 c.in_err-stack.ensures.fault,
+    )
 
 pub returns-in_err-handle-clause-fault : goal.returns-in_err-handle-clause-fault
 returns-in_err-handle-clause-fault g c =
     let given : c.from_residual-in_err-handle.result ≡ Err c.in_err-handle.field-0.0 = search (rules, c.from_residual-in_err-handle.ensures, c.in_err-handle.was, c.in_err-handle.is) in
-    rw given
-    (c.checked_table.new.storage,
-    fault_of_handle c.args.config c.args.partition (g.S.Storage.calls c.args.storage) (g.S.Storage.calls c.checked_table.new.storage)
-    (c.has_bad_sectors.ensures.none c.if-has_bad_sectors.false, c.in_ok-sizes.ensures.known)
-    (record { table = c.in_ok-first.first.items; long = c.in_ok-first.ensures.long; reads = c.in_ok-first.ensures.reads; told = c.in_ok-first.ensures.told }) c.in_ok-stack.stack.rules
-    (rules_at_first c.args.config c.in_ok-first.first.items c.in_ok-stack.stack c.in_ok-stack.ensures.started c.in_ok-first.ensures.told) c.in_err-handle.field-0.0 c.in_err-handle.ensures.fault)
+    rw given (
+      c.checked_table.new.storage,
+      fault_of_handle c.args.config c.args.partition (g.S.Storage.calls c.args.storage) (g.S.Storage.calls c.checked_table.new.storage)
+          (c.has_bad_sectors.ensures.none c.if-has_bad_sectors.false, c.in_ok-sizes.ensures.known)
+          (record { table = c.in_ok-first.first.items; long = c.in_ok-first.ensures.long; reads = c.in_ok-first.ensures.reads; told = c.in_ok-first.ensures.told }) c.in_ok-stack.stack.rules
+          (rules_at_first c.args.config c.in_ok-first.first.items c.in_ok-stack.stack c.in_ok-stack.ensures.started c.in_ok-first.ensures.told) c.in_err-handle.field-0.0 c.in_err-handle.ensures.fault,
+    )
