@@ -1,5 +1,6 @@
 -- A session over a disk in a storage.
-use Rattle.std.specs.Prelude.{◌≡◌, ◌≢◌, ◌<◌, ◌≤◌, ◌⊎◌, ℕ, ◌*◌, false, List, [], get_or, length, IsFalse, Option, Some, Ok}
+use Rattle.std.specs.Prelude.{◌≡◌, ◌≢◌, ◌<◌, ◌≤◌, ◌⊎◌, ℕ, ◌*◌, false, IsFalse}
+use Rattle.std.specs.Prelude.{List, [], get_or, length, Option, Some, Ok}
 use Rattle.settings.specs.declared.Config.{Config}
 use Rattle.settings.specs.Medium.{extents_of, table_sector}
 use Rattle.mbr.specs.Faults.{told_by}

@@ -1,6 +1,7 @@
 //! A session over a disk in a storage.
 
-ghost use Rattle.std.specs.Prelude.{◌≡◌, ◌≢◌, ◌≤◌, ◌<◌, ◌⊎◌, ℕ, ◌*◌, ◌^◌, List, [], IfErr, IfOk, IsFalse, IsTrue, Ok, OnOk, length, map, None};
+ghost use Rattle.std.specs.Prelude.{◌≡◌, ◌≢◌, ◌≤◌, ◌<◌, ◌⊎◌, ℕ, ◌*◌, ◌^◌, List, [], length, map};
+ghost use Rattle.std.specs.Prelude.{IfErr, IfOk, IsFalse, IsTrue, Ok, OnOk, None};
 ghost use Rattle.std.specs.Result.{result_err};
 ghost use Rattle.machine.specs.declared.Label.{Label};
 ghost use Rattle.io_manager.specs.declared.Refusal.TheVariants.{InvalidParameter};
@@ -13,7 +14,8 @@ ghost use Rattle.volume.specs.Shown.{extent_at};
 ghost use Rattle.file_disk.specs.Calls.{ReadsAll, Since};
 ghost use Rattle.file_disk.specs.Transfers.{DiskView, SyncsAfter};
 ghost use Rattle.serving.specs.Carried.{StandsIn, TellsOn, quiet};
-ghost use Rattle.serving.specs.OnDisk.{IsFileSession, IsNotStarted, IsOpenFault, IsOpened, IsPutFault, IsStartedOver, IsTableFault, StopsPutting};
+ghost use Rattle.serving.specs.OnDisk.{IsFileSession, IsOpenFault, IsOpened, IsPutFault};
+ghost use Rattle.serving.specs.OnDisk.{IsNotStarted, IsStartedOver, IsTableFault, StopsPutting};
 ghost use Rattle.serving.specs.declared.faults.Error.TheVariants.{NoMemory, NoPartition};
 
 use crate::faults::{DiskFault, Error};
@@ -42,7 +44,7 @@ pub fn disk_bytes(config: &Config) -> u64
 ///
 /// # Errors
 ///
-/// [`DiskFault::NotCreated`] where a call failed; [`Error::NoMemory`].
+/// [`Error::NoMemory`], before any call; [`DiskFault::NotCreated`] where a call failed, the last that was made.
 pub fn put_table<S: Storage>(alloc: Global, storage: &mut S, config: &Config) -> Result<(), Error>
     requires { AreInRange config.now }
     ensures synced { IfOk result (λ _. Since (S.calls storage.old) (S.calls storage.new) (SyncsAfter 0 (table_sector config.now) None)) }
@@ -158,9 +160,11 @@ fn is_that(extent: Extent, partition: Partition) -> bool
 ///
 /// # Errors
 ///
-/// [`Error::Disk`] where the partition table of the storage gives other partitions than the settings, or can't be read.
-/// Also where the settings have bad sectors, since a storage has its own. [`Error::Startup`] where no stack could be
-/// started; [`Error::NoPartition`]; [`Error::NoMemory`].
+/// The first of these that fits. [`DiskFault::BadSectors`] where the settings have bad sectors, since a storage has its
+/// own; [`Error::NoPartition`] where they have no such partition. Both come before any call.
+/// [`DiskFault::Unreadable`] where a call failed as sector 0 was read; [`DiskFault::OtherTable`] where it gives other
+/// partitions than the settings, or none; [`Error::Startup`] where no stack could be started.
+/// [`Error::NoMemory`] may stand in place of any but the first two.
 pub fn open_file<S: Storage + Drop>(
     alloc: Global,
     config: Config,
