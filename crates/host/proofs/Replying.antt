@@ -6,7 +6,7 @@ use Rattle.io_manager.specs.declared.Refusal.TheVariants.{InsufficientResources,
 use Rattle.io_manager.specs.declared.Reply.{Reply}
 use Rattle.io_manager.specs.declared.Reply.TheVariants.{Handle as HandleReply, Ok as OkReply, Request as Requested, Answered, Refused, Ignored}
 use Rattle.io_manager.specs.Shown.{ManagerView}
-use Rattle.io_manager.specs.Right.{Told, QueryReplies, RecallReplies, RemoveReplies, SurpriseReplies, ActReplies, FinishReplies, RefusesAlone}
+use Rattle.io_manager.specs.Right.{Told, PnpReplies, RecallReplies, ActReplies, FinishReplies, RefusesAlone}
 use Rattle.compose.specs.declared.Event.{Event}
 use Rattle.compose.specs.declared.Event.TheVariants.{Open, Close, Read, Write, Flush, CancelIoEx, Mark, QueryRemove, CancelRemove, Remove, SurpriseRemove, Act, Finish, Reset}
 use Rattle.compose.specs.Right.{IsRight}
@@ -22,29 +22,14 @@ invalid old reason bytes new told r =
     let same : Refused reason bytes ≡ Refused InvalidDeviceRequest [] = cc in
     inr same
 
-query_reply : (old : ManagerView) (reply : Reply) (new : ManagerView) (told : Told) → QueryReplies old reply new told → IsPnpReply reply
-query_reply old OkReply new told r = inl refl
-query_reply old (Refused reason bytes) new told r = invalid old reason bytes new told r.refuses
-query_reply old (HandleReply given) new told r = absurd r
-query_reply old (Requested id) new told r = absurd r
-query_reply old (Answered answer) new told r = absurd r
-query_reply old Ignored new told r = absurd r
-
-remove_reply : (old : ManagerView) (reply : Reply) (new : ManagerView) (told : Told) → RemoveReplies old reply new told → IsPnpReply reply
-remove_reply old OkReply new told r = inl refl
-remove_reply old (Refused reason bytes) new told r = invalid old reason bytes new told r.refuses
-remove_reply old (HandleReply given) new told r = absurd r
-remove_reply old (Requested id) new told r = absurd r
-remove_reply old (Answered answer) new told r = absurd r
-remove_reply old Ignored new told r = absurd r
-
-surprise_reply : (old : ManagerView) (reply : Reply) (new : ManagerView) (told : Told) → SurpriseReplies old reply new told → IsPnpReply reply
-surprise_reply old OkReply new told r = inl refl
-surprise_reply old (Refused reason bytes) new told r = invalid old reason bytes new told r.refuses
-surprise_reply old (HandleReply given) new told r = absurd r
-surprise_reply old (Requested id) new told r = absurd r
-surprise_reply old (Answered answer) new told r = absurd r
-surprise_reply old Ignored new told r = absurd r
+-- a query, a removal or a surprise removal
+pnp_reply : (old : ManagerView) (event : _) (after : _) (label : _) (reply : Reply) (new : ManagerView) (told : Told) → PnpReplies old event after label reply new told → IsPnpReply reply
+pnp_reply old event after label OkReply new told r = inl refl
+pnp_reply old event after label (Refused reason bytes) new told r = invalid old reason bytes new told r.refuses
+pnp_reply old event after label (HandleReply given) new told r = absurd r
+pnp_reply old event after label (Requested id) new told r = absurd r
+pnp_reply old event after label (Answered answer) new told r = absurd r
+pnp_reply old event after label Ignored new told r = absurd r
 
 recall_reply : (old : ManagerView) (reply : Reply) (new : ManagerView) (told : Told) → RecallReplies old reply new told → IsPnpReply reply
 recall_reply old OkReply new told r = inl refl
@@ -72,10 +57,10 @@ finish_reply old tag (Refused reason bytes) new told r = absurd r
 
 -- a right step
 right_reply : (event : Event) (reply : Reply) (old new : ManagerView) → IsRight old event reply new → IsReplyTo event reply
-right_reply QueryRemove reply old new r = inl (query_reply old reply new r.told r.replies)
+right_reply QueryRemove reply old new r = inl (pnp_reply old _ _ _ reply new r.told r.replies)
 right_reply CancelRemove reply old new r = recall_reply old reply new r.told r.replies
-right_reply Remove reply old new r = remove_reply old reply new r.told r.replies
-right_reply SurpriseRemove reply old new r = surprise_reply old reply new r.told r.replies
+right_reply Remove reply old new r = pnp_reply old _ _ _ reply new r.told r.replies
+right_reply SurpriseRemove reply old new r = pnp_reply old _ _ _ reply new r.told r.replies
 right_reply (Act tag) reply old new r = act_reply old tag reply new r.told r.replies
 right_reply (Finish tag) reply old new r = finish_reply old tag reply new r.told r.replies
 right_reply Reset reply old new r = r.0
