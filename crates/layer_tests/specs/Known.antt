@@ -43,7 +43,7 @@ pub record Keeps (old new : DeviceView) : Type 0 where
 pub record IsAskable (table : List Extent) (longest : ℕ) (r : Request) : Type 0 where
   pub bounded : IsBounded (rules_on table longest) r
   pub address : home (rules_on table longest) (Some r.volume) r.extent.first < 2 ^ 32
-  pub few : r.extent.count ≤ 64
+  pub few : r.extent.count ≤ 256
 
 -- a packet of this number that asks for a request
 pub record Brings (takes_srb : Bool) (table : List Extent) (longest number : ℕ) (r : Request) (irp : Irp) : Type 0 where

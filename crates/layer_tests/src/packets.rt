@@ -26,7 +26,7 @@ pub(crate) fn assert_askable(
     let partition = partitions[usize::from(request.volume)];
     let count = request.extent.count;
     assert!(rt; partition.first <= 4096 && partition.count <= 4096);
-    assert!(rt; request.extent.is_within(partition.count) && count <= longest && count <= 64);
+    assert!(rt; request.extent.is_within(partition.count) && count <= longest && count <= 256);
     assert!(rt; (count == 0) == (request.kind == Kind::Flush));
 }
 
@@ -48,7 +48,7 @@ fn command(partitions: &[Extent], longest: u64, request: &Request) -> Cdb
 
 /// A buffer of a request's length, full of one byte.
 fn buffer_for(alloc: Global, request: &Request, byte: u8) -> Result<Vec<u8>, AllocError>
-    requires { request.now.extent.count ≤ 64 }
+    requires { request.now.extent.count ≤ 256 }
     ensures { IfOk result (λ bytes. length bytes.items ≡ (if is_transfer request.now.kind then request.now.extent.count * 512 else 0)) }
 {
     let length = match request.kind {

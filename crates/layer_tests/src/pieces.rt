@@ -7,7 +7,7 @@ ghost use Rattle.layer_tests.specs.Known.{IsKnown};
 use crate::layers::port;
 use crate::session::try_all;
 use crate::steps::Step;
-use crate::steps::Told::{Acts, Bad, Busy, Faults, Good, Starts};
+use crate::steps::Told::{Acts, Bad, Busy, Faults, Good, Sends, Starts};
 use class_disk::Disk;
 use device::{Device, Kind};
 use irp::Driver;
@@ -45,10 +45,9 @@ fn run(rt: &impl Abort, alloc: Global, steps: &[Step]) -> Result<(), AllocError>
     run_over(rt, alloc, port, 8, steps)
 }
 
-/// Takes these steps on a class driver over 4,096 sectors of 512 bytes, sector 5 bad, with pieces of 16 sectors and two
-/// tags.
+/// Takes these steps on a class driver over 4,096 sectors of 512 bytes, with pieces of 64 sectors and two tags.
 fn run_on_large(rt: &impl Abort, alloc: Global, steps: &[Step]) -> Result<(), AllocError> {
-    let port = port(alloc, 4096, &[], 16)?;
+    let port = port(alloc, 4096, &[], 64)?;
     run_over(rt, alloc, port, 4096, steps)
 }
 
@@ -165,8 +164,11 @@ fn withdraws_what_was_not_started(rt: HostRuntime) -> Result<(), Fail> {
         &rt,
         rt.alloc(),
         &[
-            Step::Submit(0, Kind::Write, 0, 64, 0xA5),
-            Step::Tells(&[Starts(1, 0), Starts(2, 1)]),
+            Step::Submit(0, Kind::Write, 2048, 256, 0xA5),
+            Step::Tells(&[
+                Sends(1, &[0x2A, 0, 0, 0, 0x08, 0x00, 0, 0, 64, 0]),
+                Sends(2, &[0x2A, 0, 0, 0, 0x08, 0x40, 0, 0, 64, 0]),
+            ]),
             Step::Drain,
             Step::NoneDone,
             Step::Act(0, &[Acts(1)]),
