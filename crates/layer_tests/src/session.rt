@@ -197,7 +197,7 @@ impl<'a, D: Device> Session<'a, D> {
         true
     }
 
-    /// Checks that a flush is started on tag 0, acts and comes up.
+    /// Checks that a read is started on tag 0, acts and comes up.
     fn serves_one(&mut self, piece: u128, number: u128) -> bool {
         self.tells(&[Told::Starts(piece, 0)])
             && self.act(0, true)
@@ -225,15 +225,15 @@ impl<'a, D: Device> Session<'a, D> {
         self.next >= 4
     }
 
-    fn submit_flushes(
+    fn submit_reads(
         &mut self,
         rt: &impl Abort,
         alloc: Global,
         count: u8,
     ) -> Result<bool, AllocError> {
-        let flush = request_of(0, Kind::Flush, 0, 0);
+        let read = request_of(0, Kind::Read, 0, 1);
         for _ in 0..count {
-            self.submit(rt, alloc, &flush, 0)?;
+            self.submit(rt, alloc, &read, 0xA5)?;
         }
         Ok(true)
     }
@@ -284,7 +284,7 @@ impl<'a, D: Device> Session<'a, D> {
                 let request = request_of(*volume, *kind, *first, *count);
                 Ok(self.submit_four(rt, alloc, &request, *byte))
             }
-            Step::SubmitFlushes(count) => self.submit_flushes(rt, alloc, *count),
+            Step::SubmitReads(count) => self.submit_reads(rt, alloc, *count),
             Step::Reserve(volume, kind, first, count) => {
                 self.reserve(rt, &request_of(*volume, *kind, *first, *count))?;
                 Ok(true)

@@ -59,10 +59,10 @@ pub(crate) enum Step<'a> {
     NoneDone,
     /// The piece on tag 0 comes back busy this many times, first as piece 1, and is sent again each time.
     SendsAgain(u8),
-    /// This many flushes go down.
-    SubmitFlushes(u8),
-    /// Flushes are started, act and come up, one behind the other. The numbers are the first piece, the first packet,
-    /// and how many flushes.
+    /// This many reads of the first sector go down.
+    SubmitReads(u8),
+    /// Reads are started, act and come up, one behind the other. The numbers are the first piece, the first packet, and
+    /// how many reads.
     Serve(u8, u8, u8),
     /// This many packets are held.
     Holds(usize),

@@ -74,7 +74,7 @@ fn filled(alloc: Global) -> Result<Linked<Item>, AllocError> {
 #[test]
 fn of_sixty_four_the_others_leave_in_order(rt: HostRuntime) -> Result<(), AllocError> {
     let mut queue = filled(rt.alloc())?;
-    for number in [2, 64, 33] {
+    for number in [33, 2, 64] {
         let Some(spot) = queue.find(number) else {
             return Err(AllocError);
         };
