@@ -749,26 +749,101 @@ const RESETS: [(Step, Told<'static>); 19] = [
     (Back(0, Good, 0xA5), &[(5, 'G', 0)]),
 ];
 
-/// Two pieces of one write, of which the first acted: two failures.
-const HALF_WRITTEN: [(Step, Told<'static>); 6] = [
-    (Write(0, 1, 0, 0xA5), &[(1, 'S', 0)]),
-    (Write(1, 2, 1, 0xA5), &[(2, 'S', 1)]),
-    (Act(0, true), &[(1, 'A', 0xA5)]),
-    (AllReset(2), &[(2, 'F', 0)]),
-    (Back(0, Reset, 0xA5), &[(1, 'R', 0x0E)]),
-    (Back(1, Reset, 0xA5), &[(2, 'R', 0x0E)]),
-];
-
 #[test]
 fn resets_are_met(rt: HostRuntime) -> Result<(), Fail> {
     let mut adapter = four_sectors(rt.alloc(), 3, false)?;
     run(&rt, rt.alloc(), &mut adapter, &RESETS)
 }
 
+/// An adapter of two tags over a disk of 4,096 sectors of zeros.
+fn many_sectors(alloc: Global) -> Result<MemAdapter<VecDisk>, NoMemory>
+    ensures accepted { IfOk result (λ a. a.shown.accepted ≡ 0) }
+    ensures labels { IfOk result (λ a. length a.shown.labels ≡ 0) }
+{
+    let disk = VecDisk::new(alloc, 512, 4096, Vec::new(alloc))?;
+    MemAdapter::new(alloc, disk, 64, 2, false)
+}
+
+/// The SRB of a transfer of 64 sectors from this one on, with data full of a byte.
+fn long(alloc: Global, flags: u8, code: u8, first: u16, byte: u8) -> Result<Srb, Fail>
+    ensures { IfOk result (λ s. length s.data ≤ s.for_label) }
+{
+    let [high, low] = first.to_be_bytes();
+    let block = [code, 0, 0, 0, high, low, 0, 0, 64, 0];
+    srb_of(alloc, SCSI, flags, &block, 32_768, byte)
+}
+
+/// Checks how the piece of a tag comes back, and that its data are 64 sectors full of a byte.
+fn long_is_back<A: Adapter>(
+    rt: &impl Abort,
+    adapter: &mut A,
+    tag: u8,
+    end: End,
+    byte: u8,
+) -> Result<(), Fail>
+    requires { length (A.view adapter.old).labels < 64 }
+    ensures labels { length (A.view adapter.new).labels ≤ length (A.view adapter.old).labels + 1 }
+    ensures accepted { (A.view adapter.new).accepted ≡ (A.view adapter.old).accepted }
+{
+    let (srb, completion) = finish(adapter, tag)?;
+    same_at(rt, &completion, &completion_of(end), &tag);
+    let data = srb.data.as_slice();
+    same_at(rt, &data.len(), &32_768, &tag);
+    assert!(rt; data.iter().all(|b| *b == byte), "at {tag}");
+    Ok(())
+}
+
+/// Writes 65,536 bytes at sector 2048 as two pieces, of which the first acts before a reset: both fail.
+fn write_half<A: Adapter>(rt: &impl Abort, alloc: Global, adapter: &mut A) -> Result<(), Fail>
+    requires few { (A.view adapter.old).accepted ≡ 0 }
+    requires labels { length (A.view adapter.old).labels ≡ 0 }
+    ensures accepted { OnOk result ((A.view adapter.new).accepted ≡ 2) }
+    ensures labels { OnOk result (length (A.view adapter.new).labels ≡ 0) }
+{
+    put(rt, adapter, 0, 1, long(alloc, 0x80, 0x2A, 2048, 0xA5)?)?;
+    put(rt, adapter, 1, 2, long(alloc, 0x80, 0x2A, 2112, 0xA5)?)?;
+    act(rt, adapter, 0);
+    tells(rt, adapter, &[(1, 'S', 0), (2, 'S', 1), (1, 'A', 0xA5)]);
+    is_reset(rt, adapter, 2);
+    tells(rt, adapter, &[(2, 'F', 0)]);
+    long_is_back(rt, adapter, 0, Reset, 0xA5)?;
+    long_is_back(rt, adapter, 1, Reset, 0xA5)?;
+    tells(rt, adapter, &[(1, 'R', 0x0E), (2, 'R', 0x0E)]);
+    Ok(())
+}
+
+/// Checks by a read, as this piece, that 64 sectors are full of a byte.
+fn holds<A: Adapter>(
+    rt: &impl Abort,
+    alloc: Global,
+    adapter: &mut A,
+    piece: u128,
+    first: u16,
+    byte: u8,
+) -> Result<(), Fail>
+    requires few { (A.view adapter.old).accepted < 2 ^ 100 }
+    requires labels { length (A.view adapter.old).labels ≡ 0 }
+    ensures accepted { OnOk result ((A.view adapter.new).accepted ≡ (A.view adapter.old).accepted + 1) }
+    ensures labels { OnOk result (length (A.view adapter.new).labels ≡ 0) }
+{
+    put(rt, adapter, 0, piece, long(alloc, 0x40, 0x28, first, 0x5A)?)?;
+    act(rt, adapter, 0);
+    long_is_back(rt, adapter, 0, Good, byte)?;
+    tells(
+        rt,
+        adapter,
+        &[(piece, 'S', 0), (piece, 'A', byte), (piece, 'G', 0)],
+    );
+    Ok(())
+}
+
+// The piece that acted before the reset wrote its sectors, the other none of its own.
 #[test]
 fn a_half_written_request_is_reset(rt: HostRuntime) -> Result<(), Fail> {
-    let mut adapter = four_sectors(rt.alloc(), 2, false)?;
-    run(&rt, rt.alloc(), &mut adapter, &HALF_WRITTEN)
+    let mut adapter = many_sectors(rt.alloc()).ok().ok_or("no memory")?;
+    write_half(&rt, rt.alloc(), &mut adapter)?;
+    holds(&rt, rt.alloc(), &mut adapter, 3, 2048, 0xA5)?;
+    holds(&rt, rt.alloc(), &mut adapter, 4, 2112, 0)
 }
 
 /// An adapter of two tags over a disk of four sectors, the last one bad, whose act number `before` fails.
