@@ -377,25 +377,43 @@ fn all_else_is_carried_out(rt: HostRuntime) -> Result<(), Fail> {
     completes(&rt, rt.alloc(), true, SCSI, &UNPROTECTED)
 }
 
-/// The data that a command brings, as this piece, on tag 1.
-fn brought<A: Adapter>(
+/// Puts a piece on tag 1, which is free. Its command is no write, and none of the disk is reserved.
+fn put_unreserved<A: Adapter>(rt: &impl Abort, adapter: &mut A, piece: u128, srb: Srb)
+    requires few { (A.view adapter.old).accepted < 2 ^ 100 }
+    requires place { length (A.view adapter.old).labels < 64 }
+    requires buffers { length srb.data ≤ srb.for_label }
+    ensures labels { length (A.view adapter.new).labels ≡ length (A.view adapter.old).labels + 1 }
+{
+    let block = srb.block.as_slice();
+    assert!(rt; !block.is_empty());
+    let code = block[0];
+    assert!(rt; code != 0x2A && code != 0x8A);
+    assert!(rt; adapter.depth() > 1);
+    assert!(rt; !adapter.in_use(1));
+    adapter.accept(1, piece, srb);
+}
+
+/// Checks which data a command brings, as this piece, where none of the disk is reserved.
+fn brings<A: Adapter>(
     rt: &impl Abort,
     alloc: Global,
     adapter: &mut A,
     piece: u128,
     block: &[u8],
-    count: usize,
-) -> Result<Srb, Fail>
+    want: &[u8],
+) -> Result<(), Fail>
     requires few { (A.view adapter.old).accepted < 2 ^ 100 }
     requires place { length (A.view adapter.old).labels ≡ 0 }
-    requires long { count < 2 ^ 40 }
 {
-    let srb = srb_of(alloc, SrbFunction::ExecuteScsi, 0x40, block, count, 0xA5)?;
-    put(rt, adapter, 1, piece, srb)?;
+    let count = want.len();
+    assert!(rt; count <= 32);
+    let srb = srb_of(alloc, SCSI, 0x40, block, count, 0xA5)?;
+    put_unreserved(rt, adapter, piece, srb);
     act(rt, adapter, 1);
     let (srb, completion) = finish(adapter, 1)?;
     same(rt, &completion, &completion_of(Good));
-    Ok(srb)
+    same_at(rt, &srb.data.as_slice(), &want, &adapter.sectors());
+    Ok(())
 }
 
 fn same_sizes<A: Adapter>(rt: &impl Abort, adapter: &A, sectors: u64) {
@@ -405,24 +423,23 @@ fn same_sizes<A: Adapter>(rt: &impl Abort, adapter: &A, sectors: u64) {
     same(rt, &adapter.depth(), &2);
 }
 
-/// The data that a command brings from a disk in memory of this many sectors of 512 bytes.
-fn brought_from_memory(
+/// Checks which data a command brings from a sparse disk in memory of this many sectors of 512 bytes.
+fn memory_brings(
     rt: &impl Abort,
     alloc: Global,
     sectors: u64,
     block: &[u8],
-    count: usize,
-) -> Result<Srb, Fail>
+    want: &[u8],
+) -> Result<(), Fail>
     requires some { 1 ≤ sectors }
     requires few { sectors ≤ 2 ^ 40 }
-    requires long { count < 2 ^ 40 }
 {
     let disk = SparseDisk::new(alloc, 512, sectors, Vec::new(alloc));
     let mut adapter = MemAdapter::new(alloc, disk, 65_536, 2, true)
         .ok()
         .ok_or("no memory")?;
     same_sizes(rt, &adapter, sectors);
-    brought(rt, alloc, &mut adapter, 1, block, count)
+    brings(rt, alloc, &mut adapter, 1, block, want)
 }
 
 /// An adapter of two tags for a disk of this many sectors, which stand elsewhere.
@@ -436,39 +453,36 @@ fn elsewhere(alloc: Global, sectors: u64) -> Result<BookedAdapter, AllocError>
     BookedAdapter::new(alloc, first, sectors, 65_536, 2).map_err(|_| AllocError)
 }
 
-/// The adapter of a disk whose sectors stand elsewhere, as the piece by which a disk is looked at.
-fn brought_from_elsewhere(
+/// Checks which data a command brings from the adapter of a disk whose sectors stand elsewhere, as the piece by which
+/// a disk is looked at.
+fn elsewhere_brings(
     rt: &impl Abort,
     alloc: Global,
     sectors: u64,
     block: &[u8],
-    count: usize,
-) -> Result<Srb, Fail>
+    want: &[u8],
+) -> Result<(), Fail>
     requires some { 1 ≤ sectors }
     requires few { sectors ≤ 2 ^ 40 }
-    requires long { count < 2 ^ 40 }
 {
     let mut adapter = elsewhere(alloc, sectors)?;
     same_sizes(rt, &adapter, sectors);
-    brought(rt, alloc, &mut adapter, 0, block, count)
+    brings(rt, alloc, &mut adapter, 0, block, want)
 }
 
-/// The data that a command brings from a disk of this many sectors, which stand in memory where they are few.
-fn brought_of(
+/// Checks which data a command brings from a disk of this many sectors, in memory and elsewhere.
+fn both_bring(
     rt: &impl Abort,
     alloc: Global,
     sectors: u64,
     block: &[u8],
-    count: usize,
-) -> Result<Srb, Fail>
+    want: &[u8],
+) -> Result<(), Fail>
     requires some { 1 ≤ sectors }
     requires few { sectors ≤ 2 ^ 40 }
-    requires long { count < 2 ^ 40 }
 {
-    if sectors > 4096 {
-        return brought_from_elsewhere(rt, alloc, sectors, block, count);
-    }
-    brought_from_memory(rt, alloc, sectors, block, count)
+    memory_brings(rt, alloc, sectors, block, want)?;
+    elsewhere_brings(rt, alloc, sectors, block, want)
 }
 
 /// A number of sectors, the data of READ CAPACITY(10), and the first data of READ CAPACITY(16).
@@ -494,16 +508,13 @@ const CAPACITIES: [(u64, [u8; 8], [u8; 12]); 3] = [
 #[test]
 fn tells_its_capacity(rt: HostRuntime) -> Result<(), Fail> {
     for (sectors, ten, sixteen) in CAPACITIES {
-        let short = brought_of(&rt, rt.alloc(), sectors, &CAPACITY, 8)?;
-        same_at(&rt, &short.data.as_slice(), &ten.as_slice(), &sectors);
-        let long = brought_of(&rt, rt.alloc(), sectors, &LONG_CAPACITY, 32)?;
+        both_bring(&rt, rt.alloc(), sectors, &CAPACITY, &ten)?;
         let mut told = [0; 32];
         told[..12].copy_from_slice(&sixteen);
-        same_at(&rt, &long.data.as_slice(), &told.as_slice(), &sectors);
+        both_bring(&rt, rt.alloc(), sectors, &LONG_CAPACITY, &told)?;
         let mut cut = LONG_CAPACITY;
         cut[13] = 7;
-        let long = brought_of(&rt, rt.alloc(), sectors, &cut, 7)?;
-        same_at(&rt, &long.data.as_slice(), &&told[..7], &sectors);
+        both_bring(&rt, rt.alloc(), sectors, &cut, &told[..7])?;
     }
     Ok(())
 }
