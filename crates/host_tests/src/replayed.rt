@@ -1,6 +1,6 @@
 //! Rounds of clients in threads of their own: what acts did replays to the sectors.
 
-use crate::disks::{ONE, disk, start_for};
+use crate::disks::{TWO, disk, start_for};
 use crate::replaying::replay;
 use disk::Medium;
 use rounds::{Done, Plan, RoundsFault, run};
@@ -11,21 +11,21 @@ use std::test::Fail;
 use std::thread::Threads;
 
 const PLAN: Plan = Plan {
-    clients: 3,
-    rounds: 2,
+    clients: 2,
+    rounds: 3,
     sector_size: 512,
     depth: 2,
     write_protected: false,
 };
 
-// Three clients write and read twice each: each call has an entry, and they replay to the sectors.
+// Two clients write and read three times each: each call has an entry, and they replay to the sectors.
 fn run_and_replay<M: Medium + Send, R: Threads + Wait + Sync + Abort>(
     rt: &R,
     alloc: Global,
     medium: M,
 ) -> Result<(), AllocError> {
-    let (stack, sizes) = start_for(rt, alloc, &medium, ONE, 2, 4)?;
-    match run(rt, alloc, stack, medium, sizes, 4, PLAN) {
+    let (stack, sizes) = start_for(rt, alloc, &medium, TWO, 64, 64)?;
+    match run(rt, alloc, stack, medium, sizes, 64, PLAN) {
         Ok(done) => {
             let Done {
                 tally,
@@ -35,7 +35,7 @@ fn run_and_replay<M: Medium + Send, R: Threads + Wait + Sync + Abort>(
             assert!(rt; tally.answered == 12 && tally.differing == 0);
             assert!(rt; entries.len() == 12);
             let mut medium = medium;
-            replay(rt, alloc, ONE, &mut medium, entries.as_slice())
+            replay(rt, alloc, TWO, &mut medium, entries.as_slice())
         }
         Err(RoundsFault::NoMemory) => Err(AllocError),
         Err(fault) => panic!(rt; "{fault}"),
@@ -45,6 +45,6 @@ fn run_and_replay<M: Medium + Send, R: Threads + Wait + Sync + Abort>(
 #[test]
 fn twelve_entries_replay(rt: HostRuntime) -> Result<(), Fail> {
     let alloc = rt.alloc();
-    run_and_replay(&rt, alloc, disk(alloc, ONE)?)?;
+    run_and_replay(&rt, alloc, disk(alloc, TWO)?)?;
     Ok(())
 }
