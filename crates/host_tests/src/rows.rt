@@ -146,44 +146,61 @@ const MARKED_BESIDE: Run = Run {
     },
 };
 
-// Calls that are answered at once, a flush with no lane and one on a lane, and a removal, after which no call reaches
-// the trace. Calls still do after a removal that is refused.
-const REMOVED: Run = Run {
+// A read past the partition is refused with both of its places. A flush goes by its lane, and then nothing is out.
+const PAST: Run = Run {
     rows: &[
         Row::By(0, Deed::Read(524_288, 512), "InvalidParameter 512 at 0, 1"),
-        Row::By(1, Deed::Read(0, 0), "request 2"),
-        Row::By(1, Deed::Mark, "Gone"),
-        Row::By(1, Deed::Wait, "answer 2 SUCCESS 0 none at 2, 3"),
-        Row::By(1, Deed::Flush, "request 3"),
-        Row::Host(Drive::Act(0), "ok"),
-        Row::Host(Drive::Finish(0), "ok"),
-        Row::By(1, Deed::Wait, "answer 3 SUCCESS 0 none at 4, 8"),
-        Row::By(1, Deed::Flush, "request 4"),
+        Row::By(1, Deed::Flush, "request 2"),
         Row::Lane(0, Step::Ready),
-        Row::By(1, Deed::Wait, "answer 4 SUCCESS 0 none at 9, 13"),
+        Row::By(1, Deed::Wait, "answer 2 SUCCESS 0 none at 2, 6"),
         Row::Host(Drive::Act(0), "ignored"),
         Row::Host(Drive::Finish(0), "ignored"),
         Row::Host(Drive::Reset, "ok"),
-        Row::Host(Drive::QueryRemove, "ok"),
-        Row::Host(Drive::CancelRemove, "ok"),
-        Row::Host(Drive::Remove, "InvalidDeviceRequest"),
-        Row::By(1, Deed::Read(0, 0), "request 5"),
-        Row::By(1, Deed::Wait, "answer 5 SUCCESS 0 none at 16, 17"),
-        Row::Host(Drive::QueryRemove, "ok"),
-        Row::Host(Drive::Remove, "ok"),
-        Row::Lane(0, Step::Ended),
-        Row::By(1, Deed::Read(0, 512), "DeletePending 512"),
     ],
-    trace: "call 1 of 0 / answer 1 INVALID_PARAMETER of 0 / call 2 of 1 / answer 2 SUCCESS of 1 / call 3 of 1 / start 1 / act 1 / return 1 / answer 3 SUCCESS of 1 / call 4 of 1 / start 2 / act 2 / return 2 / answer 4 SUCCESS of 1 / pause / resume / call 5 of 1 / answer 5 SUCCESS of 1 / pause / remove / removed",
+    trace: "call 1 of 0 / answer 1 INVALID_PARAMETER of 0 / call 2 of 1 / start 1 / act 1 / return 1 / answer 2 SUCCESS of 1",
     first: Part {
         calls: &[0],
         answers: &[1],
         row: &[0, 1],
     },
     second: Part {
-        calls: &[2, 4, 9, 16],
-        answers: &[3, 8, 13, 17],
-        row: &[2, 3, 4, 8, 9, 13, 16, 17],
+        calls: &[2],
+        answers: &[6],
+        row: &[2, 6],
+    },
+};
+
+// A read that is answered at once, a flush with no lane, and a removal, after which no call reaches the trace. Calls
+// still do after a removal that is refused.
+const REMOVED: Run = Run {
+    rows: &[
+        Row::By(1, Deed::Read(0, 0), "request 1"),
+        Row::By(1, Deed::Mark, "Gone"),
+        Row::By(1, Deed::Wait, "answer 1 SUCCESS 0 none at 0, 1"),
+        Row::By(1, Deed::Flush, "request 2"),
+        Row::Host(Drive::Act(0), "ok"),
+        Row::Host(Drive::Finish(0), "ok"),
+        Row::By(1, Deed::Wait, "answer 2 SUCCESS 0 none at 2, 6"),
+        Row::Host(Drive::QueryRemove, "ok"),
+        Row::Host(Drive::CancelRemove, "ok"),
+        Row::Host(Drive::Remove, "InvalidDeviceRequest"),
+        Row::By(1, Deed::Read(0, 0), "request 3"),
+        Row::By(1, Deed::Wait, "answer 3 SUCCESS 0 none at 9, 10"),
+        Row::Host(Drive::QueryRemove, "ok"),
+        Row::Host(Drive::Remove, "ok"),
+        Row::Lane(1, Step::Ended),
+        Row::By(1, Deed::Read(0, 512), "DeletePending 512"),
+    ],
+    trace: "call 1 of 1 / answer 1 SUCCESS of 1 / call 2 of 1 / start 1 / act 1 / return 1 / answer 2 SUCCESS of 1 / pause / resume / call 3 of 1 / answer 3 SUCCESS of 1 / pause / remove / removed",
+    first: Part {
+        calls: &[],
+        answers: &[],
+        row: &[],
+    },
+    second: Part {
+        calls: &[0, 2, 9],
+        answers: &[1, 6, 10],
+        row: &[0, 1, 2, 6, 9, 10],
     },
 };
 
@@ -254,6 +271,7 @@ fn compare_fault(
 #[test]
 fn serves_two_clients(rt: HostRuntime) -> Result<(), Fail> {
     run_on_disk(&rt, rt.alloc(), &TWO_CLIENTS)?;
+    run_on_disk(&rt, rt.alloc(), &PAST)?;
     Ok(())
 }
 
