@@ -2,7 +2,7 @@
 
 ghost use Rattle.std.specs.Prelude.{◌≡◌, ◌<◌, IfOk};
 
-use crate::disks::{ONE, disk, start_for};
+use crate::disks::{TWO, disk, start_for};
 use crate::holding::Holding;
 use crate::scenes::{Scene, Want, play_scene};
 use crate::texts;
@@ -231,7 +231,7 @@ impl<'a, C: Clock> Scene for BesideTurnstile<'a, C> {
     }
 }
 
-// A scene on a host of this medium, whose pieces are of two sectors.
+// A scene on a host of this medium.
 fn run_over<
     M: Medium + Send,
     S: Scene + Sync,
@@ -245,8 +245,8 @@ fn run_over<
     turnstile: &T,
     want: &Want,
 ) -> Result<(), AllocError> {
-    let (stack, sizes) = start_for(rt, alloc, &medium, ONE, 2, 4)?;
-    match Opened::new(alloc, stack, sizes, 4, &[0, 0]) {
+    let (stack, sizes) = start_for(rt, alloc, &medium, TWO, 64, 64)?;
+    match Opened::new(alloc, stack, sizes, 64, &[0, 0]) {
         Ok(opened) => match sector_journal::Opened::new(alloc) {
             Ok(histories) => play_scene::<M, Brand, S, T, R>(
                 rt, alloc, opened, histories, medium, scene, turnstile, want,
@@ -274,7 +274,7 @@ fn transfer_beside_call(rt: HostRuntime) -> Result<(), Fail> {
     let alloc = rt.alloc();
     let holding = Holding::new(&rt);
     let medium = HoldsReads {
-        medium: disk(alloc, ONE)?,
+        medium: disk(alloc, TWO)?,
         holding: &holding,
         rt: &rt,
     };
@@ -297,7 +297,7 @@ fn reset_beside_a_turnstile(rt: HostRuntime) -> Result<(), Fail> {
     let holding = Holding::new(&rt);
     let scene = BesideReset { holding: &holding };
     let turnstile = HoldsFirst { holding: &holding };
-    run_over(&rt, alloc, disk(alloc, ONE)?, &scene, &turnstile, &RESET)?;
+    run_over(&rt, alloc, disk(alloc, TWO)?, &scene, &turnstile, &RESET)?;
     assert!(rt; !holding.has_given_up(&rt), "the turns have run out");
     Ok(())
 }
@@ -318,7 +318,7 @@ fn second_is_answered_while_first_is_held(rt: HostRuntime) -> Result<(), Fail> {
     run_over(
         &rt,
         alloc,
-        disk(alloc, ONE)?,
+        disk(alloc, TWO)?,
         &scene,
         &turnstile,
         &TURNSTILE,

@@ -6,7 +6,7 @@ ghost use Rattle.host.specs.Clients.{AreNumbered};
 ghost use Rattle.host.specs.Opening.{IsDiskFor};
 
 use crate::desk::{compare_acts, given_back, two_of};
-use crate::disks::ONE;
+use crate::disks::TWO;
 use crate::opening::open_host;
 use crate::replaying::replay;
 use crate::texts;
@@ -177,7 +177,7 @@ fn compare_entries<M: Medium>(
     entries: &[Entered],
 ) -> Result<(), AllocError> {
     let mut medium = medium;
-    replay(rt, alloc, ONE, &mut medium, entries)?;
+    replay(rt, alloc, TWO, &mut medium, entries)?;
     compare_acts(rt, trace, entries);
     Ok(())
 }
