@@ -245,7 +245,7 @@ fn run_over<
     turnstile: &T,
     want: &Want,
 ) -> Result<(), AllocError> {
-    let (stack, sizes) = start_for(rt, alloc, &medium, TWO, 64, 64)?;
+    let (stack, sizes) = start_for(rt, alloc, &medium, 2)?;
     match Opened::new(alloc, stack, sizes, 64, &[0, 0]) {
         Ok(opened) => match sector_journal::Opened::new(alloc) {
             Ok(histories) => play_scene::<M, Brand, S, T, R>(

@@ -224,7 +224,7 @@ fn play_and_close<M: Medium, N: Naming, R: Wait + Abort>(
     requires partitions { length N.partitions ≡ 2 }
     requires parts { N.parts ≡ length N.partitions + 1 }
 {
-    let (host, keeper, clients) = open_host::<M, N>(alloc, opened, histories, medium)?;
+    let (host, keeper, clients) = open_host::<M, N>(alloc, opened, histories, medium, 2)?;
     let mut keeper = keeper;
     let back = play_by_two(rt, alloc, &host, &mut keeper, clients, run)?;
     Ok(host.close(keeper, back))

@@ -1,6 +1,6 @@
 //! Disks of 4,096 sectors of 512 bytes, and stacks over adapters without sectors for them.
 
-ghost use Rattle.std.specs.Prelude.{◌≡◌, ◌≤◌, ◌^◌, IfOk, IsFalse, Some};
+ghost use Rattle.std.specs.Prelude.{◌≡◌, ◌≤◌, IfOk, IsFalse, Some};
 ghost use Rattle.machine.specs.Map.{IsMap};
 ghost use Rattle.host.specs.Opening.{IsDiskFor};
 ghost use Rattle.probe.specs.Exchange.{IsIdle};
@@ -39,10 +39,7 @@ pub(crate) fn sector_0(entries: &[Entry]) -> [u8; 512] {
     bytes
 }
 
-/// One partition, of the sectors 2,048 to 3,071.
-pub(crate) const ONE: &[Entry] = &[(7, 2048, 1024)];
-
-/// Two partitions. The second has the sectors 3,072 to 4,095.
+/// Two partitions, of the sectors 2,048 to 3,071 and 3,072 to 4,095.
 pub(crate) const TWO: &[Entry] = &[(7, 2048, 1024), (7, 3072, 1024)];
 
 fn no_memory(_refused: NoMemory) -> AllocError {
@@ -56,31 +53,31 @@ pub(crate) fn disk(alloc: Global, table: &[Entry]) -> Result<VecDisk, AllocError
     )
 }
 
-/// An adapter of two tags without sectors, which moves this many at most.
-fn adapter(alloc: Global, table: &[Entry], max_transfer: u32) -> Result<BookedAdapter, AllocError>
-    requires some { 1 ≤ max_transfer }
-    requires short { max_transfer ≤ 2 ^ 16 }
+/// An adapter of this many tags without sectors, which moves 64 at most.
+fn adapter(alloc: Global, depth: u8) -> Result<BookedAdapter, AllocError>
+    requires deep { 1 ≤ depth }
+    requires shallow { depth ≤ 32 }
     ensures idle { IfOk result (λ a. IsIdle a.shown) }
     ensures unasked { IfOk result (λ a. a.shown.accepted ≡ 0) }
 {
-    let first = Vec::from_slice(alloc, &sector_0(table))?;
-    BookedAdapter::new(alloc, first, SECTORS, max_transfer, 2).map_err(no_memory)
+    let first = Vec::from_slice(alloc, &sector_0(TWO))?;
+    BookedAdapter::new(alloc, first, SECTORS, 64, depth).map_err(no_memory)
 }
 
-/// A stack over an adapter without sectors that was started, and its sizes. Two requests may be at work, and 1 to 64
+/// A stack over an adapter without sectors that was started, and its sizes. This many requests may be at work, and 64
 /// open.
 fn start_over<A: Adapter>(
     rt: &impl Abort,
     alloc: Global,
     adapter: A,
-    open_requests: u32,
+    window: u8,
 ) -> Result<(Stack<A>, StackSizes), AllocError>
     requires idle { IsIdle (A.view adapter) }
     requires unasked { (A.view adapter).accepted ≡ 0 }
     ensures new { IfOk result (λ r. IsNew r.0) }
     ensures apart { IfOk result (λ r. IsFalse r.0.adapter.faithful) }
     ensures sizes { IfOk result (λ r. (r.1 ≡ sizes_of r.0.rules) × AreSizes r.1) }
-    ensures slots { IfOk result (λ r. r.0.rules.open_requests ≡ Some open_requests) }
+    ensures slots { IfOk result (λ r. r.0.rules.open_requests ≡ Some 64) }
     ensures map { IfOk result (λ r. IsMap r.0.rules.disk_sectors r.0.rules.partitions) }
 {
     let sizes = StackSizes {
@@ -93,8 +90,8 @@ fn start_over<A: Adapter>(
     let faithful = adapter.is_faithful();
     assert!(rt; !faithful);
     let settings = Settings {
-        window: 2,
-        open_requests,
+        window: u32::from(window),
+        open_requests: 64,
     };
     match Stack::start(alloc, adapter, settings) {
         Ok(stack) => Ok((stack, sizes)),
@@ -103,45 +100,41 @@ fn start_over<A: Adapter>(
     }
 }
 
-/// A stack for a disk with this table, whose pieces have this many sectors at most.
+/// A stack for a disk of two partitions, with this many tags.
 pub(crate) fn start(
     rt: &impl Abort,
     alloc: Global,
-    table: &[Entry],
-    max_transfer: u32,
-    open_requests: u32,
+    depth: u8,
 ) -> Result<(Stack<BookedAdapter>, StackSizes), AllocError>
-    requires some { 1 ≤ max_transfer }
-    requires short { max_transfer ≤ 2 ^ 16 }
+    requires deep { 1 ≤ depth }
+    requires shallow { depth ≤ 32 }
     ensures new { IfOk result (λ r. IsNew r.0) }
     ensures apart { IfOk result (λ r. IsFalse r.0.adapter.faithful) }
     ensures sizes { IfOk result (λ r. (r.1 ≡ sizes_of r.0.rules) × AreSizes r.1) }
-    ensures slots { IfOk result (λ r. r.0.rules.open_requests ≡ Some open_requests) }
+    ensures slots { IfOk result (λ r. r.0.rules.open_requests ≡ Some 64) }
     ensures map { IfOk result (λ r. IsMap r.0.rules.disk_sectors r.0.rules.partitions) }
 {
-    let adapter = adapter(alloc, table, max_transfer)?;
-    start_over(rt, alloc, adapter, open_requests)
+    let adapter = adapter(alloc, depth)?;
+    start_over(rt, alloc, adapter, depth)
 }
 
-/// A stack for the disk that a medium has, whose table this is.
+/// A stack for the disk that a medium has, of two partitions, with this many tags.
 pub(crate) fn start_for<M: Medium>(
     rt: &impl Abort,
     alloc: Global,
     medium: &M,
-    table: &[Entry],
-    max_transfer: u32,
-    open_requests: u32,
+    depth: u8,
 ) -> Result<(Stack<BookedAdapter>, StackSizes), AllocError>
-    requires some { 1 ≤ max_transfer }
-    requires short { max_transfer ≤ 2 ^ 16 }
+    requires deep { 1 ≤ depth }
+    requires shallow { depth ≤ 32 }
     ensures new { IfOk result (λ r. IsNew r.0) }
     ensures apart { IfOk result (λ r. IsFalse r.0.adapter.faithful) }
     ensures sizes { IfOk result (λ r. (r.1 ≡ sizes_of r.0.rules) × AreSizes r.1) }
-    ensures slots { IfOk result (λ r. r.0.rules.open_requests ≡ Some open_requests) }
+    ensures slots { IfOk result (λ r. r.0.rules.open_requests ≡ Some 64) }
     ensures unfailed { IfOk result (λ _. (M.view medium.now).failures ≡ 0) }
     ensures disk { IfOk result (λ r. IsDiskFor r.0.rules (M.view medium.now)) }
 {
-    let (stack, sizes) = start(rt, alloc, table, max_transfer, open_requests)?;
+    let (stack, sizes) = start(rt, alloc, depth)?;
     let (sector_size, sectors) = (medium.sector_size(), medium.sectors());
     let failures = medium.failures();
     assert!(rt; sector_size == sizes.sector_size && sectors == sizes.sectors);

@@ -1,19 +1,19 @@
-//! A queue of one place that is full. It hands back what the second lane puts, and that lane finishes its piece itself.
+//! A queue of one place that is full, while the worker is held with its first item. It hands back what another lane puts,
+//! and that lane finishes its piece itself.
 
-ghost use Rattle.std.specs.Prelude.{◌≡◌, IfOk, IfSome, length, suc};
+ghost use Rattle.std.specs.Prelude.{◌≡◌, IfOk, IfSome, suc};
 ghost use Rattle.lanes.specs.Queue.{fresh_lane, issued, lanes_of, standing};
 ghost use Rattle.host.specs.Opening.{IsDiskFor};
 
 use crate::beside::Open;
-use crate::desk::two_of;
-use crate::disks::{ONE, disk, start_for};
+use crate::disks::{TWO, disk, start_for};
 use crate::expect::same;
 use crate::holding::Holding;
 use crate::opening::open_host;
 use crate::texts;
 use disk::Medium;
 use host::{Call, Client, Host, HostFault, Keeper, Naming, Opened, Ticket};
-use lanes::{Completions, Desk, Pass, Step, Woken, serve_completions, serve_lane};
+use lanes::{Completions, Desk, Pass, Step, Turnstile, Woken, serve_completions, serve_lane};
 use rounds::remove;
 use sector::Bytes;
 use sector_journal::{OfArmings, OfEntries};
@@ -26,20 +26,31 @@ use std::thread;
 use std::thread::{Scope, Threads};
 use std::time::Clock;
 
-/// A host as the desk of its lanes and of a worker, which is held once it found nothing in the queue. A put of an item
-/// lets the thread go on that waits for it.
+/// The worker's turnstile, which holds its first item.
 #[derive(Drop)]
-struct HoldsWorker<'a, M: Medium, N: Naming, C: Clock>
+struct HoldsWorker<'a, C: Clock> {
+    holding: &'a Holding<'a, C>,
+}
+
+impl<'a, C: Clock> Turnstile for HoldsWorker<'a, C> {
+    fn pass<R: Wait>(&self, rt: &R, _tag: u8) {
+        self.holding.hold(rt);
+    }
+}
+
+/// A host as the desk of its lanes and of a worker. A finish, which answers the call of a read of one piece, lets the
+/// worker go.
+#[derive(Drop)]
+struct LetsGo<'a, M: Medium, N: Naming, C: Clock>
 where
     OfArmings<N>: chronicle::Naming,
     OfEntries<N>: chronicle::Naming,
 {
     host: &'a Host<M, N>,
     worker: &'a Holding<'a, C>,
-    put: &'a Holding<'a, C>,
 }
 
-impl<'a, M: Medium, N: Naming, C: Clock> Desk for HoldsWorker<'a, M, N, C> {
+impl<'a, M: Medium, N: Naming, C: Clock> Desk for LetsGo<'a, M, N, C> {
     fn next<R: Wait>(&self, rt: &R, tag: u8) -> Step {
         Desk::next(self.host, rt, tag)
     }
@@ -50,15 +61,14 @@ impl<'a, M: Medium, N: Naming, C: Clock> Desk for HoldsWorker<'a, M, N, C> {
 
     fn finish<R: Wait>(&self, rt: &R, tag: u8) {
         Desk::finish(self.host, rt, tag);
+        self.worker.let_go(rt);
     }
 
     fn ring<R: Wait>(&self, rt: &R) {
         Desk::ring(self.host, rt);
-        self.put.let_go(rt);
     }
 
     fn rest<R: Wait>(&self, rt: &R, heard: u64) -> Woken {
-        self.worker.hold(rt);
         Desk::rest(self.host, rt, heard)
     }
 }
@@ -72,36 +82,42 @@ fn last_lane(passes: &mut Vec<Pass>, completions: &Completions, tag: u8) -> Opti
     passes.pop()
 }
 
-// Starts a worker and two lanes. Returns false where a thread could not be started.
-fn start_two<'s, E, D: Desk + Sync, R: Threads + Wait + Sync>(
+// Starts the worker, which passes this turnstile, and lanes, which nobody holds. Returns false where a thread could not
+// be started.
+fn start_threads<'s, E, D: Desk + Sync, T: Turnstile + Sync, R: Threads + Wait + Sync>(
     rt: &'s R,
     scope: &'s Scope<'s, E>,
     desk: &'s D,
     completions: &'s Completions,
     passes: Vec<Pass>,
-    open: &'s Open,
+    depth: u8,
+    turnstile: &'s T,
 ) -> bool
-    requires { passes.items ≡ issued completions.now.id 2 }
+    requires { passes.items ≡ issued completions.now.id depth }
 {
     let mut passes = passes;
     let Some(worker) = passes.pop() else {
         return false;
     };
-    let Some(second) = last_lane(&mut passes, completions, 1) else {
+    if scope
+        .spawn(move || serve_completions(rt, desk, completions, worker, turnstile))
+        .is_err()
+    {
         return false;
-    };
-    let Some(first) = last_lane(&mut passes, completions, 0) else {
-        return false;
-    };
-    scope
-        .spawn(move || serve_completions(rt, desk, completions, worker, open))
-        .is_ok()
-        && scope
-            .spawn(move || serve_lane(rt, desk, 0, open, completions, first))
-            .is_ok()
-        && scope
-            .spawn(move || serve_lane(rt, desk, 1, open, completions, second))
-            .is_ok()
+    }
+    for started in 0..depth {
+        let tag = depth - 1 - started;
+        let Some(pass) = last_lane(&mut passes, completions, tag) else {
+            return false;
+        };
+        if scope
+            .spawn(move || serve_lane(rt, desk, tag, &Open, completions, pass))
+            .is_err()
+        {
+            return false;
+        }
+    }
+    true
 }
 
 // A client reads the sector at an offset.
@@ -112,7 +128,8 @@ fn read_at<M: Medium, N: Naming, R: Wait>(
     client: &mut Client<N>,
     offset: u64,
 ) -> Result<Ticket<N>, AllocError>
-    ensures { IfOk result (λ t. t.client ≡ client.new.client) }
+    ensures client { client.new.client ≡ client.old.client }
+    ensures ticket { IfOk result (λ t. t.client ≡ client.old.client) }
 {
     let buffer = Bytes::new(vec![in alloc; 0; 512]?);
     match client.issue(rt, host, Call::Read { offset, buffer }) {
@@ -121,56 +138,51 @@ fn read_at<M: Medium, N: Naming, R: Wait>(
     }
 }
 
-// A client reads the sector at an offset, and waits for the answer.
-fn read_and_wait<M: Medium, N: Naming, R: Wait>(
+// Waits for the answer to a read, where it was issued.
+fn answer_to<M: Medium, N: Naming, R: Wait>(
     rt: &R,
     alloc: Global,
     host: &Host<M, N>,
     client: &mut Client<N>,
-    offset: u64,
-) -> Result<String, AllocError> {
-    let ticket = read_at(rt, alloc, host, client, offset)?;
-    texts::answered(alloc, &client.wait(rt, host, ticket))
+    issued: Result<Ticket<N>, AllocError>,
+) -> Result<String, AllocError>
+    requires { IfOk issued (λ t. t.client ≡ client.old.client) }
+    ensures { client.new.client ≡ client.old.client }
+{
+    match issued {
+        Ok(ticket) => {
+            let answered = client.wait(rt, host, ticket);
+            texts::answer(alloc, &answered.answer)
+        }
+        Err(refused) => Err(refused),
+    }
 }
 
-// The first client reads once the worker is held, the second once an item was put; then the worker is let go. Returns
-// what both are told, the second first.
-fn read_both<M: Medium, N: Naming, R: Wait, C: Clock>(
+// A client reads four sectors at once, and is told of each. Nobody is held where a read can't be issued.
+fn read_four<M: Medium, N: Naming, R: Wait, C: Clock>(
     rt: &R,
     alloc: Global,
-    desk: &HoldsWorker<M, N, C>,
-    first: &mut Client<N>,
-    second: &mut Client<N>,
+    desk: &LetsGo<M, N, C>,
+    client: &mut Client<N>,
 ) -> Result<String, AllocError> {
-    desk.worker.await_held(rt);
-    let ticket = read_at(rt, alloc, desk.host, first, 0)?;
-    desk.put.hold(rt);
-    let seen = read_and_wait(rt, alloc, desk.host, second, 512);
-    desk.worker.let_go(rt);
-    let answered = first.wait(rt, desk.host, ticket);
-    let (seen, answered) = (seen?, texts::answered(alloc, &answered)?);
+    let one = read_at(rt, alloc, desk.host, client, 0);
+    let two = read_at(rt, alloc, desk.host, client, 512);
+    let three = read_at(rt, alloc, desk.host, client, 1024);
+    let four = read_at(rt, alloc, desk.host, client, 1536);
+    if one.is_err() | two.is_err() | three.is_err() | four.is_err() {
+        desk.worker.let_go(rt);
+    }
+    let one = answer_to(rt, alloc, desk.host, client, one);
+    let two = answer_to(rt, alloc, desk.host, client, two);
+    let three = answer_to(rt, alloc, desk.host, client, three);
+    let four = answer_to(rt, alloc, desk.host, client, four);
+    let (one, two, three, four) = (one?, two?, three?, four?);
     let mut text = String::new(alloc);
-    write!(text, "{seen} / {answered}")?;
+    write!(text, "{one} / {two} / {three} / {four}")?;
     Ok(text)
 }
 
-// Both clients read; then nobody is held, and the device is removed.
-fn read_and_remove<M: Medium, N: Naming, R: Wait, C: Clock>(
-    rt: &R,
-    alloc: Global,
-    desk: &HoldsWorker<M, N, C>,
-    keeper: Keeper<N>,
-    first: Client<N>,
-    second: Client<N>,
-) -> Result<String, AllocError> {
-    let (mut keeper, mut first, mut second) = (keeper, first, second);
-    let seen = read_both(rt, alloc, desk, &mut first, &mut second);
-    desk.worker.let_go(rt);
-    remove(rt, desk.host, &mut keeper);
-    seen
-}
-
-// Two lanes and the worker beside two clients.
+// The worker and four lanes beside a client, and the removal.
 fn run_threads<
     M: Medium + Send,
     N: Naming + Send + Sync,
@@ -179,35 +191,37 @@ fn run_threads<
 >(
     rt: &R,
     alloc: Global,
-    desk: &HoldsWorker<M, N, C>,
+    desk: &LetsGo<M, N, C>,
     completions: &Completions,
     passes: Vec<Pass>,
     keeper: Keeper<N>,
-    first: Client<N>,
-    second: Client<N>,
+    client: Client<N>,
 ) -> Result<String, AllocError>
-    requires { passes.items ≡ issued completions.now.id 2 }
+    requires { passes.items ≡ issued completions.now.id 4 }
 {
-    let open = Open;
+    let turnstile = HoldsWorker {
+        holding: desk.worker,
+    };
     thread::scope(
         thread::scope_env(),
         rt,
         |scope| -> Result<String, AllocError>
-            requires { passes.items ≡ issued completions.now.id 2 }
+            requires { passes.items ≡ issued completions.now.id 4 }
         {
-            if start_two(rt, scope, desk, completions, passes, &open) {
-                read_and_remove(rt, alloc, desk, keeper, first, second)
+            let (mut keeper, mut client) = (keeper, client);
+            let seen = if start_threads(rt, scope, desk, completions, passes, 4, &turnstile) {
+                read_four(rt, alloc, desk, &mut client)
             } else {
-                let mut keeper = keeper;
-                desk.worker.let_go(rt);
-                remove(rt, desk.host, &mut keeper);
                 Err(AllocError)
-            }
+            };
+            desk.worker.let_go(rt);
+            remove(rt, desk.host, &mut keeper);
+            seen
         },
     )
 }
 
-// The lane of the second client finishes its piece, while the item of the first fills the queue.
+// All four reads are answered: a lane finishes its piece, which lets the worker go.
 fn run<
     M: Medium + Send,
     N: Naming + Send + Sync,
@@ -226,38 +240,27 @@ fn run<
     requires sectors { (M.view medium).sectors ≡ N.opening }
     requires unfailed { (M.view medium).failures ≡ 0 }
     requires disk { IsDiskFor N.rules (M.view medium) }
-    requires partitions { length N.partitions ≡ 2 }
 {
-    let (host, keeper, clients) = open_host::<M, N>(alloc, opened, histories, medium)?;
-    let (first, second) = two_of(rt, clients);
-    let Ok((completions, passes)) = Completions::new(alloc, 1, 2) else {
+    let (host, keeper, clients) = open_host::<M, N>(alloc, opened, histories, medium, 4)?;
+    let mut clients = clients;
+    let Some(client) = clients.pop() else {
+        panic!(rt; "no client")
+    };
+    let Ok((completions, passes)) = Completions::new(alloc, 1, 4) else {
         return Err(AllocError);
     };
-    let (worker, put) = (Holding::new(clock), Holding::new(clock));
-    let desk = HoldsWorker {
+    let worker = Holding::new(clock);
+    let desk = LetsGo {
         host: &host,
         worker: &worker,
-        put: &put,
     };
-    let seen = run_threads(
-        rt,
-        alloc,
-        &desk,
-        &completions,
-        passes,
-        keeper,
-        first,
-        second,
-    )?;
+    let seen = run_threads(rt, alloc, &desk, &completions, passes, keeper, client)?;
     same(
         rt,
         &seen.as_str(),
-        &"answer 2 SUCCESS 512 00*512 at 3, 7 / answer 1 SUCCESS 512 00*512 at 0, 9",
+        &"1 SUCCESS 512 00*512 / 2 SUCCESS 512 00*512 / 3 SUCCESS 512 00*512 / 4 SUCCESS 512 00*512",
     );
-    assert!(rt;
-        !worker.has_given_up(rt) && !put.has_given_up(rt),
-        "the turns have run out"
-    );
+    assert!(rt; !worker.has_given_up(rt), "the turns have run out");
     Ok(())
 }
 
@@ -267,8 +270,8 @@ fn run_over<M: Medium + Send, R: Threads + Wait + Sync + Abort, C: Clock + Sync>
     medium: M,
     clock: &C,
 ) -> Result<(), AllocError> {
-    let (stack, sizes) = start_for(rt, alloc, &medium, ONE, 2, 4)?;
-    match Opened::new(alloc, stack, sizes, 4, &[0, 0]) {
+    let (stack, sizes) = start_for(rt, alloc, &medium, 4)?;
+    match Opened::new(alloc, stack, sizes, 64, &[0]) {
         Ok(opened) => match sector_journal::Opened::new(alloc) {
             Ok(histories) => run::<M, Brand, R, C>(rt, alloc, opened, histories, medium, clock),
             Err(refused) => {
@@ -284,6 +287,6 @@ fn run_over<M: Medium + Send, R: Threads + Wait + Sync + Abort, C: Clock + Sync>
 #[test]
 fn full_queue_hands_back(rt: HostRuntime) -> Result<(), Fail> {
     let alloc = rt.alloc();
-    run_over(&rt, alloc, disk(alloc, ONE)?, &rt)?;
+    run_over(&rt, alloc, disk(alloc, TWO)?, &rt)?;
     Ok(())
 }

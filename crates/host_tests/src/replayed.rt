@@ -24,7 +24,7 @@ fn run_and_replay<M: Medium + Send, R: Threads + Wait + Sync + Abort>(
     alloc: Global,
     medium: M,
 ) -> Result<(), AllocError> {
-    let (stack, sizes) = start_for(rt, alloc, &medium, TWO, 64, 64)?;
+    let (stack, sizes) = start_for(rt, alloc, &medium, 2)?;
     match run(rt, alloc, stack, medium, sizes, 64, PLAN) {
         Ok(done) => {
             let Done {

@@ -20,7 +20,7 @@ fn run_over<M: Medium, R: Wait + Abort>(
     medium: M,
     run: &Run,
 ) -> Result<(), AllocError> {
-    let (stack, sizes) = start_for(rt, alloc, &medium, TWO, 64, 64)?;
+    let (stack, sizes) = start_for(rt, alloc, &medium, 2)?;
     match Opened::new(alloc, stack, sizes, 64, &[0, 1]) {
         Ok(opened) => match sector_journal::Opened::new(alloc) {
             Ok(histories) => carry_out::<M, Brand, R>(rt, alloc, opened, histories, medium, run),
@@ -257,7 +257,7 @@ fn compare_fault(
     partitions: &[u8],
     want: HostFault,
 ) -> Result<(), AllocError> {
-    let (stack, sizes) = start(rt, alloc, TWO, 64, 64)?;
+    let (stack, sizes) = start(rt, alloc, 2)?;
     match Opened::new(alloc, stack, sizes, 64, partitions) {
         Ok(_) => panic!(rt; "opened"),
         Err(HostFault::NoMemory) => Err(AllocError),

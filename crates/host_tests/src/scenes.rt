@@ -216,7 +216,7 @@ pub(crate) fn play_scene<
     requires partitions { length N.partitions ≡ 2 }
     requires parts { N.parts ≡ length N.partitions + 1 }
 {
-    let (host, keeper, clients) = open_host::<M, N>(alloc, opened, histories, medium)?;
+    let (host, keeper, clients) = open_host::<M, N>(alloc, opened, histories, medium, 2)?;
     let (seen, closed, medium) = play_and_close(
         rt, alloc, host, keeper, clients, scene, turnstile,
     )?;

@@ -68,6 +68,13 @@ fn tell_answer(text: &mut String, answer: &Answer) -> Result<(), AllocError> {
     tell_bytes(text, &answer.bytes)
 }
 
+/// An answer, as `1 SUCCESS 512 00*512`.
+pub(crate) fn answer(alloc: Global, answer: &Answer) -> Result<String, AllocError> {
+    let mut text = String::new(alloc);
+    tell_answer(&mut text, answer)?;
+    Ok(text)
+}
+
 /// Bytes in runs, as `a5*512,00*512`, none as `none`.
 fn tell_bytes(text: &mut String, bytes: &Bytes) -> Result<(), AllocError> {
     let Some(first) = bytes.as_slice().first() else {
