@@ -155,7 +155,7 @@ const RESET: Run = Run {
     rows: &[
         Row::Step(0, Order::Write(0, 512, 0x04), "request 1 at 0"),
         Row::Step(0, Order::Reset, "ok"),
-        Row::Rests(0, 2),
+        Row::Rests(0, 1),
         Row::Step(0, Order::Act(0), "ignored"),
         Row::Room(1),
         Row::Step(0, Order::Finish(0), "ok"),
