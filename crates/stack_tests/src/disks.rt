@@ -81,10 +81,28 @@ pub(crate) fn adapter<M: Medium>(
     ensures idle { IfOk result (λ a. IsIdle a.shown) }
     ensures unasked { IfOk result (λ a. a.shown.accepted ≡ 0) }
 {
+    adapter_of(rt, alloc, medium, max_transfer, 2)
+}
+
+/// An adapter of this many tags that moves this many sectors at most.
+pub(crate) fn adapter_of<M: Medium>(
+    rt: &impl Abort,
+    alloc: Global,
+    medium: M,
+    max_transfer: u32,
+    tags: u8,
+) -> Result<MemAdapter<M>, AllocError>
+    requires some { 1 ≤ max_transfer }
+    requires short { max_transfer ≤ 2 ^ 16 }
+    requires deep { 1 ≤ tags }
+    requires shallow { tags ≤ 32 }
+    ensures idle { IfOk result (λ a. IsIdle a.shown) }
+    ensures unasked { IfOk result (λ a. a.shown.accepted ≡ 0) }
+{
     let sectors = medium.sectors();
     assert!(rt; 1 <= sectors && sectors <= 1 << 40);
     assert!(rt; medium.sector_size() == 512 && medium.failures() == 0);
-    MemAdapter::new(alloc, medium, max_transfer, 2, false).map_err(no_memory)
+    MemAdapter::new(alloc, medium, max_transfer, tags, false).map_err(no_memory)
 }
 
 /// A medium that refuses to reserve sectors, this many times. Then it reserves them.

@@ -4,7 +4,7 @@ ghost use Rattle.std.specs.Prelude.{◌≡◌, [], OnOk};
 
 use crate::disks::{TWO, adapter, disk};
 use crate::expect::same_at;
-use crate::stacks::disks::stack_on;
+use crate::stacks::disks::{FOUR_OPEN, stack_on};
 use crate::stacks::steps::{FIRST, SECOND, Step, event_of, is_refused_for_memory, show};
 use compose::{Handle, Reply, Stack};
 use miniport::Adapter;
@@ -98,7 +98,7 @@ fn tells_what_a_call_would_open(rt: HostRuntime) -> Result<(), Fail> {
     let alloc = rt.alloc();
     let medium = disk(alloc, &TWO, &[])?;
     let adapter = adapter(&rt, alloc, medium, 64)?;
-    let mut stack = stack_on(&rt, alloc, adapter)?;
+    let mut stack = stack_on(&rt, alloc, adapter, FOUR_OPEN)?;
     ask_all(&rt, alloc, &mut stack, CALLS)?;
     Ok(())
 }

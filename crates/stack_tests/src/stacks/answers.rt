@@ -4,7 +4,7 @@ ghost use Rattle.std.specs.Prelude.{◌≡◌, []};
 
 use crate::disks::ONE;
 use crate::expect::same;
-use crate::stacks::disks::{disk_adapter, stack_on};
+use crate::stacks::disks::{FOUR_OPEN, disk_adapter, stack_on};
 use crate::stacks::steps::{FIRST, Row, Step, go_and_answer};
 use crate::stacks::texts::tell_answer;
 use compose::{Answer, Stack};
@@ -81,7 +81,7 @@ fn go_and_compare<A: Adapter>(
 fn takes_answers_by_number(rt: HostRuntime) -> Result<(), Fail> {
     let alloc = rt.alloc();
     let adapter = disk_adapter(&rt, alloc, &ONE, &[])?;
-    let mut stack = stack_on(&rt, alloc, adapter)?;
+    let mut stack = stack_on(&rt, alloc, adapter, FOUR_OPEN)?;
     go_and_compare(&rt, alloc, &mut stack)?;
     Ok(())
 }

@@ -1,4 +1,4 @@
-//! Stacks of four open requests.
+//! Stacks of limits that a test chooses, and of four open requests.
 
 ghost use Rattle.std.specs.Prelude.{◌≡◌, [], IfOk};
 ghost use Rattle.probe.specs.Exchange.{IsIdle};
@@ -10,20 +10,23 @@ use miniport::{Adapter, MemAdapter};
 use std::alloc::{AllocError, Global};
 use std::process::Abort;
 
+/// At most two requests at work and four open.
+pub(crate) const FOUR_OPEN: Settings = Settings {
+    window: 2,
+    open_requests: 4,
+};
+
 /// A stack over an adapter that it can be started over.
 pub(crate) fn stack_on<A: Adapter>(
     rt: &impl Abort,
     alloc: Global,
     adapter: A,
+    settings: Settings,
 ) -> Result<Stack<A>, AllocError>
     requires idle { IsIdle (A.view adapter) }
     requires unasked { (A.view adapter).accepted ≡ 0 }
     ensures { IfOk result (λ stack. stack.labels ≡ []) }
 {
-    let settings = Settings {
-        window: 2,
-        open_requests: 4,
-    };
     match Stack::start(alloc, adapter, settings) {
         Ok(stack) => Ok(stack),
         Err(StartFault::NoMemory) => Err(AllocError),

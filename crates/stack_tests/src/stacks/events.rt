@@ -1,9 +1,9 @@
 //! Runs worked by hand.
 
-use crate::disks::ONE;
+use crate::disks::{ONE, adapter_of, disk};
 use crate::stacks::disks::disk_adapter;
 use crate::stacks::steps::{FIRST, Row, SECOND, Step, go_on, run_on};
-use compose::Id;
+use compose::{Id, Settings};
 use std::test::Fail;
 
 const OWN: Option<Id> = Some(Id { slot: 0, number: 1 });
@@ -33,11 +33,19 @@ pub(super) const WRITE_AND_READ: &[Row] = &[
     ),
 ];
 
+/// One request at work and open at a time.
+const ONE_OPEN: Settings = Settings {
+    window: 1,
+    open_requests: 1,
+};
+
 #[test]
 fn writes_and_reads_a_sector(rt: HostRuntime) -> Result<(), Fail> {
-    let adapter = disk_adapter(&rt, rt.alloc(), &ONE, &[])?;
+    let alloc = rt.alloc();
+    let medium = disk(alloc, &ONE, &[])?;
+    let adapter = adapter_of(&rt, alloc, medium, 64, 1)?;
     let told = ["1 SUCCESS 512 none", "2 SUCCESS 512 a5*512"];
-    run_on(&rt, rt.alloc(), adapter, WRITE_AND_READ, &told)?;
+    run_on(&rt, alloc, adapter, ONE_OPEN, WRITE_AND_READ, &told)?;
     Ok(())
 }
 

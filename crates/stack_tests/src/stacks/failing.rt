@@ -1,8 +1,8 @@
 //! An act that fails in the middle of a request.
 
-use crate::disks::{ONE, adapter, disk};
-use crate::stacks::steps::{FIRST, Row, Step, go_on};
-use compose::Id;
+use crate::disks::{TWO, adapter, disk};
+use crate::stacks::steps::{FIRST, Row, Step, go_on_with};
+use compose::{Id, Settings};
 use miniport::OnceAdapter;
 use std::test::Fail;
 
@@ -43,12 +43,23 @@ const SECOND_PIECE_FAILS: &[Row] = &[
 #[test]
 fn one_act_fails_in_a_cancelled_write(rt: HostRuntime) -> Result<(), Fail> {
     let alloc = rt.alloc();
-    let medium = disk(alloc, &ONE, &[])?;
+    let medium = disk(alloc, &TWO, &[])?;
     let adapter = OnceAdapter::new(adapter(&rt, alloc, medium, 64)?, BEFORE);
     let told = [
         "1 IO_DEVICE_ERROR 0 none",
         "2 SUCCESS 65536 a5*32768,00*32768",
     ];
-    go_on(&rt, alloc, adapter, &[SECOND_PIECE_FAILS], Some(&told))?;
+    let settings = Settings {
+        window: 2,
+        open_requests: 64,
+    };
+    go_on_with(
+        &rt,
+        alloc,
+        adapter,
+        settings,
+        &[SECOND_PIECE_FAILS],
+        Some(&told),
+    )?;
     Ok(())
 }

@@ -4,9 +4,9 @@ ghost use Rattle.std.specs.Prelude.{◌≡◌, [], OnOk};
 ghost use Rattle.probe.specs.Exchange.{IsIdle};
 
 use crate::expect::{same, same_at};
-use crate::stacks::disks::stack_on;
+use crate::stacks::disks::{FOUR_OPEN, stack_on};
 use crate::stacks::texts::{step_text, tell_answer};
-use compose::{Answer, Event, Handle, Id, Refusal, Reply, RunStopped, Shown, Stack};
+use compose::{Answer, Event, Handle, Id, Refusal, Reply, RunStopped, Settings, Shown, Stack};
 use device::Label;
 use miniport::Adapter;
 use sector::Bytes;
@@ -286,13 +286,14 @@ pub(crate) fn run_on<A: Adapter>(
     rt: &impl Abort,
     alloc: Global,
     adapter: A,
+    settings: Settings,
     rows: &[Row],
     told: &[&str],
 ) -> Result<(), AllocError>
     requires idle { IsIdle (A.view adapter) }
     requires unasked { (A.view adapter).accepted ≡ 0 }
 {
-    let mut stack = stack_on(rt, alloc, adapter)?;
+    let mut stack = stack_on(rt, alloc, adapter, settings)?;
     run_and_answer(rt, alloc, &mut stack, rows, told)
 }
 
@@ -315,7 +316,8 @@ pub(super) fn go_and_answer<S: Carrier>(
     }
 }
 
-/// Carries the rows out one by one on a new stack over an adapter. Then just these answers wait, where they are told.
+/// Carries the rows out one by one on a new stack of four open requests. Then just these answers wait, where they are
+/// told.
 pub(crate) fn go_on<A: Adapter>(
     rt: &impl Abort,
     alloc: Global,
@@ -326,6 +328,21 @@ pub(crate) fn go_on<A: Adapter>(
     requires idle { IsIdle (A.view adapter) }
     requires unasked { (A.view adapter).accepted ≡ 0 }
 {
-    let mut stack = stack_on(rt, alloc, adapter)?;
+    go_on_with(rt, alloc, adapter, FOUR_OPEN, rows, told)
+}
+
+/// Does what `go_on` does, on a stack of these limits.
+pub(crate) fn go_on_with<A: Adapter>(
+    rt: &impl Abort,
+    alloc: Global,
+    adapter: A,
+    settings: Settings,
+    rows: &[&[Row]],
+    told: Option<&[&str]>,
+) -> Result<(), AllocError>
+    requires idle { IsIdle (A.view adapter) }
+    requires unasked { (A.view adapter).accepted ≡ 0 }
+{
+    let mut stack = stack_on(rt, alloc, adapter, settings)?;
     go_and_answer(rt, alloc, &mut stack, rows, told)
 }
