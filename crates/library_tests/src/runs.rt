@@ -1,10 +1,12 @@
 //! What command lines ask of the program `stackrun`, and what no contract says of a run: the order of faults, what a
-//! failed read or write gives, and traces as they are printed.
+//! failed read or write gives, and traces as they are printed over both kinds of disk.
 
 mod endings;
 mod given;
+mod one_block;
 mod tallies;
 mod traces;
+mod worked;
 
 use crate::expect::same;
 use commands::Error;

@@ -1,7 +1,9 @@
-//! Traces in print.
+//! Traces in print, over a sparse disk and over one in one block of memory.
 
 use crate::expect::{same, same_at};
-use crate::runs::given::run;
+use crate::runs::given::{Outcome, run};
+use crate::runs::one_block::run_in_one_block;
+use crate::runs::worked::{DISK, PARTITIONS, WORKED};
 use std::alloc::Global;
 use std::process::Abort;
 use std::test::Fail;
@@ -93,28 +95,46 @@ const WRITE_AND_READ: &str =
 const WRITTEN_AND_READ: &str =
     "> open 0\nhandle 1\n> write 1 0 512 a5\nrequest 1\ncall 1 write 0 512\nstart 1 tag 0 2a000000080000000100\n> act 0\nok\nact 1\n> finish 0\nok\nreturn 1 good\nanswer 1 SUCCESS 512\n> read 1 0 512\nrequest 2\ncall 2 read 0 512\nstart 2 tag 0 28000000080000000100\n> act 0\nok\nact 2\n> finish 0\nok\nreturn 2 good\nanswer 2 SUCCESS 512 a5*512\n";
 
-/// Runs a script over the settings before the partition and one more, and compares what is printed.
+/// Compares what was printed and said of a run.
+fn compare(rt: &impl Abort, got: &Outcome, out: &[u8], script: &str, wanted: &str) {
+    same_at(rt, &out, &wanted.as_bytes(), &script);
+    same(rt, &got.faults.len(), &0);
+    same(rt, &got.status, &0);
+}
+
+/// Runs a script over a disk of each kind, and compares what is printed.
 fn plays(
     rt: &impl Abort,
     alloc: Global,
-    settings: (&str, &str),
+    config: &str,
     script: &str,
     wanted: &str,
 ) -> Result<(), Fail> {
-    let (settings, more) = settings;
-    let config = format!(in alloc; "{settings}{more}{PARTITION}")?;
     let mut out = Vec::new(alloc);
     let got = run(alloc, config.as_bytes(), script.as_bytes(), &mut out);
-    same_at(rt, &out.as_slice(), &wanted.as_bytes(), &script);
-    same(rt, &got.faults.len(), &0);
-    same(rt, &got.status, &0);
+    compare(rt, &got, out.as_slice(), script, wanted);
+    let mut out = Vec::new(alloc);
+    let got = run_in_one_block(alloc, config, script, &mut out);
+    compare(rt, &got, out.as_slice(), script, wanted);
     Ok(())
 }
 
 #[test]
 fn prints_what_comes_of_each_event(rt: HostRuntime) -> Result<(), Fail> {
+    let alloc = rt.alloc();
     for (settings, more, script, wanted) in ROWS {
-        plays(&rt, rt.alloc(), (settings, more), script, wanted)?;
+        let config = format!(in alloc; "{settings}{more}{PARTITION}")?;
+        plays(&rt, alloc, config.as_str(), script, wanted)?;
+    }
+    Ok(())
+}
+
+#[test]
+fn prints_the_same_over_both_media(rt: HostRuntime) -> Result<(), Fail> {
+    let alloc = rt.alloc();
+    for (more, script, wanted) in WORKED {
+        let config = format!(in alloc; "{DISK}{more}{PARTITIONS}")?;
+        plays(&rt, alloc, config.as_str(), script, wanted)?;
     }
     Ok(())
 }
