@@ -1,5 +1,4 @@
 pub mod Acting
-pub mod Admitting
 pub mod AllSent
 pub mod AnyOrder
 pub mod Asking

@@ -30,7 +30,7 @@ use Rattle.class_disk.specs.inside.Driver.{view_of, known, knowns, note, note_by
 use Rattle.class_disk.specs.inside.DuringACall.{IsTaking}
 use Rattle.class_disk.proofs.Acting.{shows}
 use Rattle.class_disk.proofs.Orderly.{All-from_map}
-use Rattle.class_disk.proofs.Admitting.{not_refused, carries_bytes, sectors_are}
+use Rattle.device.proofs.Bounded.{not_refused, carries_bytes, sectors_are}
 use Rattle.class_disk.proofs.Cutting.{whole_or_more, begins_within}
 use Rattle.class_disk.proofs.Submitting.{total, new_note, IsBefore, with_new, opens_new, taking_new}
 
@@ -191,7 +191,7 @@ module _ (v : DeviceView) (b : TableView) (h : IsInHand v b) (slot : ℕ) (irp :
   pub opens_above : Opens rules (view_of v b).state irp.number q first_above
   opens_above = opens_new rules h.coupled.j irp.number q counts covers (view_of v b).state (shows v b h) high
       (not_refused rules opens.held.request (sent_bytes opens.held.request.kind irp.payload) (view_of v b).state h.kept.sizes.whole.some_bytes h.port.uncounted (held_there rules b slot irp b1 opens h.kept).cut.bounded stays)
-      (carries_bytes rules opens.held.request irp.payload carries)
+      (carries_bytes false rules opens.held.request irp.payload carries)
 
   pub taking_opened : IsTaking rules first_above [] v.state (knowns rules b1)
   taking_opened =

@@ -19,7 +19,7 @@ use Rattle.class_disk.specs.inside.TableCalls.{bytes_from}
 use Rattle.class_disk.specs.inside.Joint.{IsPartOf}
 use Rattle.class_disk.specs.PortRules.{below_rules}
 use Rattle.class_disk.specs.inside.Driver.{note, places_of, request_of_part, IsReadyPart}
-use Rattle.class_disk.proofs.Admitting.{sectors_are}
+use Rattle.device.proofs.Bounded.{sectors_are}
 use Rattle.class_disk.proofs.Cutting.{piece_within}
 use Rattle.class_disk.proofs.FirstSending.{noted_places, AreHere}
 use Rattle.class_disk.proofs.NewRequest.{left_from, map_map, same_total, covered, places_by_request, places_for, notes_ready}

@@ -13,7 +13,7 @@ use Rattle.machine.specs.Calling.{new_request}
 use Rattle.class_disk.specs.inside.Blocks.{part_request_of}
 use Rattle.class_disk.specs.inside.Joint.{IsPartOf}
 use Rattle.class_disk.specs.PortRules.{below_rules}
-use Rattle.class_disk.proofs.Admitting.{sectors_are}
+use Rattle.device.proofs.Bounded.{sectors_are}
 
 -- these bytes are what those have from a place on, for this many places
 abbrev pub AreBytesFrom : (size at count : ℕ) (bytes whole : List ℕ) → Type 0

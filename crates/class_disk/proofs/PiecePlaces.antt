@@ -18,7 +18,7 @@ use Rattle.class_disk.specs.declared.parts.Part.{Part}
 use Rattle.class_disk.specs.inside.Blocks.{FitsBlock, data_length, part_count_of, part_request_of}
 use Rattle.class_disk.specs.inside.TableCalls.{bytes_from}
 use Rattle.class_disk.specs.inside.Driver.{request_of_part}
-use Rattle.class_disk.proofs.Admitting.{sectors_are}
+use Rattle.device.proofs.Bounded.{sectors_are}
 use Rattle.class_disk.proofs.Cutting.{piece_within, some_piece}
 
 -- WHAT THE PARTS ASK FOR, by their places

@@ -38,7 +38,7 @@ use Rattle.hold_filter.specs.inside.Invariant.{IsBefore, AreInTurn, IsCancelled,
 use Rattle.hold_filter.specs.inside.Invariant.{EntryCanGo, FilterKept, IsInHand}
 use Rattle.hold_filter.proofs.Here.{not_started, has_places}
 use Rattle.hold_filter.proofs.Moving.{in_hand}
-use Rattle.hold_filter.proofs.Sizing.{carries_none}
+use Rattle.device.proofs.Bounded.{carries_none}
 use Rattle.hold_filter.proofs.Rooms.{sets_out, sets_same, reordered, rooms_refl}
 use Rattle.hold_filter.proofs.Spots.{kept_out, has_room, others_off}
 
@@ -189,7 +189,7 @@ module _ (stack_size : ℕ) (v : DeviceView) (b : TableView) (x : Held) (held en
           carries = λ is. absurd (not_busy is);
           brings = λ is succeeds. absurd (not_success succeeds);
           filled = λ is succeeds. absurd (not_success succeeds);
-          empty = carries_none v.rules (request_in x.irp.value) x.irp.value.payload h.carries;
+          empty = carries_none false v.rules (request_in x.irp.value) x.irp.value.payload h.carries;
           climbs = subst (λ (o : OpenRequest). Climbs (packet_here x).above x.irp.value.number o.cancelled status
               (information o.request status) x.irp.value.payload climb) (sym e)
               (subst (λ (n : ℕ). Climbs (packet_here x).above x.irp.value.number x.irp.value.cancelled status n

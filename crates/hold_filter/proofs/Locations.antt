@@ -13,13 +13,12 @@ use Rattle.irp.specs.declared.Payload.{Payload}
 use Rattle.irp.specs.declared.StackLocation.{StackLocation}
 use Rattle.irp.specs.Climb.{succeeds, above as locations_above}
 use Rattle.irp.specs.Packet.{cancel_routine_of, with_cancel_routine}
-use Rattle.irp.proofs.Returning.{above_is}
 use Rattle.irp.proofs.Routines.{asks_routine}
 use Rattle.machine.specs.declared.Request.{Request}
 use Rattle.device.specs.declared.Climb.{Climb}
 use Rattle.device.specs.Climbing.{Climbs}
 use Rattle.device.specs.View.{Packet, packet_of, AsksInLocation, no_request, major_of}
-use Rattle.device.proofs.Returning.{passes_by}
+use Rattle.device.proofs.Returning.{above_is, passes_by}
 use Rattle.hold_filter.specs.declared.table.Held.{Held}
 use Rattle.hold_filter.specs.inside.Packets.{PassesDown, silent, kind_of, asked_by, last_asked, request_in}
 use Rattle.hold_filter.specs.inside.View.{but_last, packet_below, packet_here}

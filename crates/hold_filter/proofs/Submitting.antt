@@ -41,7 +41,8 @@ use Rattle.hold_filter.specs.inside.Invariant.{CanGo}
 use Rattle.hold_filter.specs.inside.Invariant.{EntryCanGo, FilterKept, IsInHand, stack_over}
 use Rattle.hold_filter.proofs.Lists.{All-first, All-second, All-from_map}
 use Rattle.hold_filter.proofs.Here.{last_first}
-use Rattle.hold_filter.proofs.Sizing.{not_refused, carries_bytes, carries_below}
+use Rattle.device.proofs.Bounded.{carries_bytes}
+use Rattle.hold_filter.proofs.Sizing.{not_refused, carries_below}
 use Rattle.hold_filter.proofs.Locations.{asks_with, asks_request}
 use Rattle.hold_filter.proofs.Moving.{in_hand}
 use Rattle.hold_filter.proofs.Rooms.{IsOff, without_off, off_shown, sets_in, sets_same, reordered, rooms_refl}
@@ -185,7 +186,7 @@ module _ (stack_size : ℕ) (v : DeviceView) (b : TableView) (irp : Box Irp) (ro
       (not_refused v.rules (request_in irp.value) asked_now
       (sent_bytes (request_in irp.value).kind irp.value.payload)
       (state_of v b) k.ordered.uncounted m.not_removing)
-      (carries_bytes v.rules (request_in irp.value) irp.value.payload carries) in
+      (carries_bytes false v.rules (request_in irp.value) irp.value.payload carries) in
       record {
         new_number = h.new_number;
         not_refused = h.not_refused;

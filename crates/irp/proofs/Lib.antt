@@ -1,3 +1,2 @@
 pub mod Climbing
-pub mod Returning
 pub mod Routines

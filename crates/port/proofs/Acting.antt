@@ -27,7 +27,8 @@ use Rattle.port.specs.inside.Invariant.{IsEmptyIfFlush}
 use Rattle.device.specs.Served.{cut}
 use Rattle.port.proofs.Lists.{cut-concat}
 use Rattle.port.proofs.Codes.{read_code, write_code, flush_code, clash}
-use Rattle.port.proofs.Sizing.{volume_zero, sectors_are, places_transfer, places_flush}
+use Rattle.device.proofs.Bounded.{sectors_are}
+use Rattle.port.proofs.Sizing.{volume_zero, places_transfer, places_flush}
 
 -- the one array is the disk
 pub whole_disk : (sectors : List (List ℕ)) (count : ℕ) → count ≡ length sectors → slice_range sectors 0 (0 + count) ≡ sectors

@@ -26,7 +26,7 @@ use Rattle.port.specs.Shown.{rules_of, waiting_open, done_open, open_on, packet 
 use Rattle.port.specs.inside.Invariant.{asked, PortKept, IsInHand, IsRoom, IsWaiting, IsEmptyIfFlush, IsBefore, AreInTurn, HasEnded, HasOutcome, IsTaken}
 use Rattle.port.proofs.Places.{distinct_same}
 use Rattle.port.proofs.Lists.{last_front}
-use Rattle.port.proofs.Sizing.{carries_empty}
+use Rattle.device.proofs.Bounded.{carries_none}
 use Rattle.port.proofs.Returning.{done_is}
 use Rattle.port.proofs.Orderly.{in_hand, maps_are}
 
@@ -72,7 +72,7 @@ ended_at_removal rules removing d h = record { bounded = h.bounded; why = by_out
     by_outcome Gone h = refl
 
 gone_ended : (rules : Rules) (v : AdapterView) (held : PortPacket) → IsWaiting rules v held → HasEnded rules true (gone held)
-gone_ended rules v held w = record { bounded = w.room.bounded; why = refl; empty = carries_empty rules held.request held.irp.value.payload w.carries }
+gone_ended rules v held w = record { bounded = w.room.bounded; why = refl; empty = carries_none true rules held.request held.irp.value.payload w.carries }
 
 kept_drained : (b : TableView) (v : AdapterView) (rooms : List Request) → PortKept b v rooms → PortKept (drained b) v rooms
 kept_drained b v rooms k =
@@ -207,7 +207,7 @@ module _ (b : TableView) (v : AdapterView) (number : ℕ) (before : List PortPac
           bounded = subst (λ (e : PacketEntry). IsBounded rules e.request) (sym same_entry) w.room.bounded;
           why = subst (HasOutcome rules b.removing withdrawn) (sym ends) (ap (λ (e : PacketEntry). e.cancelled) same_entry);
           empty = subst (λ (p : Payload). IsEmptyIfFlush withdrawn.request (payload_bytes p)) (sym carries)
-              (subst (λ (e : PacketEntry). IsEmptyIfFlush e.request (payload_bytes held.irp.value.payload)) (sym same_entry) (carries_empty rules held.request held.irp.value.payload w.carries));
+              (subst (λ (e : PacketEntry). IsEmptyIfFlush e.request (payload_bytes held.irp.value.payload)) (sym same_entry) (carries_none true rules held.request held.irp.value.payload w.carries));
         });
         reserved = All-permutation (IsRoom rules v) _ _ (IsPermutation-sym _ _ (packets_withdrawn asked (λ e. refl))) k.reserved;
         spots = distinct_same _ _ (IsPermutation-sym _ _ (packets_withdrawn spot_in (λ e. refl))) k.spots;

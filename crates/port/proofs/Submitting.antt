@@ -24,7 +24,7 @@ use Rattle.port.specs.inside.Invariant.{asked, PortKept, IsBusy, IsInHand, IsRoo
 use Rattle.port.proofs.Places.{distinct_same, spots_more, taken_more, sets_room}
 use Rattle.port.specs.inside.Releases.{begun_of, Releases}
 use Rattle.port.proofs.Lists.{contains_behind}
-use Rattle.port.proofs.Sizing.{not_refused, carries_bytes}
+use Rattle.device.proofs.Bounded.{not_refused, carries_bytes}
 use Rattle.port.proofs.Starting.{kept_sector_some}
 use Rattle.port.proofs.Opening.{true_false}
 
@@ -64,8 +64,8 @@ opens_queued b v irp r spot slots rooms k m =
     let some : 0 < b.sizes.sector_size = kept_sector_some b v (r ∷ rooms) k in
     record {
       new_number = m.number;
-      not_refused = not_refused b.sizes r (sent_bytes r.kind irp.value.payload) (state_of b v) some room.bounded m.stays;
-      carries = carries_bytes b.sizes r irp.value.payload room.bounded m.carries;
+      not_refused = not_refused rules r (sent_bytes r.kind irp.value.payload) (state_of b v) some refl room.bounded m.stays;
+      carries = carries_bytes true rules r irp.value.payload m.carries;
       after = record {
         arrays = refl;
         next_request = refl;
