@@ -1,3 +1,4 @@
+pub mod AllAnswered
 mod Asked
 mod Cuts
 mod Decimals
