@@ -1,5 +1,5 @@
 -- What every right step has: at most one call, want of memory in its place, and its answers.
-use Rattle.std.proofs.Common.{◌≡◌, ◌⊎◌, inl, inr, ℕ, zero, suc, Bool, true, false, List, [], ◌∷◌, ◌++◌, Option, Some, None, sym, ap, subst, arith, map}
+use Rattle.std.proofs.Common.{◌≡◌, ◌⊎◌, inl, inr, ℕ, zero, suc, Bool, true, false, List, [], ◌∷◌, ◌++◌, Option, Some, None, refl, sym, ap, subst, arith, map}
 use Rattle.std.specs.Prelude.{All, Contains, IsPermutation, if◌then◌else◌}
 use Rattle.std.proofs.lemmas.List.Elements.{All-nil, All-cons, All-append, All-map, All-head, All-tail, All-contains, Contains-append_left, Contains-append_cases}
 use Rattle.std.proofs.lemmas.List.Sorted.{IsPermutation-sym, Contains-permutation}
@@ -28,7 +28,7 @@ use Rattle.io_manager.specs.Right.{Told, as_answer, as_cancel, end_labels, label
 use Rattle.compose.specs.declared.Event.{Event}
 use Rattle.compose.specs.declared.Event.TheVariants.{Open, Close, Read as ReadEvent, Write as WriteEvent, Flush as FlushEvent, CancelIoEx, Mark, QueryRemove, CancelRemove, Remove as RemoveEvent, SurpriseRemove, Act, Finish, Reset}
 use Rattle.compose.specs.Right.{IsRight}
-use Rattle.compose.specs.StepLaws.{IsTransferEvent, IsNoCall, CallsFirst, StepsCallOnce, StepsTakeNoMemory, IsAnsweredBy, StepsLeaveAnswers}
+use Rattle.compose.specs.StepLaws.{IsTransferEvent, IsNoCall, CallsFirst, StepsCallOnce, StepsTakeNoMemory, SaysAnswer, StepsLeaveAnswers}
 
 -- OWN LABELS
 
@@ -37,35 +37,41 @@ abbrev IsNoAnswer : Label → Type 0
 IsNoAnswer (AnswerLabel number status informed bytes) = ⊥
 IsNoAnswer _ = Unit {0}
 
+-- the label is no answer, or one that the reply says
+abbrev IsSaid : Reply → Label → Type 0
+IsSaid reply (AnswerLabel number status informed bytes) = SaysAnswer reply number status informed bytes
+IsSaid reply _ = Unit {0}
+
 -- a step's own labels: a call comes first, and an answer only with a reply that says it
 record Own (event : Event) (reply : Reply) (own : List Label) : Type 0 where
   calls : CallsFirst event own
-  answers : IsAnsweredBy reply ⊎ All IsNoAnswer own
+  answers : All (IsSaid reply) own
 
 module _ (event : Event) (reply : Reply) (own : List Label) where
   own_none : own ≡ [] → Own event reply own
-  own_none is = subst (Own event reply) (sym is) (record { calls = tt; answers = inr (All-nil IsNoAnswer) })
+  own_none is = subst (Own event reply) (sym is) (record { calls = tt; answers = All-nil (IsSaid reply) })
 
-  own_one : (label : Label) → own ≡ label ∷ [] → IsNoCall label → IsNoAnswer label → Own event reply own
-  own_one label is no_call no_answer =
+  own_one : (label : Label) → own ≡ label ∷ [] → IsNoCall label → IsSaid reply label → Own event reply own
+  own_one label is no_call said =
       subst (Own event reply) (sym is)
-      (record { calls = (inl no_call, All-nil IsNoCall); answers = inr (All-cons IsNoAnswer label [] no_answer (All-nil IsNoAnswer)) })
+      (record { calls = (inl no_call, All-nil IsNoCall); answers = All-cons (IsSaid reply) label [] said (All-nil (IsSaid reply)) })
 
   own_call : (number : ℕ) (q : ClientRequest) → IsTransferEvent event → own ≡ Call number q ∷ [] → Own event reply own
   own_call number q transfers is =
       subst (Own event reply) (sym is)
-      (record { calls = (inr transfers, All-nil IsNoCall); answers = inr (All-cons IsNoAnswer (Call number q) [] tt (All-nil IsNoAnswer)) })
+      (record { calls = (inr transfers, All-nil IsNoCall); answers = All-cons (IsSaid reply) (Call number q) [] tt (All-nil (IsSaid reply)) })
 
-  own_answered : (number : ℕ) (q : ClientRequest) (status : NtStatus) → IsTransferEvent event → IsAnsweredBy reply
+  own_answered : (number : ℕ) (q : ClientRequest) (status : NtStatus) → IsTransferEvent event → SaysAnswer reply number status 0 []
       → own ≡ Call number q ∷ AnswerLabel number status 0 [] ∷ [] → Own event reply own
-  own_answered number q status transfers answered is =
+  own_answered number q status transfers says is =
       subst (Own event reply) (sym is) (record {
         calls = (inr transfers, All-cons IsNoCall (AnswerLabel number status 0 []) [] tt (All-nil IsNoCall));
-        answers = inl answered;
+        answers = All-cons (IsSaid reply) (Call number q) (AnswerLabel number status 0 [] ∷ []) tt
+            (All-cons (IsSaid reply) (AnswerLabel number status 0 []) [] says (All-nil (IsSaid reply)));
       })
 
   own_cancels : (numbers : List ℕ) → own ≡ map as_cancel numbers → Own event reply own
-  own_cancels numbers is = subst (Own event reply) (sym is) (record { calls = first numbers; answers = inr (All-map IsNoAnswer as_cancel numbers (λ k d low. tt)) })
+  own_cancels numbers is = subst (Own event reply) (sym is) (record { calls = first numbers; answers = All-map (IsSaid reply) as_cancel numbers (λ k d low. tt) })
     where
       first : (numbers : List ℕ) → CallsFirst event (map as_cancel numbers)
       first [] = tt
@@ -81,9 +87,9 @@ transfer_own : (event : Event) (old : ManagerView) (handle : Handle) (q : Client
     → IsTransferEvent event → TransferReplies old handle q buffer reply new told → Own event reply told.own
 transfer_own event old handle q buffer (Requested id) new told transfers h = own_call event _ told.own id.number q transfers h.own
 transfer_own event old handle q buffer (Answered answer) new told transfers h =
-    own_answered event _ told.own _ _ _ transfers tt (ap (λ (t : Told). t.own) h.0.tells)
+    own_answered event _ told.own _ _ _ transfers h.1 (ap (λ (t : Told). t.own) h.0.tells)
 transfer_own event old handle q buffer (Refused reason bytes) new told transfers (same, inl h) =
-    own_answered event _ told.own _ _ _ transfers tt (ap (λ (t : Told). t.own) h.tells)
+    own_answered event _ told.own _ _ _ transfers (refl, refl, refl) (ap (λ (t : Told). t.own) h.tells)
 transfer_own event old handle q buffer (Refused DeviceBusy bytes) new told transfers (same, inr h) = own_none event _ told.own (ap (λ (t : Told). t.own) h.1.nothing)
 transfer_own event old handle q buffer (Refused InsufficientResources bytes) new told transfers (same, inr h) =
     own_none event _ told.own (ap (λ (t : Told). t.own) h.2.nothing)
@@ -141,14 +147,14 @@ mark_own event old number (Answered answer) new told h = absurd h
 mark_own event old number (Refused reason bytes) new told h = absurd h
 
 pnp_own : (event : Event) (old : ManagerView) (call : PnpEvent) (after : PnpState) (label : Label) (reply : Reply) (new : ManagerView) (told : Told)
-    → IsNoCall label → IsNoAnswer label → PnpReplies old call after label reply new told → Own event reply told.own
-pnp_own event old call after label OkReply new told no_call no_answer h = own_one event _ told.own label h.tells.own no_call no_answer
-pnp_own event old call after label (Refused reason bytes) new told no_call no_answer h =
+    → IsNoCall label → IsSaid reply label → PnpReplies old call after label reply new told → Own event reply told.own
+pnp_own event old call after label OkReply new told no_call said h = own_one event _ told.own label h.tells.own no_call said
+pnp_own event old call after label (Refused reason bytes) new told no_call said h =
     refuses_own event _ old reason InvalidDeviceRequest bytes new told h.refuses
-pnp_own event old call after label (HandleReply given) new told no_call no_answer h = absurd h
-pnp_own event old call after label (Requested id) new told no_call no_answer h = absurd h
-pnp_own event old call after label (Answered answer) new told no_call no_answer h = absurd h
-pnp_own event old call after label Ignored new told no_call no_answer h = absurd h
+pnp_own event old call after label (HandleReply given) new told no_call said h = absurd h
+pnp_own event old call after label (Requested id) new told no_call said h = absurd h
+pnp_own event old call after label (Answered answer) new told no_call said h = absurd h
+pnp_own event old call after label Ignored new told no_call said h = absurd h
 
 recalled_own : (event : Event) (reply : Reply) (state : PnpState) (old new : ManagerView) (told : Told) → IsRecalled state old new told → Own event reply told.own
 recalled_own event reply Started old new told h = own_none event reply told.own (ap (λ (t : Told). t.own) h.nothing)
@@ -309,21 +315,19 @@ among (a ∷ answers) number status informed bytes (suc k, low, is) =
 pub steps_leave_answers : StepsLeaveAnswers
 steps_leave_answers old event reply new number status informed bytes right there =
     let t : Tells event reply old new = tells old event reply new right in
-    elim t.own.answers [
-      | inl answered ↦ inl answered
-      | inr none ↦
-          let label : Label = AnswerLabel number status informed bytes in
-          let all : Contains (labels_of t.told) label = subst (λ ls. Contains ls label) t.in_order there in
-          let found : Contains t.told.answers (answer_of label) =
-          elim (Contains-append_cases ((t.told.own ++ map as_label t.told.device) ++ map as_answer t.told.answers) (end_labels t.told.ends) label all) [
-            | inl before ↦
-                elim (Contains-append_cases (t.told.own ++ map as_label t.told.device) (map as_answer t.told.answers) label before) [
-                  | inl early ↦
-                      absurd (All-contains IsNoAnswer (t.told.own ++ map as_label t.told.device) label
-                      (All-append IsNoAnswer t.told.own (map as_label t.told.device) none (device_no_answer t.told.device)) early)
-                  | inr mine ↦ among t.told.answers number status informed bytes mine
+    let label : Label = AnswerLabel number status informed bytes in
+    let all : Contains (labels_of t.told) label = subst (λ ls. Contains ls label) t.in_order there in
+    elim (Contains-append_cases ((t.told.own ++ map as_label t.told.device) ++ map as_answer t.told.answers) (end_labels t.told.ends) label all) [
+      | inl before ↦
+          elim (Contains-append_cases (t.told.own ++ map as_label t.told.device) (map as_answer t.told.answers) label before) [
+            | inl early ↦
+                elim (Contains-append_cases t.told.own (map as_label t.told.device) label early) [
+                  | inl own ↦ inl (All-contains (IsSaid reply) t.told.own label t.own.answers own)
+                  | inr lower ↦ absurd (All-contains IsNoAnswer (map as_label t.told.device) label (device_no_answer t.told.device) lower)
                 ]
-            | inr last ↦ absurd (All-contains IsNoAnswer (end_labels t.told.ends) label (ended_no_answer t.told.ends) last)
-          ] in
-          inr (Contains-permutation _ _ _ (IsPermutation-sym _ _ t.untaken) (Contains-append_left t.told.answers old.answers _ found))
+            | inr mine ↦
+                let found : Contains t.told.answers (answer_of label) = among t.told.answers number status informed bytes mine in
+                inr (Contains-permutation _ _ _ (IsPermutation-sym _ _ t.untaken) (Contains-append_left t.told.answers old.answers _ found))
+          ]
+      | inr last ↦ absurd (All-contains IsNoAnswer (end_labels t.told.ends) label (ended_no_answer t.told.ends) last)
     ]

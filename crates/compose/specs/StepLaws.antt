@@ -10,7 +10,7 @@ use Rattle.io_manager.specs.declared.Reply.{Reply}
 use Rattle.io_manager.specs.declared.Reply.TheVariants.{Request as Requested, Refused, Answered}
 use Rattle.io_manager.specs.declared.Refusal.TheVariants.{InsufficientResources}
 use Rattle.io_manager.specs.Shown.{ManagerView}
-use Rattle.io_manager.specs.Calls.{opened_as}
+use Rattle.io_manager.specs.Calls.{opened_as, status_of_refusal}
 use Rattle.compose.specs.declared.Event.{Event}
 use Rattle.compose.specs.declared.Event.TheVariants.{Read, Write, Flush}
 use Rattle.compose.specs.Right.{IsRight, opened_by}
@@ -44,20 +44,22 @@ StepsTakeNoMemory =
     → IsRight old event (Refused InsufficientResources bytes) new
     → IsTransferEvent event
 
--- the reply answers its call, or refuses it
-abbrev pub IsAnsweredBy : Reply → Type 0
-IsAnsweredBy (Answered answer) = Unit {0}
-IsAnsweredBy (Refused reason bytes) = Unit {0}
-IsAnsweredBy _ = ⊥
+-- the reply says this answer of its call: it gives it, or refuses the call with its status
+abbrev pub SaysAnswer : Reply → ℕ → NtStatus → ℕ → List ℕ → Type 0
+SaysAnswer (Answered answer) number status informed bytes =
+    answer ≡ record { number = number; status = status; information = informed; bytes = bytes }
+SaysAnswer (Refused reason back) number status informed bytes =
+    (status ≡ status_of_refusal reason) × (informed ≡ 0) × (bytes ≡ [])
+SaysAnswer _ number status informed bytes = ⊥
 
--- where the reply neither answers nor refuses, each answer of a step waits to be taken, with the status, the
--- information and the bytes of its label
+-- each answer of a step is said by its reply, or waits to be taken, with the status, the information and the bytes of
+-- its label
 abbrev pub StepsLeaveAnswers : Type 0
 StepsLeaveAnswers =
     (old : ManagerView) (event : Event) (reply : Reply) (new : ManagerView) (number : ℕ) (status : NtStatus)
     (informed : ℕ) (bytes : List ℕ)
     → IsRight old event reply new → Contains new.labels (AnswerLabel number status informed bytes)
-    → IsAnsweredBy reply ⊎ Contains new.answers
+    → SaysAnswer reply number status informed bytes ⊎ Contains new.answers
     (record { number = number; status = status; information = informed; bytes = bytes })
 
 -- the request whose call the step tells under this number opens as this many pieces, on these sectors of the disk
