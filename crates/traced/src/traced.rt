@@ -92,6 +92,24 @@ impl<A: Adapter, N: Naming> Model for Traced<A, N> {
     } };
 }
 
+// What stands beside a stack whose labels are noted: memory, the history of its trace, and the marks of its requests.
+#[derive(Drop)]
+struct Beside<'a, N: Naming> {
+    alloc: Global,
+    history: &'a History<TraceEntry, N>,
+    marks: &'a Marks,
+}
+
+impl<'a, N: Naming> Model for Beside<'a, N> {
+    ghost use Rattle.std.specs.Prelude.{◌≡◌};
+
+    ghost Value = { Unit {0} };
+
+    ghost view = { λ b. tt };
+
+    ghost invariant = { λ b. b.marks.now ≡ (N.marks, N.slots) };
+}
+
 // How many labels may always come: those of a removal and of its end.
 const REMOVAL_LABELS: usize = 2;
 
@@ -172,11 +190,9 @@ fn note_all<A: Adapter, N: Naming>(
     stack: &mut Stack<A>,
     pages: &mut Pages<N>,
     slots: &mut Slots<N>,
-    history: &History<TraceEntry, N>,
-    marks: &Marks,
+    beside: &Beside<N>,
     client: usize,
 )
-    requires marks { marks.now ≡ (N.marks, N.slots) }
     requires may { MayNoteAll (length N.partitions) client pages.old stack.old.labels }
     requires room { length stack.old.labels ≤ pages.old.room }
     ensures stack { stack.new ≡ record stack.old { labels = [] } }
@@ -186,8 +202,8 @@ fn note_all<A: Adapter, N: Naming>(
     ensures below { (next : ℕ) → ArmedBelow next slots.old.owner → ArmedBelow next slots.new.owner }
 {
     while let Some(label) = stack.take_label() {
-        retire_if_answered(slots, marks, &label);
-        pages.note(history, label, client);
+        retire_if_answered(slots, beside.marks, &label);
+        pages.note(beside.history, label, client);
     }
 }
 
@@ -196,13 +212,10 @@ fn carry<A: Adapter, N: Naming>(
     stack: &mut Stack<A>,
     pages: &mut Pages<N>,
     slots: &mut Slots<N>,
-    alloc: Global,
-    history: &History<TraceEntry, N>,
-    marks: &Marks,
+    beside: &Beside<N>,
     client: usize,
     event: Event,
 ) -> Reply
-    requires marks { marks.now ≡ (N.marks, N.slots) }
     requires sound { IsSound N.rules N.start N.handles N.slots stack.old pages.old slots.old }
     requires no_handle { is_handle_event event ≡ false }
     requires client { is_call_event event ≡ true → (client < length N.partitions) × (pages.old.ready ≡ Some client) }
@@ -214,9 +227,9 @@ fn carry<A: Adapter, N: Naming>(
 {
     laws_of_numbers();
     slots.shows_armed();
-    let reply = serve_right(stack, alloc, event);
-    arm_if_opened(slots, marks, &reply);
-    note_all(stack, pages, slots, history, marks, client);
+    let reply = serve_right(stack, beside.alloc, event);
+    arm_if_opened(slots, beside.marks, &reply);
+    note_all(stack, pages, slots, beside, client);
     reply
 }
 
@@ -225,27 +238,15 @@ fn carry_mark<A: Adapter, N: Naming>(
     stack: &mut Stack<A>,
     pages: &mut Pages<N>,
     slots: &mut Slots<N>,
-    alloc: Global,
-    history: &History<TraceEntry, N>,
-    marks: &Marks,
+    beside: &Beside<N>,
     number: u64,
 )
-    requires marks { marks.now ≡ (N.marks, N.slots) }
     requires sound { IsSound N.rules N.start N.handles N.slots stack.old pages.old slots.old }
     ensures sound { IsSound N.rules N.start N.handles N.slots stack.new pages.new slots.new }
     ensures carried { (reply : ReplyView) × IsCarried 0 (shown stack.old pages.old slots.old) (Mark number) reply (shown stack.new pages.new slots.new) }
     ensures no_call { pages.new.owners ≡ pages.old.owners }
 {
-    carry(
-        stack,
-        pages,
-        slots,
-        alloc,
-        history,
-        marks,
-        0,
-        Event::Mark { number },
-    );
+    carry(stack, pages, slots, beside, 0, Event::Mark { number });
 }
 
 // Looks at a slot, and carries out a mark that it sees there.
@@ -253,20 +254,17 @@ fn look_at<A: Adapter, N: Naming>(
     stack: &mut Stack<A>,
     pages: &mut Pages<N>,
     slots: &mut Slots<N>,
-    alloc: Global,
-    history: &History<TraceEntry, N>,
-    marks: &Marks,
+    beside: &Beside<N>,
     slot: usize,
 )
-    requires marks { marks.now ≡ (N.marks, N.slots) }
     requires sound { IsSound N.rules N.start N.handles N.slots stack.old pages.old slots.old }
     requires slot { slot < N.slots }
     ensures sound { IsSound N.rules N.start N.handles N.slots stack.new pages.new slots.new }
     ensures looked { IsLooked slot (shown stack.old pages.old slots.old) (shown stack.new pages.new slots.new) }
     ensures no_call { pages.new.owners ≡ pages.old.owners }
 {
-    if let Some(number) = slots.look(marks, slot) {
-        carry_mark(stack, pages, slots, alloc, history, marks, number);
+    if let Some(number) = slots.look(beside.marks, slot) {
+        carry_mark(stack, pages, slots, beside, number);
     }
 }
 
@@ -275,11 +273,8 @@ fn look_all<A: Adapter, N: Naming>(
     stack: &mut Stack<A>,
     pages: &mut Pages<N>,
     slots: &mut Slots<N>,
-    alloc: Global,
-    history: &History<TraceEntry, N>,
-    marks: &Marks,
+    beside: &Beside<N>,
 )
-    requires marks { marks.now ≡ (N.marks, N.slots) }
     requires sound { IsSound N.rules N.start N.handles N.slots stack.old pages.old slots.old }
     ensures sound { IsSound N.rules N.start N.handles N.slots stack.new pages.new slots.new }
     ensures looked { AreLooked N.slots (shown stack.old pages.old slots.old) (shown stack.new pages.new slots.new) }
@@ -289,7 +284,7 @@ fn look_all<A: Adapter, N: Naming>(
         if slot >= slots.end() {
             return;
         }
-        look_at(stack, pages, slots, alloc, history, marks, slot);
+        look_at(stack, pages, slots, beside, slot);
     }
 }
 
@@ -442,14 +437,12 @@ impl<A: Adapter, N: Naming> Traced<A, N> {
         ensures looked { AreLooked N.slots self.old self.new }
         ensures no_call { self.new.owners ≡ self.old.owners }
     {
-        look_all(
-            &mut self.stack,
-            &mut self.pages,
-            &mut self.slots,
+        let beside = Beside {
             alloc,
             history,
             marks,
-        );
+        };
+        look_all(&mut self.stack, &mut self.pages, &mut self.slots, &beside);
     }
 
     /// The piece on a tag that could act, with its SRB.
@@ -498,8 +491,9 @@ impl<A: Adapter, N: Naming> Traced<A, N> {
         self.stack.shows_whole();
     }
 
-    /// Carries out a read, a write or a flush, with the share of its handle's client. It is refused as
-    /// `InsufficientResources`, before any step, where memory for the labels that it may bring is refused.
+    /// Carries out a read, a write or a flush, and notes it as a call of the share's client, whichever handle it names.
+    /// It is refused as `InsufficientResources`, before any step, where memory for the labels that it may bring is
+    /// refused.
     pub fn call(
         &mut self,
         alloc: Global,
@@ -521,13 +515,16 @@ impl<A: Adapter, N: Naming> Traced<A, N> {
             return refused(alloc, event);
         }
         let before = self.pages.calls();
+        let beside = Beside {
+            alloc,
+            history,
+            marks,
+        };
         let reply = carry(
             &mut self.stack,
             &mut self.pages,
             &mut self.slots,
-            alloc,
-            history,
-            marks,
+            &beside,
             client,
             event,
         );
@@ -555,13 +552,16 @@ impl<A: Adapter, N: Naming> Traced<A, N> {
         {
             return refused(alloc, event);
         }
+        let beside = Beside {
+            alloc,
+            history,
+            marks,
+        };
         carry(
             &mut self.stack,
             &mut self.pages,
             &mut self.slots,
-            alloc,
-            history,
-            marks,
+            &beside,
             0,
             event,
         )
