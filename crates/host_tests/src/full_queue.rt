@@ -1,8 +1,8 @@
 //! A queue of one place that is full, while the worker is held with its first item. It hands back what another lane puts,
 //! and that lane finishes its piece itself.
 
-ghost use Rattle.std.specs.Prelude.{◌≡◌, IfOk, IfSome, suc};
-ghost use Rattle.lanes.specs.Queue.{fresh_lane, issued, lanes_of, standing};
+ghost use Rattle.std.specs.Prelude.{◌≡◌, IfOk};
+ghost use Rattle.lanes.specs.Queue.{issued};
 ghost use Rattle.host.specs.Opening.{IsDiskFor};
 
 use crate::beside::Open;
@@ -13,8 +13,8 @@ use crate::opening::open_host;
 use crate::texts;
 use disk::Medium;
 use host::{Call, Client, Host, HostFault, Keeper, Naming, Opened, Ticket};
-use lanes::{Completions, Desk, Pass, Step, Turnstile, Woken, serve_completions, serve_lane};
-use rounds::remove;
+use lanes::{Completions, Desk, Pass, Step, Turnstile, Woken};
+use rounds::{Lanes, remove, start_lanes};
 use sector::Bytes;
 use sector_journal::{OfArmings, OfEntries};
 use std::alloc::{AllocError, Global};
@@ -23,7 +23,7 @@ use std::process::Abort;
 use std::sync::Wait;
 use std::test::Fail;
 use std::thread;
-use std::thread::{Scope, Threads};
+use std::thread::Threads;
 use std::time::Clock;
 
 /// The worker's turnstile, which holds its first item.
@@ -71,53 +71,6 @@ impl<'a, M: Medium, N: Naming, C: Clock> Desk for LetsGo<'a, M, N, C> {
     fn rest<R: Wait>(&self, rt: &R, heard: u64) -> Woken {
         Desk::rest(self.host, rt, heard)
     }
-}
-
-// The pass of the highest tag that is left.
-fn last_lane(passes: &mut Vec<Pass>, completions: &Completions, tag: u8) -> Option<Pass>
-    requires { passes.old.items ≡ lanes_of completions.now.id (suc tag) }
-    ensures lane { IfSome result (λ pass. pass ≡ standing completions.now.id (fresh_lane tag)) }
-    ensures rest { passes.new.items ≡ lanes_of completions.now.id tag }
-{
-    passes.pop()
-}
-
-// Starts the worker, which passes this turnstile, and lanes, which nobody holds. Returns false where a thread could not
-// be started.
-fn start_threads<'s, E, D: Desk + Sync, T: Turnstile + Sync, R: Threads + Wait + Sync>(
-    rt: &'s R,
-    scope: &'s Scope<'s, E>,
-    desk: &'s D,
-    completions: &'s Completions,
-    passes: Vec<Pass>,
-    depth: u8,
-    turnstile: &'s T,
-) -> bool
-    requires { passes.items ≡ issued completions.now.id depth }
-{
-    let mut passes = passes;
-    let Some(worker) = passes.pop() else {
-        return false;
-    };
-    if scope
-        .spawn(move || serve_completions(rt, desk, completions, worker, turnstile))
-        .is_err()
-    {
-        return false;
-    }
-    for started in 0..depth {
-        let tag = depth - 1 - started;
-        let Some(pass) = last_lane(&mut passes, completions, tag) else {
-            return false;
-        };
-        if scope
-            .spawn(move || serve_lane(rt, desk, tag, &Open, completions, pass))
-            .is_err()
-        {
-            return false;
-        }
-    }
-    true
 }
 
 // A client reads the sector at an offset.
@@ -199,6 +152,7 @@ fn run_threads<
 ) -> Result<String, AllocError>
     requires { passes.items ≡ issued completions.now.id 4 }
 {
+    let open = Open;
     let turnstile = HoldsWorker {
         holding: desk.worker,
     };
@@ -209,7 +163,13 @@ fn run_threads<
             requires { passes.items ≡ issued completions.now.id 4 }
         {
             let (mut keeper, mut client) = (keeper, client);
-            let seen = if start_threads(rt, scope, desk, completions, passes, 4, &turnstile) {
+            let lanes = Lanes {
+                desk,
+                completions,
+                turnstile: &open,
+                at_worker: &turnstile,
+            };
+            let seen = if start_lanes(rt, scope, lanes, passes, 4) {
                 read_four(rt, alloc, desk, &mut client)
             } else {
                 Err(AllocError)

@@ -5,6 +5,7 @@ ghost use Rattle.lanes.specs.Queue.{issued};
 ghost use Rattle.host.specs.Clients.{AreNumbered};
 ghost use Rattle.host.specs.Opening.{IsDiskFor};
 
+use crate::beside::Open;
 use crate::desk::{compare_acts, given_back, two_of};
 use crate::disks::TWO;
 use crate::opening::open_host;
@@ -13,7 +14,7 @@ use crate::texts;
 use disk::Medium;
 use host::{Client, Closed, Host, Keeper, Naming, Opened};
 use lanes::{Completions, Pass, Turnstile};
-use rounds::{remove, start_lanes};
+use rounds::{Lanes, remove, start_lanes};
 use sector_journal::Entered;
 use std::alloc::{AllocError, Global};
 use std::process::Abort;
@@ -98,6 +99,7 @@ fn run_threads<
     ensures first { result.first.client ≡ first.client }
     ensures second { result.second.client ≡ second.client }
 {
+    let open = Open;
     thread::scope(
         thread::scope_env(),
         rt,
@@ -106,7 +108,13 @@ fn run_threads<
             ensures first { result.first.client ≡ first.client }
             ensures second { result.second.client ≡ second.client }
         {
-            let has_lanes = start_lanes(rt, scope, host, completions, passes, 2, turnstile);
+            let lanes = Lanes {
+                desk: host,
+                completions,
+                turnstile,
+                at_worker: &open,
+            };
+            let has_lanes = start_lanes(rt, scope, lanes, passes, 2);
             play_and_remove(rt, alloc, host, keeper, first, second, scene, has_lanes)
         },
     )

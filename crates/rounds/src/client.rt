@@ -7,8 +7,22 @@ use compose::Refusal as Why;
 use disk::Medium;
 use host::{Call, Client, Host, Naming, Reason};
 use sector::Bytes;
+use sector_journal::{OfArmings, OfEntries};
 use std::alloc::{AllocError, Global};
 use std::sync::Wait;
+
+/// What the threads of the clients share.
+#[derive(Drop)]
+pub(crate) struct Shared<'s, M: Medium, N: Naming, R>
+where
+    OfArmings<N>: chronicle::Naming,
+    OfEntries<N>: chronicle::Naming,
+{
+    pub rt: &'s R,
+    pub alloc: Global,
+    pub host: &'s Host<M, N>,
+    pub plan: Plan,
+}
 
 /// A client after its rounds, with their tally. Where memory was refused the rounds ended early.
 #[derive(Drop)]
@@ -52,11 +66,8 @@ fn answer_to<M: Medium, N: Naming, R: Wait>(
 
 /// Writes the client's sector full of a byte, reads it and compares.
 fn round<M: Medium, N: Naming, R: Wait>(
-    rt: &R,
-    alloc: Global,
-    host: &Host<M, N>,
+    shared: &Shared<M, N, R>,
     client: &mut Client<N>,
-    size: u32,
     byte: u8,
     tally: &mut Tally,
 ) -> Result<(), AllocError>
@@ -64,6 +75,8 @@ fn round<M: Medium, N: Naming, R: Wait>(
     ensures client { client.new.client ≡ client.old.client }
     ensures most { tally.new.answered ≤ tally.old.answered + 2 }
 {
+    let (rt, alloc, host) = (shared.rt, shared.alloc, shared.host);
+    let size = shared.plan.sector_size;
     let offset = (client.client() as u64).saturating_mul(u64::from(size));
     let bytes = sector_of(alloc, size, byte)?;
     let write = Call::Write {
@@ -87,14 +100,11 @@ fn round<M: Medium, N: Naming, R: Wait>(
 
 /// Does all rounds of a client.
 pub(crate) fn serve_client<M: Medium, N: Naming, R: Wait>(
-    rt: &R,
-    alloc: Global,
-    host: &Host<M, N>,
+    shared: &Shared<M, N, R>,
     client: Client<N>,
-    plan: Plan,
 ) -> Served<N>
     ensures client { result.client.client ≡ client.client }
-    ensures most { result.tally.answered ≤ 2 * plan.rounds }
+    ensures most { result.tally.answered ≤ 2 * shared.now.plan.rounds }
 {
     let mut client = client;
     let mut tally = Tally {
@@ -102,19 +112,9 @@ pub(crate) fn serve_client<M: Medium, N: Naming, R: Wait>(
         differing: 0,
     };
     let first = client.client();
-    for j in 0..plan.rounds {
+    for j in 0..shared.plan.rounds {
         let byte = (first.wrapping_add(usize::from(j)) % 256) as u8;
-        if round(
-            rt,
-            alloc,
-            host,
-            &mut client,
-            plan.sector_size,
-            byte,
-            &mut tally,
-        )
-        .is_err()
-        {
+        if round(shared, &mut client, byte, &mut tally).is_err() {
             return Served {
                 client,
                 tally,

@@ -20,7 +20,7 @@ ghost use Rattle.host.specs.Opening.{IsDiskFor};
 ghost use Rattle.rounds.specs.Faults.{IsRoundsFault};
 
 use crate::threads::serve;
-pub use crate::threads::{remove, start_lanes};
+pub use crate::threads::{Lanes, remove, start_lanes};
 use compose::Stack;
 use disk::Medium;
 use host::{HostFault, Opened};

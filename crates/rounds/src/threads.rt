@@ -8,12 +8,12 @@ ghost use Rattle.sector_journal.specs.Journal.{entries_in};
 ghost use Rattle.srb.specs.Replaying.{Replays};
 ghost use Rattle.rounds.specs.declared.RoundsFault.TheVariants.{NoMemory};
 
-use crate::client::{Served, serve_client};
+use crate::client::{Served, Shared, serve_client};
 use crate::{Done, Plan, RoundsFault, Tally};
 use compose::Reply;
 use disk::Medium;
 use host::{Client, Host, HostFault, Keeper, Naming, Opened};
-use lanes::{Completions, Pass, Turnstile, serve_completions, serve_lane};
+use lanes::{Completions, Desk, Pass, Turnstile, serve_completions, serve_lane};
 use sector_journal::Journal;
 use std::alloc::{AllocError, Global};
 use std::sync::Wait;
@@ -48,33 +48,47 @@ fn last_lane(passes: &mut Vec<Pass>, completions: &Completions, tag: u8) -> Opti
     passes.pop()
 }
 
-/// Starts a lane for each tag, which passes the turnstile with each piece, and the completion worker. Each goes on
-/// until it sees that the device is removed. Returns false where a thread could not be started: then not all of them
-/// are there.
+/// What lanes and their completion worker work for, with the queue from the lanes to the worker.
+#[derive(Drop)]
+pub struct Lanes<'s, D, T, W> {
+    pub desk: &'s D,
+    pub completions: &'s Completions,
+    /// Each lane passes it with each piece.
+    pub turnstile: &'s T,
+    /// The worker passes it with each completion.
+    pub at_worker: &'s W,
+}
+
+/// Starts a lane for each of `depth` tags, and the completion worker. Each goes on until it sees that the device is
+/// removed. Returns false where a thread could not be started: then not all of them are there.
 pub fn start_lanes<
     's,
     E,
-    M: Medium + Send,
-    N: Naming + Send + Sync,
+    D: Desk + Sync,
     T: Turnstile + Sync,
+    W: Turnstile + Sync,
     R: Threads + Wait + Sync,
 >(
     rt: &'s R,
     scope: &'s Scope<'s, E>,
-    host: &'s Host<M, N>,
-    completions: &'s Completions,
+    lanes: Lanes<'s, D, T, W>,
     passes: Vec<Pass>,
     depth: u8,
-    turnstile: &'s T,
 ) -> bool
-    requires { passes.items ≡ issued completions.now.id depth }
+    requires { passes.items ≡ issued lanes.completions.now.id depth }
 {
+    let Lanes {
+        desk,
+        completions,
+        turnstile,
+        at_worker,
+    } = lanes;
     let mut passes = passes;
     let Some(worker) = passes.pop() else {
         return false;
     };
     if scope
-        .spawn(move || serve_completions(rt, host, completions, worker, &Open))
+        .spawn(move || serve_completions(rt, desk, completions, worker, at_worker))
         .is_err()
     {
         return false;
@@ -85,7 +99,7 @@ pub fn start_lanes<
             return false;
         };
         if scope
-            .spawn(move || serve_lane(rt, host, tag, turnstile, completions, pass))
+            .spawn(move || serve_lane(rt, desk, tag, turnstile, completions, pass))
             .is_err()
         {
             return false;
@@ -96,26 +110,22 @@ pub fn start_lanes<
 
 /// Starts the clients' rounds.
 fn start_clients<'s, E, M: Medium + Send, N: Naming + Send + Sync, R: Threads + Wait + Sync>(
-    rt: &'s R,
-    alloc: Global,
+    shared: &'s Shared<'s, M, N, R>,
     scope: &'s Scope<'s, E>,
-    host: &'s Host<M, N>,
     clients: Vec<Client<N>>,
-    plan: Plan,
 ) -> Result<Vec<PromisedHandle<Served<N>, OfClient>>, AllocError>
-    requires { AreNumbered plan.clients clients.items }
-    ensures all { IfOk result (λ handles. length handles.items ≡ plan.clients) }
-    ensures numbers { IfOk result (λ handles. (k : ℕ) (d : _) → k < plan.clients → (get_or handles.items k d).promise.number ≡ k) }
-    ensures rounds { IfOk result (λ handles. (k : ℕ) (d : _) → k < plan.clients → (get_or handles.items k d).promise.rounds ≡ plan.rounds) }
+    requires { AreNumbered shared.now.plan.clients clients.items }
+    ensures all { IfOk result (λ handles. length handles.items ≡ shared.now.plan.clients) }
+    ensures numbers { IfOk result (λ handles. (k : ℕ) (d : _) → k < shared.now.plan.clients → (get_or handles.items k d).promise.number ≡ k) }
+    ensures rounds { IfOk result (λ handles. (k : ℕ) (d : _) → k < shared.now.plan.clients → (get_or handles.items k d).promise.rounds ≡ shared.now.plan.rounds) }
 {
-    let mut handles = Vec::new(alloc);
+    let mut handles = Vec::new(shared.alloc);
     for client in clients {
         let of = OfClient {
             number: client.client(),
-            rounds: plan.rounds,
+            rounds: shared.plan.rounds,
         };
-        let Ok(handle) = scope.spawn_with(of, move || serve_client(rt, alloc, host, client, plan))
-        else {
+        let Ok(handle) = scope.spawn_with(of, move || serve_client(shared, client)) else {
             return Err(AllocError);
         };
         handles.push(handle)?;
@@ -176,71 +186,60 @@ pub fn remove<M: Medium, N: Naming, R: Wait>(
 
 /// Starts the lanes and the worker, and has the clients do their rounds.
 fn serve_clients<'s, E, M: Medium + Send, N: Naming + Send + Sync, R: Threads + Wait + Sync>(
-    rt: &'s R,
-    alloc: Global,
+    shared: &'s Shared<'s, M, N, R>,
     scope: &'s Scope<'s, E>,
-    host: &'s Host<M, N>,
-    completions: &'s Completions,
+    lanes: Lanes<'s, Host<M, N>, Open, Open>,
     passes: Vec<Pass>,
     clients: Vec<Client<N>>,
-    plan: Plan,
-    open: &'s Open,
 ) -> Result<(Tally, Vec<Client<N>>), AllocError>
-    requires passes { passes.items ≡ issued completions.now.id plan.depth }
-    requires clients { AreNumbered plan.clients clients.items }
-    requires few { plan.clients ≤ 64 }
-    ensures clients { IfOk result (λ r. AreNumbered plan.clients r.1.items) }
-    ensures most { IfOk result (λ r. r.0.answered ≤ 2 * (plan.clients * plan.rounds)) }
+    requires passes { passes.items ≡ issued lanes.completions.now.id shared.now.plan.depth }
+    requires clients { AreNumbered shared.now.plan.clients clients.items }
+    requires few { shared.now.plan.clients ≤ 64 }
+    ensures clients { IfOk result (λ r. AreNumbered shared.now.plan.clients r.1.items) }
+    ensures most { IfOk result (λ r. r.0.answered ≤ 2 * (shared.now.plan.clients * shared.now.plan.rounds)) }
 {
-    if !start_lanes(rt, scope, host, completions, passes, plan.depth, open) {
+    if !start_lanes(shared.rt, scope, lanes, passes, shared.plan.depth) {
         return Err(AllocError);
     }
-    let handles = start_clients(rt, alloc, scope, host, clients, plan)?;
-    join_clients(rt, alloc, handles, plan)
+    let handles = start_clients(shared, scope, clients)?;
+    join_clients(shared.rt, shared.alloc, handles, shared.plan)
 }
 
 /// Runs all threads until the device is removed.
 fn run_threads<M: Medium + Send, N: Naming + Send + Sync, R: Threads + Wait + Sync>(
-    rt: &R,
-    alloc: Global,
-    host: &Host<M, N>,
+    shared: &Shared<M, N, R>,
     completions: &Completions,
     passes: Vec<Pass>,
     keeper: Keeper<N>,
     clients: Vec<Client<N>>,
-    plan: Plan,
 ) -> (Keeper<N>, Result<(Tally, Vec<Client<N>>), AllocError>)
-    requires passes { passes.items ≡ issued completions.now.id plan.depth }
-    requires clients { AreNumbered plan.clients clients.items }
-    requires few { plan.clients ≤ 64 }
-    ensures clients { IfOk result.1 (λ r. AreNumbered plan.clients r.1.items) }
-    ensures most { IfOk result.1 (λ r. r.0.answered ≤ 2 * (plan.clients * plan.rounds)) }
+    requires passes { passes.items ≡ issued completions.now.id shared.now.plan.depth }
+    requires clients { AreNumbered shared.now.plan.clients clients.items }
+    requires few { shared.now.plan.clients ≤ 64 }
+    ensures clients { IfOk result.1 (λ r. AreNumbered shared.now.plan.clients r.1.items) }
+    ensures most { IfOk result.1 (λ r. r.0.answered ≤ 2 * (shared.now.plan.clients * shared.now.plan.rounds)) }
 {
     let open = Open;
     thread::scope(
         thread::scope_env(),
-        rt,
+        shared.rt,
         |scope| -> (Keeper<N>, Result<(Tally, Vec<Client<N>>), AllocError>)
-            requires passes { passes.items ≡ issued completions.now.id plan.depth }
-            requires clients { AreNumbered plan.clients clients.items }
-            requires few { plan.clients ≤ 64 }
-            ensures clients { IfOk result.1 (λ r. AreNumbered plan.clients r.1.items) }
-            ensures most { IfOk result.1 (λ r. r.0.answered ≤ 2 * (plan.clients * plan.rounds)) }
+            requires passes { passes.items ≡ issued completions.now.id shared.now.plan.depth }
+            requires clients { AreNumbered shared.now.plan.clients clients.items }
+            requires few { shared.now.plan.clients ≤ 64 }
+            ensures clients { IfOk result.1 (λ r. AreNumbered shared.entry.now.plan.clients r.1.items) }
+            ensures most { IfOk result.1 (λ r. r.0.answered ≤ 2 * (shared.entry.now.plan.clients * shared.entry.now.plan.rounds)) }
         {
             let mut keeper = keeper;
-            let served = serve_clients(
-                rt,
-                alloc,
-                scope,
-                host,
+            let lanes = Lanes {
+                desk: shared.host,
                 completions,
-                passes,
-                clients,
-                plan,
-                &open,
-            );
+                turnstile: &open,
+                at_worker: &open,
+            };
+            let served = serve_clients(shared, scope, lanes, passes, clients);
             // The lanes and the worker end with the removal, also where not all threads are there.
-            if remove(rt, host, &mut keeper) {
+            if remove(shared.rt, shared.host, &mut keeper) {
                 (keeper, served)
             } else {
                 (keeper, Err(AllocError))
@@ -287,16 +286,13 @@ pub(crate) fn serve<M: Medium + Send, N: Naming + Send + Sync, R: Threads + Wait
     let Ok((completions, passes)) = Completions::new(alloc, capacity, plan.depth) else {
         return Err(RoundsFault::NoMemory);
     };
-    let (keeper, served) = run_threads(
+    let shared = Shared {
         rt,
         alloc,
-        &host,
-        &completions,
-        passes,
-        keeper,
-        clients,
+        host: &host,
         plan,
-    );
+    };
+    let (keeper, served) = run_threads(&shared, &completions, passes, keeper, clients);
     let Ok((tally, clients)) = served else {
         return Err(RoundsFault::NoMemory);
     };

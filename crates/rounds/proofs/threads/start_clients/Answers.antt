@@ -11,5 +11,5 @@ loop-client-preserved g c =
       search rules,
       (λ k below. let h = was.1 (k + 1) in grind rules),
       (λ k d below. below_more (λ i. (get_or all i d).promise.number ≡ i) done (λ i low. ap (λ h. h.promise.number) (c.push.ensures.by_index.0 i d (search rules)) ∙ was.2 i d low) (search rules) k (omega arith)),
-      (λ k d below. below_more (λ i. (get_or all i d).promise.rounds ≡ c.args.plan.rounds) done (λ i low. ap (λ h. h.promise.rounds) (c.push.ensures.by_index.0 i d (search rules)) ∙ was.3 i d low) (search rules) k (omega arith)),
+      (λ k d below. below_more (λ i. (get_or all i d).promise.rounds ≡ c.args.shared.now.plan.rounds) done (λ i low. ap (λ h. h.promise.rounds) (c.push.ensures.by_index.0 i d (search rules)) ∙ was.3 i d low) (search rules) k (omega arith)),
     )

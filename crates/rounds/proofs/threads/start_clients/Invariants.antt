@@ -6,7 +6,7 @@ use Rattle.rounds.proofs.threads.start_clients.Given as goal
 abbrev pub invariant-loop-client : goal.invariant-loop-client
 invariant-loop-client g l =
     let done = length l.handles.items in let rest = l.client-iterator in
-    (done + into_iter_len rest ≡ l.plan.clients)
+    (done + into_iter_len rest ≡ l.shared.plan.clients)
     × ((k : ℕ) → k < into_iter_len rest → (client_at (into_iter_items rest) k).client ≡ done + k)
     × ((k : ℕ) (d : _) → k < done → (get_or l.handles.items k d).promise.number ≡ k)
-    × ((k : ℕ) (d : _) → k < done → (get_or l.handles.items k d).promise.rounds ≡ l.plan.rounds)
+    × ((k : ℕ) (d : _) → k < done → (get_or l.handles.items k d).promise.rounds ≡ l.shared.plan.rounds)

@@ -1,8 +1,0 @@
-use Rattle.std.proofs.Common.{◌≡◌, ◌∙◌, ◌-◌, suc, ap, arith}
-use Rattle.lanes.specs.Queue.{lanes_of}
-use Rattle.host_tests.proofs.full_queue.start_threads.Goals as goal
-
-pub last_lane-requires : goal.last_lane-requires
-last_lane-requires g c =
-    let one_more : c.args.depth - c.loop-started.started ≡ suc (c.args.depth - 1 - c.loop-started.started) = omega arith in
-    c.loop-started.invariant ∙ ap (lanes_of c.args.completions.now.id) one_more
