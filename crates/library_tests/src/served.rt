@@ -3,4 +3,5 @@
 mod ahead;
 mod command_lines;
 mod endings;
+mod second_thread;
 mod sessions;

@@ -95,7 +95,7 @@ pub(crate) const NBD_ENOSPC: u32 = 28;
 pub(crate) const NBD_ESHUTDOWN: u32 = 108;
 
 /// The most bytes that one NBD_CMD_READ or NBD_CMD_WRITE may name, 32 MiB.
-pub(crate) const LONGEST: u32 = 0x0200_0000;
+pub const LONGEST: u32 = 0x0200_0000;
 
 /// The most bytes of an option's data that are looked at.
 pub(crate) const LONGEST_OPTION: u32 = 0x2000;

@@ -39,13 +39,15 @@ mod waiting;
 
 pub use arrays::{Array, ArrayFault, Sizes};
 pub use backing::Backing;
+pub use constants::LONGEST;
 pub use laws::{one_spelling, written_inside};
 pub use memory::MemArray;
 pub use options::{Next, OptionError, Wish, parse_option, write_replies};
 pub use over::serve_over;
 pub use replies::{Answer, write_reply};
-pub use requests::{Command, ReplyError, Request, command_of, parse_request};
+pub use requests::{Command, ReplyError, Request, command_of, parse_request, payload_count};
 pub use session::serve;
+pub use streams::take_in_two;
 pub use waiting::Ahead;
 
 /// How a session ended.

@@ -15,7 +15,7 @@ use crate::session::next_request;
 use crate::streams::{skip, take_all_in};
 use crate::waiting::{Ahead, pass_on};
 use std::alloc::Global;
-use std::io::{Read, Write};
+use std::io::Write;
 
 /// Serves a client as [`serve`](crate::serve) does, over storage whose content isn't shown.
 ///
@@ -108,7 +108,7 @@ fn keep<B: Backing>(backing: &mut B, answer: Answer)
 /// # Errors
 ///
 /// [`End::Input`] where the bytes behind it don't come. The storage is then as it was.
-fn serve_request<R: Read, B: Backing>(
+fn serve_request<R: Ahead, B: Backing>(
     alloc: Global,
     backing: &mut B,
     input: &mut R,
@@ -129,6 +129,7 @@ fn serve_request<R: Read, B: Backing>(
             let Some(payload) = take_all_in(kept, input, count)? else {
                 return Ok(Answer::Refused(ReplyError::Enomem));
             };
+            input.read_on();
             Ok(backing.carry_out(alloc, command, payload))
         }
     }

@@ -155,7 +155,7 @@ pub fn command_of(request: Request, sizes: Sizes) -> Result<Command, ReplyError>
 }
 
 /// How many bytes come behind a request.
-pub(crate) fn payload_count(request: Request) -> u32
+pub fn payload_count(request: Request) -> u32
     ensures { result ≡ payload_count request }
 {
     if request.kind == NBD_CMD_WRITE {

@@ -6,6 +6,7 @@ ghost use Rattle.nbd.specs.inside.Streams.{Skips, Takes};
 
 use crate::End;
 use crate::constants::LONGEST;
+use crate::waiting::Ahead;
 use std::alloc::Global;
 use std::io::Read;
 
@@ -36,7 +37,7 @@ pub(crate) fn take<R: Read>(input: &mut R, buffer: &mut [u8]) -> Result<(), End>
 /// # Errors
 ///
 /// [`End::Input`].
-fn take_in_two<R: Read>(input: &mut R, buffer: &mut [u8]) -> Result<(), End>
+pub fn take_in_two<R: Read>(input: &mut R, buffer: &mut [u8]) -> Result<(), End>
     ensures taken { OnOk result (Consumes (R.remaining input.old) (R.remaining input.new) buffer.new) }
     ensures ended { IfErr result (λ end. end ≡ End.Input) }
 {
@@ -124,7 +125,7 @@ fn sized(kept: Vec<u8>, count: u32) -> Option<Vec<u8>>
 /// # Errors
 ///
 /// [`End::Input`].
-pub(crate) fn take_all_in<R: Read>(
+pub(crate) fn take_all_in<R: Ahead>(
     kept: Vec<u8>,
     input: &mut R,
     count: u32,
@@ -132,7 +133,11 @@ pub(crate) fn take_all_in<R: Read>(
     ensures taken { IfOk result (λ found. MatchOption found (Skips count (R.remaining input.old) (R.remaining input.new)) (λ bytes. Takes count (R.remaining input.old) (R.remaining input.new) bytes.items)) }
     ensures ended { IfErr result (λ end. end ≡ End.Input) }
 {
-    let Some(mut room) = sized(kept, count) else {
+    let room = match input.take_whole(kept, count as usize) {
+        Ok(bytes) => return Ok(Some(bytes)),
+        Err(room) => room,
+    };
+    let Some(mut room) = sized(room, count) else {
         skip(input, count)?;
         return Ok(None);
     };

@@ -9,12 +9,29 @@ use std::io::{BufReader, Read, Write};
 
 /// A reader that tells what it has read ahead.
 pub trait Ahead: Read {
-    ghost use Rattle.std.specs.Prelude.{IfSome};
+    ghost use Rattle.std.specs.Prelude.{◌≡◌, IfErr, IfOk, IfSome, length};
     ghost use Rattle.std.specs.Io.{StartsWith};
+    ghost use Rattle.std.specs.Io.KnownBytes.{Consumes};
 
     /// Returns the bytes that come next, as far as they are there already.
     fn ahead(&self) -> &[u8]
         ensures next { IfSome (Self.remaining self.now) (λ xs. StartsWith xs result.now) };
+
+    /// Hands out the next `count` bytes, where they stand in memory of their own, for the memory that is given. Else it
+    /// gives this memory back, and has read nothing.
+    fn take_whole(&mut self, room: Vec<u8>, count: usize) -> Result<Vec<u8>, Vec<u8>>
+        ensures long { IfOk result (λ bytes. length bytes.items ≡ count) }
+        ensures taken { IfOk result (λ bytes. Consumes (Self.remaining self.old) (Self.remaining self.new) bytes.items) }
+        ensures same { IfErr result (λ _. Self.remaining self.new ≡ Self.remaining self.old) }
+    {
+        let _count = count;
+        Err(room)
+    }
+
+    /// Lets the reader read on while a command is carried out.
+    fn read_on(&mut self)
+        ensures same { Self.remaining self.new ≡ Self.remaining self.old }
+    {}
 }
 
 impl<R: Read> Ahead for BufReader<R> {

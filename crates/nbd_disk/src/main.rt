@@ -20,18 +20,27 @@
 //! for one.
 #![tactic(auto)]
 
+ghost use Rattle.std.specs.Prelude.{◌≡◌};
+ghost use Rattle.std.specs.Result.{result_err};
 ghost use Rattle.settings.specs.InRange.{AreInRange};
+ghost use Rattle.serving.specs.OnDisk.{IsFileSession};
 
 use file_disk::{DiskFile, Storage};
+use nbd::Ahead;
+use read_ahead::{Naming, ReadAhead};
 use serving::{
-    Asked, DiskFault, Error, command, disk_bytes, open_file, put_table, serve_disk, serve_file,
+    Asked, DiskFault, Error, Filed, command, disk_bytes, open_file, put_table, serve_disk,
+    serve_file,
 };
 use settings::Config;
 use startup::{Verdict, ended, fault_of, read_settings};
 use std::alloc::{AllocError, Global};
 use std::fs::{File, OpenOptions, TryLockError};
 use std::io::{BufReader, BufWriter, ErrorKind, Read, Write};
+use std::marker::Brand;
 use std::process::ExitCode;
+use std::sync::Wait;
+use std::thread::Threads;
 use std::{env, io};
 
 /// How many bytes of output are written at once. The bytes of a longer read go past this buffer, and the bytes of a
@@ -56,7 +65,10 @@ struct Place<'a> {
 }
 
 /// Serves as the command line asks for.
-fn run(rt: &HostRuntime) -> Result<Verdict, Error> {
+fn run<H: Threads + Wait + Copy + Send + 'static>(
+    rt: &HostRuntime,
+    handle: H,
+) -> Result<Verdict, Error> {
     let alloc = rt.alloc();
     keep_freed(alloc);
     let words = match env::args(rt) {
@@ -73,7 +85,7 @@ fn run(rt: &HostRuntime) -> Result<Verdict, Error> {
         Ok(config) => config,
         Err(error) => return Err(unopened(&error)),
     };
-    let Ok(mut input) = BufReader::with_capacity(alloc, INPUT_BUFFER, rt.stdin()) else {
+    let Ok(input) = BufReader::with_capacity(alloc, INPUT_BUFFER, rt.stdin()) else {
         return Err(Error::NoMemory);
     };
     let Ok(mut out) = BufWriter::with_capacity(alloc, BUFFER, rt.stdout()) else {
@@ -85,12 +97,30 @@ fn run(rt: &HostRuntime) -> Result<Verdict, Error> {
             let place = Place { path, create };
             let storage = storage_of(rt, place, &settings)?;
             let mut filed = open_file(alloc, settings, partition, storage)?;
-            serve_file(alloc, &mut filed, &mut input, &mut out)?;
+            serve_ahead::<Brand, _, _, _, _>(alloc, handle, &mut filed, input, &mut out)?;
         }
         None if create => return Err(Error::Usage),
-        None => serve_disk(alloc, config, partition, &mut input, &mut out)?,
+        None => {
+            let mut input = input;
+            serve_disk(alloc, config, partition, &mut input, &mut out)?
+        }
     }
     Ok(Verdict::Passed)
+}
+
+/// Serves a client over a disk in a file, with a second thread that fetches the bytes of long writes.
+fn serve_ahead<
+    J: Naming + Send + Sync + 'static,
+    H: Threads + Wait + Copy + Send + 'static,
+    S: Storage + Drop,
+    I: Ahead + Send + Drop + 'static,
+    W: Write,
+>(alloc: Global, handle: H, filed: &mut Filed<S>, input: I, out: &mut W) -> Result<(), Error>
+    requires { I.remaining input ≡ J.given }
+    ensures { IsFileSession filed.old (I.remaining input) (W.contents out.old) (result_err result) filed.new (W.contents out.new) }
+{
+    let mut input: ReadAhead<J, H, I> = ReadAhead::new(alloc, handle, input);
+    serve_file(alloc, filed, &mut input, out)
 }
 
 /// Makes the C library keep freed memory from here on.
@@ -169,5 +199,5 @@ fn locked(file: File) -> Result<File, Error> {
 }
 
 fn main(rt: HostRuntime) -> ExitCode {
-    ExitCode::from(ended(run(&rt), &mut rt.stderr()))
+    ExitCode::from(ended(run(&rt, rt), &mut rt.stderr()))
 }
