@@ -2,6 +2,14 @@
 
 say() { echo "$name: $1" >&2; }
 
+need_rt() { command -v rt > /dev/null || { say "$1, and there is no 'rt' on PATH" && exit 1; }; }
+
+# Tells the versions of the repository and of the toolchain.
+version() {
+    sed -n '/^## /{s/^## /saddlemug /p;q}' "$top/CHANGELOG.md" || exit 1
+    rt version 2> /dev/null || echo "there is no 'rt' on PATH"
+}
+
 # The folder for this call's files, which goes with it.
 make_scratch() {
     scratch=$(mktemp -d)
