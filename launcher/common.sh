@@ -1,6 +1,7 @@
 # What all parts of the launcher use.
 
-say() { echo "$name: $1" >&2; }
+# Says a line, also where standard error is closed.
+say() { echo "$name: $1" >&2 || true; }
 
 need_rt() { command -v rt > /dev/null || { say "$1, and there is no 'rt' on PATH" && exit 1; }; }
 

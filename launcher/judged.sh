@@ -45,7 +45,7 @@ answer_judge_at_once() {
     local told=TRACE
     read_judge_words "$@"
     if [ "$asked" = nothing ]; then
-        echo "$judge_usage" >&2
+        echo "$judge_usage" >&2 || true
         exit 2
     fi
     [ "$asked" != record ] || told=SCRIPT

@@ -38,7 +38,7 @@ is_readable() { [ -r "$1" ] && [ ! -d "$1" ]; }
 answer_at_once() {
     read_words "$@"
     if [ "$asked" = nothing ]; then
-        echo "$usage" >&2
+        echo "$usage" >&2 || true
         exit 2
     fi
     is_readable "${values[0]}" || { say "cannot read CONFIG" && exit 1; }
