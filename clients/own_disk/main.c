@@ -1,5 +1,6 @@
 /* Serves a file through the proved stack: own_disk FILE read OFFSET LENGTH, or own_disk FILE write OFFSET, of standard input.
  * The file is one partition; bytes are moved by threads of the program's own. */
+#include <errno.h>
 #include <inttypes.h>
 #include <stdio.h>
 #include <stdlib.h>
@@ -28,11 +29,14 @@ read_out(struct own_disk *disk, uint64_t offset, uint64_t length)
 		if (status != SADDLEMUG_SUCCESS)
 			return said("read", status);
 		if (fwrite(bytes, 1, count, stdout) != count)
-			return 1;
+			break;
 		offset += count;
 		length -= count;
 	}
-	return fflush(stdout) != 0;
+	if (length == 0 && fflush(stdout) == 0)
+		return 0;
+	perror("own_disk: standard output");
+	return 1;
 }
 
 static int
@@ -46,18 +50,34 @@ write_in(struct own_disk *disk, uint64_t offset)
 			return said("write", status);
 		offset += count;
 	}
+	if (ferror(stdin)) {
+		perror("own_disk: standard input");
+		return 1;
+	}
 	status = own_disk_flush(disk);
 	return status == SADDLEMUG_SUCCESS ? 0 : said("flush", status);
+}
+
+/* A number of bytes. */
+static bool
+is_number(const char *word, uint64_t *number)
+{
+	char *end;
+	errno = 0;
+	*number = strtoull(word, &end, 10);
+	return *word >= '0' && *word <= '9' && *end == '\0' && errno == 0;
 }
 
 int
 main(int argc, char **argv)
 {
+	uint64_t offset, length;
 	struct own_disk disk;
 	struct own_disk_options options = {.sector_size = 512, .transfer = 128, .depth = 8, .partition = -1, .threads = true};
-	bool reads = argc == 5 && strcmp(argv[2], "read") == 0, writes = argc == 4 && strcmp(argv[2], "write") == 0;
+	bool reads = argc == 5 && strcmp(argv[2], "read") == 0 && is_number(argv[4], &length);
+	bool writes = argc == 4 && strcmp(argv[2], "write") == 0;
 
-	if (!reads && !writes) {
+	if (!(reads || writes) || !is_number(argv[3], &offset)) {
 		fputs("usage: own_disk FILE read OFFSET LENGTH | own_disk FILE write OFFSET\n", stderr);
 		return 2;
 	}
@@ -66,8 +86,7 @@ main(int argc, char **argv)
 		fprintf(stderr, "own_disk: %s: %s\n", argv[1], why);
 		return 1;
 	}
-	uint64_t offset = strtoull(argv[3], NULL, 0);
-	int status = reads ? read_out(&disk, offset, strtoull(argv[4], NULL, 0)) : write_in(&disk, offset);
+	int status = reads ? read_out(&disk, offset, length) : write_in(&disk, offset);
 	own_disk_close(&disk);
 	return status;
 }
