@@ -3,7 +3,8 @@
 
 A command has to end with status 0, or with that of the text behind its block ('status 1'). What stands behind it in its
 block is all that it prints; so is the next block where the text before that ends with 'It prints:', and 'It begins:' gives
-the first lines alone. Lines with a word in capitals show a form and are not run; nor are `./stackrun build` and `./stackrun test`, which the gate runs by itself."""
+the first lines alone. Lines with a word in capitals show a form and are not run; nor are `./stackrun build` and
+`./stackrun test`, which the gate runs by itself."""
 
 import glob
 import os
