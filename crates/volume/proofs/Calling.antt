@@ -4,13 +4,15 @@ use Rattle.std.specs.Prelude.{All, Any, IsPermutation, IsNone, IsFalse, slice_ge
 use Rattle.std.specs.List.{concat}
 use Rattle.std.proofs.lemmas.Bool.Decides.{nat_tests}
 use Rattle.std.proofs.Math.Nat.{mod-add-div'}
-use Rattle.std.proofs.lemmas.List.Elements.{All-append}
+use Rattle.std.proofs.lemmas.List.Elements.{All-append, All-cons, All-nil}
 use Rattle.std.proofs.lemmas.List.Sorted.{IsPermutation-sym, IsPermutation-trans, IsPermutation-append_right, IsPermutation-append_comm}
 use Rattle.ntstatus.specs.declared.NtStatus.{NtStatus}
 use Rattle.ntstatus.specs.declared.NtStatus.TheVariants.{Success, InvalidHandle as InvalidHandleStatus, InvalidParameter as InvalidParameterStatus, DeletePending as DeletePendingStatus, DeviceBusy as DeviceBusyStatus, InsufficientResources as ResourcesStatus, InvalidDeviceRequest as RequestStatus, NotFound as FoundStatus}
 use Rattle.ntstatus.specs.First.{when, first_some}
 use Rattle.sector.specs.Extents.{IsIn, IsSector, sectors_in}
 use Rattle.srb.specs.declared.DeviceLabel.{DeviceLabel}
+use Rattle.srb.specs.declared.Kind.{Kind}
+use Rattle.srb.specs.declared.Kind.TheVariants.{Read, Write, Flush}
 use Rattle.machine.specs.declared.ClientRequest.{ClientRequest}
 use Rattle.machine.specs.declared.Label.{Label}
 use Rattle.machine.specs.declared.Label.TheVariants.{Call, Answer}
@@ -34,7 +36,7 @@ use Rattle.compose.specs.declared.Event.{Event}
 use Rattle.compose.specs.declared.Event.TheVariants.{Open, Close, Read as ReadEvent, Write as WriteEvent, Flush as FlushEvent, CancelIoEx, Mark, QueryRemove, CancelRemove, Remove, SurpriseRemove, Act, Finish, Reset}
 use Rattle.compose.specs.Right.{IsRight}
 use Rattle.volume.specs.Ready.{AreUsable, IsIdle, IsReady}
-use Rattle.volume.specs.Working.{IsBetween, IsQuiet, answers_of, Quietly, Goes, Asks, Leaves, Ends, HasReason, Turns, disk_first, sectors_on}
+use Rattle.volume.specs.Working.{IsBetween, IsQuiet, answers_of, Quietly, Goes, Asks, Leaves, ComesTo, Ends, HasReason, Turns, disk_first, sectors_on}
 use Rattle.device.specs.View.{IsRead}
 use Rattle.volume.proofs.Steps.{answers-append, rest_of, quiet_rest, untaken_told, goes_on_reached}
 use Rattle.volume.proofs.Untraced.{untraced, forgotten}
@@ -257,6 +259,23 @@ no_bytes (x ∷ xs) h = absurd (omega arith)
 is_empty : (n : ℕ) → (n == 0) ≡ true → n ≡ 0
 is_empty n h = grind (arith, nat_tests)
 
+none_carried : (kind : Kind) → bytes_carried kind 0 ≡ 0
+none_carried Write = refl
+none_carried Read = refl
+none_carried Flush = refl
+
+-- its call and its answer
+comes_at_once : (rules : Rules) (s : State) (q : ClientRequest) (s' : State) → q.bytes ≡ [] → Run rules s (Call s.next_request (without_bytes q) ∷ Answer s.next_request Success 0 [] ∷ []) s'
+    → ComesTo rules s q Success s'
+comes_at_once rules s q s' none run = record {
+  labels = Answer s.next_request Success 0 [] ∷ [];
+  quiet = All-cons IsQuiet (Answer s.next_request Success 0 []) [] tt (All-nil IsQuiet);
+  run = subst (λ bytes. Run rules s (Call s.next_request (record q { bytes = bytes }) ∷ Answer s.next_request Success 0 [] ∷ []) s') (sym none) run;
+  informed = 0;
+  bytes = [];
+  answers = refl;
+}
+
 -- none of its places
 no_places : (rules : Rules) (q : ClientRequest) → is_transfer q.kind ≡ true → q.length ≡ 0 → place_count rules q ≡ 0
 no_places rules q transfer none =
@@ -277,19 +296,24 @@ no_sectors rules q sectors none =
 
 module _ (old : ManagerView) (ready : IsReady old) (q : ClientRequest) (known : is_none q.partition ≡ false) (new : ManagerView) (told : Told) (by : IsRightBy false told (untraced old) new)
     (handles : SameHandles (untraced old) new) (read : IsRead new.rules new.state new.adapter) where
-  told_at_once : (status : NtStatus) → IsAnsweredAtOnce (untraced old) q status new told → Rests old.state new.state
-  told_at_once status h =
+  run_at_once : (status : NtStatus) → IsAnsweredAtOnce (untraced old) q status new told
+      → Run old.rules old.state (Call old.state.next_request (without_bytes q) ∷ Answer old.state.next_request status 0 [] ∷ []) new.state
+  run_at_once status h =
       let own : told.own ≡ Call old.state.next_request (without_bytes q) ∷ Answer old.state.next_request status 0 [] ∷ [] = ap (λ (t : Told). t.own) h.tells in
       let none : told.answers ≡ [] = ap (λ (t : Told). t.answers) h.tells in
       let device : told.device ≡ [] = ap (λ (t : Told). t.device) h.tells in
       let ends : told.ends ≡ false = ap (λ (t : Told). t.ends) h.tells in
       let labels : new.labels ≡ Call old.state.next_request (without_bytes q) ∷ Answer old.state.next_request status 0 [] ∷ [] = by.in_order ∙ told_is told.own told.device told.answers told.ends own device none ends in
-      rests_refused old.rules old.state old.state.next_request (without_bytes q) status new.state ready.idle refl h.is_refused (subst (λ ls. Run old.rules old.state ls new.state) labels by.run)
+      subst (λ ls. Run old.rules old.state ls new.state) labels by.run
     where
       told_is : (own : List Label) (device : List DeviceLabel) (answers : List AnswerOf) (ends : Bool) → own ≡ Call old.state.next_request (without_bytes q) ∷ Answer old.state.next_request status 0 [] ∷ []
           → device ≡ [] → answers ≡ [] → ends ≡ false
           → ((own ++ map as_label device) ++ map as_answer answers) ++ end_labels ends ≡ Call old.state.next_request (without_bytes q) ∷ Answer old.state.next_request status 0 [] ∷ []
       told_is own device answers ends a b c d = rw (a, b, c, d) refl
+
+  told_at_once : (status : NtStatus) → IsAnsweredAtOnce (untraced old) q status new told → Rests old.state new.state
+  told_at_once status h =
+      rests_refused old.rules old.state old.state.next_request (without_bytes q) status new.state ready.idle refl h.is_refused (run_at_once status h)
 
   turned_at_once : (reason : Refusal) → IsAnsweredAtOnce (untraced old) q (status_of_refusal reason) new told → Turns old q reason (forgotten new)
   turned_at_once reason h =
@@ -334,12 +358,15 @@ module _ (old : ManagerView) (ready : IsReady old) (q : ClientRequest) (known : 
         let same : new.adapter.sectors ≡ old.adapter.sectors = same_disk old ready new told by handles read rests none in
         let empty : q.length ≡ 0 = is_empty q.length success.3 in
         let count : place_count old.rules q ≡ 0 = no_places old.rules q success.1 empty in
+        let long : length q.bytes ≡ 0 = carries ∙ ap (λ n. bytes_carried q.kind n) empty ∙ none_carried q.kind in
         record {
           leaves = leaves_rest old ready new told by handles read rests none;
+          comes_to =
+              subst (λ status. ComesTo old.rules old.state q status new.state) (sym (ap (λ (a : AnswerOf). a.status) is))
+              (comes_at_once old.rules old.state q new.state (no_bytes q.bytes long) (run_at_once Success h));
           in_bounds = λ transfer. success.2;
           reads = λ is_read ok. ap (λ (a : AnswerOf). a.bytes) is ∙ sym (no_sectors old.rules q old.adapter.sectors count);
           writes = λ is_write ok.
-              let long : length q.bytes ≡ 0 = carries ∙ ap (λ k. bytes_carried k q.length) is_write ∙ empty in
               no_sectors old.rules q new.adapter.sectors count ∙ sym (no_bytes q.bytes long);
           changes = λ is_write. record { elsewhere = λ i out. ap (λ xs. slice_get xs i) same; each = λ place low. inl (ap (λ xs. slice_get xs (disk_first old.rules q + place)) same) };
           same = λ other. same;

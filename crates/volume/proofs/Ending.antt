@@ -18,9 +18,10 @@ use Rattle.machine.specs.declared.Label.TheVariants.{Call, Device, Answer, Cance
 use Rattle.machine.specs.Rules.{Rules, is_transfer, is_in_bounds, first_sector, place_count, sectors_of}
 use Rattle.machine.specs.State.{OpenRequest, Piece, State, opening}
 use Rattle.machine.specs.Pieces.{ArePlaced, IsOwner, IsPlaced}
-use Rattle.machine.specs.Calling.{refusal, Admits, new_request, bytes_carried}
+use Rattle.machine.specs.Calling.{refusal, Admits, Calls, new_request, bytes_carried}
 use Rattle.machine.specs.Sending.{array_at, partition_number}
 use Rattle.machine.specs.Solo.{IsAnswered}
+use Rattle.machine.specs.Step.{Run}
 use Rattle.machine.proofs.Numbers.{AreDistinct-opening}
 use Rattle.machine.proofs.Placed.{ArePlaced-opening, ArePlaced-Run}
 use Rattle.machine.proofs.Places.{IsTakenIn, some_places, taken_in}
@@ -35,7 +36,7 @@ use Rattle.io_manager.specs.Shown.{ManagerView}
 use Rattle.io_manager.specs.Right.{TakesAnswer, as_answer}
 use Rattle.volume.specs.Shown.{extent_at}
 use Rattle.volume.specs.Ready.{AreUsable, IsReady}
-use Rattle.volume.specs.Working.{IsQuiet, answers_of, IsBetween, Goes, IsPlaceOf, ChangesSome, Ends, disk_first, sectors_on}
+use Rattle.volume.specs.Working.{IsQuiet, answers_of, IsBetween, Goes, IsPlaceOf, ChangesSome, ComesTo, Ends, disk_first, sectors_on}
 use Rattle.volume.proofs.Commands.{IsWaiting, NoneSent, sent_by}
 use Rattle.volume.proofs.Phases.{IsWorking, IsServed, run_working, always_alone, of_sole, works_last, written_at, single}
 use Rattle.volume.proofs.Steps.{goes_on_reached}
@@ -241,13 +242,16 @@ module _ (reads : SoloReadsHold) (writes : SoloWritesHold) (failed : FailedWrite
       let r : IsReached now.rules now.state = between.reached in
       none_placed now.state (ArePlaced-Run now.rules (opening r.arrays) r.labels now.state (AreDistinct-opening r.arrays) (ArePlaced-opening r.arrays) r.run) served.over.none_open
 
+  calls : Calls rules before.state number q goes.called
+  calls = record { next_number = goes.is_next; admits = subst (λ answer. Admits rules before.state number q answer goes.called) (sym goes.opens.not_refused) goes.opens }
+
   called_reached : IsReached rules goes.called
   called_reached =
       goes_on_reached rules before.state (Call number q ∷ []) goes.called ready.reached (
         goes.called,
         inl (
           ready.idle.none_owed,
-          record { next_number = goes.is_next; admits = subst (λ answer. Admits rules before.state number q answer goes.called) (sym goes.opens.not_refused) goes.opens },
+          calls,
         ),
         IsSame-refl goes.called,
       )
@@ -372,6 +376,17 @@ module _ (reads : SoloReadsHold) (writes : SoloWritesHold) (failed : FailedWrite
       single (map as_answer now.answers) (Answer number served.status served.informed served.bytes)
       (subst (λ ls. IsPermutation (map as_answer now.answers) ls) served.told goes.untaken)
 
+  -- the labels from its call on
+  comes_to : ComesTo rules before.state q served.status now.state
+  comes_to = record {
+    labels = goes.labels;
+    quiet = goes.quiet;
+    run = subst (λ m. Run rules before.state (Call m q ∷ goes.labels) now.state) goes.is_next (goes.called, inl (ready.idle.none_owed, calls), goes.run);
+    informed = served.informed;
+    bytes = served.bytes;
+    answers = subst (λ m. answers_of goes.labels ≡ Answer m served.status served.informed served.bytes ∷ []) goes.is_next served.told;
+  }
+
   -- a command was sent for it
   sent : before.state.next_piece < now.state.next_piece
   sent =
@@ -423,6 +438,7 @@ module _ (reads : SoloReadsHold) (writes : SoloWritesHold) (failed : FailedWrite
       let bytes : a.bytes ≡ served.bytes = cc in
       let none : map as_answer rest ≡ [] = cc in
       record {
+        comes_to = subst (λ status. ComesTo rules before.state q status now.state) (sym status) comes_to;
         leaves = record {
           ready = ready_again rest (empty_of rest none);
           same_rules = goes.same_rules;

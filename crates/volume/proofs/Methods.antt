@@ -17,8 +17,8 @@ use Rattle.io_manager.specs.Calls.{partition_of}
 use Rattle.volume.specs.declared.Sizes.{Sizes}
 use Rattle.volume.specs.Shown.{content_of, extent_at, handle_count, volume_over}
 use Rattle.volume.specs.Ready.{VolumeKept}
-use Rattle.volume.specs.Calls.{AreInBounds, IsRefusal, IsSameDisk, Reads, Writes, WritesSome}
-use Rattle.volume.specs.Working.{Ends, HasReason, Leaves, sectors_on}
+use Rattle.volume.specs.Calls.{AreInBounds, IsAnswered, IsRefusal, IsSameDisk, Reads, Writes, WritesSome}
+use Rattle.volume.specs.Working.{ComesTo, Ends, HasReason, Leaves, sectors_on}
 use Rattle.volume.proofs.Disk.{sectors_of-extent}
 use Rattle.volume.proofs.Content.{in_content, out_of_content, read_content, same_content, write_content, mixed_content, bytes_counted}
 
@@ -89,6 +89,10 @@ module _ (v : ManagerView) (handle : Handle) (p : ℕ) (sizes : Sizes) (kept : V
     pub in_bounds : IsTrue (is_transfer q.kind) → AreInBounds (content_of v p) q.offset q.length
     in_bounds transfer = in_content v kept.ready p kept.known q is (h.in_bounds transfer)
 
+    -- it was told as it was answered; as a request of the volume's user, it is on the volume's partition
+    pub told_as : (asked : ClientRequest) → record q { partition = Some p } ≡ asked → IsAnswered (volume_over v p) asked answer.status (volume_over new p)
+    told_as asked same = subst (λ (r : ClientRequest). ComesTo v.rules v.state r answer.status new.state) (ap (λ o. record q { partition = o }) is ∙ same) h.comes_to
+
     pub reads : q.kind ≡ Read → answer.status ≡ Success → Reads (content_of v p) q.offset q.length answer.bytes
     reads is_read ok =
         let transfer : IsTrue (is_transfer q.kind) = ap is_transfer is_read in
@@ -98,10 +102,10 @@ module _ (v : ManagerView) (handle : Handle) (p : ℕ) (sizes : Sizes) (kept : V
     kept_content other = same_disk new h.leaves (h.same other)
 
     -- it was sent
-    pub sent_flush : q.kind ≡ Flush → (volume_over v p).next_command < (volume_over new p).next_command
+    pub sent_flush : q.kind ≡ Flush → (volume_over v p).state.next_piece < (volume_over new p).state.next_piece
     sent_flush is_flush = h.sent (λ ok. subst (λ n. 0 < n) (sym (ap (λ k. if is_transfer k then q.length / v.rules.sector_size else 1) is_flush)) (omega arith))
 
-    pub sent_failed : answer.status ≢ Success → (volume_over v p).next_command < (volume_over new p).next_command
+    pub sent_failed : answer.status ≢ Success → (volume_over v p).state.next_piece < (volume_over new p).state.next_piece
     sent_failed bad = h.sent (λ ok. absurd (bad ok))
 
     write_some : q.kind ≡ Write → Writes (volume_over v p) q.offset (concat (sectors_on v.rules q new.adapter.sectors)) (volume_over new p)

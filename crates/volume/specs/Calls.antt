@@ -1,7 +1,10 @@
 -- What the calls of a volume do to its bytes, and what refuses them.
-use Rattle.std.specs.Prelude.{◌≡◌, ◌≢◌, ◌<◌, ◌≤◌, ◌⊎◌, ℕ, ◌+◌, ◌*◌, ◌%◌, List, length, slice_range}
+use Rattle.std.specs.Prelude.{◌≡◌, ◌≢◌, ◌<◌, ◌≤◌, ◌⊎◌, ℕ, ◌+◌, ◌*◌, ◌%◌, Bool, false, List, [], Some, Result, Ok, Err, length, slice_range}
+use Rattle.ntstatus.specs.declared.NtStatus.{NtStatus}
 use Rattle.ntstatus.specs.declared.NtStatus.TheVariants.{Success}
 use Rattle.sector.specs.Splice.{splice}
+use Rattle.srb.specs.declared.Kind.TheVariants.{Read, Write, Flush}
+use Rattle.machine.specs.declared.ClientRequest.{ClientRequest}
 use Rattle.io_manager.specs.declared.Refusal.{Refusal}
 use Rattle.io_manager.specs.declared.Refusal.TheVariants.{InvalidParameter, DeviceBusy, InsufficientResources}
 use Rattle.io_manager.specs.Calls.{number_limit}
@@ -9,6 +12,7 @@ use Rattle.compose.specs.Opening.{longest_request}
 use Rattle.volume.specs.declared.Error.{Error}
 use Rattle.volume.specs.declared.Error.TheVariants.{Refused, Failed}
 use Rattle.volume.specs.Shown.{Content, VolumeView}
+use Rattle.volume.specs.Working.{ComesTo}
 
 -- this many bytes from this one on are whole sectors of the partition, and no more than the longest request has
 pub record AreInBounds (c : Content) (offset count : ℕ) : Type 0 where
@@ -20,7 +24,7 @@ pub record AreInBounds (c : Content) (offset count : ℕ) : Type 0 where
 -- why a request was refused: its bytes are not in bounds, numbers are used up, or memory was refused
 abbrev pub IsRefusal : VolumeView → Type 0 → Refusal → Type 0
 IsRefusal v InBounds InvalidParameter = ¬ InBounds
-IsRefusal v InBounds DeviceBusy = number_limit ≤ v.next_request
+IsRefusal v InBounds DeviceBusy = number_limit ≤ v.state.next_request
 IsRefusal v InBounds InsufficientResources = InBounds
 IsRefusal v InBounds _ = ⊥
 
@@ -28,13 +32,35 @@ IsRefusal v InBounds _ = ⊥
 pub record IsSameDisk (old new : VolumeView) : Type 0 where
   pub content : new.content ≡ old.content
   pub partition : new.partition ≡ old.partition
-  pub asked : new.next_request ≤ old.next_request + 1
+  pub asked : new.state.next_request ≤ old.state.next_request + 1
   pub same_handles : new.open_handles ≡ old.open_handles
 
 -- a request that was refused was not sent; one that failed was sent
 abbrev pub WasSent : VolumeView → VolumeView → Error → Type 0
-WasSent old new (Refused reason) = new.next_command ≡ old.next_command
-WasSent old new (Failed status) = old.next_command < new.next_command
+WasSent old new (Refused reason) = new.state.next_piece ≡ old.state.next_piece
+WasSent old new (Failed status) = old.state.next_piece < new.state.next_piece
+
+-- WHAT IS ASKED AND ANSWERED
+
+-- a read, a write and a flush of the partition, as requests
+abbrev pub read_of : VolumeView → ℕ → ℕ → ClientRequest
+read_of v offset count = record { partition = Some v.partition; kind = Read; offset = offset; length = count; through = false; bytes = [] }
+
+abbrev pub write_of : VolumeView → ℕ → List ℕ → Bool → ClientRequest
+write_of v offset bytes through = record { partition = Some v.partition; kind = Write; offset = offset; length = length bytes; through = through; bytes = bytes }
+
+abbrev pub flush_of : VolumeView → ClientRequest
+flush_of v = record { partition = Some v.partition; kind = Flush; offset = 0; length = 0; through = false; bytes = [] }
+
+-- just this request was called, and its one answer has this status
+abbrev pub IsAnswered : VolumeView → ClientRequest → NtStatus → VolumeView → Type 0
+IsAnswered old q status new = ComesTo old.rules old.state q status new.state
+
+-- a request that was not refused is told as it was answered
+abbrev pub IsToldAsAnswered : {X : Type 0} → VolumeView → ClientRequest → Result X Error → VolumeView → Type 0
+IsToldAsAnswered old q (Ok value) new = IsAnswered old q Success new
+IsToldAsAnswered old q (Err (Failed status)) new = IsAnswered old q status new
+IsToldAsAnswered old q (Err (Refused reason)) new = Unit {0}
 
 -- READ AND FLUSH
 
@@ -55,7 +81,7 @@ IsFault v InBounds (Failed status) = InBounds × (status ≢ Success)
 pub record Writes (old : VolumeView) (offset : ℕ) (bytes : List ℕ) (new : VolumeView) : Type 0 where
   pub content : new.content ≡ record old.content { bytes = splice old.content.bytes offset bytes }
   pub partition : new.partition ≡ old.partition
-  pub asked : new.next_request ≤ old.next_request + 1
+  pub asked : new.state.next_request ≤ old.state.next_request + 1
   pub same_handles : new.open_handles ≡ old.open_handles
 
 -- the bytes of a sector among others

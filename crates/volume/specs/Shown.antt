@@ -2,6 +2,8 @@
 use Rattle.std.specs.Prelude.{ℕ, ◌+◌, List, take, drop, get_or, slice_range, count_by, is_some}
 use Rattle.std.specs.List.{concat}
 use Rattle.sector.specs.declared.Extent.{Extent}
+use Rattle.machine.specs.Rules.{Rules}
+use Rattle.machine.specs.State.{State}
 use Rattle.io_manager.specs.Shown.{ManagerView}
 
 -- a disk as the user of one partition sees it
@@ -19,10 +21,9 @@ pub record VolumeView : Type 0 where
   pub content : Content
   -- the number of the partition, counted from 0
   pub partition : ℕ
-  -- the number of the stack's next request; there are 2^62 - 1
-  pub next_request : ℕ
-  -- the number of the next command that the stack sends to its device
-  pub next_command : ℕ
+  -- the rules of the stack's machine, and the state in which the stack is
+  pub rules : Rules
+  pub state : State
   -- how many handles are open on the stack, the volume's own among them
   pub open_handles : ℕ
 
@@ -52,7 +53,7 @@ abbrev pub volume_over : ManagerView → ℕ → VolumeView
 volume_over v p = record {
   content = content_of v p;
   partition = p;
-  next_request = v.state.next_request;
-  next_command = v.state.next_piece;
+  rules = v.rules;
+  state = v.state;
   open_handles = handle_count v;
 }

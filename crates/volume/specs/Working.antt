@@ -1,11 +1,12 @@
 -- A request that goes on alone: nobody calls, and the adapter acts on what it has and hands it back.
 use Rattle.std.specs.Prelude.{◌≡◌, ◌<◌, ◌≤◌, ◌⊎◌, ◌≢◌, ℕ, ◌+◌, ◌*◌, false, List, [], ◌∷◌, ◌++◌, Some, map, length, slice_get, slice_range, count_by, All, IsPermutation, IsTrue, IsFalse}
 use Rattle.std.specs.List.{sum_by, concat}
+use Rattle.ntstatus.specs.declared.NtStatus.{NtStatus}
 use Rattle.ntstatus.specs.declared.NtStatus.TheVariants.{Success}
 use Rattle.srb.specs.declared.Kind.TheVariants.{Read, Write, Flush}
 use Rattle.machine.specs.declared.ClientRequest.{ClientRequest}
 use Rattle.machine.specs.declared.Label.{Label}
-use Rattle.machine.specs.declared.Label.TheVariants.{Device, Answer, Removed}
+use Rattle.machine.specs.declared.Label.TheVariants.{Call, Device, Answer, Removed}
 use Rattle.machine.specs.Rules.{Rules, is_transfer, is_in_bounds, first_sector, place_count}
 use Rattle.machine.specs.State.{OpenRequest, State}
 use Rattle.machine.specs.Calling.{Opens}
@@ -129,9 +130,20 @@ pub record ChangesSome (rules : Rules) (q : ClientRequest) (old new : List (List
   pub each : (place : ℕ) → place < place_count rules q
       → (slice_get new (disk_first rules q + place) ≡ slice_get old (disk_first rules q + place)) ⊎ (slice_get new (disk_first rules q + place) ≡ Some (bytes_for rules q place))
 
+-- a request was called under the next number, and came to its one answer, which has this status; all other labels are
+-- the adapter's
+pub record ComesTo (rules : Rules) (s : State) (q : ClientRequest) (status : NtStatus) (s' : State) : Type 0 where
+  pub labels : List Label
+  pub quiet : All IsQuiet labels
+  pub run : Run rules s (Call s.next_request q ∷ labels) s'
+  pub informed : ℕ
+  pub bytes : List ℕ
+  pub answers : answers_of labels ≡ Answer s.next_request status informed bytes ∷ []
+
 -- how a request ended that was not refused
 pub record Ends (old : ManagerView) (q : ClientRequest) (answer : AnswerOf) (new : ManagerView) : Type 0 where
   pub leaves : Leaves old new
+  pub comes_to : ComesTo old.rules old.state q answer.status new.state
   pub in_bounds : IsTrue (is_transfer q.kind) → IsTrue (is_in_bounds old.rules q)
   pub reads : q.kind ≡ Read → answer.status ≡ Success → answer.bytes ≡ concat (sectors_on old.rules q old.adapter.sectors)
   pub writes : q.kind ≡ Write → answer.status ≡ Success → concat (sectors_on old.rules q new.adapter.sectors) ≡ q.bytes

@@ -3,7 +3,7 @@
 ghost use Rattle.std.specs.Prelude.{◌≡◌, ◌<◌, ◌≤◌, ◌⊎◌, ◌*◌, ◌+◌, ◌^◌, ⊤, length, IfOk, IfErr, MatchResult};
 ghost use Rattle.volume.specs.Shown.{content_of, handle_count};
 ghost use Rattle.volume.specs.Ready.{IsReady};
-ghost use Rattle.volume.specs.Calls.{AreInBounds, IsFault, IsSameDisk, IsWriteFault, Reads, WasSent, Writes};
+ghost use Rattle.volume.specs.Calls.{AreInBounds, IsFault, IsSameDisk, IsToldAsAnswered, IsWriteFault, Reads, WasSent, Writes, flush_of, read_of, write_of};
 
 use crate::carrying::{carry_out, step};
 use crate::{Error, Sizes};
@@ -63,6 +63,7 @@ impl<A: Adapter> Volume<A> {
     /// As [`Error`] says. Nothing has changed.
     pub fn read(&mut self, alloc: Global, offset: u64, buffer: Bytes) -> Result<Bytes, Error>
         ensures reads { MatchResult result (Reads self.old.content offset (length buffer)) (IsFault self.old (AreInBounds self.old.content offset (length buffer))) }
+        ensures answered { IsToldAsAnswered self.old (read_of self.old offset (length buffer)) result self.new }
         ensures sent { IfErr result (WasSent self.old self.new) }
         ensures same { IsSameDisk self.old self.new }
     {
@@ -97,6 +98,7 @@ impl<A: Adapter> Volume<A> {
     ) -> Result<(), Error>
         ensures in_bounds { IfOk result (λ _. AreInBounds self.old.content offset (length bytes)) }
         ensures writes { MatchResult result (λ _. Writes self.old offset bytes self.new) (λ fault. IsWriteFault self.old offset bytes fault self.new) }
+        ensures answered { IsToldAsAnswered self.old (write_of self.old offset bytes through) result self.new }
         ensures sent { IfErr result (WasSent self.old self.new) }
     {
         let event = Event::Write {
@@ -105,11 +107,11 @@ impl<A: Adapter> Volume<A> {
             bytes,
             through,
         };
-        let answer = match carry_out(&mut self.stack, alloc, event) {
+        let written = match carry_out(&mut self.stack, alloc, event) {
             Ok(answer) => answer,
             Err(reason) => return Err(Error::Refused(reason)),
         };
-        match answer.status {
+        match written.status {
             NtStatus::Success => Ok(()),
             status => Err(Error::Failed(status)),
         }
@@ -122,17 +124,18 @@ impl<A: Adapter> Volume<A> {
     /// As [`Error`] says, but never [`Refusal::InvalidParameter`]. Nothing has changed.
     pub fn flush(&mut self, alloc: Global) -> Result<(), Error>
         ensures flushes { IfErr result (IsFault self.old ⊤) }
-        ensures sent { MatchResult result (λ _. self.old.next_command < self.new.next_command) (WasSent self.old self.new) }
+        ensures answered { IsToldAsAnswered self.old (flush_of self.old) result self.new }
+        ensures sent { MatchResult result (λ _. self.old.state.next_piece < self.new.state.next_piece) (WasSent self.old self.new) }
         ensures same { IsSameDisk self.old self.new }
     {
         let event = Event::Flush {
             handle: self.handle,
         };
-        let answer = match carry_out(&mut self.stack, alloc, event) {
+        let flushed = match carry_out(&mut self.stack, alloc, event) {
             Ok(answer) => answer,
             Err(reason) => return Err(Error::Refused(reason)),
         };
-        match answer.status {
+        match flushed.status {
             NtStatus::Success => Ok(()),
             status => Err(Error::Failed(status)),
         }

@@ -3,10 +3,11 @@ use Rattle.std.specs.Prelude.{is_none}
 use Rattle.srb.specs.declared.Kind.TheVariants.{Write, Flush}
 use Rattle.machine.specs.declared.ClientRequest.{ClientRequest}
 use Rattle.io_manager.specs.Calls.{call_on}
+use Rattle.ntstatus.specs.declared.NtStatus.TheVariants.{Success}
 use Rattle.volume.specs.Shown.{VolumeView, volume_over}
-use Rattle.volume.specs.Calls.{IsRefusal, IsSameDisk}
+use Rattle.volume.specs.Calls.{IsAnswered, IsRefusal, IsSameDisk, flush_of}
 use Rattle.volume.specs.Working.{Ends, Turns}
-use Rattle.volume.proofs.Methods.{has_partition, kept_after, kept_content, refused_flush, same_disk, sent_failed, sent_flush}
+use Rattle.volume.proofs.Methods.{has_partition, kept_after, kept_content, refused_flush, same_disk, sent_failed, sent_flush, told_as}
 use Rattle.volume.proofs.volume.Volume.flush.Goals as goal
 
 not_write : Flush ≢ Write
@@ -24,7 +25,7 @@ returns-in-Err-clause-sent g c =
     let q : ClientRequest = call_on c.self.inside.stack c.self.inside.handle Flush 0 [] false in
     let known : is_none q.partition ≡ false = has_partition c.self.inside.stack c.self.inside.handle c.self.inside.partition c.self.inside.sizes c.self.invariant q refl in
     let h : Turns c.self.inside.stack q c.in-Err.reason c.carry_out.new.stack = c.in-Err.ensures q refl known in
-    subst (λ (w : VolumeView). (volume_over c.carry_out.new.stack c.self.inside.partition).next_command ≡ w.next_command) c.self.view_is h.none_sent
+    subst (λ (w : VolumeView). (volume_over c.carry_out.new.stack c.self.inside.partition).state.next_piece ≡ w.state.next_piece) c.self.view_is h.none_sent
 
 pub returns-in-Err-clause-flushes : goal.returns-in-Err-clause-flushes
 returns-in-Err-clause-flushes g c =
@@ -52,7 +53,7 @@ returns-in-Success-clause-sent g c =
     let q : ClientRequest = call_on c.self.inside.stack c.self.inside.handle Flush 0 [] false in
     let known : is_none q.partition ≡ false = has_partition c.self.inside.stack c.self.inside.handle c.self.inside.partition c.self.inside.sizes c.self.invariant q refl in
     let h : Ends c.self.inside.stack q c.in-Ok.answer c.carry_out.new.stack = c.in-Ok.ensures q refl known in
-    subst (λ (w : VolumeView). w.next_command < (volume_over c.carry_out.new.stack c.self.inside.partition).next_command) c.self.view_is (sent_flush c.self.inside.stack c.self.inside.handle c.self.inside.partition c.self.inside.sizes c.self.invariant q refl c.in-Ok.answer c.carry_out.new.stack h refl)
+    subst (λ (w : VolumeView). w.state.next_piece < (volume_over c.carry_out.new.stack c.self.inside.partition).state.next_piece) c.self.view_is (sent_flush c.self.inside.stack c.self.inside.handle c.self.inside.partition c.self.inside.sizes c.self.invariant q refl c.in-Ok.answer c.carry_out.new.stack h refl)
 
 pub returns-in-Success-clause-same : goal.returns-in-Success-clause-same
 returns-in-Success-clause-same g c =
@@ -60,6 +61,15 @@ returns-in-Success-clause-same g c =
     let known : is_none q.partition ≡ false = has_partition c.self.inside.stack c.self.inside.handle c.self.inside.partition c.self.inside.sizes c.self.invariant q refl in
     let h : Ends c.self.inside.stack q c.in-Ok.answer c.carry_out.new.stack = c.in-Ok.ensures q refl known in
     subst (λ (w : VolumeView). IsSameDisk w (volume_over c.carry_out.new.stack c.self.inside.partition)) c.self.view_is (kept_content c.self.inside.stack c.self.inside.handle c.self.inside.partition c.self.inside.sizes c.self.invariant q refl c.in-Ok.answer c.carry_out.new.stack h not_write)
+
+pub returns-in-Success-clause-answered : goal.returns-in-Success-clause-answered
+returns-in-Success-clause-answered g c =
+    let q : ClientRequest = call_on c.self.inside.stack c.self.inside.handle Flush 0 [] false in
+    let known : is_none q.partition ≡ false = has_partition c.self.inside.stack c.self.inside.handle c.self.inside.partition c.self.inside.sizes c.self.invariant q refl in
+    let h : Ends c.self.inside.stack q c.in-Ok.answer c.carry_out.new.stack = c.in-Ok.ensures q refl known in
+    subst (λ (w : VolumeView). IsAnswered w (flush_of w) Success (volume_over c.carry_out.new.stack c.self.inside.partition)) c.self.view_is
+    (subst (λ status. IsAnswered (volume_over c.self.inside.stack c.self.inside.partition) (flush_of (volume_over c.self.inside.stack c.self.inside.partition)) status (volume_over c.carry_out.new.stack c.self.inside.partition)) c.in-Success.is
+    (told_as c.self.inside.stack c.self.inside.handle c.self.inside.partition c.self.inside.sizes c.self.invariant q refl c.in-Ok.answer c.carry_out.new.stack h _ refl))
 
 pub invariant_of-self-2 : goal.invariant_of-self-2
 invariant_of-self-2 g c =
@@ -75,6 +85,9 @@ returns g c =
     let h : Ends c.self.inside.stack q c.in-Ok.answer c.carry_out.new.stack = c.in-Ok.ensures q refl known in
     record {
       flushes = (tt, c.in_default.not-Success);
-      sent = subst (λ (w : VolumeView). w.next_command < (volume_over c.carry_out.new.stack c.self.inside.partition).next_command) c.self.view_is (sent_failed c.self.inside.stack c.self.inside.handle c.self.inside.partition c.self.inside.sizes c.self.invariant q refl c.in-Ok.answer c.carry_out.new.stack h c.in_default.not-Success);
+      answered =
+          subst (λ (w : VolumeView). IsAnswered w (flush_of w) c.in-Ok.answer.status (volume_over c.carry_out.new.stack c.self.inside.partition)) c.self.view_is
+          (told_as c.self.inside.stack c.self.inside.handle c.self.inside.partition c.self.inside.sizes c.self.invariant q refl c.in-Ok.answer c.carry_out.new.stack h _ refl);
+      sent = subst (λ (w : VolumeView). w.state.next_piece < (volume_over c.carry_out.new.stack c.self.inside.partition).state.next_piece) c.self.view_is (sent_failed c.self.inside.stack c.self.inside.handle c.self.inside.partition c.self.inside.sizes c.self.invariant q refl c.in-Ok.answer c.carry_out.new.stack h c.in_default.not-Success);
       same = subst (λ (w : VolumeView). IsSameDisk w (volume_over c.carry_out.new.stack c.self.inside.partition)) c.self.view_is (kept_content c.self.inside.stack c.self.inside.handle c.self.inside.partition c.self.inside.sizes c.self.invariant q refl c.in-Ok.answer c.carry_out.new.stack h not_write);
     }

@@ -4,9 +4,9 @@ use Rattle.srb.specs.declared.Kind.TheVariants.{Read, Write}
 use Rattle.machine.specs.declared.ClientRequest.{ClientRequest}
 use Rattle.io_manager.specs.Calls.{call_on}
 use Rattle.volume.specs.Shown.{VolumeView, volume_over}
-use Rattle.volume.specs.Calls.{AreInBounds, IsFault, IsRefusal, IsSameDisk, Reads, WasSent}
+use Rattle.volume.specs.Calls.{AreInBounds, IsFault, IsRefusal, IsAnswered, IsSameDisk, IsToldAsAnswered, Reads, WasSent, read_of}
 use Rattle.volume.specs.Working.{Ends, Turns}
-use Rattle.volume.proofs.Methods.{has_partition, in_bounds, kept_after, kept_content, reads, refused, same_disk, sent_failed}
+use Rattle.volume.proofs.Methods.{has_partition, in_bounds, kept_after, kept_content, reads, refused, same_disk, sent_failed, told_as}
 use Rattle.volume.proofs.volume.Volume.read.Goals.{in-Success, in_default}
 use Rattle.volume.proofs.volume.Volume.read.Goals as goal
 
@@ -25,7 +25,7 @@ returns-in-Err-clause-sent g c =
     let q : ClientRequest = call_on c.self.inside.stack c.self.inside.handle Read c.args.offset c.args.buffer false in
     let known : is_none q.partition ≡ false = has_partition c.self.inside.stack c.self.inside.handle c.self.inside.partition c.self.inside.sizes c.self.invariant q refl in
     let h : Turns c.self.inside.stack q c.in-Err.reason c.carry_out.new.stack = c.in-Err.ensures q refl known in
-    subst (λ (w : VolumeView). (volume_over c.carry_out.new.stack c.self.inside.partition).next_command ≡ w.next_command) c.self.view_is h.none_sent
+    subst (λ (w : VolumeView). (volume_over c.carry_out.new.stack c.self.inside.partition).state.next_piece ≡ w.state.next_piece) c.self.view_is h.none_sent
 
 pub returns-in-Err-clause-reads : goal.returns-in-Err-clause-reads
 returns-in-Err-clause-reads g c =
@@ -76,4 +76,19 @@ returns-clause-sent g c =
     (elim c.match-answer.branch [
       | in-Success w ↦ rw w.result-is tt
       | in_default w ↦ rw w.result-is (sent_failed c.self.inside.stack c.self.inside.handle c.self.inside.partition c.self.inside.sizes c.self.invariant q refl c.in-Ok.answer c.carry_out.new.stack h w.in_default.not-Success)
+    ])
+
+pub returns-clause-answered : goal.returns-clause-answered
+returns-clause-answered g c =
+    let q : ClientRequest = call_on c.self.inside.stack c.self.inside.handle Read c.args.offset c.args.buffer false in
+    let known : is_none q.partition ≡ false = has_partition c.self.inside.stack c.self.inside.handle c.self.inside.partition c.self.inside.sizes c.self.invariant q refl in
+    let h : Ends c.self.inside.stack q c.in-Ok.answer c.carry_out.new.stack = c.in-Ok.ensures q refl known in
+    subst (λ (w : VolumeView). IsToldAsAnswered w (read_of w c.args.offset (length c.args.buffer)) c.match-answer.result (volume_over c.carry_out.new.stack c.self.inside.partition)) c.self.view_is
+    (elim c.match-answer.branch [
+      | in-Success w ↦
+          rw w.result-is (
+          subst (λ status. IsAnswered (volume_over c.self.inside.stack c.self.inside.partition) (read_of (volume_over c.self.inside.stack c.self.inside.partition) c.args.offset (length c.args.buffer)) status (volume_over c.carry_out.new.stack c.self.inside.partition)) w.in-Success.is
+          (told_as c.self.inside.stack c.self.inside.handle c.self.inside.partition c.self.inside.sizes c.self.invariant q refl c.in-Ok.answer c.carry_out.new.stack h _ refl)
+          )
+      | in_default w ↦ rw w.result-is (told_as c.self.inside.stack c.self.inside.handle c.self.inside.partition c.self.inside.sizes c.self.invariant q refl c.in-Ok.answer c.carry_out.new.stack h _ refl)
     ])

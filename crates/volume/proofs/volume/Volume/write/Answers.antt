@@ -3,10 +3,11 @@ use Rattle.std.specs.Prelude.{is_none}
 use Rattle.srb.specs.declared.Kind.TheVariants.{Write}
 use Rattle.machine.specs.declared.ClientRequest.{ClientRequest}
 use Rattle.io_manager.specs.Calls.{call_on}
+use Rattle.ntstatus.specs.declared.NtStatus.TheVariants.{Success}
 use Rattle.volume.specs.Shown.{VolumeView, volume_over}
-use Rattle.volume.specs.Calls.{AreInBounds, IsRefusal, IsSameDisk, Writes, WritesSome}
+use Rattle.volume.specs.Calls.{AreInBounds, IsRefusal, IsAnswered, IsSameDisk, Writes, WritesSome, write_of}
 use Rattle.volume.specs.Working.{Ends, Turns}
-use Rattle.volume.proofs.Methods.{has_partition, in_bounds, kept_after, refused, same_disk, sent_failed, writes, writes_part}
+use Rattle.volume.proofs.Methods.{has_partition, in_bounds, kept_after, refused, same_disk, sent_failed, told_as, writes, writes_part}
 use Rattle.volume.proofs.volume.Volume.write.Goals as goal
 
 pub invariant_of-self : goal.invariant_of-self
@@ -21,7 +22,7 @@ returns-in-Err-clause-sent g c =
     let q : ClientRequest = call_on c.self.inside.stack c.self.inside.handle Write c.args.offset c.args.bytes c.args.through in
     let known : is_none q.partition ≡ false = has_partition c.self.inside.stack c.self.inside.handle c.self.inside.partition c.self.inside.sizes c.self.invariant q refl in
     let h : Turns c.self.inside.stack q c.in-Err.reason c.carry_out.new.stack = c.in-Err.ensures q refl known in
-    subst (λ (w : VolumeView). (volume_over c.carry_out.new.stack c.self.inside.partition).next_command ≡ w.next_command) c.self.view_is h.none_sent
+    subst (λ (w : VolumeView). (volume_over c.carry_out.new.stack c.self.inside.partition).state.next_piece ≡ w.state.next_piece) c.self.view_is h.none_sent
 
 pub returns-in-Err-clause-writes : goal.returns-in-Err-clause-writes
 returns-in-Err-clause-writes g c =
@@ -55,6 +56,15 @@ returns-in-Success-clause-writes g c =
     subst (λ (w : VolumeView). Writes w c.args.offset c.args.bytes (volume_over c.carry_out.new.stack c.self.inside.partition)) c.self.view_is
     (writes c.self.inside.stack c.self.inside.handle c.self.inside.partition c.self.inside.sizes c.self.invariant q refl c.in-Ok.answer c.carry_out.new.stack h refl c.in-Success.is)
 
+pub returns-in-Success-clause-answered : goal.returns-in-Success-clause-answered
+returns-in-Success-clause-answered g c =
+    let q : ClientRequest = call_on c.self.inside.stack c.self.inside.handle Write c.args.offset c.args.bytes c.args.through in
+    let known : is_none q.partition ≡ false = has_partition c.self.inside.stack c.self.inside.handle c.self.inside.partition c.self.inside.sizes c.self.invariant q refl in
+    let h : Ends c.self.inside.stack q c.in-Ok.answer c.carry_out.new.stack = c.in-Ok.ensures q refl known in
+    subst (λ (w : VolumeView). IsAnswered w (write_of w c.args.offset c.args.bytes c.args.through) Success (volume_over c.carry_out.new.stack c.self.inside.partition)) c.self.view_is
+    (subst (λ status. IsAnswered (volume_over c.self.inside.stack c.self.inside.partition) (write_of (volume_over c.self.inside.stack c.self.inside.partition) c.args.offset c.args.bytes c.args.through) status (volume_over c.carry_out.new.stack c.self.inside.partition)) c.in-Success.is
+    (told_as c.self.inside.stack c.self.inside.handle c.self.inside.partition c.self.inside.sizes c.self.invariant q refl c.in-Ok.answer c.carry_out.new.stack h _ refl))
+
 pub invariant_of-self-2 : goal.invariant_of-self-2
 invariant_of-self-2 g c =
     let q : ClientRequest = call_on c.self.inside.stack c.self.inside.handle Write c.args.offset c.args.bytes c.args.through in
@@ -75,5 +85,8 @@ returns g c =
         subst (λ (w : VolumeView). WritesSome w c.args.offset c.args.bytes (volume_over c.carry_out.new.stack c.self.inside.partition)) c.self.view_is
             (writes_part c.self.inside.stack c.self.inside.handle c.self.inside.partition c.self.inside.sizes c.self.invariant q refl c.in-Ok.answer c.carry_out.new.stack h refl refl),
       );
-      sent = subst (λ (w : VolumeView). w.next_command < (volume_over c.carry_out.new.stack c.self.inside.partition).next_command) c.self.view_is (sent_failed c.self.inside.stack c.self.inside.handle c.self.inside.partition c.self.inside.sizes c.self.invariant q refl c.in-Ok.answer c.carry_out.new.stack h c.in_default.not-Success);
+      answered =
+          subst (λ (w : VolumeView). IsAnswered w (write_of w c.args.offset c.args.bytes c.args.through) c.in-Ok.answer.status (volume_over c.carry_out.new.stack c.self.inside.partition)) c.self.view_is
+          (told_as c.self.inside.stack c.self.inside.handle c.self.inside.partition c.self.inside.sizes c.self.invariant q refl c.in-Ok.answer c.carry_out.new.stack h _ refl);
+      sent = subst (λ (w : VolumeView). w.state.next_piece < (volume_over c.carry_out.new.stack c.self.inside.partition).state.next_piece) c.self.view_is (sent_failed c.self.inside.stack c.self.inside.handle c.self.inside.partition c.self.inside.sizes c.self.invariant q refl c.in-Ok.answer c.carry_out.new.stack h c.in_default.not-Success);
     }
