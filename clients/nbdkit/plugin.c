@@ -73,7 +73,8 @@ open_with(const char *text, size_t length)
 {
 	uint32_t status = saddlemug_open(&volume, (const uint8_t *) text, length, partition);
 	if (status != SADDLEMUG_SUCCESS) {
-		nbdkit_error("saddlemug_open: status %08" PRIX32, status);
+		nbdkit_error("saddlemug_open: status %08" PRIX32 "%s", status,
+			status == SADDLEMUG_INVALID_PARAMETER ? ": no such settings, or no such partition" : "");
 		return -1;
 	}
 	sizes = saddlemug_sizes(&volume);
