@@ -44,4 +44,5 @@ build() {
         exit 1
     fi
     rm -f "$log"
+    say "proved and built, $SECONDS seconds in all"
 }
