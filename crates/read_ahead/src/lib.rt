@@ -6,9 +6,11 @@
 //! the bytes of a write whose header has come, and those behind them that the input's own buffer takes along.
 #![tactic(auto)]
 
-ghost use Rattle.std.specs.Prelude.{◌≡◌, IfSome, length};
+ghost use Rattle.std.specs.Prelude.{◌≡◌, ◌≤◌, IfErr, IfSome, length};
 ghost use Rattle.std.specs.Io.{ReadsAtMost};
 ghost use Rattle.std.specs.Io.KnownBytes.{Consumes, ReadConsumes};
+ghost use Rattle.std.specs.IoError.{error_kind};
+ghost use Rattle.std.specs.declared.io.ErrorKind.TheVariants.{UnexpectedEof};
 
 mod place;
 mod second;
@@ -106,6 +108,7 @@ impl<J: Naming, H: Wait + Copy, I: Ahead + Drop> ReadAhead<J, H, I> {
     fn read_fetched(&mut self, buf: &mut [u8]) -> io::Result<usize>
         ensures bound { ReadsAtMost result buf.new }
         ensures bytes { ReadConsumes self.old self.new result buf.new }
+        ensures kind { IfErr result (λ error. error_kind error ≡ UnexpectedEof) }
     {
         if self.place.is_lost() || self.taken >= self.fetched.len() {
             return Err(lost());
@@ -173,6 +176,7 @@ impl<J: Naming, H: Wait + Copy, I: Ahead + Drop> ReadAhead<J, H, I> {
     ///
     /// Where memory was refused. Nothing was read.
     fn ask(&mut self, count: usize) -> Result<(), AllocError>
+        requires { count ≤ LONGEST }
         ensures { self.new ≡ self.old }
     {
         let mut room = mem::replace(&mut self.spare, Vec::new(self.alloc));
@@ -225,8 +229,10 @@ fn filled<I: Read>(input: &mut I, room: Vec<u8>) -> Option<Vec<u8>>
     }
 }
 
-/// The error of an input that failed before.
-fn lost() -> io::Error {
+/// The error of an input that failed before. A reader that meets it doesn't ask again.
+fn lost() -> io::Error
+    ensures { error_kind result ≡ UnexpectedEof }
+{
     io::Error::from(ErrorKind::UnexpectedEof)
 }
 
@@ -279,8 +285,11 @@ impl<J: Naming, H: Wait + Copy, I: Ahead + Drop> Ahead for ReadAhead<J, H, I> {
     }
 }
 
-/// The length of the write that begins, if it is long and not all there.
-fn long_write(bytes: &[u8]) -> Option<usize> {
+/// The length of the write that begins, if it is long and not all there. Of more bytes than a write may have no memory
+/// is taken.
+fn long_write(bytes: &[u8]) -> Option<usize>
+    ensures { IfSome result (λ count. count ≤ LONGEST) }
+{
     let (header, rest) = bytes.split_at_checked(HEADER)?;
     let count = payload_count(parse_request(header)?) as usize;
     if count < LONG || count > LONGEST as usize || count <= rest.len() {
