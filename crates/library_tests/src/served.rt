@@ -3,5 +3,6 @@
 mod ahead;
 mod command_lines;
 mod endings;
+mod over;
 mod second_thread;
 mod sessions;
