@@ -1,6 +1,7 @@
 -- The starts by each request in turn.
-use Rattle.std.proofs.Common.{◌≡◌, ◌<◌, ◌≤◌, ℕ, ◌+◌, List, [], ◌∷◌, ◌++◌, Option, Some, None, refl, sym, ◌∙◌, ap, arith, length, get_or, take, drop}
+use Rattle.std.proofs.Common.{◌≡◌, ◌<◌, ◌≤◌, ℕ, ◌+◌, List, [], ◌∷◌, ◌++◌, Option, Some, None, false, refl, sym, ◌∙◌, ap, arith, length, get_or, take, drop}
 use Rattle.std.specs.List.{flat_map, remove}
+use Rattle.std.specs.Option.{is_some}
 use Rattle.std.proofs.lemmas.List.{drop_more, drop_all, append_assoc, append-nil}
 use Rattle.std.proofs.lemmas.List.Concat.{flat_map-append}
 use Rattle.sector.specs.declared.Extent.{Extent}
@@ -10,7 +11,8 @@ use Rattle.machine.specs.State.{OpenRequest, State}
 use Rattle.judge.specs.Picking.{choices}
 use Rattle.judge.specs.Deciding.{startable}
 use Rattle.judge.specs.Next.{started_by, started_of, started_each}
-use Rattle.judge.specs.Starting.{choice_at, started_as}
+use Rattle.judge.specs.Starting.{choice_at, started_as, pending_states}
+use Rattle.judge.specs.declared.starts.Pending.{Pending}
 use Rattle.judge.proofs.Picking.{length-choices, choices_at}
 
 module _ {X : Type 0} (xs : List X) where
@@ -57,10 +59,34 @@ module _ (s : State) (tag : ℕ) where
         ap (flat_map (started_each rules s tag command)) (one_choice s.requests k o low is) ∙ append-nil _ ∙ ap (started_of s tag o (remove s.requests k)) (sym e)
         ∙ sym (start_is k o places low is)
 
-    pub none_added : (done : List State) (k : ℕ) (o : OpenRequest) → k < length s.requests → o ≡ get_or s.requests k o → None ≡ startable rules s command o
-        → done ≡ done ++ flat_map (started_each rules s tag command) (choice_at s k)
-    none_added done k o low is e = sym (append-nil done) ∙ ap (λ ys. done ++ ys) (sym (none_starts k o low is e))
+    -- no start by the request at a place
+    pub none_at : (k : ℕ) (o : OpenRequest) (next : Option Pending)
+        → k < length s.requests → o ≡ get_or s.requests k o → None ≡ startable rules s command o → next ≡ None
+        → pending_states s tag next ≡ flat_map (started_each rules s tag command) (choice_at s k)
+    none_at k o next low is e none = ap (pending_states s tag) none ∙ sym (none_starts k o low is e)
 
-    pub one_added : (done found : List State) (k : ℕ) (o : OpenRequest) (places : Extent) → k < length s.requests → o ≡ get_or s.requests k o → Some places ≡ startable rules s command o → found ≡ done
-        → found ++ flat_map (started_as s tag places) (choice_at s k) ≡ done ++ flat_map (started_each rules s tag command) (choice_at s k)
-    one_added done found k o places low is e same = ap (λ ys. ys ++ flat_map (started_as s tag places) (choice_at s k)) same ∙ ap (λ ys. done ++ ys) (sym (one_starts k o places low is e))
+    -- the start at a place is pending from now on, and the one before was added
+    pub one_found : (before found : List State) (k : ℕ) (pending next after : Option Pending)
+        → pending_states s tag next ≡ flat_map (started_each rules s tag command) (choice_at s k)
+        → found ≡ before ++ pending_states s tag pending → after ≡ next
+        → found ++ pending_states s tag after
+        ≡ (before ++ pending_states s tag pending) ++ flat_map (started_each rules s tag command) (choice_at s k)
+    one_found before found k pending next after starts added same =
+        ap (λ ys. ys ++ pending_states s tag after) added
+        ∙ ap (λ ys. (before ++ pending_states s tag pending) ++ ys) (ap (pending_states s tag) same ∙ starts)
+
+    -- there is no start at a place
+    pub none_found : (before found : List State) (k : ℕ) (pending next after : Option Pending)
+        → pending_states s tag next ≡ flat_map (started_each rules s tag command) (choice_at s k)
+        → is_some next ≡ false → found ≡ before → after ≡ pending
+        → found ++ pending_states s tag after
+        ≡ (before ++ pending_states s tag pending) ++ flat_map (started_each rules s tag command) (choice_at s k)
+    none_found before found k pending next after starts none kept same =
+        ap (λ ys. ys ++ pending_states s tag after) kept
+        ∙ ap (λ (p : Option Pending). before ++ pending_states s tag p) same
+        ∙ sym (append-nil (before ++ pending_states s tag pending))
+        ∙ ap (λ ys. (before ++ pending_states s tag pending) ++ ys) (sym (nothing next none) ∙ starts)
+      where
+        nothing : (p : Option Pending) → is_some p ≡ false → pending_states s tag p ≡ []
+        nothing None e = refl
+        nothing (Some p) e = absurd (cc (e))

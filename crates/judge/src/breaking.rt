@@ -5,6 +5,7 @@ ghost use Rattle.judge.specs.Breaking.{HasStep, IsReached, Breaks, BreakingRefut
 ghost use Rattle.judge.specs.LabelRuling.{IsReadOf, device_rule, free_rule, label_rule, goes_by};
 ghost use Rattle.judge.specs.Views.{rules_of};
 
+use crate::answers::Answer;
 use crate::label_rules::Rule;
 use crate::machine_state::Machine;
 use crate::reading::read_as;
@@ -75,13 +76,15 @@ impl Machine {
                 status,
                 information,
                 bytes,
-            } => Some(Rule::Answer(self.broken_answer(
-                rules,
-                *number,
-                *status,
-                *information,
-                bytes.as_slice(),
-            )?)),
+            } => {
+                let answer = Answer {
+                    number: *number,
+                    status: *status,
+                    information: *information,
+                    bytes: bytes.as_slice(),
+                };
+                Some(Rule::Answer(self.broken_answer(rules, answer)?))
+            }
             Label::Cancel { number } => Some(Rule::Cancel(self.broken_cancel(*number)?)),
             Label::Pause => Some(Rule::Removal(self.broken_pause()?)),
             Label::Resume => Some(Rule::Removal(self.broken_resume()?)),

@@ -9,6 +9,7 @@ ghost use Rattle.judge.specs.Deciding.{is_given_up, is_worn_out};
 ghost use Rattle.judge.specs.Ruling.{difference, is_byte, too_many, is_unended, is_undone, unended_rule, status_due, status_rule, information_rule, bytes_rule, ending_rule, answering_rule_of, answering_rule};
 ghost use Rattle.judge.specs.Views.{rules_of, joined_marks};
 
+use crate::answers::Answer;
 use crate::call_rules::information_of;
 use crate::label_rules::{AnswerRule, Difference};
 use crate::machine_state::Machine;
@@ -212,34 +213,33 @@ impl Machine {
         &self,
         rules: &MachineRules,
         entry: &Open,
-        status: NtStatus,
-        information: u64,
-        bytes: &[u8],
+        answer: Answer<'_>,
     ) -> Option<AnswerRule>
-        ensures { result ≡ ending_rule (rules_of rules.now) self.now entry.now status information bytes.now }
+        ensures { let told = answer.entry in result
+            ≡ ending_rule (rules_of rules.now) self.now entry.now told.status told.information told.bytes.now }
     {
         let given_up = self.is_given_up(entry);
         let worn_out = is_worn_out(rules, entry);
         let unended = broken_place(entry, first_unended(entry.marks(), given_up, worn_out));
-        let wrong = self.broken_status(rules, entry, status, first_undone(entry.marks()));
-        let informed = broken_information(entry.request(), status, information);
-        unended.or(wrong.or(informed.or(broken_bytes(entry, bytes))))
+        let wrong = self.broken_status(rules, entry, answer.status, first_undone(entry.marks()));
+        let informed = broken_information(entry.request(), answer.status, answer.information);
+        unended.or(wrong.or(informed.or(broken_bytes(entry, answer.bytes))))
     }
 
     /// Returns what is wrong with an answer.
     pub(crate) fn broken_answer(
         &self,
         rules: &MachineRules,
-        number: u64,
-        status: NtStatus,
-        information: u64,
-        bytes: &[u8],
+        answer: Answer<'_>,
     ) -> Option<AnswerRule>
-        ensures { result ≡ answering_rule (rules_of rules.now) self.now number status information bytes.now }
+        ensures { let told = answer.entry in result
+            ≡ answering_rule (rules_of rules.now) self.now told.number told.status told.information told.bytes.now }
     {
-        let Some(entry) = self.open(number) else {
-            return Some(AnswerRule::NotOpen { number });
+        let Some(entry) = self.open(answer.number) else {
+            return Some(AnswerRule::NotOpen {
+                number: answer.number,
+            });
         };
-        self.broken_ending(rules, entry, status, information, bytes)
+        self.broken_ending(rules, entry, answer)
     }
 }

@@ -7,6 +7,7 @@ ghost use Rattle.judge.specs.Deciding.{has_number};
 ghost use Rattle.judge.specs.Ruling.{unpaid_rule, owing_rule, carried_rule, calling_rule, cancelling_rule_of, cancelling_rule, pausing_rule, paused_rule, surprising_rule, removed_rule};
 ghost use Rattle.judge.specs.Views.{rules_of, owed_of};
 
+use crate::answers::Answer;
 use crate::call_rules::bytes_carried;
 use crate::label_rules::{CallRule, CancelRule, OwedRule, RemovalRule};
 use crate::machine_state::{Debt, Machine};
@@ -18,37 +19,32 @@ use ntstatus::NtStatus;
 
 impl Debt {
     /// Returns what is wrong with an answer, where this one is owed.
-    fn broken_by(
-        self,
-        number: u64,
-        status: NtStatus,
-        information: u64,
-        bytes: &[u8],
-    ) -> Option<OwedRule>
-        ensures { result ≡ unpaid_rule (owed_of self) number status information bytes.now }
+    fn broken_by(self, answer: Answer<'_>) -> Option<OwedRule>
+        ensures { let told = answer.entry in
+            result ≡ unpaid_rule (owed_of self) told.number told.status told.information told.bytes.now }
     {
         let owed = self.number;
         let due = self.status;
-        if owed != number {
+        if owed != answer.number {
             Some(OwedRule::Other {
                 number: owed,
                 status: due,
             })
-        } else if !are_same(due, status) {
+        } else if !are_same(due, answer.status) {
             Some(OwedRule::Status {
                 number: owed,
                 due,
-                told: status,
+                told: answer.status,
             })
-        } else if information != 0 {
+        } else if answer.information != 0 {
             Some(OwedRule::Information {
                 number: owed,
-                told: information,
+                told: answer.information,
             })
-        } else if !bytes.is_empty() {
+        } else if !answer.bytes.is_empty() {
             Some(OwedRule::Bytes {
                 number: owed,
-                count: bytes.len() as u64,
+                count: answer.bytes.len() as u64,
             })
         } else {
             None
@@ -65,7 +61,12 @@ impl Debt {
                 status,
                 information,
                 bytes,
-            } => self.broken_by(*number, *status, *information, bytes.as_slice()),
+            } => self.broken_by(Answer {
+                number: *number,
+                status: *status,
+                information: *information,
+                bytes: bytes.as_slice(),
+            }),
             _ => Some(OwedRule::Other {
                 number: self.number,
                 status: self.status,

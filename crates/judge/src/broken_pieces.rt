@@ -19,7 +19,6 @@ use crate::piece_rules::{ActRule, ReturnRule};
 use crate::pieces::{Started, bad_status};
 use crate::rules::{MachineRules, moves_bytes};
 use machine::{ClientRequest, Kind};
-use sector::Extent;
 use srb::{Class, Completion};
 
 /// The first byte in which the bytes told differ from the bytes of the sectors, end to end.
@@ -98,17 +97,18 @@ impl Machine {
         self.pieces.iter().find(|piece| piece.has_number(number))
     }
 
-    /// Returns what is wrong with the bytes of an act on these places of the request.
+    /// Returns what is wrong with the bytes of an act of this piece of the request.
     fn broken_move(
         &self,
         rules: &MachineRules,
-        piece: u128,
+        piece: &Started,
         q: &ClientRequest,
-        places: Extent,
         bytes: &[u8],
     ) -> Option<ActRule>
-        ensures { result ≡ moving_rule (rules_of rules.now) self.now piece q.now places q.now.kind bytes.now }
+        ensures { let moved = piece.now in
+            result ≡ moving_rule (rules_of rules.now) self.now moved.number q.now moved.places q.now.kind bytes.now }
     {
+        let places = piece.places();
         let size = rules.sector_size as u128;
         let first = places.first as u128;
         let count = places.count as u128;
@@ -117,7 +117,13 @@ impl Machine {
                 let start = rules.first_sector(q) as u128 + first;
                 let arrays = self.arrays.as_slice();
                 let there = part_of(arrays, partition_of(q), start, start + count);
-                broken_read(piece, places.count, rules.sector_size, &there, bytes)
+                broken_read(
+                    piece.number(),
+                    places.count,
+                    rules.sector_size,
+                    &there,
+                    bytes,
+                )
             }
             Kind::Write => {
                 let sent = part(q.bytes.as_slice(), first * size, (first + count) * size);
@@ -137,7 +143,7 @@ impl Machine {
         if told as u128 != due {
             return Some(ActRule::Length { due, told });
         }
-        self.broken_move(rules, piece.number(), q, piece.places(), bytes)
+        self.broken_move(rules, piece, q, bytes)
     }
 
     /// Returns what is wrong with an act.

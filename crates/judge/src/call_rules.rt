@@ -9,6 +9,7 @@ ghost use Rattle.judge.specs.Next.{admitted, called, answered, repaid};
 ghost use Rattle.judge.specs.Views.{rules_of, owed_of};
 
 use crate::NoVerdict;
+use crate::answers::Answer;
 use crate::copies::request_copied;
 use crate::machine_state::{Debt, Machine};
 use crate::open::Open;
@@ -155,16 +156,15 @@ impl Machine {
         alloc: Global,
         rules: &MachineRules,
         entry: &Open,
-        status: NtStatus,
-        information: u64,
-        bytes: &[u8],
+        answer: Answer<'_>,
     ) -> Result<bool, AllocError>
-        ensures { IfOk result (λ may. may ≡ may_answer (rules_of rules.now) self.now entry.now status information bytes.now) }
+        ensures { let told = answer.entry in IfOk result (λ may. may
+            ≡ may_answer (rules_of rules.now) self.now entry.now told.status told.information told.bytes.now) }
     {
-        let same = entry.hands_back(alloc, bytes)?;
+        let same = entry.hands_back(alloc, answer.bytes)?;
         Ok(
-            self.may_end_as(rules, entry, status)
-                && information == information_of(entry.request(), status)
+            self.may_end_as(rules, entry, answer.status)
+                && answer.information == information_of(entry.request(), answer.status)
                 && same,
         )
     }
@@ -175,13 +175,12 @@ impl Machine {
         alloc: Global,
         rules: &MachineRules,
         entry: Open,
-        status: NtStatus,
-        information: u64,
-        bytes: &[u8],
+        answer: Answer<'_>,
     ) -> Result<Option<Machine>, NoVerdict>
-        ensures { IfOk result (λ next. next ≡ only (may_answer (rules_of rules.now) self entry status information bytes.now) self) }
+        ensures { let told = answer.entry in IfOk result (λ next. next ≡ only
+            (may_answer (rules_of rules.now) self entry told.status told.information told.bytes.now) self) }
     {
-        if !self.may_answer(alloc, rules, &entry, status, information, bytes)? {
+        if !self.may_answer(alloc, rules, &entry, answer)? {
             return Ok(None);
         }
         Ok(Some(self))
@@ -192,34 +191,26 @@ impl Machine {
         mut self,
         alloc: Global,
         rules: &MachineRules,
-        number: u64,
-        status: NtStatus,
-        information: u64,
-        bytes: &[u8],
+        answer: Answer<'_>,
     ) -> Result<Option<Machine>, NoVerdict>
-        ensures { IfOk result (λ next. next ≡ answered (rules_of rules.now) self number status information bytes.now) }
+        ensures { let told = answer.entry in IfOk result (λ next. next
+            ≡ answered (rules_of rules.now) self told.number told.status told.information told.bytes.now) }
     {
-        let Some(entry) = self.take_open(number) else {
+        let Some(entry) = self.take_open(answer.number) else {
             return Ok(None);
         };
-        self.answered_one(alloc, rules, entry, status, information, bytes)
+        self.answered_one(alloc, rules, entry, answer)
     }
 
     /// The machine after the answer that a refused call is owed.
-    pub(crate) fn repaid(
-        mut self,
-        debt: Debt,
-        number: u64,
-        status: NtStatus,
-        information: u64,
-        bytes: &[u8],
-    ) -> Option<Machine>
-        ensures { result ≡ repaid self (owed_of debt) number status information bytes.now }
+    pub(crate) fn repaid(mut self, debt: Debt, answer: Answer<'_>) -> Option<Machine>
+        ensures { let told = answer.entry in
+            result ≡ repaid self (owed_of debt) told.number told.status told.information told.bytes.now }
     {
-        if debt.number != number
-            || !are_same(debt.status, status)
-            || information != 0
-            || !bytes.is_empty()
+        if debt.number != answer.number
+            || !are_same(debt.status, answer.status)
+            || answer.information != 0
+            || !answer.bytes.is_empty()
         {
             return None;
         }

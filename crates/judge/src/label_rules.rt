@@ -108,7 +108,7 @@ pub enum AnswerRule {
     Out {
         place: u64,
     },
-    /// The request isn't cancelled, its device isn't removed, and busy returns haven't ended it.
+    /// The request isn't cancelled, its device isn't being removed, and busy returns haven't ended it.
     #[error("its sector {place} waits to be sent, and nothing has ended the request")]
     Waits {
         place: u64,

@@ -22,6 +22,7 @@
 #![tactic(auto)]
 
 mod adapter_labels;
+mod answers;
 mod arrays;
 mod breaking;
 mod broken_answers;

@@ -189,7 +189,7 @@ impl Open {
         self.cancelled
     }
 
-    /// Whether a pause holds it, or a removal found or made it held.
+    /// Whether it is late: a pause or a removal holds it back.
     pub fn is_late(&self) -> bool
         ensures { result ≡ self.now.late }
     {

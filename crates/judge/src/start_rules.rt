@@ -22,8 +22,8 @@ pub enum StartRule {
     /// The block asks for no command.
     #[error("{0}")]
     Block(CdbFault),
-    /// A block holds its command and nothing else: 0 in each bit that is no field of it, as DPO and the CONTROL byte
-    /// (SBC, SAM), and no byte behind it.
+    /// A block holds its command and nothing else: 0 in each field that this machine doesn't ask for, as DPO, GROUP
+    /// NUMBER and CONTROL (SBC, SAM), and no byte behind it.
     #[error("the block holds more than its command: {0}")]
     NotPlain(Difference),
     /// No open request asks for the block.

@@ -21,6 +21,16 @@ use cdb::Cdb;
 use sector::Extent;
 use std::alloc::Global;
 
+/// What a label tells of a start.
+#[derive(Clone, Copy)]
+pub(crate) struct Start {
+    /// The number of its piece.
+    pub(crate) piece: u128,
+    pub(crate) tag: u8,
+    /// The command whose plain block it has, if there is one.
+    pub(crate) command: Option<Cdb>,
+}
+
 /// A start that is found and not made yet.
 #[derive(Debug, Clone, Copy)]
 struct Pending {
@@ -149,30 +159,15 @@ impl Machine {
         Ok(())
     }
 
-    /// Looks at the request at this place. Where it may make the start, that one is pending, and the one before is
-    /// added.
-    fn next_pending(
-        &self,
-        alloc: Global,
-        rules: &MachineRules,
-        tag: u8,
-        command: Option<Cdb>,
-        at: usize,
-        pending: Option<Pending>,
-        found: &mut Vec<Machine>,
-    ) -> Result<Option<Pending>, NoVerdict>
-        requires low { at < length self.now.requests }
-        requires pending { IsPending self.now pending }
-        ensures pending { IfOk result (IsPending self.now) }
-        ensures adds { IfOk result (λ after. found.new.items ++ pending_states self.now tag after
-            ≡ (found.old.items ++ pending_states self.now tag pending)
-            ++ flat_map (started_each (rules_of rules.now) self.now tag command) (choice_at self.now at)) }
+    /// The start that the request at this place may make, if it may.
+    fn start_at(&self, rules: &MachineRules, start: Start, at: usize) -> Option<Pending>
+        requires { at < length self.now.requests }
+        ensures pending { IsPending self.now result }
+        ensures starts { pending_states self.now start.tag result
+            ≡ flat_map (started_each (rules_of rules.now) self.now start.tag start.command) (choice_at self.now at) }
     {
-        let Some(places) = self.startable(rules, command, &self.requests[at]) else {
-            return Ok(pending);
-        };
-        self.add_pending(alloc, tag, pending, found)?;
-        Ok(Some(Pending { at, places }))
+        let places = self.startable(rules, start.command, &self.requests[at])?;
+        Some(Pending { at, places })
     }
 
     /// Adds the machine after a start by each request that may make it. Where one alone may, nothing is copied.
@@ -180,37 +175,41 @@ impl Machine {
         self,
         alloc: Global,
         rules: &MachineRules,
-        tag: u8,
-        command: Option<Cdb>,
+        start: Start,
         found: &mut Vec<Machine>,
     ) -> Result<(), NoVerdict>
         ensures { OnOk result (found.new.items ≡ found.old.items
-            ++ flat_map (started_each (rules_of rules.now) self tag command) (choices self.requests)) }
+            ++ flat_map (started_each (rules_of rules.now) self start.tag start.command) (choices self.requests)) }
     {
         let mut pending = None;
         for at in 0..self.open_count() {
-            pending = self.next_pending(alloc, rules, tag, command, at, pending, found)?;
+            let next = self.start_at(rules, start, at);
+            if next.is_some() {
+                self.add_pending(alloc, start.tag, pending, found)?;
+                pending = next;
+            }
         }
-        self.add_last(alloc, tag, pending, found)?;
+        self.add_last(alloc, start.tag, pending, found)?;
         Ok(())
     }
 
-    /// Adds each machine that a start with this command leads to.
+    /// Adds each machine that the start leads to.
     pub(crate) fn add_started(
         self,
         alloc: Global,
         rules: &MachineRules,
-        number: u128,
-        tag: u8,
-        command: Option<Cdb>,
+        start: Start,
         found: &mut Vec<Machine>,
     ) -> Result<(), NoVerdict>
-        ensures { OnOk result (found.new.items ≡ found.old.items ++ started (rules_of rules.now) self number tag command) }
+        ensures { OnOk result (found.new.items
+            ≡ found.old.items ++ started (rules_of rules.now) self start.piece start.tag start.command) }
     {
-        if number != self.next_piece || !is_lowest_free(rules.depth, self.pieces.as_slice(), tag) {
+        if start.piece != self.next_piece
+            || !is_lowest_free(rules.depth, self.pieces.as_slice(), start.tag)
+        {
             return Ok(());
         }
-        self.add_starts(alloc, rules, tag, command, found)?;
+        self.add_starts(alloc, rules, start, found)?;
         Ok(())
     }
 }

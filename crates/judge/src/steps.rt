@@ -6,9 +6,11 @@ ghost use Rattle.judge.specs.Next.{device_next, free_next, owing_next, next, IsC
 ghost use Rattle.judge.specs.Views.{rules_of, owed_of};
 
 use crate::NoVerdict;
+use crate::answers::Answer;
 use crate::breaking::read_of;
 use crate::machine_state::{Debt, Machine};
 use crate::rules::MachineRules;
+use crate::starts::Start;
 use cdb::Cdb;
 use machine::Label;
 use srb::DeviceLabel;
@@ -48,7 +50,12 @@ impl Machine {
     {
         match label {
             DeviceLabel::Start { piece, tag, .. } => {
-                self.add_started(alloc, rules, *piece, *tag, command, found)
+                let start = Start {
+                    piece: *piece,
+                    tag: *tag,
+                    command,
+                };
+                self.add_started(alloc, rules, start, found)
             }
             DeviceLabel::Act { piece, bytes } => {
                 add(self.acted(alloc, rules, *piece, bytes.as_slice())?, found)
@@ -83,17 +90,15 @@ impl Machine {
                 status,
                 information,
                 bytes,
-            } => add(
-                self.answered(
-                    alloc,
-                    rules,
-                    *number,
-                    *status,
-                    *information,
-                    bytes.as_slice(),
-                )?,
-                found,
-            ),
+            } => {
+                let answer = Answer {
+                    number: *number,
+                    status: *status,
+                    information: *information,
+                    bytes: bytes.as_slice(),
+                };
+                add(self.answered(alloc, rules, answer)?, found)
+            }
             Label::Cancel { number } => add(self.cancelled(*number)?, found),
             Label::Pause => add(self.paused(alloc, rules)?, found),
             Label::Resume => add(self.resumed(alloc)?, found),
@@ -118,10 +123,15 @@ impl Machine {
                 status,
                 information,
                 bytes,
-            } => add(
-                self.repaid(debt, *number, *status, *information, bytes.as_slice()),
-                found,
-            ),
+            } => {
+                let answer = Answer {
+                    number: *number,
+                    status: *status,
+                    information: *information,
+                    bytes: bytes.as_slice(),
+                };
+                add(self.repaid(debt, answer), found)
+            }
             _ => Ok(()),
         }
     }

@@ -20,6 +20,6 @@ by_answer rules s s' o number status informed bytes (takes, is) =
 pub returns : goal.returns
 returns c =
     subst (λ (y : Option State). IfOk c.answered_one.result (λ next. next ≡ y))
-    (by_answer (rules_of c.args.rules.now) c.args.self c.take_open.new.self c.in-Some.entry c.args.number c.args.status
-    c.args.information c.args.bytes.now c.in-Some.ensures)
+    (by_answer (rules_of c.args.rules.now) c.args.self c.take_open.new.self c.in-Some.entry c.args.answer.number
+    c.args.answer.status c.args.answer.information c.args.answer.bytes.now c.in-Some.ensures)
     c.answered_one.ensures
