@@ -41,7 +41,7 @@ use std::marker::Brand;
 use std::process::ExitCode;
 use std::sync::Wait;
 use std::thread::Threads;
-use std::{env, io};
+use std::{env, fs, io};
 
 /// How many bytes of output are written at once. The bytes of a longer read go past this buffer, and the bytes of a
 /// long write go past the reader's.
@@ -95,8 +95,7 @@ fn run<H: Threads + Wait + Copy + Send + 'static>(
         Some(path) => {
             let settings = read_settings(alloc, config)?;
             let place = Place { path, create };
-            let storage = storage_of(rt, place, &settings)?;
-            let mut filed = open_file(alloc, settings, partition, storage)?;
+            let mut filed = filed(rt, place, settings, partition)?;
             serve_ahead::<Brand, _, _, _, _>(alloc, handle, &mut filed, input, &mut out)?;
         }
         None if create => return Err(Error::Usage),
@@ -134,6 +133,28 @@ fn unopened(error: &io::Error) -> Error {
     Error::Startup(fault_of(error, startup::Error::ConfigUnreadable))
 }
 
+/// Opens a partition of the disk in a file. A file that was made for it is removed where that fails.
+fn filed(
+    rt: &HostRuntime,
+    place: Place<'_>,
+    config: Config,
+    partition: u8,
+) -> Result<Filed<DiskFile>, Error>
+    requires { AreInRange config }
+{
+    let storage = storage_of(rt, place, &config)?;
+    let opened = open_file(rt.alloc(), config, partition, storage);
+    if place.create && opened.is_err() {
+        remove(rt, place.path);
+    }
+    opened
+}
+
+/// Removes a file that was made. Where that fails, it stays.
+fn remove(rt: &HostRuntime, path: &str) {
+    let _ = fs::remove_file(rt, path);
+}
+
 /// Opens and locks the file of a disk of these settings, which has as many bytes as the disk.
 fn storage_of(rt: &HostRuntime, place: Place<'_>, config: &Config) -> Result<DiskFile, Error>
     requires { AreInRange config.now }
@@ -149,14 +170,25 @@ fn storage_of(rt: &HostRuntime, place: Place<'_>, config: &Config) -> Result<Dis
     }
 }
 
-/// Makes a file with as many bytes as the disk, and the partition table of the settings.
+/// Makes a file for the disk. Where it can't be filled, it is removed.
 fn created(rt: &HostRuntime, path: &str, config: &Config) -> Result<DiskFile, Error>
     requires { AreInRange config.now }
 {
-    let file = match File::create_new(rt, path) {
-        Ok(file) => locked(file)?,
-        Err(_) => return Err(Error::Disk(DiskFault::NotCreated)),
+    let Ok(file) = File::create_new(rt, path) else {
+        return Err(Error::Disk(DiskFault::NotCreated));
     };
+    let filled = filled(rt, file, config);
+    if filled.is_err() {
+        remove(rt, path);
+    }
+    filled
+}
+
+/// Gives a new file as many bytes as the disk, and the partition table of the settings.
+fn filled(rt: &HostRuntime, file: File, config: &Config) -> Result<DiskFile, Error>
+    requires { AreInRange config.now }
+{
+    let file = locked(file)?;
     if file.set_len(disk_bytes(config)).is_err() {
         return Err(Error::Disk(DiskFault::NotCreated));
     }
