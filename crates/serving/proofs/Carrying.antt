@@ -1,5 +1,5 @@
 -- A stack over a storage: steps, one after the other.
-use Rattle.std.proofs.Common.{◌≡◌, ◌⊎◌, ◌<◌, inl, inr, ℕ, zero, suc, Bool, true, false, List, [], ◌∷◌, ◌++◌, length, map, Option, Some, None, Result, Ok, Err, IsFalse, refl, sym, ap, subst, ◌∙◌, append-nil, append_assoc}
+use Rattle.std.proofs.Common.{◌≡◌, ◌<◌, inl, inr, ℕ, zero, suc, Bool, true, false, List, [], ◌∷◌, ◌++◌, length, map, Option, Some, None, Result, Ok, Err, IsFalse, refl, sym, ap, subst, ◌∙◌, append-nil, append_assoc}
 use Rattle.std.specs.Prelude.{All, Contains, IfOk, IsPermutation, MatchBool, MatchResult, slice_get, remove, if◌then◌else◌}
 use Rattle.std.proofs.lemmas.List.Elements.{All-nil, All-cons, All-head, All-tail, All-append, All-map, All-weaker, All-contains, All-contains_itself, Contains-append_left, Contains-append_right, Contains-append_cases}
 use Rattle.std.proofs.lemmas.List.Sorted.{IsPermutation-refl, IsPermutation-trans, IsPermutation-append_right, IsPermutation-append_left, IsPermutation-append_comm, All-permutation, Contains-permutation}
@@ -16,15 +16,16 @@ use Rattle.machine.specs.declared.ClientRequest.{ClientRequest}
 use Rattle.machine.specs.declared.Label.{Label}
 use Rattle.machine.specs.declared.Label.TheVariants.{Call, Device, Answer as AnswerLabel, Cancel, Pause, Resume, Remove as RemoveLabel, Surprise, Removed as RemovedLabel}
 use Rattle.machine.specs.Rules.{Rules}
+use Rattle.machine.specs.Settled.{Settled}
 use Rattle.machine.specs.State.{State, opening}
 use Rattle.machine.specs.Step.{Run, as_label}
 use Rattle.machine.proofs.Same.{IsSame-refl, Run-append}
+use Rattle.machine_laws.specs.NumberLaws.{CallsAreAnswered}
 use Rattle.machine_laws.specs.Reached.{IsReached}
 use Rattle.io_manager.specs.declared.Answer.{Answer}
 use Rattle.io_manager.specs.declared.Handle.{Handle}
 use Rattle.io_manager.specs.declared.Id.{Id}
 use Rattle.io_manager.specs.declared.Refusal.{Refusal}
-use Rattle.io_manager.specs.declared.Refusal.TheVariants.{InvalidParameter}
 use Rattle.io_manager.specs.declared.Reply.{Reply}
 use Rattle.io_manager.specs.declared.Reply.TheVariants.{Handle as HandleReply, Ok as Done, Request as Requested, Answered, Refused, Ignored}
 use Rattle.io_manager.specs.Shown.{ManagerView}
@@ -38,14 +39,14 @@ use Rattle.compose.specs.Right.{IsRight}
 use Rattle.compose.specs.Journaled.{ArmedMayBeBooked, BookedActsAddEntries, IdleActsKeepEntries, StepsKeepEntries, StepsStayApart, IsJournaled, IsNoAct, IsOfPiece as IsOfTags, with_entry}
 use Rattle.compose.proofs.JournaledKept.{IsLed, led}
 use Rattle.compose.proofs.JournaledStep.{there_mapped}
-use Rattle.machine.specs.Sending.{HasOtherTag}
-use Rattle.volume.specs.Working.{Asks, answers_of, fresh_count, work}
+use Rattle.volume.specs.Working.{Asks, answers_of, fresh_count}
 use Rattle.volume.proofs.Steps.{answers-append, rest_of, untaken_told}
 use Rattle.volume.specs.Opening.{IsOn}
 use Rattle.serving.proofs.Called.{IsCalled, called}
+use Rattle.serving.proofs.Steady.{IsNoAnswerTo, act_steady, asked_steady, called_unanswered, finish_steady}
 use Rattle.volume.proofs.Closing.{given_known, given_on}
 use Rattle.file_disk.specs.Transfers.{DiskView, IsOfPiece, Transfers}
-use Rattle.serving.specs.Carried.{BooksArmed, CarriedView, Deed, Files, Goes, GoesUnanswered, HasBooked, HasNoneToBook, IsAnsweredBy, IsNoAnswerTo, IsNotAnswered, IsTold, Requests, StandsIn, TellsOn, entries_of, entry_in, over}
+use Rattle.serving.specs.Carried.{BooksArmed, CarriedView, Deed, Files, Goes, HasBooked, HasNoneToBook, IsAnsweredBy, IsRefusedAtOnce, IsTold, Requests, StandsIn, TellsOn, entries_of, entry_in, over}
 
 -- WHAT THE STORAGE KEEPS
 
@@ -115,6 +116,7 @@ Goes-refl v = record {
   deeds = [];
   same_rules = refl;
   same_handles = refl;
+  same_paused = refl;
   run = IsSame-refl v.stack.state;
   told = tells_nothing_more v.stack;
   files = refl;
@@ -132,6 +134,7 @@ Goes-trans old mid new a b = record {
   deeds = a.deeds ++ b.deeds;
   same_rules = b.same_rules ∙ a.same_rules;
   same_handles = b.same_handles ∙ a.same_handles;
+  same_paused = b.same_paused ∙ a.same_paused;
   run =
       Run-append old.stack.rules old.stack.state a.labels mid.stack.state b.labels new.stack.state a.run
       (subst (λ (rules : Rules). Run rules mid.stack.state b.labels new.stack.state) a.same_rules b.run);
@@ -224,12 +227,13 @@ module _ (keep : StepsKeepEntries) (apart : StepsStayApart) (old new : ManagerVi
     sectors = s.sectors ∙ ap (λ (r : Rules). r.disk_sectors) (sym by.by.same_rules);
   }
 
-  pub others_go : (disk : DiskView) → new.handles ≡ old.handles → IsPermutation (map as_answer new.answers) (answers_of new.labels ++ map as_answer old.answers) → Goes (over old disk) (over (record new { labels = [] }) disk)
-  others_go disk handles untaken = record {
+  pub others_go : (disk : DiskView) → new.handles ≡ old.handles → new.state.paused ≡ old.state.paused → IsPermutation (map as_answer new.answers) (answers_of new.labels ++ map as_answer old.answers) → Goes (over old disk) (over (record new { labels = [] }) disk)
+  others_go disk handles paused untaken = record {
     labels = new.labels;
     deeds = [];
     same_rules = by.by.same_rules;
     same_handles = handles;
+    same_paused = paused;
     run = step;
     told = others_told;
     files = refl;
@@ -238,7 +242,7 @@ module _ (keep : StepsKeepEntries) (apart : StepsStayApart) (old new : ManagerVi
   }
 
 pub finish_goes : StepsKeepEntries → StepsStayApart → (old new : ManagerView) (disk : DiskView) (tag : ℕ) (reply : Reply) → IsRight old (Finish tag) reply new → Goes (over old disk) (over (record new { labels = [] }) disk)
-finish_goes keep apart old new disk tag reply right = others_go keep apart old new (Finish tag) reply tt right disk (finish_handles old new tag reply right) (finish_untaken old new tag reply right)
+finish_goes keep apart old new disk tag reply right = others_go keep apart old new (Finish tag) reply tt right disk (finish_handles old new tag reply right) (finish_steady old new tag reply right) (finish_untaken old new tag reply right)
 
 -- AN ACT
 
@@ -300,6 +304,7 @@ module _ (idle : IdleActsKeepEntries) (adds : BookedActsAddEntries) (may : Armed
       deeds = deed ∷ [];
       same_rules = new_rules;
       same_handles = act_handles booked new tag reply right ∙ ap (λ (v : ManagerView). v.handles) has.books.same;
+      same_paused = act_steady booked new tag reply right ∙ ap (λ (s : State). s.paused) state_is;
       run = step_of;
       told = booked_told;
       files = (after, has.transfers, refl);
@@ -335,6 +340,7 @@ module _ (idle : IdleActsKeepEntries) (adds : BookedActsAddEntries) (may : Armed
       deeds = [];
       same_rules = idle_new;
       same_handles = act_handles booked new tag reply right ∙ ap (λ (v : ManagerView). v.handles) none.same_stack;
+      same_paused = act_steady booked new tag reply right ∙ ap (λ (v : ManagerView). v.state.paused) none.same_stack;
       run = idle_step;
       told = idle_told;
       files = none.same_disk;
@@ -489,7 +495,7 @@ taken v = record v { labels = [] }
 
 -- one that was refused, or ended at once
 pub ends_now : StepsKeepEntries → StepsStayApart → (first now : ManagerView) (disk : DiskView) (event : Event) (reply : Reply) (result : Result Answer Refusal) → IsTransferEvent event
-    → IsRight (cleared first) event reply now → MatchResult result (λ answer. IsAnsweredBy (over first disk) event answer now.labels) (λ reason. IsNotAnswered (over first disk) event reason now.labels [])
+    → IsRight (cleared first) event reply now → MatchResult result (λ answer. IsAnsweredBy (over first disk) event answer now.labels) (λ reason. IsRefusedAtOnce (over first disk) event reason now.labels [])
     → Requests (over first disk) event result (over (taken now) disk)
 ends_now keep apart first now disk event reply result transfer right answered = record {
   labels = now.labels;
@@ -577,26 +583,28 @@ module _ (keep : StepsKeepEntries) (apart : StepsStayApart) (first now : Manager
         answered = answer_there answer c;
       }
 
-  goes_unanswered : All (IsOfAnother id.number) last.stack.answers → GoesUnanswered (over first disk) event InvalidParameter (now.labels ++ drained.labels)
-  goes_unanswered others =
+  -- had it no answer, a request would be open with no piece out
+  pub cannot_wait : CallsAreAnswered → Settled last.stack.rules last.stack.state → last.stack.state.pieces ≡ [] → IsFalse first.state.paused → All (IsOfAnother id.number) last.stack.answers → ⊥
+  cannot_wait law settled none_out unpaused others =
       let ask = asked_by (cleared first) event transfer in
       let h = called (cleared first) event ask.0 (Requested id) now ask.1 right in
+      let rest : List Label = rest_of h.right.told in
+      let labels : now.labels ≡ Call id.number ask.0 ∷ rest = call_labels (cleared first) now ask.0 id h in
+      let step : Run first.rules first.state now.labels now.state = run_of (cleared first) (cleared first) now (led (cleared first) event (Requested id) now right).reset (led (cleared first) event (Requested id) now right).told refl refl (led (cleared first) event (Requested id) now right).by in
+      let same : now.rules ≡ first.rules = (led (cleared first) event (Requested id) now right).by.same_rules in
+      let on : Run first.rules now.state drained.labels last.stack.state = subst (λ (r : Rules). Run r now.state drained.labels last.stack.state) same drained.run in
+      let all : Run first.rules first.state (now.labels ++ drained.labels) last.stack.state = Run-append first.rules first.state now.labels now.state drained.labels last.stack.state step on in
+      let run : Run first.rules first.state (Call id.number ask.0 ∷ (rest ++ drained.labels)) last.stack.state = subst (λ (ls : List Label). Run first.rules first.state (ls ++ drained.labels) last.stack.state) labels all in
       let last_none : All (IsNoAnswerTo id.number) (map as_answer last.stack.answers) = none_mapped id.number last.stack.answers others in
       let both : All (IsNoAnswerTo id.number) (answers_of drained.labels ++ map as_answer now.answers) = All-permutation (IsNoAnswerTo id.number) _ _ drained.untaken last_none in
       let first_none : All (IsNoAnswerTo id.number) (map as_answer now.answers) = all_behind (IsNoAnswerTo id.number) (answers_of drained.labels) (map as_answer now.answers) both in
       let called_none : All (IsNoAnswerTo id.number) (answers_of now.labels ++ []) = All-permutation (IsNoAnswerTo id.number) _ _ (call_untaken (cleared first) now ask.0 id h) first_none in
-      record {
-        number = id.number;
-        request = ask.0;
-        asks = ask.1;
-        called = Contains-append_left now.labels drained.labels (Call id.number ask.0) (call_there (cleared first) now ask.0 id h);
-        unanswered =
-            subst (λ (ls : List Label). All (IsNoAnswerTo id.number) ls) (sym (answers-append now.labels drained.labels))
-            (All-append (IsNoAnswerTo id.number) (answers_of now.labels) (answers_of drained.labels)
-            (subst (λ (ls : List Label). All (IsNoAnswerTo id.number) ls) (append-nil (answers_of now.labels)) called_none)
-            (all_front (IsNoAnswerTo id.number) (answers_of drained.labels) (map as_answer now.answers) both));
-        told_as = refl;
-      }
+      let now_none : All (IsNoAnswerTo id.number) (answers_of now.labels) = subst (λ (ls : List Label). All (IsNoAnswerTo id.number) ls) (append-nil (answers_of now.labels)) called_none in
+      let rest_none : All (IsNoAnswerTo id.number) (answers_of rest) = subst (λ (ls : List Label). All (IsNoAnswerTo id.number) (answers_of ls)) labels now_none in
+      let paused : IsFalse last.stack.state.paused = drained.same_paused ∙ asked_steady (cleared first) now event (Requested id) transfer right ∙ unpaused in
+      called_unanswered law first.rules first.state id.number ask.0 (rest ++ drained.labels) last.stack.state run (subst (λ (r : Rules). Settled r last.stack.state) rules_all settled) none_out paused
+      (subst (λ (ls : List Label). All (IsNoAnswerTo id.number) ls) (sym (answers-append rest drained.labels))
+      (All-append (IsNoAnswerTo id.number) (answers_of rest) (answers_of drained.labels) rest_none (all_front (IsNoAnswerTo id.number) (answers_of drained.labels) (map as_answer now.answers) both)))
 
   handles_all : last.stack.handles ≡ first.handles
   handles_all = drained.same_handles ∙ asked_handles (cleared first) now event (Requested id) transfer right
@@ -613,20 +621,6 @@ module _ (keep : StepsKeepEntries) (apart : StepsStayApart) (first now : Manager
         (reanswered first last.stack [] (remove last.stack.answers takes.0) (now.labels ++ drained.labels) (entries_of drained.deeds) told_all);
     files = drained.files;
     answered = is_answered answer (got_there last.stack.answers takes.0 answer takes.1) takes.2;
-  }
-
-  -- there was none
-  pub ends_unanswered : (after : ManagerView) → TakesAnswerOf last.stack id.number None after → Requests (over first disk) event (Err InvalidParameter) (over after last.disk)
-  ends_unanswered after takes = record {
-    labels = now.labels ++ drained.labels;
-    deeds = drained.deeds;
-    same_rules = ap (λ (v : ManagerView). v.rules) takes.1 ∙ rules_all;
-    same_handles = ap (λ (v : ManagerView). v.handles) takes.1 ∙ handles_all;
-    told =
-        subst (λ (v : ManagerView). TellsOn first (now.labels ++ drained.labels) (entries_of drained.deeds) v) (sym takes.1)
-        (reanswered first last.stack [] last.stack.answers (now.labels ++ drained.labels) (entries_of drained.deeds) told_all);
-    files = drained.files;
-    answered = inr (goes_unanswered takes.0);
   }
 
 -- A PIECE'S ENTRY, HANDED OVER
@@ -665,11 +659,6 @@ pub fewer_since : (result : Bool) (old booked new : ManagerView) (tag : ℕ) →
 fewer_since true old booked new tag same h = subst (λ (s : State). fresh_count new.state < fresh_count s) same h
 fewer_since false old booked new tag same h = h
 
-pub finishes_same : (result : Bool) (old new : ManagerView) (tag : ℕ) → MatchBool result (work new.state < work old.state) ((new.state ≡ old.state) × All (HasOtherTag tag) new.state.pieces)
-    → MatchBool result (work new.state < work old.state) (new.state ≡ old.state)
-finishes_same true old new tag h = h
-finishes_same false old new tag h = h.0
-
 -- A HANDLE
 
 module _ (old new after : ManagerView) (partition : ℕ) (is_after : after ≡ record new { labels = [] }) (rules_are : after.rules ≡ old.rules) where
@@ -700,7 +689,10 @@ module _ (keep : StepsKeepEntries) (apart : StepsStayApart) (first clean now aft
         subst (λ (v : ManagerView). StandsIn v disk) (sym is_after)
         (others_stand keep apart (cleared first) now event reply (no_act event transfer) right_from disk (unanswered_stands first disk [] s))
 
-    pub carry_ends : (result : Result Answer Refusal) → MatchResult result (λ answer. IsAnsweredBy (over first disk) event answer now.labels) (λ reason. IsNotAnswered (over first disk) event reason now.labels []) → Requests (over first disk) event result (over after disk)
+    pub carry_paused : IsFalse first.state.paused → IsFalse after.state.paused
+    carry_paused unpaused = ap (λ (v : ManagerView). v.state.paused) is_after ∙ asked_steady (cleared first) now event reply transfer right_from ∙ unpaused
+
+    pub carry_ends : (result : Result Answer Refusal) → MatchResult result (λ answer. IsAnsweredBy (over first disk) event answer now.labels) (λ reason. IsRefusedAtOnce (over first disk) event reason now.labels []) → Requests (over first disk) event result (over after disk)
     carry_ends result answered =
         subst (λ (v : ManagerView). Requests (over first disk) event result (over v disk)) (sym is_after) (ends_now keep apart first now disk event reply result transfer right_from answered)
 
@@ -710,13 +702,13 @@ module _ (keep : StepsKeepEntries) (apart : StepsStayApart) (first clean now aft
 
   pub carry_refused : (reason : Refusal) (bytes : List ℕ) → IsRight clean event (Refused reason bytes) now → Requests (over first disk) event (Err reason) (over after disk)
   carry_refused reason bytes right =
-      carry_ends (Refused reason bytes) right (Err reason) (inl (record {
+      carry_ends (Refused reason bytes) right (Err reason) (record {
         after = now;
         bytes = bytes;
         refused = subst (λ (v : ManagerView). IsRight v event (Refused reason bytes) now) is_clean right;
         told = refl;
         none_moved = refl;
-      }))
+      })
 
   module _ (id : Id) (right : IsRight clean event (Requested id) now) (last : CarriedView) (drained : Goes (over after disk) last) where
     right_request : IsRight (cleared first) event (Requested id) now
@@ -728,12 +720,16 @@ module _ (keep : StepsKeepEntries) (apart : StepsStayApart) (first clean now aft
     pub carry_later : (answer : Answer) (final : ManagerView) → TakesAnswerOf last.stack id.number (Some answer) final → Requests (over first disk) event (Ok answer) (over final last.disk)
     carry_later = ends_later keep apart first now disk last event id transfer right_request drained_from
 
-    pub carry_unanswered : (final : ManagerView) → TakesAnswerOf last.stack id.number None final → Requests (over first disk) event (Err InvalidParameter) (over final last.disk)
-    carry_unanswered = ends_unanswered keep apart first now disk last event id transfer right_request drained_from
+    pub carry_waits : CallsAreAnswered → Settled last.stack.rules last.stack.state → last.stack.state.pieces ≡ [] → IsFalse first.state.paused → (final : ManagerView) → TakesAnswerOf last.stack id.number None final → ⊥
+    carry_waits law settled none_out unpaused final takes = cannot_wait keep apart first now disk last event id transfer right_request drained_from law settled none_out unpaused takes.0
 
 pub labels_still : (last final : ManagerView) (number : ℕ) (found : Option Answer) → TakesAnswerOf last number found final → last.labels ≡ [] → final.labels ≡ []
 labels_still last final number (Some answer) t e = ap (λ (v : ManagerView). v.labels) t.3 ∙ e
 labels_still last final number None t e = ap (λ (v : ManagerView). v.labels) t.1 ∙ e
+
+pub pause_still : (last final : ManagerView) (number : ℕ) (found : Option Answer) → TakesAnswerOf last number found final → IsFalse last.state.paused → IsFalse final.state.paused
+pause_still last final number (Some answer) t e = ap (λ (v : ManagerView). v.state.paused) t.3 ∙ e
+pause_still last final number None t e = ap (λ (v : ManagerView). v.state.paused) t.1 ∙ e
 
 pub stands_still : (last final : ManagerView) (disk : DiskView) (number : ℕ) (found : Option Answer) → TakesAnswerOf last number found final → StandsIn last disk → StandsIn final disk
 stands_still last final disk number (Some answer) t s = subst (λ (v : ManagerView). StandsIn v disk) (sym t.3) (unanswered_stands last disk (remove last.answers t.0) s)

@@ -1,5 +1,5 @@
 -- What a partition of a disk in a storage comes to by its requests.
-use Rattle.std.proofs.Common.{◌≡◌, ◌≢◌, ◌≤◌, ◌<◌, ◌^◌, ℕ, ◌+◌, arith, List, [], ◌∷◌, Bool, None, Some, Option, Result, Ok, Err, replicate, refl, sym, ap, subst, ◌∙◌}
+use Rattle.std.proofs.Common.{◌≡◌, ◌≢◌, ◌≤◌, ◌<◌, ◌^◌, ℕ, ◌+◌, arith, List, [], ◌∷◌, Bool, None, Some, Option, Result, Ok, Err, IsFalse, replicate, refl, sym, ap, subst, ◌∙◌}
 use Rattle.std.specs.Result.{result_err}
 use Rattle.io_manager.specs.declared.Answer.{Answer}
 use Rattle.io_manager.specs.declared.Handle.{Handle}
@@ -24,8 +24,8 @@ module _ (stack stack' : ManagerView) (disk disk' : DiskView) (handle : Handle) 
       → IsAsked (filed_over stack disk handle sizes) event done (filed_over stack' disk' handle sizes)
   asked_so event result done requests comes_to = record { result = result; requests = requests; comes_to = comes_to; same_handle = refl; same_sizes = refl }
 
-  pub kept_so : FiledKept (over stack disk) sizes → StandsIn stack' disk' → stack'.labels ≡ [] → FiledKept (over stack' disk') sizes
-  kept_so kept stands taken = record { stands = stands; taken = taken; block = kept.block; few = kept.few }
+  pub kept_so : FiledKept (over stack disk) sizes → StandsIn stack' disk' → stack'.labels ≡ [] → IsFalse stack'.state.paused → FiledKept (over stack' disk') sizes
+  kept_so kept stands taken unpaused = record { stands = stands; taken = taken; unpaused = unpaused; block = kept.block; few = kept.few }
 
 pub done_so : (old new : FiledView) (event : Event) (done : Result (List ℕ) ReplyError) (failed : Option ReplyError) → IsAsked old event done new → failed ≡ result_err done → IsDone old event failed new
 done_so old new event done failed asked so = record { done = done; asked = asked; failed_so = so }

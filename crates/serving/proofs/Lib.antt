@@ -2,7 +2,9 @@ mod Called
 mod Quiet
 mod Opening
 mod Spelled
+mod Flags
 mod Sessions
+pub mod Steady
 pub mod Carrying
 pub mod Putting
 pub mod Beginning

@@ -1,5 +1,5 @@
 -- A stack whose sectors stand in a storage: what is told of it, and what its pieces did there.
-use Rattle.std.specs.Prelude.{◌≡◌, ◌≢◌, ◌⊎◌, ℕ, false, List, [], ◌∷◌, ◌++◌, map, All, Contains, IsFalse, IsPermutation, Result, Ok, Err, MatchResult}
+use Rattle.std.specs.Prelude.{◌≡◌, ◌⊎◌, ℕ, false, List, [], ◌∷◌, ◌++◌, map, Contains, IsFalse, IsPermutation, Result, Ok, Err, MatchResult}
 use Rattle.srb.specs.declared.Srb.{Srb}
 use Rattle.srb.specs.declared.Entry.{Entry}
 use Rattle.srb.specs.declared.Completion.{Completion}
@@ -7,12 +7,11 @@ use Rattle.adapter.specs.Booking.{IsArmed, Suits}
 use Rattle.adapter.specs.Calls.{HasNoneFresh}
 use Rattle.machine.specs.declared.ClientRequest.{ClientRequest}
 use Rattle.machine.specs.declared.Label.{Label}
-use Rattle.machine.specs.declared.Label.TheVariants.{Call, Answer as AnswerLabel}
+use Rattle.machine.specs.declared.Label.TheVariants.{Call}
 use Rattle.machine.specs.State.{opening}
 use Rattle.machine.specs.Step.{Run}
 use Rattle.io_manager.specs.declared.Answer.{Answer}
 use Rattle.io_manager.specs.declared.Refusal.{Refusal}
-use Rattle.io_manager.specs.declared.Refusal.TheVariants.{InvalidParameter}
 use Rattle.io_manager.specs.declared.Reply.TheVariants.{Refused}
 use Rattle.io_manager.specs.Shown.{ManagerView}
 use Rattle.io_manager.specs.Calls.{without_bytes}
@@ -101,6 +100,7 @@ pub record Goes (old new : CarriedView) : Type 0 where
   pub deeds : List Deed
   pub same_rules : new.stack.rules ≡ old.stack.rules
   pub same_handles : new.stack.handles ≡ old.stack.handles
+  pub same_paused : new.stack.state.paused ≡ old.stack.state.paused
   pub run : Run old.stack.rules old.stack.state labels new.stack.state
   pub told : TellsOn old.stack labels (entries_of deeds) new.stack
   pub files : Files old.disk deeds new.disk
@@ -125,25 +125,8 @@ pub record IsRefusedAtOnce (old : CarriedView) (event : Event) (reason : Refusal
   pub told : labels ≡ after.labels
   pub none_moved : deeds ≡ []
 
--- the label is no answer to this request
-abbrev pub IsNoAnswerTo : ℕ → Label → Type 0
-IsNoAnswerTo number (AnswerLabel n status informed bytes) = n ≢ number
-IsNoAnswerTo number _ = Unit {0}
-
--- the event's request was called, and nothing that was told answers it
-pub record GoesUnanswered (old : CarriedView) (event : Event) (reason : Refusal) (labels : List Label) : Type 0 where
-  pub number : ℕ
-  pub request : ClientRequest
-  pub asks : Asks old.stack event request
-  pub called : Contains labels (Call number request)
-  pub unanswered : All (IsNoAnswerTo number) (answers_of labels)
-  pub told_as : reason ≡ InvalidParameter
-
-abbrev pub IsNotAnswered : CarriedView → Event → Refusal → List Label → List Deed → Type 0
-IsNotAnswered old event reason labels deeds = IsRefusedAtOnce old event reason labels deeds ⊎ GoesUnanswered old event reason labels
-
--- a request went from its call to its answer, or was refused. The stack moved by these labels alone, and the storage by
--- what their acts were
+-- a request went from its call to its answer, or was refused at once. The stack moved by these labels alone, and the
+-- storage by what their acts were
 pub record Requests (old : CarriedView) (event : Event) (result : Result Answer Refusal) (new : CarriedView) : Type 0 where
   pub labels : List Label
   pub deeds : List Deed
@@ -151,4 +134,4 @@ pub record Requests (old : CarriedView) (event : Event) (result : Result Answer 
   pub same_handles : new.stack.handles ≡ old.stack.handles
   pub told : TellsOn old.stack labels (entries_of deeds) new.stack
   pub files : Files old.disk deeds new.disk
-  pub answered : MatchResult result (λ answer. IsAnsweredBy old event answer labels) (λ reason. IsNotAnswered old event reason labels deeds)
+  pub answered : MatchResult result (λ answer. IsAnsweredBy old event answer labels) (λ reason. IsRefusedAtOnce old event reason labels deeds)

@@ -1,7 +1,7 @@
 -- The command line that the program takes, in the words of its parser.
-use Rattle.std.specs.Prelude.{◌≡◌, ◌<◌, ℕ, true, false, refl, List, MatchOption, Some, codes, option_map}
+use Rattle.std.specs.Prelude.{◌≡◌, ◌<◌, ℕ, Bool, true, false, refl, List, Option, None, MatchOption, Some, codes, option_map}
 use Rattle.std.specs.Str.Parse.{IsNumeral, digits_value}
-use Rattle.clap.specs.Words.{App, Row, Text, first_of, is_simple, matches_of, new_app, with_rule}
+use Rattle.clap.specs.Words.{App, Row, Text, first_of, is_simple, matches_of, new_app, one_of, with_rule}
 use Rattle.clap.specs.Takes.{takes}
 use Rattle.clap.proofs.OnLiterals.{clap_on_literals}
 use Rattle.command_line.specs.Grammar.{flag_rule, option_rule, word_rule}
@@ -25,17 +25,22 @@ pub record SpellsPartition (word : List ℕ) (n : ℕ) : Type 0 where
   pub value : n ≡ digits_value 10 word
   pub range : n < 256
 
--- paths and partition are what the parser found under their names. The partition is 0 where none is named. Nothing is
--- said of --create
+-- a flag is as the parser read the text of its argument, and not set where it has none
+abbrev pub IsFlag : Option Text → Bool → Type 0
+IsFlag None flag = flag ≡ false
+IsFlag (Some text) flag = (text ≡ codes "true" → flag ≡ true) × (text ≡ codes "false" → flag ≡ false)
+
+-- paths, partition and flag are what the parser found under their names. The partition is 0 where none is named
 pub record IsFoundIn (rows : List Row) (asked : Asked) : Type 0 where
   pub config : first_of (codes "CONFIG") rows ≡ Some asked.config.now
   pub partition : MatchOption (first_of (codes "PARTITION") rows) (asked.partition ≡ 0) (λ word. SpellsPartition word asked.partition)
   pub disk : first_of (codes "disk") rows ≡ option_map (λ word. word.now) asked.disk
+  pub create : IsFlag (one_of (codes "create") rows) asked.create
 
 -- what these words ask for
 abbrev pub IsAsked : List Text → Asked → Type 0
 IsAsked words = IsFoundIn (matches_of program words)
 
--- the grammar takes these words for no path and partition
+-- the grammar takes these words for nothing that can be served
 abbrev pub AsksForNothing : List Text → Type 0
 AsksForNothing words = takes program words ≡ true → (asked : Asked) → ¬ (IsAsked words asked)

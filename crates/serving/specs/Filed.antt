@@ -1,5 +1,5 @@
 -- A partition of a disk in a storage: what a client's commands ask of its stack.
-use Rattle.std.specs.Prelude.{◌≡◌, ◌≢◌, ◌≤◌, ◌⊎◌, ◌^◌, ℕ, ◌+◌, Bool, List, [], ◌∷◌, length, replicate, Option, Some, None, Result, Ok, Err}
+use Rattle.std.specs.Prelude.{◌≡◌, ◌≢◌, ◌≤◌, ◌⊎◌, ◌^◌, ℕ, ◌+◌, Bool, List, [], ◌∷◌, length, replicate, IsFalse, Option, Some, None, Result, Ok, Err}
 use Rattle.std.specs.Result.{result_err}
 use Rattle.ntstatus.specs.declared.NtStatus.{NtStatus}
 use Rattle.ntstatus.specs.declared.NtStatus.TheVariants.{Success, InsufficientResources, MediaWriteProtected, NoSuchDevice, DeletePending}
@@ -137,5 +137,7 @@ CarriesBy (WriteZeroes offset count through) payload old o new = (failed : Optio
 pub record FiledKept (carried : CarriedView) (sizes : Sizes) : Type 0 where
   pub stands : StandsIn carried.stack carried.disk
   pub taken : carried.stack.labels ≡ []
+  -- so each request is answered
+  pub unpaused : IsFalse carried.stack.state.paused
   pub block : (sizes.block ≡ 512) ⊎ (sizes.block ≡ 4096)
   pub few : sizes.bytes ≤ 2 ^ 63

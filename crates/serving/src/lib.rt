@@ -7,13 +7,13 @@
 //!   partition of the settings' disk, which are zeros at its start. Or nothing was read or written, and it tells why.
 //! - [`open_file`] (`opened`, `fault`): nothing was asked of the storage but its sector 0, whose table gives the
 //!   partitions of the settings. The stack has their limits. Or it tells why not.
-//! - [`serve_file`]: the stack answered each success of the session. All labels of the
-//!   stack are one run of the machine. The storage got just the calls of the pieces that acted there, and each piece
-//!   did in the run what its calls did.
+//! - [`serve_file`]: the stack answered each request of the session that it called, or refused it at once. All labels
+//!   of the stack are one run of the machine. The storage got just the calls of the pieces that acted there, and each
+//!   piece did in the run what its calls did.
 //! - [`put_table`] (`synced`, `fault`): the table was written and synced. Or a call failed, the last that was made, or
 //!   there was no memory, and nothing was called.
-//! - [`command`] (`asked`, `fault`): paths and partition are those that the parser of the command line found under
-//!   their names, and only words that ask for nothing that can be served are refused.
+//! - [`command`] (`asked`, `fault`): paths, partition and flag are those that the parser of the command line found
+//!   under their names, and only words that ask for nothing that can be served are refused.
 //! - [`Error`]'s text and [`Ending`](startup::Ending): the line of each fault, and which fault is one of the command
 //!   line.
 //!

@@ -1,11 +1,13 @@
 //! The pieces of a stack whose sectors stand in a storage: what came of each is booked before its act.
 
-ghost use Rattle.std.specs.Prelude.{◌≡◌, ◌<◌, ◌↔◌, [], ⊤, IsTrue, MatchBool};
+ghost use Rattle.std.specs.Prelude.{◌≡◌, ◌<◌, ◌↔◌, [], All, IsFalse, IsPermutation, IsTrue, MatchBool};
+ghost use Rattle.machine.specs.Sending.{HasOtherTag};
+ghost use Rattle.machine_laws.specs.NumberLaws.{CallsAreAnswered};
 ghost use Rattle.io_manager.specs.declared.Reply.TheVariants.{Ok as Done};
 ghost use Rattle.io_manager.specs.Right.{HasNoneFresh};
 ghost use Rattle.compose.specs.Journaled.{ArmedMayBeBooked, BookedActsAddEntries, IdleActsKeepEntries, StepsKeepEntries, StepsStayApart};
 ghost use Rattle.compose.specs.StepLaws.{IsTransferEvent};
-ghost use Rattle.volume.specs.Working.{fresh_count, work};
+ghost use Rattle.volume.specs.Working.{fresh_count, tags_out, work};
 ghost use Rattle.file_disk.specs.Transfers.{DiskView};
 ghost use Rattle.serving.specs.Carried.{BooksArmed, Goes, Requests, StandsIn, over, quiet};
 
@@ -30,7 +32,15 @@ pub(crate) fn laws_of_entries()
     compose::steps_stay_apart();
 }
 
-/// Carries a read, a write or a flush from its call to its answer.
+/// Says that what was called is answered once nothing waits. It does nothing; its contract is for callers.
+fn law_of_answers()
+    ensures { CallsAreAnswered }
+{
+    machine_laws::calls_await_answers();
+}
+
+/// Carries a read, a write or a flush from its call to its answer. The device is not paused, so each request that is
+/// called is answered once nothing is out.
 ///
 /// # Errors
 ///
@@ -43,22 +53,25 @@ pub(crate) fn carry_out<S: Storage + Drop>(
 ) -> Result<Answer, Refusal>
     requires taken { stack.old.labels ≡ [] }
     requires stands { StandsIn (quiet stack.old) disk.old }
+    requires unpaused { IsFalse stack.old.state.paused }
     requires transfer { IsTransferEvent event }
     ensures requests { Requests (over (quiet stack.old) disk.old) event result (over (quiet stack.new) disk.new) }
     ensures taken { stack.new.labels ≡ [] }
     ensures stands { StandsIn (quiet stack.new) disk.new }
+    ensures unpaused { IsFalse stack.new.state.paused }
 {
     laws_of_entries();
+    law_of_answers();
     forget_answers(stack);
     let reply = stack.step_untraced(alloc, event);
     match reply {
         Reply::Request(id) => {
             drain(stack, disk, alloc);
+            stack.shows_whole();
             match stack.take_answer_of(id.number) {
                 Some(answer) => Ok(answer),
-                // There is an answer, since nothing is out any more. That is a law of the machine, which isn't used
-                // here.
-                None => Err(Refusal::InvalidParameter),
+                // Nothing is out any more, so the request was answered.
+                None => unreachable!(),
             }
         }
         Reply::Answered(answer) => Ok(answer),
@@ -82,11 +95,12 @@ fn drain<S: Storage + Drop>(stack: &mut Stack<BookedAdapter>, disk: &mut FileDis
     requires stands { StandsIn (quiet stack.old) disk.old }
     ensures goes { Goes (over (quiet stack.old) disk.old) (over (quiet stack.new) disk.new) }
     ensures taken { stack.new.labels ≡ [] }
+    ensures none_out { stack.new.state.pieces ≡ [] }
 {
     'finishing: while finish_one(stack, disk, alloc) {}
 }
 
-/// Lets a piece act and come back, and says whether there was one.
+/// Lets a piece act and come back, and says whether there was one. Where there was none, none is out.
 fn finish_one<S: Storage + Drop>(
     stack: &mut Stack<BookedAdapter>,
     disk: &mut FileDisk<S>,
@@ -96,7 +110,7 @@ fn finish_one<S: Storage + Drop>(
     requires stands { StandsIn (quiet stack.old) disk.old }
     ensures goes { Goes (over (quiet stack.old) disk.old) (over (quiet stack.new) disk.new) }
     ensures taken { stack.new.labels ≡ [] }
-    ensures less { MatchBool result (work stack.new.state < work stack.old.state) ⊤ }
+    ensures less { MatchBool result (work stack.new.state < work stack.old.state) (stack.new.state.pieces ≡ []) }
 {
     let depth = stack.depth();
     for tag in 0..depth {
@@ -105,6 +119,7 @@ fn finish_one<S: Storage + Drop>(
             return true;
         }
     }
+    stack.shows_whole();
     false
 }
 
@@ -119,6 +134,7 @@ fn act<S: Storage + Drop>(
     requires stands { StandsIn (quiet stack.old) disk.old }
     ensures goes { Goes (over (quiet stack.old) disk.old) (over (quiet stack.new) disk.new) }
     ensures taken { stack.new.labels ≡ [] }
+    ensures same_tags { IsPermutation (tags_out stack.old.state) (tags_out stack.new.state) }
     ensures same_work { work stack.new.state ≡ work stack.old.state }
     ensures none_fresh { HasNoneFresh stack.new tag }
 {
@@ -136,6 +152,7 @@ fn acts<S: Storage + Drop>(
     requires stands { StandsIn (quiet stack.old) disk.old }
     ensures goes { Goes (over (quiet stack.old) disk.old) (over (quiet stack.new) disk.new) }
     ensures taken { stack.new.labels ≡ [] }
+    ensures same_tags { IsPermutation (tags_out stack.old.state) (tags_out stack.new.state) }
     ensures same_work { work stack.new.state ≡ work stack.old.state }
     ensures done { MatchBool result (fresh_count stack.new.state < fresh_count stack.old.state) (HasNoneFresh stack.new tag) }
 {
@@ -171,7 +188,7 @@ fn finishes(stack: &mut Stack<BookedAdapter>, alloc: Global, tag: u8) -> bool
     requires none_fresh { HasNoneFresh stack.old tag }
     ensures goes { (disk : DiskView) → Goes (over (quiet stack.old) disk) (over (quiet stack.new) disk) }
     ensures taken { stack.new.labels ≡ [] }
-    ensures done { MatchBool result (work stack.new.state < work stack.old.state) (stack.new.state ≡ stack.old.state) }
+    ensures done { MatchBool result (work stack.new.state < work stack.old.state) ((stack.new.state ≡ stack.old.state) × All (HasOtherTag tag) stack.new.state.pieces) }
 {
     laws_of_entries();
     stack.shows_whole();

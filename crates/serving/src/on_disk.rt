@@ -273,6 +273,7 @@ fn opened(stack: &mut Stack<BookedAdapter>, alloc: Global, partition: u8) -> Res
     ensures rules { stack.new.rules ≡ stack.old.rules }
     ensures stands { (disk : DiskView) → StandsIn (quiet stack.old) disk → StandsIn (quiet stack.new) disk }
     ensures told { (labels : List Label) × TellsOn (quiet stack.old) labels [] (quiet stack.new) }
+    ensures same_paused { stack.new.state.paused ≡ stack.old.state.paused }
     ensures on { IfOk result (λ handle. IsOn (quiet stack.new) handle partition) }
     ensures fault { IfErr result (λ fault. (fault ≡ NoMemory) ⊎ ((fault ≡ NoPartition) × (length stack.old.rules.partitions ≤ partition))) }
 {

@@ -1,5 +1,6 @@
 use Rattle.std.proofs.Common.{◌≡◌, []}
-use Rattle.volume.specs.Working.{fresh_count, work}
+use Rattle.std.specs.Prelude.{IsPermutation}
+use Rattle.volume.specs.Working.{fresh_count, tags_out, work}
 use Rattle.serving.specs.Carried.{Goes, over, quiet}
 use Rattle.serving.proofs.moving.act.Given as goal
 
@@ -7,6 +8,7 @@ abbrev pub invariant-acting : goal.invariant-acting
 invariant-acting g l = record {
   goes : Goes (over (quiet l.initial.stack) l.initial.disk) (over (quiet l.stack) l.disk);
   taken : l.stack.labels ≡ [];
+  same_tags : IsPermutation (tags_out l.initial.stack.state) (tags_out l.stack.state);
   same_work : work l.stack.state ≡ work l.initial.stack.state;
 }
 

@@ -1,7 +1,8 @@
 use Rattle.std.proofs.Common.{sym, subst, ap, ◌∙◌}
+use Rattle.std.specs.Prelude.{IsPermutation}
 use Rattle.io_manager.specs.Shown.{ManagerView}
 use Rattle.machine.specs.State.{State}
-use Rattle.volume.specs.Working.{work}
+use Rattle.volume.specs.Working.{tags_out, work}
 use Rattle.volume.proofs.Steps.{ActsOr, acts_done, acts_kept, acts_or}
 use Rattle.serving.specs.Carried.{Goes, over, quiet}
 use Rattle.serving.proofs.Carrying.{act_goes, booked_labels, booked_state, fewer_since}
@@ -17,6 +18,13 @@ returns-clause-goes g c =
     (act_goes c.laws_of_entries.ensures.idle c.laws_of_entries.ensures.booked c.laws_of_entries.ensures.armed c.laws_of_entries.ensures.apart (quiet c.args.stack.now) (quiet c.book_armed.new.stack) _ _ _ _ _
     c.requires.stands (quiet_fits c.args.stack.now c.shows_whole.ensures.whole) c.shows_whole-2.ensures.in_order (quiet_fits c.book_armed.new.stack c.shows_whole-2.ensures.whole) c.shows_whole-2.ensures.reached
     c.step_untraced-reply.ensures.untraced.right c.book_armed.ensures)
+
+pub returns-clause-same_tags : goal.returns-clause-same_tags
+returns-clause-same_tags g c =
+    subst (λ (s : State). IsPermutation (tags_out s) (tags_out c.step_untraced-reply.new.self.state)) (booked_state _ _ _ _ _ c.book_armed.ensures)
+    (acts_kept c.book_armed.new.stack c.step_untraced-reply.new.self c.args.tag c.step_untraced-reply.result
+    (subst (λ (v : ManagerView). ActsOr c.book_armed.new.stack c.args.tag v c.step_untraced-reply.result) (sym c.step_untraced-reply.ensures.untraced.after) (acts_or c.book_armed.new.stack c.step_untraced-reply.ensures.untraced.stepped c.args.tag c.step_untraced-reply.result
+    c.step_untraced-reply.ensures.untraced.right))).0
 
 pub returns-clause-same_work : goal.returns-clause-same_work
 returns-clause-same_work g c =

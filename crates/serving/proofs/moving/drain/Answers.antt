@@ -11,4 +11,8 @@ pub finishing-preserved : goal.finishing-preserved
 finishing-preserved g c = record { goes = Goes-trans _ _ _ c.finishing.invariant.goes c.finish_one.ensures.goes; taken = c.finish_one.ensures.taken }
 
 pub returns : goal.returns
-returns g c = record { goes = Goes-trans _ _ _ c.finishing.invariant.goes c.finish_one.ensures.goes; taken = c.finish_one.ensures.taken }
+returns g c = record {
+  goes = Goes-trans _ _ _ c.finishing.invariant.goes c.finish_one.ensures.goes;
+  taken = c.finish_one.ensures.taken;
+  none_out = c.finishing-test.ensures.less;
+}

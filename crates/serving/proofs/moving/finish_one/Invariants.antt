@@ -1,11 +1,16 @@
 use Rattle.std.proofs.Common.{◌≡◌, []}
-use Rattle.volume.specs.Working.{work}
+use Rattle.std.specs.Prelude.{All}
+use Rattle.volume.specs.Working.{tags_out, work}
+use Rattle.volume.proofs.Steps.{IsFrom}
 use Rattle.serving.specs.Carried.{Goes, over, quiet}
 use Rattle.serving.proofs.moving.finish_one.Given as goal
 
+-- no piece is on the tags so far
 abbrev pub invariant-loop-tag : goal.invariant-loop-tag
 invariant-loop-tag g l = record {
   goes : Goes (over (quiet l.initial.stack) l.initial.disk) (over (quiet l.stack) l.disk);
   taken : l.stack.labels ≡ [];
+  same_depth : l.depth ≡ l.stack.rules.depth;
+  free : All (IsFrom l.tag) (tags_out l.stack.state);
   same_work : work l.stack.state ≡ work l.initial.stack.state;
 }

@@ -2,7 +2,7 @@ use Rattle.std.proofs.Common.{sym, subst}
 use Rattle.io_manager.specs.Shown.{ManagerView}
 use Rattle.volume.proofs.Steps.{FinishesOr, finishes_done, finishes_or}
 use Rattle.serving.specs.Carried.{Goes, over, quiet}
-use Rattle.serving.proofs.Carrying.{finish_goes, finishes_same}
+use Rattle.serving.proofs.Carrying.{finish_goes}
 use Rattle.serving.proofs.Quiet.{quiet_after}
 use Rattle.serving.proofs.moving.finishes.Goals as goal
 
@@ -13,8 +13,7 @@ returns-clause-goes c = λ disk.
 
 pub returns-clause-done : goal.returns-clause-done
 returns-clause-done c =
-    finishes_same c.is_done.result c.args.stack.now c.step_untraced-reply.new.self c.args.tag
-    (finishes_done c.is_done.result c.args.stack.now c.step_untraced-reply.new.self c.args.tag c.step_untraced-reply.result c.is_done.ensures
+    finishes_done c.is_done.result c.args.stack.now c.step_untraced-reply.new.self c.args.tag c.step_untraced-reply.result c.is_done.ensures
     (subst (λ (v : ManagerView). FinishesOr c.args.stack.now c.args.tag v c.step_untraced-reply.result) (sym c.step_untraced-reply.ensures.untraced.after)
     (finishes_or c.args.stack.now c.step_untraced-reply.ensures.untraced.stepped c.args.tag c.step_untraced-reply.result c.shows_whole.ensures.reached c.requires.none_fresh
-    c.step_untraced-reply.ensures.untraced.right)))
+    c.step_untraced-reply.ensures.untraced.right))

@@ -1,4 +1,5 @@
 use Rattle.std.proofs.Common.{◌≡◌, ◌⊎◌, ℕ, List, [], Err, refl, rules, sym, ap, subst, ◌∙◌}
+use Rattle.machine.specs.State.{State}
 use Rattle.file_disk.specs.Calls.{Call, ReadsAll, Since}
 use Rattle.file_disk.specs.Transfers.{DiskView}
 use Rattle.serving.proofs.Failing.{fault_of_handle, fault_of_start, fault_of_table, no_partition}
@@ -14,6 +15,7 @@ invariant_of-result g c = record {
   taken = c.in_ok-handle.ensures.taken;
   block = subst (λ (n : ℕ). (n ≡ 512) ⊎ (n ≡ 4096)) (sym c.in_ok-sizes.ensures.block) c.requires.sector_size;
   few = c.in_ok-sizes.ensures.few;
+  unpaused = c.in_ok-handle.ensures.same_paused ∙ ap (λ (s : State). s.paused) c.in_ok-stack.ensures.started.first.state;
 }
 
 pub returns-clause-opened : goal.returns-clause-opened

@@ -6,6 +6,7 @@ use Rattle.serving.specs.Carried.{StandsIn, TellsOn, quiet}
 use Rattle.serving.proofs.Carrying.{on_opened, others_stand, others_told}
 use Rattle.serving.proofs.Failing.{on_refused}
 use Rattle.serving.proofs.Quiet.{quiet_after}
+use Rattle.serving.proofs.Steady.{open_steady}
 use Rattle.serving.proofs.on_disk.opened.Goals as goal
 
 pub step_untraced-reply-requires : goal.step_untraced-reply-requires
@@ -24,6 +25,11 @@ returns-clause-told c = (
       (others_told c.laws_of_entries.ensures.kept c.laws_of_entries.ensures.apart (quiet c.args.stack.now) c.step_untraced-reply.ensures.untraced.stepped (Open c.args.partition) c.step_untraced-reply.result tt
       c.step_untraced-reply.ensures.untraced.right),
 )
+
+pub returns-clause-same_paused : goal.returns-clause-same_paused
+returns-clause-same_paused c =
+    ap (λ (v : ManagerView). v.state.paused) c.step_untraced-reply.ensures.untraced.after
+    ∙ open_steady (quiet c.args.stack.now) c.step_untraced-reply.ensures.untraced.stepped c.args.partition c.step_untraced-reply.result c.step_untraced-reply.ensures.untraced.right
 
 pub returns-clause-rules : goal.returns-clause-rules
 returns-clause-rules c =

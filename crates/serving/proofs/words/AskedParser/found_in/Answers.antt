@@ -3,6 +3,7 @@ use Rattle.std.specs.Prelude.{MatchOption}
 use Rattle.clap.specs.Words.{Text, found_of}
 use Rattle.clap.specs.Walk.{first_of, rows_of}
 use Rattle.clap.proofs.WalkLemmas.{first_value-rows}
+use Rattle.serving.proofs.Flags.{flag_is}
 use Rattle.serving.specs.CommandLine.{SpellsPartition}
 use Rattle.serving.proofs.words.AskedParser.found_in.Goals as goal
 
@@ -14,6 +15,7 @@ returns-clause-some c =
       config = sym (c.in-Some.ensures ∙ first_value-rows found (codes "CONFIG"));
       partition = subst (λ (o : Option Text). MatchOption o (n ≡ 0) (λ word. SpellsPartition word n)) (c.get_str-2.ensures ∙ first_value-rows found (codes "PARTITION")) c.in-Some-partition_of.ensures;
       disk = sym (c.get_str-disk.ensures ∙ first_value-rows found (codes "disk"));
+      create = flag_is found (codes "create") c.get_flag-create.result c.get_flag-create.ensures.none c.get_flag-create.ensures.value c.get_flag-create.ensures.other;
     }
 
 pub returns-in_default-clause-none : goal.returns-in_default-clause-none
