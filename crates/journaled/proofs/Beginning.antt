@@ -16,13 +16,15 @@ use Rattle.machine_laws.specs.WriteLaws.{HaveSameLengths, RunsKeepLengths}
 use Rattle.io_manager.specs.Shown.{ManagerView}
 use Rattle.compose.specs.Journaled.{IsStartedUse}
 use Rattle.sector_journal.specs.Journal.{JournalView, entries_in, entries_of}
-use Rattle.journaled.specs.Shown.{StandsIn, JournaledKept, over}
+use Rattle.journaled.specs.Shown.{IsBelow, StandsIn, JournaledKept, next_behind, over}
+use Rattle.sector_journal.specs.declared.reservation.Reservation.{Reservation}
+use Rattle.machine.specs.declared.Label.{Label}
 use Rattle.journaled.specs.Opening.{IsStarted, IsUnused}
 use Rattle.journaled.specs.Told.{IsTold}
 
 module _ (stack : ManagerView) (journal : JournalView) (started : IsStarted stack) (unused : IsUnused journal) where
   pub kept_at_first : (disk : List (List ℕ)) (max_transfer : ℕ) → StandsIn stack journal → 1 ≤ max_transfer → Replays journal.medium.sector_size disk (entries_of journal) journal.medium.sectors
-      → JournaledKept disk stack journal max_transfer
+      → JournaledKept disk stack journal max_transfer 1
   kept_at_first disk max_transfer stands some replays =
       let same : journal.medium.sectors ≡ disk = subst (λ (es : List Entry). Replays journal.medium.sector_size disk es journal.medium.sectors) (ap entries_in unused.no_entry) replays in
       record {
@@ -33,6 +35,8 @@ module _ (stack : ManagerView) (journal : JournalView) (started : IsStarted stac
           many = sym (ap (λ (xs : List (List ℕ)). length xs) same) ∙ stands.sectors;
         };
         some = some;
+        counts = ap (λ (ls : List Label). next_behind 1 ls) started.first.no_labels ∙ sym (ap (λ (s : State). s.next_request) started.first.state);
+        before = subst (λ (rs : List Reservation). All (IsBelow stack.state.next_request) rs) (sym unused.none_open) (All-nil (IsBelow stack.state.next_request));
       }
 
   whole : RunsKeepLengths → IsReached stack.rules stack.state → AreWhole stack.rules stack.state.arrays

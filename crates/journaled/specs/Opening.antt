@@ -13,7 +13,8 @@ pub record IsStarted (stack : ManagerView) : Type 0 where
   pub settings : Settings
   pub first : IsFirstView disk settings stack
 
--- a journal of whole sectors, in which nothing was entered
+-- a journal of whole sectors, in which nothing was entered and no request has room
 pub record IsUnused (journal : JournalView) : Type 0 where
   pub whole : HasWholeSectors journal.medium
   pub no_entry : journal.entered ≡ []
+  pub none_open : journal.reservations ≡ []

@@ -1,10 +1,10 @@
 -- What a stack over a journal shows.
-use Rattle.std.specs.Prelude.{◌≡◌, ◌≤◌, ℕ, List, IsFalse, All, length}
+use Rattle.std.specs.Prelude.{◌≡◌, ◌≤◌, ◌<◌, ◌^◌, ℕ, ◌+◌, ◌-◌, min, List, [], ◌∷◌, IsFalse, All, length}
 use Rattle.sector.specs.Extents.{IsSector}
 use Rattle.machine.specs.Map.{IsMap}
 use Rattle.io_manager.specs.Shown.{ManagerView}
 use Rattle.machine.specs.declared.Label.{Label}
-use Rattle.machine.specs.declared.Label.TheVariants.{Answer}
+use Rattle.machine.specs.declared.Label.TheVariants.{Answer, Call}
 use Rattle.sector_journal.specs.declared.reservation.Reservation.{Reservation}
 use Rattle.sector_journal.specs.Journal.{JournalView, without}
 
@@ -26,13 +26,26 @@ pub record IsDiskOf (sectors : List (List ℕ)) (stack : ManagerView) : Type 0 w
   pub whole : All (IsSector stack.rules.sector_size) sectors
   pub many : length sectors ≡ stack.rules.disk_sectors
 
--- what holds between two calls: the journal was opened with the sectors of the disk, which the partitions lie in
+-- the number of the next call once these labels were taken
+abbrev pub next_behind : ℕ → List Label → ℕ
+next_behind next [] = next
+next_behind next (Call number q ∷ labels) = next_behind (min (number + 1) (2 ^ 64 - 1)) labels
+next_behind next (_ ∷ labels) = next_behind next labels
+
+-- the reservation is for a request of a lower number
+abbrev pub IsBelow : ℕ → Reservation → Type 0
+IsBelow number reservation = reservation.request < number
+
+-- what holds between two calls: the journal was opened with the sectors of the disk, which the partitions lie in. The
+-- number of the next call is known once all labels are taken, and room is held for calls before it alone
 pub record JournaledKept (opening : List (List ℕ)) (stack : ManagerView) (journal : JournalView)
-    (max_transfer : ℕ) : Type 0 where
+    (max_transfer next : ℕ) : Type 0 where
   pub stands : StandsIn stack journal
   pub map : IsMap stack.rules.disk_sectors stack.rules.partitions
   pub disk : IsDiskOf opening stack
   pub some : 1 ≤ max_transfer
+  pub counts : next_behind next stack.labels ≡ stack.state.next_request
+  pub before : All (IsBelow stack.state.next_request) journal.reservations
 
 -- both have the same number of sectors, of the same length
 pub record IsAsLarge (old new : JournalView) : Type 0 where

@@ -1,6 +1,6 @@
 //! The act of a tag's piece: in the journal first, and then in the stack, as it was booked there.
 
-ghost use Rattle.std.specs.Prelude.{◌≡◌, [], MatchOption};
+ghost use Rattle.std.specs.Prelude.{◌≡◌, [], All, MatchOption};
 ghost use Rattle.srb.specs.declared.Srb.{Srb as SrbView};
 ghost use Rattle.srb.specs.declared.Entry.{Entry};
 ghost use Rattle.srb.specs.declared.Completion.{Completion as CompletionView};
@@ -10,11 +10,11 @@ ghost use Rattle.adapter.specs.Booking.{IsArmed};
 ghost use Rattle.io_manager.specs.Right.{BooksPiece};
 ghost use Rattle.compose.specs.declared.Event.TheVariants.{Act};
 ghost use Rattle.journaled.specs.Acting.{BooksArmed, CameTo, IsNumbered, IsThat};
-ghost use Rattle.journaled.specs.Right.{StepsBooked};
-ghost use Rattle.journaled.specs.Shown.{StandsIn, over};
+ghost use Rattle.journaled.specs.Right.{HoldsRoom, StepsBooked};
+ghost use Rattle.journaled.specs.Shown.{IsBelow, StandsIn, next_behind, over};
 ghost use Rattle.journaled.specs.Told.{TellsOn};
 
-use crate::laws::laws_of_entries;
+use crate::laws::{laws_of_entries, laws_of_numbers};
 use compose::{Event, Reply, Stack};
 use disk::Medium;
 use miniport::BookedAdapter;
@@ -114,12 +114,17 @@ pub(crate) fn act<M: Medium, N: Naming>(
 ) -> Reply
     requires taken { stack.old.labels ≡ [] }
     requires stands { StandsIn stack.old journal.old }
+    requires before { All (IsBelow stack.old.state.next_request) journal.old.reservations }
     ensures right { StepsBooked (over stack.old journal.old) (Act tag) result (over stack.new journal.new) }
+    ensures room { HoldsRoom (over stack.old journal.old) (Act tag) result (over stack.new journal.new) }
+    ensures counts { next_behind stack.old.state.next_request stack.new.labels ≡ stack.new.state.next_request }
+    ensures before { All (IsBelow stack.new.state.next_request) journal.new.reservations }
     ensures rules { stack.new.rules ≡ stack.old.rules }
     ensures stands { StandsIn stack.new journal.new }
     ensures told { TellsOn (over stack.old journal.old) (over stack.new journal.new) }
 {
     laws_of_entries();
+    laws_of_numbers();
     stack.shows_whole();
     book_armed(stack, journal, history, tag);
     stack.shows_whole();

@@ -1,14 +1,15 @@
 //! The stack and its journal: what their user calls.
 
-ghost use Rattle.std.specs.Prelude.{◌≡◌, ◌≤◌, [], List, ℕ, MatchOption};
+ghost use Rattle.std.specs.Prelude.{◌≡◌, ◌≤◌, ◌∷◌, [], List, ℕ, MatchOption};
+ghost use Rattle.machine.specs.declared.Label.{Label as LabelOf};
 ghost use Rattle.srb.specs.Replaying.{Replays};
 ghost use Rattle.machine.specs.Settled.{Settled, IsFinished};
 ghost use Rattle.machine_laws.specs.Reached.{IsReached};
 ghost use Rattle.sector_journal.specs.Journal.{entries_in};
 ghost use Rattle.io_manager.specs.Right.{FitsTogether, TakesAnswer, TakesLabel as TakesFirst};
 ghost use Rattle.journaled.specs.Opening.{IsStarted, IsUnused};
-ghost use Rattle.journaled.specs.Right.{IsServed};
-ghost use Rattle.journaled.specs.Shown.{GivesBack, StandsIn};
+ghost use Rattle.journaled.specs.Right.{HoldsRoom, IsServed};
+ghost use Rattle.journaled.specs.Shown.{GivesBack, KeepsEntries, StandsIn, next_behind};
 ghost use Rattle.journaled.specs.Told.{IsTold, RunsFaithfully, StaysTold, TellsOn};
 
 use crate::acting::act;
@@ -48,12 +49,12 @@ where
 
     ghost view = { λ j. over j.stack j.journal };
 
-    ghost invariant = { λ j. JournaledKept N.opening j.stack j.journal j.max_transfer };
+    ghost invariant = { λ j. JournaledKept N.opening j.stack j.journal j.max_transfer j.next_request };
 }
 
 impl<M: Medium, N: Naming> Journaled<M, N> {
     /// A stack that was just started over an adapter without sectors, and a journal of the sectors of its disk, in
-    /// which nothing was entered yet. `max_transfer` is that of the stack's adapter, in sectors.
+    /// which nothing was entered or reserved yet. `max_transfer` is that of the stack's adapter, in sectors.
     pub fn new(
         stack: Stack<BookedAdapter>,
         journal: Journal<M, N>,
@@ -81,11 +82,13 @@ impl<M: Medium, N: Naming> Journaled<M, N> {
     }
 
     /// Carries one event out, as [`Stack::step`]. Where it would open a request the journal is first asked for room for
-    /// its acts. Where memory for that was refused the call is refused as `InsufficientResources`, with its bytes, no
-    /// label and no number. A piece that the journal can't arm fails.
+    /// its acts, under the request's own number. Where memory for that was refused the call is refused as
+    /// `InsufficientResources`, with its bytes, no label and no number. A call that opens no request leaves no room
+    /// reserved. A piece that the journal can't arm fails.
     pub fn step(&mut self, alloc: Global, event: Event) -> Reply
         requires taken { self.old.stack.labels ≡ [] }
         ensures right { IsServed self.old event result self.new }
+        ensures room { HoldsRoom self.old event result self.new }
         ensures told { TellsOn self.old self.new }
     {
         match event {
@@ -127,20 +130,6 @@ impl<M: Medium, N: Naming> Journaled<M, N> {
         self.journal.shows_rule();
     }
 
-    /// A call took its number, and an answered request needs no room any more.
-    fn note(&mut self, label: &Label)
-        ensures stack { self.new.stack ≡ self.old.stack }
-        ensures told { StaysTold self.old self.new }
-        ensures entries { self.new.journal.entered ≡ self.old.journal.entered }
-        ensures room { GivesBack label.now self.old.journal.reservations self.new.journal.reservations }
-    {
-        match label {
-            Label::Call { number, .. } => self.next_request = number.saturating_add(1),
-            Label::Answer { number, .. } => self.journal.release(*number),
-            _ => (),
-        }
-    }
-
     /// Takes the earliest label of the last step that was not taken yet. With the label of an answer the room of its
     /// request is given back.
     pub fn take_label(&mut self) -> Option<Label>
@@ -150,7 +139,7 @@ impl<M: Medium, N: Naming> Journaled<M, N> {
         ensures room { MatchOption result (self.new.journal ≡ self.old.journal) (λ label. GivesBack label self.old.journal.reservations self.new.journal.reservations) }
     {
         let label = self.stack.take_label()?;
-        self.note(&label);
+        note(&mut self.journal, &mut self.next_request, &label);
         Some(label)
     }
 
@@ -187,5 +176,18 @@ impl<M: Medium, N: Naming> Journaled<M, N> {
         } = self;
         let (medium, entries) = journal.into_parts();
         (stack, medium, entries)
+    }
+}
+
+/// A call took its number, and an answered request needs no room any more.
+fn note<M: Medium, N: Naming>(journal: &mut Journal<M, N>, next_request: &mut u64, label: &Label)
+    ensures keeps { KeepsEntries journal.old journal.new }
+    ensures room { GivesBack label.now journal.old.reservations journal.new.reservations }
+    ensures next { (labels : List LabelOf) → next_behind next_request.new labels ≡ next_behind next_request.old (label.now ∷ labels) }
+{
+    match label {
+        Label::Call { number, .. } => *next_request = number.saturating_add(1),
+        Label::Answer { number, .. } => journal.release(*number),
+        _ => (),
     }
 }

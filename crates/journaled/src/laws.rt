@@ -2,6 +2,8 @@
 
 ghost use Rattle.compose.specs.Journaled.{ArmedMayBeBooked, BookedActsAddEntries, IdleActsKeepEntries};
 ghost use Rattle.compose.specs.Journaled.{StepsKeepEntries, StepsStayApart};
+ghost use Rattle.compose.specs.StepLaws.{StepsCallOnce, StepsOpenAsTold};
+ghost use Rattle.machine_laws.specs.NumberLaws.{CallsCount, CallsRise};
 
 /// Shows the caller which steps add an entry.
 pub(crate) fn laws_of_entries()
@@ -16,4 +18,16 @@ pub(crate) fn laws_of_entries()
     compose::booked_acts_add_entries();
     compose::armed_may_be_booked();
     compose::steps_stay_apart();
+}
+
+/// Shows the caller which number a step's call takes, and what it opens.
+pub(crate) fn laws_of_numbers()
+    ensures rise { CallsRise }
+    ensures count { CallsCount }
+    ensures once { StepsCallOnce }
+    ensures told { StepsOpenAsTold }
+{
+    machine_laws::numbers_rise();
+    compose::steps_call_once();
+    compose::steps_open_as_told();
 }

@@ -1,16 +1,18 @@
 //! The events that are no act: where one opens a request, the journal has room for it first.
 
-ghost use Rattle.std.specs.Prelude.{◌≡◌, ◌≤◌, ◌+◌, [], IfSome, OnErr};
+ghost use Rattle.std.specs.Prelude.{◌≡◌, ◌≤◌, ◌+◌, ℕ, [], All, IfSome, MatchBool, MatchOption, None, OnErr, OnOk, Some};
 ghost use Rattle.io_manager.specs.declared.Refusal.TheVariants.{InsufficientResources};
 ghost use Rattle.io_manager.specs.declared.Reply.TheVariants.{Refused as RefusedReply};
 ghost use Rattle.machine.specs.Map.{IsMap};
 ghost use Rattle.compose.specs.Journaled.{IsNoAct};
 ghost use Rattle.compose.specs.StepLaws.{IsTransferEvent};
-ghost use Rattle.journaled.specs.Right.{IsServed, bytes_of};
-ghost use Rattle.journaled.specs.Shown.{KeepsEntries, StandsIn, over};
+ghost use Rattle.compose.specs.Right.{opened_by};
+ghost use Rattle.sector_journal.specs.Journal.{Releases};
+ghost use Rattle.journaled.specs.Right.{HoldsRoom, IsServed, MakesRoom, WouldOpen, bytes_of, is_opened, kind_asked};
+ghost use Rattle.journaled.specs.Shown.{IsBelow, KeepsEntries, StandsIn, next_behind, over};
 ghost use Rattle.journaled.specs.Told.{TellsOn};
 
-use crate::laws::laws_of_entries;
+use crate::laws::{laws_of_entries, laws_of_numbers};
 use compose::{Event, Refusal, Reply, Stack};
 use disk::Medium;
 use miniport::BookedAdapter;
@@ -20,6 +22,7 @@ use srb::Kind;
 use std::alloc::{AllocError, Global};
 
 /// What a request may move.
+#[derive(Drop)]
 struct Asked {
     kind: Kind,
     /// On the disk; of a flush it is empty.
@@ -28,7 +31,8 @@ struct Asked {
 
 /// Returns what kind of request an event asks for.
 fn kind_of(event: &Event) -> Option<Kind>
-    ensures { IfSome result (λ _. IsTransferEvent event.now) }
+    ensures transfer { IfSome result (λ _. IsTransferEvent event.now) }
+    ensures kind { result ≡ kind_asked event.now }
 {
     match event {
         Event::Read { .. } => Some(Kind::Read),
@@ -41,7 +45,8 @@ fn kind_of(event: &Event) -> Option<Kind>
 /// The sectors of the disk that the request of an event would move, if it would open one now.
 fn extent_of(stack: &Stack<BookedAdapter>, event: &Event) -> Option<Extent>
     requires { IsMap stack.now.rules.disk_sectors stack.now.rules.partitions }
-    ensures { IfSome result (λ e. e.first + e.count ≤ stack.now.rules.disk_sectors) }
+    ensures within { IfSome result (λ e. e.first + e.count ≤ stack.now.rules.disk_sectors) }
+    ensures told { MatchOption result (opened_by stack.now event.now ≡ None) (λ e. (pieces : ℕ) × (opened_by stack.now event.now ≡ Some (pieces, e))) }
 {
     match stack.admits(event) {
         Some((_, extent)) => Some(extent),
@@ -54,6 +59,7 @@ fn asked_by(stack: &Stack<BookedAdapter>, event: &Event) -> Option<Asked>
     requires { IsMap stack.now.rules.disk_sectors stack.now.rules.partitions }
     ensures transfer { IfSome result (λ _. IsTransferEvent event.now) }
     ensures within { IfSome result (λ a. a.extent.first + a.extent.count ≤ stack.now.rules.disk_sectors) }
+    ensures opens { MatchOption result (opened_by stack.now event.now ≡ None) (λ a. WouldOpen stack.now event.now a.kind a.extent) }
 {
     let kind = kind_of(event)?;
     let extent = extent_of(stack, event)?;
@@ -74,16 +80,19 @@ fn make_room<M: Medium, N: Naming>(
     requires some { 1 ≤ max_transfer }
     ensures keeps { KeepsEntries journal.old journal.new }
     ensures transfer { OnErr result (IsTransferEvent event.now) }
+    ensures made { OnOk result (MakesRoom stack.now event.now number journal.old journal.new) }
+    ensures same { OnErr result (journal.new.reservations ≡ journal.old.reservations) }
 {
-    let Some(Asked { kind, extent }) = asked_by(stack, event) else {
-        return Ok(());
-    };
-    journal.reserve(number, kind, extent, max_transfer)
+    match asked_by(stack, event) {
+        Some(asked) => journal.reserve(number, asked.kind, asked.extent, max_transfer),
+        None => Ok(()),
+    }
 }
 
 /// A call that opened no request needs no room.
 fn give_back<M: Medium, N: Naming>(journal: &mut Journal<M, N>, number: u64, reply: &Reply)
-    ensures { KeepsEntries journal.old journal.new }
+    ensures keeps { KeepsEntries journal.old journal.new }
+    ensures room { MatchBool (is_opened reply.now) (journal.new ≡ journal.old) (Releases journal.old number journal.new) }
 {
     if !matches!(reply, Reply::Request(_)) {
         journal.release(number);
@@ -120,12 +129,18 @@ pub(crate) fn carry<M: Medium, N: Naming>(
     requires stands { StandsIn stack.old journal.old }
     requires some { 1 ≤ max_transfer }
     requires no_act { IsNoAct event }
+    requires next { number ≡ stack.old.state.next_request }
+    requires before { All (IsBelow number) journal.old.reservations }
+    ensures room { HoldsRoom (over stack.old journal.old) event result (over stack.new journal.new) }
+    ensures counts { next_behind number stack.new.labels ≡ stack.new.state.next_request }
+    ensures before { All (IsBelow stack.new.state.next_request) journal.new.reservations }
     ensures right { IsServed (over stack.old journal.old) event result (over stack.new journal.new) }
     ensures rules { stack.new.rules ≡ stack.old.rules }
     ensures stands { StandsIn stack.new journal.new }
     ensures told { TellsOn (over stack.old journal.old) (over stack.new journal.new) }
 {
     laws_of_entries();
+    laws_of_numbers();
     if make_room(stack, journal, number, max_transfer, &event).is_err() {
         return refused(alloc, event);
     }

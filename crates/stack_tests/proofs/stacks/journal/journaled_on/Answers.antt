@@ -8,6 +8,7 @@ pub new-requires-2-clause-unused : goal.new-requires-2-clause-unused
 new-requires-2-clause-unused g c = record {
   whole = subst (λ (m : MediumView). HasWholeSectors m) (sym c.in_ok-journal.ensures.medium_is) c.has_whole_sectors.ensures;
   no_entry = c.in_ok-journal.ensures.no_entry;
+  none_open = c.in_ok-journal.ensures.none_open;
 }
 
 pub new-requires-2-clause-stands : goal.new-requires-2-clause-stands
