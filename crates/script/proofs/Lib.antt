@@ -8,8 +8,8 @@ mod GivenBack
 mod Filled
 mod Hexadecimal
 mod Parted
-mod Playing
-mod Printed
+pub mod Playing
+pub mod Printed
 mod PrintedLabels
 mod Reading
 mod Same

@@ -77,6 +77,12 @@ TakesMemory _ given = ⊥
 abbrev pub IsTag : ℕ → Type 0
 IsTag tag = tag < 32
 
+-- an order moves bytes: it is a read or a write
+abbrev pub MovesBytes : Order → Type 0
+MovesBytes (Read handle offset length) = Unit {0}
+MovesBytes (Write handle offset length byte through) = Unit {0}
+MovesBytes _ = ⊥
+
 -- the event that an order asks for; a partition past 255 is asked for as partition 255, which is as little there
 abbrev pub IsEventOf : Given → Order → Event → Type 0
 IsEventOf given (Open partition) event = event ≡ OpenEvent (if nat_lt partition 256 then partition else 255)

@@ -52,37 +52,45 @@ pub record Between : Type 0 where
   pub stack : ManagerView
   pub given : Given
 
+-- the text of a line, of its reply, and of the labels of its step
+abbrev pub LineText : Type 0
+LineText = Line → Reply → List Label → List ℕ
+
 -- the line behind "> ", the line of its reply, and the lines of the labels
-abbrev pub line_text : Line → Reply → List Label → List ℕ
+abbrev pub line_text : LineText
 line_text line reply labels = (codes "> " ++ (line.text.now ++ line_end)) ++ (reply_line reply ++ labels_text labels)
 
--- a line is carried out, this is printed of it, and then all labels and answers are taken
-pub record IsLinePlayed (old : Between) (line : Line) (text : List ℕ) (new : Between) : Type 0 where
+-- a line is carried out, its text is told, and then all labels and answers are taken
+pub record IsLineTold (text_of : LineText) (old : Between) (line : Line) (text : List ℕ) (new : Between) : Type 0 where
   pub reply : Reply
   pub stepped : ManagerView
   pub carried : IsCarriedOut old.given line.order old.stack reply stepped
-  pub printed : text ≡ line_text line reply stepped.labels
+  pub told : text ≡ text_of line reply stepped.labels
   pub taken : new.stack ≡ record stepped { labels = []; answers = [] }
   pub keeps : Keeps reply old.given new.given
 
 -- ALL LINES
 
--- lines are carried out in order, and this is printed of them
-abbrev pub IsPlayed : Between → List Line → List ℕ → Between → Type 0
-IsPlayed old [] text new = (text ≡ []) × (new ≡ old)
-IsPlayed old (line ∷ lines) text new =
-    (first : List ℕ) × (rest : List ℕ) × (mid : Between) × IsLinePlayed old line first mid × IsPlayed mid lines rest new × (text ≡ first ++ rest)
+-- lines are carried out in order, and their texts are told
+abbrev pub AreLinesTold : LineText → Between → List Line → List ℕ → Between → Type 0
+AreLinesTold text_of old [] text new = (text ≡ []) × (new ≡ old)
+AreLinesTold text_of old (line ∷ lines) text new =
+    (first : List ℕ) × (rest : List ℕ) × (mid : Between) × IsLineTold text_of old line first mid × AreLinesTold text_of mid lines rest new × (text ≡ first ++ rest)
 
--- lines are run through a stack that has given nothing, and this is printed of them
-pub record IsTraceTo (stack : ManagerView) (lines : List Line) (text : List ℕ) (end : Between) : Type 0 where
+-- lines are run through a stack that has given nothing, and their texts are told
+pub record IsToldTo (text_of : LineText) (stack : ManagerView) (lines : List Line) (text : List ℕ) (end : Between) : Type 0 where
   pub given : Given
   pub no_handle : IsEmpty given.handles
   pub no_request : given.requests.items ≡ []
-  pub played : IsPlayed (record { stack = stack; given = given }) lines text end
+  pub told : AreLinesTold text_of (record { stack = stack; given = given }) lines text end
 
 -- the text of a run, with the stack that is left
+abbrev pub IsTold : LineText → ManagerView → List Line → List ℕ → ManagerView → Type 0
+IsTold text_of stack lines text last = (end : Between) × IsToldTo text_of stack lines text end × (last ≡ end.stack)
+
+-- the trace of a run: each line, its reply, and the labels of its step
 abbrev pub IsTrace : ManagerView → List Line → List ℕ → ManagerView → Type 0
-IsTrace stack lines text last = (end : Between) × IsTraceTo stack lines text end × (last ≡ end.stack)
+IsTrace stack lines text last = IsTold line_text stack lines text last
 
 -- PRINTING
 

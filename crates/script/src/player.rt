@@ -2,11 +2,11 @@
 
 ghost use Rattle.std.specs.Prelude.{◌≡◌, ◌⊎◌, ◌++◌, [], IfErr, OnOk, MatchResult, codes};
 ghost use Rattle.std.specs.Io.KnownBytes.{Appends, Keeps, append_known};
-ghost use Rattle.script.specs.Events.{AreNamed, IsEventOf, IsReplyTo};
+ghost use Rattle.script.specs.Events.{AreNamed, IsEventOf, IsReplyTo, MovesBytes};
 ghost use Rattle.script.specs.Faults.{IsPrintFault};
 ghost use Rattle.script.specs.Buffers.{AreFilled};
 ghost use Rattle.script.specs.Printing.{labels_text, line_end};
-ghost use Rattle.script.specs.Trace.{Adds, IsAllTaken, IsCarriedOut, IsLinePlayed, IsTrace, Prints, left_by, without_labels};
+ghost use Rattle.script.specs.Trace.{Adds, IsAllTaken, IsCarriedOut, IsLineTold, IsTrace, Prints, left_by, line_text, without_labels};
 
 use crate::buffers::Spare;
 use crate::given::Given;
@@ -27,6 +27,13 @@ const BLOCK: usize = 65_536;
 
 /// The bytes of the longest text of one answer, which has 65,536 sectors, each of another byte than the one before.
 const LONGEST: usize = 65_536 * 9;
+
+/// What is kept from one line to the next.
+#[derive(Drop)]
+struct Kept {
+    given: Given,
+    spare: Spare,
+}
 
 /// Carries the lines of a script out, one after the other, and writes each line, its reply and the labels of its step,
 /// in blocks. What is left of the text is written behind the last line, also where a line ends in want of memory. The
@@ -94,11 +101,12 @@ fn play_lines<A: Adapter, W: Write>(
     ensures text { OnOk result (Prints (append_known (W.contents out.old) text.old.items) (append_known (W.contents out.new) text.new.items) (λ told. IsTrace stack.old lines.now told stack.new)) }
     ensures fault { IfErr result IsPrintFault }
 {
-    let mut given = Given::new(alloc);
-    let mut spare = Spare::with_places(alloc)?;
+    let given = Given::new(alloc);
+    let spare = Spare::with_places(alloc)?;
+    let mut kept = Kept { given, spare };
     for line in lines {
         write_block(text, out)?;
-        play_line(alloc, stack, line, &mut given, &mut spare, text)?;
+        play_line(alloc, stack, line, &mut kept, text)?;
     }
     Ok(())
 }
@@ -108,24 +116,23 @@ fn play_line<A: Adapter>(
     alloc: Global,
     stack: &mut Stack<A>,
     line: &Line<'_>,
-    given: &mut Given,
-    spare: &mut Spare,
+    kept: &mut Kept,
     text: &mut Vec<u8>,
 ) -> Result<(), ScriptFault>
     requires taken { IsAllTaken stack.old }
-    requires named { AreNamed given.old }
-    requires filled { AreFilled spare.old }
-    ensures named { OnOk result (AreNamed given.new) }
-    ensures filled { OnOk result (AreFilled spare.new) }
-    ensures text { OnOk result (Adds text.old.items text.new.items (λ told. IsLinePlayed (record { stack = stack.old; given = given.old }) line.now told (record { stack = stack.new; given = given.new }))) }
+    requires named { AreNamed kept.old.given }
+    requires filled { AreFilled kept.old.spare }
+    ensures named { OnOk result (AreNamed kept.new.given) }
+    ensures filled { OnOk result (AreFilled kept.new.spare) }
+    ensures text { OnOk result (Adds text.old.items text.new.items (λ told. IsLineTold line_text (record { stack = stack.old; given = kept.old.given }) line.now told (record { stack = stack.new; given = kept.new.given }))) }
     ensures fault { IfErr result IsPrintFault }
 {
-    let reply = carry_out(alloc, stack, line.order, given, spare);
+    let reply = carry_out(alloc, stack, line.order, &kept.given, &mut kept.spare);
     write_line(text, line.text)?;
     write_reply(text, &reply)?;
-    given.keep(&reply)?;
-    spare.take_back(line.order, reply);
-    write_labels(stack, text, spare)?;
+    kept.given.keep(&reply)?;
+    kept.spare.take_back(line.order, reply);
+    write_labels(stack, text, &mut kept.spare)?;
     Ok(())
 }
 
@@ -220,12 +227,6 @@ fn event_from(alloc: Global, order: Order, given: &Given, spare: &mut Spare) -> 
     ensures filled { AreFilled spare.new }
 {
     match order {
-        Order::Open { partition } => Ok(Event::Open {
-            partition: u8::try_from(partition).unwrap_or(u8::MAX),
-        }),
-        Order::Close { handle } => Ok(Event::Close {
-            handle: given.handle(handle),
-        }),
         Order::Read {
             handle,
             offset,
@@ -246,6 +247,28 @@ fn event_from(alloc: Global, order: Order, given: &Given, spare: &mut Spare) -> 
             offset,
             bytes: spare.filled(alloc, byte, length)?,
             through,
+        }),
+        _ => plain_event(order, given),
+    }
+}
+
+/// The event that an order asks for which moves no bytes.
+///
+/// # Errors
+///
+/// The reply to an order whose tag no adapter has.
+fn plain_event(order: Order, given: &Given) -> Result<Event, Reply>
+    requires named { AreNamed given.now }
+    requires moves_none { ¬ (MovesBytes order) }
+    ensures { MatchResult result (IsEventOf given.now order) (IsReplyTo order) }
+{
+    match order {
+        Order::Read { .. } | Order::Write { .. } => unreachable!(),
+        Order::Open { partition } => Ok(Event::Open {
+            partition: u8::try_from(partition).unwrap_or(u8::MAX),
+        }),
+        Order::Close { handle } => Ok(Event::Close {
+            handle: given.handle(handle),
         }),
         Order::Flush { handle } => Ok(Event::Flush {
             handle: given.handle(handle),
