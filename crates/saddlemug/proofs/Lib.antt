@@ -2,6 +2,7 @@ mod Booked
 mod Failing
 mod Filling
 mod FirstOver
+mod Padding
 mod Standing
 mod Texts
 pub mod Values

@@ -1,5 +1,5 @@
 -- What a piece asks for, and the piece as C is told it.
-use Rattle.std.specs.Prelude.{◌≡◌, ℕ, ◌%◌, ◌/◌, ◌^◌, Bool, false, List, length, take, Option, Some, None, if◌then◌else◌}
+use Rattle.std.specs.Prelude.{◌≡◌, ℕ, ◌-◌, ◌%◌, ◌/◌, ◌^◌, Bool, false, List, drop, length, replicate, take, Option, Some, None, if◌then◌else◌}
 use Rattle.cdb.specs.declared.Cdb.{Cdb}
 use Rattle.cdb.specs.declared.Cdb.TheVariants.{Read10, Write10, Sync10, ReadCapacity10, Read16, Write16, Sync16, ReadCapacity16}
 use Rattle.cdb.specs.Meaning.{Means}
@@ -39,3 +39,4 @@ pub record IsToldOf (piece : ℕ) (srb : Srb) (told : StackArmed) : Type 0 where
   pub many : told.length ≡ length srb.data
   pub block_length : told.block_length ≡ length srb.block
   pub block : take (length srb.block) told.block ≡ srb.block
+  pub behind : drop (length srb.block) told.block ≡ replicate (16 - length srb.block) 0

@@ -1,6 +1,6 @@
 //! What a piece asks for, and the piece as C is told it.
 
-ghost use Rattle.std.specs.Prelude.{◌≡◌, ◌≤◌, IfSome, Some, length, take};
+ghost use Rattle.std.specs.Prelude.{◌≡◌, ◌≤◌, ◌-◌, IfSome, Some, drop, length, replicate, take};
 ghost use Rattle.cdb.specs.declared.Cdb.{Cdb};
 ghost use Rattle.cdb.specs.Meaning.{Means};
 ghost use Rattle.saddlemug.specs.Asking.{IsToldOf, asked_by, shown_asked, to_move};
@@ -127,9 +127,11 @@ fn told_asked(asked: Option<Asked>) -> StackAsked
 }
 
 /// A block, and zeros behind it.
+#[tactic(auto, using(crate::proofs::Padding::zeros_behind))]
 fn padded(block: &[u8]) -> [u8; 16]
     requires { length block.now ≤ 16 }
-    ensures { take (length block.now) result ≡ block.now }
+    ensures block { take (length block.now) result ≡ block.now }
+    ensures behind { drop (length block.now) result ≡ replicate (16 - length block.now) 0 }
 {
     let mut padded = [0; 16];
     padded[..block.len()].copy_from_slice(block);

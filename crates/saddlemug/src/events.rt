@@ -1,9 +1,10 @@
 //! The events of a stack as C tells them, and the replies as C is told them.
 
-ghost use Rattle.std.specs.Prelude.{◌≡◌, ◌≢◌, Some, IfErr, IfOk, slice_get};
-ghost use Rattle.ntstatus.specs.declared.NtStatus.TheVariants.{Success};
+ghost use Rattle.std.specs.Prelude.{◌≡◌, ◌≢◌, [], Some, IfErr, IfOk, slice_get};
+ghost use Rattle.ntstatus.specs.declared.NtStatus.TheVariants.{InsufficientResources, Success};
 ghost use Rattle.saddlemug.specs.Stepping.{IsStepStatus};
-ghost use Rattle.saddlemug.specs.Stacks.{asked_event, kinds, replied, shown_reply};
+ghost use Rattle.saddlemug.specs.declared.events.EventKind.TheVariants.{Read, Write};
+ghost use Rattle.saddlemug.specs.Stacks.{asked_event, event_by, kinds, replied, shown_reply};
 
 use crate::bytes::{copied, zeros};
 use crate::status::refusal_status;
@@ -110,7 +111,6 @@ pub(crate) fn event_of(alloc: Global, event: &StackEvent, bytes: &[u8]) -> Resul
     ensures why { IfErr result (IsStepStatus event.now bytes.now) }
 {
     let handle = handle_of(event.handle);
-    let offset = event.offset;
     let tag = event.tag;
     let Some(kind) = EventKind::of(event.kind) else {
         return Err(NtStatus::InvalidParameter);
@@ -120,23 +120,8 @@ pub(crate) fn event_of(alloc: Global, event: &StackEvent, bytes: &[u8]) -> Resul
             partition: event.partition,
         }),
         EventKind::Close => Ok(Event::Close { handle }),
-        EventKind::Read => match zeros(alloc, event.length) {
-            Ok(buffer) => Ok(Event::Read {
-                handle,
-                offset,
-                buffer,
-            }),
-            Err(_) => Err(NtStatus::InsufficientResources),
-        },
-        EventKind::Write => match copied(alloc, bytes) {
-            Ok(bytes) => Ok(Event::Write {
-                handle,
-                offset,
-                bytes,
-                through: event.through,
-            }),
-            Err(_) => Err(NtStatus::InsufficientResources),
-        },
+        EventKind::Read => read_of(alloc, event),
+        EventKind::Write => write_of(alloc, event, bytes),
         EventKind::Flush => Ok(Event::Flush { handle }),
         EventKind::CancelIoEx => Ok(Event::CancelIoEx {
             handle,
@@ -152,6 +137,37 @@ pub(crate) fn event_of(alloc: Global, event: &StackEvent, bytes: &[u8]) -> Resul
         EventKind::Act => Ok(Event::Act { tag }),
         EventKind::Finish => Ok(Event::Finish { tag }),
         EventKind::Reset => Ok(Event::Reset),
+    }
+}
+
+/// The read that C tells.
+fn read_of(alloc: Global, event: &StackEvent) -> Result<Event, NtStatus>
+    ensures event { IfOk result (λ e. e ≡ event_by event.now [] Read) }
+    ensures fault { IfErr result (λ status. status ≡ InsufficientResources) }
+{
+    match zeros(alloc, event.length) {
+        Ok(buffer) => Ok(Event::Read {
+            handle: handle_of(event.handle),
+            offset: event.offset,
+            buffer,
+        }),
+        Err(_) => Err(NtStatus::InsufficientResources),
+    }
+}
+
+/// The write that C tells, with its bytes.
+fn write_of(alloc: Global, event: &StackEvent, bytes: &[u8]) -> Result<Event, NtStatus>
+    ensures event { IfOk result (λ e. e ≡ event_by event.now bytes.now Write) }
+    ensures fault { IfErr result (λ status. status ≡ InsufficientResources) }
+{
+    match copied(alloc, bytes) {
+        Ok(bytes) => Ok(Event::Write {
+            handle: handle_of(event.handle),
+            offset: event.offset,
+            bytes,
+            through: event.through,
+        }),
+        Err(_) => Err(NtStatus::InsufficientResources),
     }
 }
 

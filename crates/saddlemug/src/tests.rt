@@ -79,6 +79,15 @@ pub(crate) fn event(kind: u32, handle: StackId) -> StackEvent {
     }
 }
 
+/// A reply before it is told.
+fn no_reply() -> StackReply {
+    StackReply {
+        kind: 0,
+        status: 0,
+        id: StackId { number: 0, slot: 0 },
+    }
+}
+
 #[test]
 fn steps_a_stack(rt: HostRuntime) {
     let alloc = rt.alloc();
@@ -87,11 +96,7 @@ fn steps_a_stack(rt: HostRuntime) {
         panic!(rt; "no stack");
     }
     let id = StackId { number: 0, slot: 0 };
-    let mut reply = StackReply {
-        kind: 0,
-        status: 0,
-        id,
-    };
+    let mut reply = no_reply();
     let mut label = StackLabel::default();
     let mut answer = StackAnswer::default();
     let mut bytes = [0; 512];
