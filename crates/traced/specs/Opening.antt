@@ -1,4 +1,4 @@
--- Handles opened for the clients of a book, on a stack of which nothing was asked yet.
+-- Handles opened for the clients of a traced stack, of which nothing was asked yet.
 use Rattle.std.specs.Prelude.{◌≡◌, Contains, ◌<◌, ◌≤◌, ℕ, ◌+◌, List, [], Option, Some, None, length, slice_get, slice_index_or, IsFalse}
 use Rattle.machine.specs.Rules.{Rules}
 use Rattle.machine.specs.State.{opening}

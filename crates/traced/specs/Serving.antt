@@ -1,4 +1,4 @@
--- What a book needs of a right step of its stack.
+-- The open request in a slot, and the kinds of events.
 use Rattle.std.specs.Prelude.{ℕ, Bool, true, false, Option, None, option_map, slice_index_or}
 use Rattle.io_manager.specs.Shown.{ManagerView}
 use Rattle.compose.specs.declared.Event.{Event}

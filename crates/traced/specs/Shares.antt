@@ -1,4 +1,4 @@
--- A client's share of a book.
+-- A client's share of the calls of a traced stack.
 use Rattle.std.specs.Prelude.{ℕ}
 use Rattle.io_manager.specs.declared.Handle.{Handle}
 

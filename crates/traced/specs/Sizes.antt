@@ -1,4 +1,4 @@
--- The most labels that an event may bring, by the sizes of the stack.
+-- The sizes of a stack, by which labels are counted.
 use Rattle.std.specs.Prelude.{◌<◌, ℕ}
 use Rattle.machine.specs.Rules.{Rules}
 use Rattle.traced.specs.declared.sizes.StackSizes.{StackSizes}

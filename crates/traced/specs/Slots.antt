@@ -1,4 +1,4 @@
--- The marks of a book: a slot is armed exactly with the open request there.
+-- The marks of a traced stack: a slot is armed exactly with the open request there.
 use Rattle.std.specs.Prelude.{◌≡◌, ℕ, ◌%◌, ◌==◌, true, false, Option, Some, None, if◌then◌else◌}
 use Rattle.cancel_marks.specs.declared.rule.Slot.{Slot}
 use Rattle.cancel_marks.specs.declared.rule.View.{View}

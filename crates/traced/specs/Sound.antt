@@ -1,4 +1,4 @@
--- What the parts of a book say of each other between two steps.
+-- What the parts of a traced stack say of each other between two steps.
 use Rattle.std.specs.Prelude.{◌≡◌, ℕ, List, Option, Some}
 use Rattle.machine.specs.Rules.{Rules}
 use Rattle.machine.specs.State.{State}

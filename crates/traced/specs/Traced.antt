@@ -1,4 +1,4 @@
--- A book: a stack, the trace of all its labels with a row for each client, and the marks on its open requests.
+-- A traced stack: a stack, the trace of all its labels with a row for each client, and the marks on its open requests.
 use Rattle.std.specs.Prelude.{◌≡◌, ◌⊎◌, ℕ, zero, suc, ◌+◌, Bool, true, false, List, [], Option, Some, None, length}
 use mathlib.Core.Logic.{inl, inr}
 use Rattle.machine.specs.Rules.{Rules}
@@ -57,7 +57,7 @@ pub record IsTraced (rules : Rules) (opening : State) (partitions : List ℕ) (h
 
 -- A STEP
 
--- the pages as far as a book shows them
+-- the pages as far as a traced stack shows them
 abbrev pub pages_of : TracedView → PagesView
 pages_of v = record { entries = v.entries; owners = v.owners; room = 0; ready = None }
 
@@ -122,7 +122,7 @@ pub record HasCounted (old : TracedView) (before after : ShareView) (new : Trace
 
 -- CLOSING
 
--- the trace of a book, and for each client the places of its calls and of their answers
+-- the trace of a traced stack, and for each client the places of its calls and of their answers
 pub record AreRowsOf (clients : ℕ) (v : TracedView) (trace : List TraceEntry) (rows : List RowView) : Type 0 where
   pub stored : trace ≡ v.entries
   pub kept : AreKept clients v.entries v.owners rows

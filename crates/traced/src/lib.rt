@@ -2,9 +2,9 @@
 //! the marks on its open requests. [`Traced`] is the part of a book that knows no journal.
 //!
 //! It promises to the crate above:
-//! - whenever a book is at rest, its trace is a run of the sector machine from the state that it was opened with to the
-//!   one that the stack shows, which is settled; each call and each answer stands in the row of the call's client; and a
-//!   slot is armed exactly with the open request there ([`Traced::shows_whole`]);
+//! - whenever a traced stack is at rest, its trace is a run of the sector machine from the state that it was opened
+//!   with to the one that the stack shows, which is settled; each call and each answer stands in the row of the call's
+//!   client; and a slot is armed exactly with the open request there ([`Traced::shows_whole`]);
 //! - a look goes once to the slot of each open request, and carries out each mark that it sees (`looked` of
 //!   [`Traced::look`]); an event's labels stand last (`served` of [`Traced::serve`] and [`Traced::call`]), and the share
 //!   has counted its call (`counted`);
@@ -15,7 +15,7 @@
 //!   is found ([`Traced::answer_place`]);
 //! - at the end the trace is a run, and the rows are those of its labels (`rows`, `run` of [`Traced::into_rows`]).
 //!
-//! Of what lies under a lock only its type's invariant is known. So a type parameter of the book names what it was
+//! Of what lies under a lock only its type's invariant is known. So a type parameter of the stack names what it was
 //! opened with ([`Naming`]), and a claim on a place of its trace is borne out later ([`Traced::claim`],
 //! [`Traced::check`]).
 //!
@@ -38,7 +38,7 @@ pub use opening::{OpenFault, open_handles};
 pub use row::Row;
 pub use share::Share;
 pub use sizes::StackSizes;
-pub use traced::Traced;
+pub use traced::{Owned, Traced};
 
 /// A label of the trace, and the row that it stands in: for a call or an answer, its client's number.
 #[derive(Debug, Drop)]

@@ -1,4 +1,4 @@
-//! The name of a book.
+//! The name of a traced stack.
 
 ghost use Rattle.std.specs.Prelude.{ℕ, List, Option, []};
 ghost use Rattle.io_manager.specs.declared.OpenHandle.{OpenHandle};
@@ -11,9 +11,9 @@ ghost use Rattle.traced.specs.inside.Naming.{no_rules};
 use std::marker::Brand;
 use std::sync::ledger::Ledger;
 
-/// Names one book, for contracts alone: its history, the ledger of its calls, the rules of its stack, the state that it
-/// was opened with, the number of its clients, and its table of marks. A function that is generic in it requires that
-/// what it is handed is the one named; its caller passes `Brand`.
+/// Names one traced stack, for contracts alone: its history, the ledger of its calls, the rules of its stack, the state
+/// that it was opened with, the number of its clients, and its table of marks. A function that is generic in it
+/// requires that what it is handed is the one named; its caller passes `Brand`.
 pub trait Naming: chronicle::Naming + Ledger {
     ghost rules: { Rules };
 

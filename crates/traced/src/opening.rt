@@ -1,4 +1,4 @@
-//! Handles for the clients of a book.
+//! Handles for the clients of a traced stack.
 
 ghost use Rattle.std.specs.Prelude.{◌≡◌, [], IfOk, IfErr, IsFalse, MatchResult};
 ghost use Rattle.compose.specs.declared.Event.TheVariants.{Open};

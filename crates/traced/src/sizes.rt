@@ -6,7 +6,7 @@ ghost use Rattle.traced.specs.inside.Sizes.{brought_by, labels_of_call, labels_o
 
 use compose::Event;
 
-/// The sizes of the stack of a book, by which the labels of its events are counted.
+/// The sizes of a stack, by which the labels of its events are counted.
 #[derive(Debug, Clone, Copy, PartialEq, Eq)]
 pub struct StackSizes {
     /// Bytes of a sector.

@@ -50,6 +50,18 @@ use std::alloc::{AllocError, Global};
 use std::marker::Model;
 use std::sync::ledger;
 
+/// What the holder of a traced stack's lock owns beside the stack: an end of each of what threads share.
+pub struct Owned<N: Naming> {
+    /// The history of the trace.
+    pub whole: Whole<TraceEntry, N>,
+    /// The owner's seat at the table of marks.
+    pub seat: Seat,
+    /// How many slots that table has.
+    pub slots: usize,
+    /// The ledger of the calls.
+    pub tally: ledger::Book<N>,
+}
+
 /// A stack that many threads share under a lock, the trace of all its labels, and the marks on its open requests.
 pub struct Traced<A: Adapter, N: Naming> {
     stack: Stack<A>,
@@ -108,6 +120,12 @@ impl<'a, N: Naming> Model for Beside<'a, N> {
     ghost view = { λ b. tt };
 
     ghost invariant = { λ b. b.marks.now ≡ (N.marks, N.slots) };
+}
+
+// An event, and for a call the client whose call it is.
+struct Asked {
+    client: usize,
+    event: Event,
 }
 
 // How many labels may always come: those of a removal and of its end.
@@ -213,18 +231,18 @@ fn carry<A: Adapter, N: Naming>(
     pages: &mut Pages<N>,
     slots: &mut Slots<N>,
     beside: &Beside<N>,
-    client: usize,
-    event: Event,
+    asked: Asked,
 ) -> Reply
     requires sound { IsSound N.rules N.start N.handles N.slots stack.old pages.old slots.old }
-    requires no_handle { is_handle_event event ≡ false }
-    requires client { is_call_event event ≡ true → (client < length N.partitions) × (pages.old.ready ≡ Some client) }
-    requires room { labels_left N.rules stack.old.state + brought_by (sizes_of N.rules) event ≤ pages.old.room }
+    requires no_handle { is_handle_event asked.event ≡ false }
+    requires client { is_call_event asked.event ≡ true → (asked.client < length N.partitions) × (pages.old.ready ≡ Some asked.client) }
+    requires room { labels_left N.rules stack.old.state + brought_by (sizes_of N.rules) asked.event ≤ pages.old.room }
     ensures sound { IsSound N.rules N.start N.handles N.slots stack.new pages.new slots.new }
-    ensures carried { IsCarried client (shown stack.old pages.old slots.old) event result (shown stack.new pages.new slots.new) }
-    ensures no_call { is_call_event event ≡ false → pages.new.owners ≡ pages.old.owners }
+    ensures carried { IsCarried asked.client (shown stack.old pages.old slots.old) asked.event result (shown stack.new pages.new slots.new) }
+    ensures no_call { is_call_event asked.event ≡ false → pages.new.owners ≡ pages.old.owners }
     ensures more { length pages.old.owners ≤ length pages.new.owners }
 {
+    let Asked { client, event } = asked;
     laws_of_numbers();
     slots.shows_armed();
     let reply = serve_right(stack, beside.alloc, event);
@@ -246,7 +264,8 @@ fn carry_mark<A: Adapter, N: Naming>(
     ensures carried { (reply : ReplyView) × IsCarried 0 (shown stack.old pages.old slots.old) (Mark number) reply (shown stack.new pages.new slots.new) }
     ensures no_call { pages.new.owners ≡ pages.old.owners }
 {
-    carry(stack, pages, slots, beside, 0, Event::Mark { number });
+    let event = Event::Mark { number };
+    carry(stack, pages, slots, beside, Asked { client: 0, event });
 }
 
 // Looks at a slot, and carries out a mark that it sees there.
@@ -321,9 +340,9 @@ fn refused(alloc: Global, event: Event) -> Reply
 }
 
 impl<A: Adapter, N: Naming> Traced<A, N> {
-    /// A traced stack on which the clients' handles are open, and nothing else. `whole` is an empty history, `seat` the
-    /// owner's at a table of `slots` slots (as many as requests may be open), `tally` a ledger that counted nothing,
-    /// `clients` their number, and `sizes` the stack's.
+    /// A traced stack on which the clients' handles are open, and nothing else. It owns an empty history, a seat at a
+    /// table of as many slots as requests may be open, and a ledger that counted nothing. `clients` is their number,
+    /// and `sizes` are the stack's.
     ///
     /// # Errors
     ///
@@ -331,23 +350,26 @@ impl<A: Adapter, N: Naming> Traced<A, N> {
     pub fn new(
         alloc: Global,
         stack: Stack<A>,
-        whole: Whole<TraceEntry, N>,
-        seat: Seat,
-        tally: ledger::Book<N>,
+        owned: Owned<N>,
         clients: usize,
-        slots: usize,
         sizes: StackSizes,
     ) -> Result<Traced<A, N>, AllocError>
         requires named { IsNamed N.rules N.start N.handles N.slots stack }
         requires first { IsFirst stack }
         requires handles { AreClientsOf N.partitions N.handles }
-        requires whole { whole ≡ [] }
-        requires seat { seat ≡ standing N.marks 0 (starting (max slots 1)) }
-        requires tally { tally.total ≡ 0 }
-        requires count { (clients ≡ length N.partitions) × (slots ≡ N.slots) }
+        requires whole { owned.whole ≡ [] }
+        requires seat { owned.seat ≡ standing N.marks 0 (starting (max owned.slots 1)) }
+        requires tally { owned.tally.total ≡ 0 }
+        requires count { (clients ≡ length N.partitions) × (owned.slots ≡ N.slots) }
         requires sizes { (sizes ≡ sizes_of N.rules) × AreSizes sizes }
         ensures { IfOk result (λ b. (b.stack ≡ stack) × (b.entries ≡ []) × (b.owners ≡ [])) }
     {
+        let Owned {
+            whole,
+            seat,
+            slots,
+            tally,
+        } = owned;
         let (pages, slots) = make_rows(alloc, whole, seat, clients, slots)?;
         Ok(Traced {
             stack,
@@ -525,8 +547,7 @@ impl<A: Adapter, N: Naming> Traced<A, N> {
             &mut self.pages,
             &mut self.slots,
             &beside,
-            client,
-            event,
+            Asked { client, event },
         );
         let after = self.pages.calls();
         share.count(&mut self.tally, after - before);
@@ -562,8 +583,7 @@ impl<A: Adapter, N: Naming> Traced<A, N> {
             &mut self.pages,
             &mut self.slots,
             &beside,
-            0,
-            event,
+            Asked { client: 0, event },
         )
     }
 
@@ -576,7 +596,7 @@ impl<A: Adapter, N: Naming> Traced<A, N> {
         self.stack.take_answer_of(number)
     }
 
-    /// Shows the caller that the trace of a book at rest is a run from the state that it was opened with to the state
+    /// Shows the caller that the trace of a stack at rest is a run from the state that it was opened with to the state
     /// that the stack shows, each label in its row; that the handles are those that it was opened with; and that a slot
     /// is armed exactly with the open request there.
     pub fn shows_whole(&self)

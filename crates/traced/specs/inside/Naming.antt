@@ -1,4 +1,4 @@
--- What stands for the names of a book, for a type that names none.
+-- What stands for the names of a traced stack, for a type that names none.
 use Rattle.std.specs.Prelude.{true, false, [], None}
 use Rattle.machine.specs.Rules.{Rules}
 

@@ -21,11 +21,11 @@ use Rattle.traced.specs.Pages.{PagesView}
 use Rattle.traced.specs.inside.Slots.{SlotsView, number_at, ArmedBelow, unless_number}
 use Rattle.traced.specs.Told.{AreTold}
 
--- what a book of these parts shows
+-- what a traced stack of these parts shows
 abbrev pub shown : ManagerView → PagesView → SlotsView → TracedView
 shown stack pages slots = record { stack = stack; entries = pages.entries; owners = pages.owners; marks = slots.owner }
 
--- the parts of a book between two steps
+-- the parts of a traced stack between two steps
 pub record IsSound (rules : Rules) (opening : State) (handles : List (Option OpenHandle)) (count : ℕ) (stack : ManagerView) (pages : PagesView) (slots : SlotsView) : Type 0 where
   pub same_rules : stack.rules ≡ rules
   -- requests are cut on the grid, so that no labels come without end

@@ -42,4 +42,4 @@ returns-clause-no_call g c = no_call_noted _ _ _ _ _ c.serve_right-reply.ensures
 
 pub returns-clause-more : goal.returns-clause-more
 returns-clause-more g c =
-    subst (λ (p : PagesView). length c.args.pages.now.owners ≤ length p.owners) (sym c.note_all.ensures.pages) (owners_more c.args.client c.args.pages.now c.serve_right-reply.new.stack.labels)
+    subst (λ (p : PagesView). length c.args.pages.now.owners ≤ length p.owners) (sym c.note_all.ensures.pages) (owners_more c.args.asked.client c.args.pages.now c.serve_right-reply.new.stack.labels)
