@@ -1,5 +1,5 @@
 -- The act of a piece of which no entry was made keeps what holds of a book.
-use Rattle.std.proofs.Common.{◌≡◌, inl, inr, ℕ, List, [], ◌∷◌, ◌++◌, Option, Err, IsFalse, refl, sym, ap, subst, ◌∙◌}
+use Rattle.std.proofs.Common.{◌≡◌, inl, inr, ℕ, List, [], ◌∷◌, ◌++◌, Option, Some, Err, IsFalse, refl, sym, ap, subst, ◌∙◌}
 use Rattle.std.specs.Prelude.{◌⊎◌}
 use Rattle.srb.specs.declared.Srb.{Srb}
 use Rattle.srb.specs.declared.Completion.{Completion}
@@ -29,8 +29,8 @@ use Rattle.book.specs.Staying.{Claimed, AreOnTags, HaveNotedAll, ArmedStays}
 use Rattle.book.proofs.Going.{labels_carried, act_carried, tags_booked, tags_kept}
 use Rattle.book.proofs.Telling.{apart_still}
 
-pub holds_failure : (old held : TracedView) (tag : ℕ) (completion : Completion) → BooksFailure old tag completion held → HoldsFailure old (Act tag) held
-holds_failure old held tag completion (inl (piece, srb, is_armed, holds)) = inr (tag, piece, completion, refl, holds)
+pub holds_failure : (old held : TracedView) (tag : ℕ) (completion : Completion) → BooksFailure old tag completion held → HoldsFailure (Some completion) old (Act tag) held
+holds_failure old held tag completion (inl (piece, srb, is_armed, holds)) = inr (tag, piece, completion, refl, refl, holds)
 holds_failure old held tag completion (inr (none, same)) = inl same
 
 module _ (armed : ArmedMayBeBooked) (adds : BookedActsAddEntries) (idle : IdleActsKeepEntries) (apart : StepsStayApart) (stays : ArmedStays)

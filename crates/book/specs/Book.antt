@@ -94,9 +94,14 @@ FitsHandle _ _ = ⊥
 
 -- A STEP
 
+-- a piece that failed elsewhere fails as it did there
+abbrev pub IsWhy : Option Completion → Completion → Type 0
+IsWhy None completion = Unit {0}
+IsWhy (Some failed) completion = completion ≡ failed
+
 -- the failure of an act's piece is booked, or nothing is
-abbrev pub HoldsFailure : TracedView → Event → TracedView → Type 0
-HoldsFailure old event held = (held ≡ old) ⊎ ((tag piece : ℕ) × (completion : Completion) × (event ≡ Act tag) × HoldsBooked old tag piece (Err completion) held)
+abbrev pub HoldsFailure : Option Completion → TracedView → Event → TracedView → Type 0
+HoldsFailure failed old event held = (held ≡ old) ⊎ ((tag piece : ℕ) × (completion : Completion) × IsWhy failed completion × (event ≡ Act tag) × HoldsBooked old tag piece (Err completion) held)
 
 -- the event is the act of the last entry that was booked, so that the entry's step was the event's
 pub record IsLastAct (count : ℕ) (before booked : BookView) (event : Event) (reply : Reply) (new : BookView) : Type 0 where
@@ -116,24 +121,24 @@ pub record CallsAfter (before after : ShareView) (old : BookView) (event : Event
   pub taken : new.taken ≡ booked.taken
 
 -- the event is carried out, or refused for want of memory
-pub record ServesEvent (old : BookView) (event : Event) (reply : Reply) (new : BookView) : Type 0 where
+pub record ServesEvent (failed : Option Completion) (old : BookView) (event : Event) (reply : Reply) (new : BookView) : Type 0 where
   pub held : TracedView
-  pub holds : HoldsFailure old.traced event held
+  pub holds : HoldsFailure failed old.traced event held
   pub served : IsServed 0 held event reply new.traced
   pub taken : new.taken ≡ old.taken
 
 -- entries are booked, and then any other event is carried out, unless it is the act of the last of them
-pub record ServesAfter (old : BookView) (event : Event) (reply : Reply) (new : BookView) : Type 0 where
+pub record ServesAfter (failed : Option Completion) (old : BookView) (event : Event) (reply : Reply) (new : BookView) : Type 0 where
   pub count : ℕ
   pub booked : BookView
   pub books : AreBooked count old booked
-  pub serves : ServesEvent booked event reply new ⊎ IsLastAct count old booked event reply new
+  pub serves : ServesEvent failed booked event reply new ⊎ IsLastAct count old booked event reply new
 
 -- a call comes with its client's share: an `Option<&mut Share>`, as it comes in and as it is left
 abbrev pub ServesWith : Option (MutBor ShareView) → Unit {0} ⊎ ((MutBor ShareView × Unit {0}) ⊎ ⊥) → BookView → Event → Reply → BookView → Type 0
 ServesWith (Some share) (inr (inl left)) old event reply new = CallsAfter share.now left.0.now old event reply new
 ServesWith (Some share) _ old event reply new = ⊥
-ServesWith None _ old event reply new = ServesAfter old event reply new
+ServesWith None _ old event reply new = ServesAfter None old event reply new
 
 -- a step carries out first the marks, then the acts of the entries that are booked, and then the event
 pub record IsStepped (slots : ℕ) (share : Option (MutBor ShareView)) (left : Unit {0} ⊎ ((MutBor ShareView × Unit {0}) ⊎ ⊥)) (old : BookView) (event : Event) (reply : Reply) (new : BookView) : Type 0 where

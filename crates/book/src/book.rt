@@ -219,22 +219,17 @@ impl<N: Naming> Book<N> {
         self.seen = self.traced.len();
     }
 
-    // How the piece of a tag fails if no entry of it is booked: as it failed in the journal. It acts there now, unless
+    // How the piece of a tag fails if no entry of it is booked: as it fails in the journal, where it acts now, unless
     // it did before.
     fn failure_of<M: Medium>(
         &mut self,
         records: &Records<N>,
         journal: &mut Journal<M, N>,
         tag: u8,
-        failed: Option<Completion>,
     ) -> Completion
-        requires bad { IfSome failed (λ completion. class_of completion ≡ Bad completion) }
         ensures same { self.new ≡ self.old }
         ensures bad { class_of result ≡ Bad result }
     {
-        if let Some(completion) = failed {
-            return completion;
-        }
         if has_acted(journal, self.taken.len(), tag) {
             return failure(None);
         }
@@ -327,25 +322,24 @@ impl<N: Naming> Book<N> {
 
     fn fail(&mut self, records: &Records<N>, tag: u8, completion: Completion) -> Reply
         requires bad { class_of completion ≡ Bad completion }
-        ensures serves { (held : TracedView) × HoldsFailure self.old.traced (Act tag) held × IsServed 0 held (Act tag) result self.new.traced }
+        ensures serves { (held : TracedView) × HoldsFailure (Some completion) self.old.traced (Act tag) held × IsServed 0 held (Act tag) result self.new.traced }
         ensures taken { self.new.taken ≡ self.old.taken }
     {
         fail(&mut self.traced, &mut self.tags, records, tag, completion)
     }
 
-    // Carries out the act of a tag: its piece acts in the journal, unless it failed there before, and what is entered
-    // is booked.
-    fn act_in<M: Medium>(
+    // Books what is entered, and carries out the act of a tag, whose piece fails like this unless an entry of it is the
+    // last that was booked.
+    fn act_or_fail<M: Medium>(
         &mut self,
         records: &Records<N>,
         journal: &mut Journal<M, N>,
         tag: u8,
-        failed: Option<Completion>,
+        completion: Completion,
     ) -> Reply
-        requires bad { IfSome failed (λ completion. class_of completion ≡ Bad completion) }
-        ensures { ServesAfter self.old (Act tag) result self.new }
+        requires bad { class_of completion ≡ Bad completion }
+        ensures { ServesAfter (Some completion) self.old (Act tag) result self.new }
     {
-        let completion = self.failure_of(records, journal, tag, failed);
         let last = self.book_entries(records, journal);
         if last == Some(tag) {
             self.settle(records, journal);
@@ -354,6 +348,19 @@ impl<N: Naming> Book<N> {
         let reply = self.fail(records, tag, completion);
         self.settle(records, journal);
         reply
+    }
+
+    // Carries out the act of a tag: its piece acts in the journal, and what is entered is booked.
+    fn act_in<M: Medium>(
+        &mut self,
+        records: &Records<N>,
+        journal: &mut Journal<M, N>,
+        tag: u8,
+    ) -> Reply
+        ensures { ServesAfter None self.old (Act tag) result self.new }
+    {
+        let completion = self.failure_of(records, journal, tag);
+        self.act_or_fail(records, journal, tag, completion)
     }
 
     fn serve_in<M: Medium>(
@@ -365,7 +372,7 @@ impl<N: Naming> Book<N> {
         requires no_handle { is_handle_event event ≡ false }
         requires no_call { is_call_event event ≡ false }
         requires no_act { IsNoAct event }
-        ensures { ServesAfter self.old event result self.new }
+        ensures { ServesAfter None self.old event result self.new }
     {
         self.book_entries(records, journal);
         let reply = self.serve_alone(records, event);
@@ -377,11 +384,11 @@ impl<N: Naming> Book<N> {
     fn serve<M: Medium, R: Wait>(&mut self, rt: &R, beside: &Beside<M, N>, event: Event) -> Reply
         requires no_handle { is_handle_event event ≡ false }
         requires no_call { is_call_event event ≡ false }
-        ensures { ServesAfter self.old event result self.new }
+        ensures { ServesAfter None self.old event result self.new }
     {
         if let Event::Act { tag } = event {
             let mut journal = beside.journal.lock(rt);
-            return self.act_in(&beside.records, &mut journal, tag, None);
+            return self.act_in(&beside.records, &mut journal, tag);
         }
         if !moves_pieces(&event) {
             return self.serve_alone(&beside.records, event);
@@ -419,7 +426,7 @@ impl<N: Naming> Book<N> {
     }
 
     /// Carries out the act of a tag whose piece failed in the journal, where a lane had it act: as [`Book::step`] does
-    /// for an `Act`.
+    /// for an `Act`, and the piece fails as it did there.
     pub fn act_failed<M: Medium, R: Wait>(
         &mut self,
         rt: &R,
@@ -428,11 +435,11 @@ impl<N: Naming> Book<N> {
         completion: Completion,
     ) -> Reply
         requires bad { class_of completion ≡ Bad completion }
-        ensures { (marked : TracedView) × AreLooked N.slots self.old.traced marked × ServesAfter (book_of marked self.old.taken) (Act tag) result self.new }
+        ensures { (marked : TracedView) × AreLooked N.slots self.old.traced marked × ServesAfter (Some completion) (book_of marked self.old.taken) (Act tag) result self.new }
     {
         self.look(&beside.records);
         let mut journal = beside.journal.lock(rt);
-        self.act_in(&beside.records, &mut journal, tag, Some(completion))
+        self.act_or_fail(&beside.records, &mut journal, tag, completion)
     }
 
     /// Books all entries that are there: what was booked is then the front of the journal's. The caller holds both

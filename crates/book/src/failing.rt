@@ -1,6 +1,6 @@
 //! The act of a tag's piece that made no entry.
 
-ghost use Rattle.std.specs.Prelude.{◌≡◌, IfSome, MatchOption};
+ghost use Rattle.std.specs.Prelude.{◌≡◌, IfSome, MatchOption, Some};
 ghost use Rattle.srb.specs.declared.Srb.{Srb as SrbView};
 ghost use Rattle.srb.specs.declared.Class.TheVariants.{Bad};
 ghost use Rattle.srb.specs.Fate.{class_of};
@@ -93,7 +93,7 @@ pub(crate) fn fail<N: Naming>(
     completion: Completion,
 ) -> Reply
     requires bad { class_of completion ≡ Bad completion }
-    ensures serves { (held : TracedView) × HoldsFailure traced.old (Act tag) held × IsServed 0 held (Act tag) result traced.new }
+    ensures serves { (held : TracedView) × HoldsFailure (Some completion) traced.old (Act tag) held × IsServed 0 held (Act tag) result traced.new }
     ensures kept { StaysKept N.rules N.start traced.old tags.old traced.new tags.new }
 {
     laws_of_failures();

@@ -1,4 +1,4 @@
-use Rattle.std.proofs.Common.{◌≡◌, List, ap, subst}
+use Rattle.std.proofs.Common.{◌≡◌, List, Some, ap, subst}
 use Rattle.compose.specs.declared.Event.TheVariants.{Act}
 use Rattle.sector_journal.specs.declared.acted.Entered.{Entered}
 use Rattle.book.specs.Book.{BookView, ServesAfter, book_of}
@@ -8,4 +8,4 @@ pub returns : goal.returns
 returns g c =
     let looked : BookView = c.look.new.self in
     let same : looked ≡ book_of looked.traced c.args.self.now.taken = ap (λ (t : List Entered). book_of looked.traced t) c.look.ensures.taken in
-    (looked.traced, c.look.ensures.looked, subst (λ (b : BookView). ServesAfter b (Act c.args.tag) c.act_in.result c.act_in.new.self) same c.act_in.ensures)
+    (looked.traced, c.look.ensures.looked, subst (λ (b : BookView). ServesAfter (Some c.args.completion) b (Act c.args.tag) c.act_or_fail.result c.act_or_fail.new.self) same c.act_or_fail.ensures)

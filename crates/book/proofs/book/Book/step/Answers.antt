@@ -1,4 +1,4 @@
-use Rattle.std.proofs.Common.{◌≡◌, List, sym, ap, subst}
+use Rattle.std.proofs.Common.{◌≡◌, List, None, sym, ap, subst}
 use Rattle.sector_journal.specs.declared.acted.Entered.{Entered}
 use Rattle.traced.proofs.Booking.{served_wants}
 use Rattle.book.specs.Book.{BookView, CallsAfter, ServesAfter, book_of}
@@ -25,7 +25,7 @@ returns-in-None-clause-stepped g c =
     rw c.in-None.is record {
       marked = looked.traced;
       looks = c.look.ensures.looked;
-      serves = subst (λ (b : BookView). ServesAfter b c.args.event c.serve.result c.serve.new.self) same c.serve.ensures;
+      serves = subst (λ (b : BookView). ServesAfter None b c.args.event c.serve.result c.serve.new.self) same c.serve.ensures;
     }
 
 pub returns-in-None-clause-memory : goal.returns-in-None-clause-memory
