@@ -7,10 +7,14 @@ use Rattle.std.proofs.Math.Seq.{get_or-append_seam}
 use mathlib.Core.Logic.{dite}
 use native.Mathlib.Decide.{ℕ_discrete}
 use Rattle.atomic_table.specs.Seated.{TableId}
-use Rattle.remove_lock.specs.Gate.{Standing as PassStanding}
-use Rattle.cancel_marks.specs.Marks.{Standing as SeatStanding}
+use Rattle.io_manager.specs.declared.Handle.{Handle}
+use Rattle.remove_lock.specs.declared.rule.View.{View as PassView}
+use Rattle.remove_lock.specs.Gate.{Standing as PassStanding, fresh as fresh_pass}
+use Rattle.cancel_marks.specs.declared.rule.View.{View as SeatView}
+use Rattle.cancel_marks.specs.Marks.{Standing as SeatStanding, IsOther}
+use Rattle.host.specs.Receipts.{none_yet}
 use Rattle.host.specs.Accounts.{AccountView}
-use Rattle.host.specs.Clients.{ClientKept, ClientView, client_at, fresh}
+use Rattle.host.specs.Clients.{ClientKept, ClientView, client_at, fresh, ticket_limit}
 use Rattle.host.specs.Opening.{IsClientPass}
 
 module _ {A : Type 0} (P : A → Type 0) where
@@ -37,11 +41,24 @@ new_client gate marks account pass seat is table = record {
   room = omega arith;
 }
 
-pub numbered_more : (clients : List ClientView) (x : ClientView) (n : ℕ) → length clients ≡ n → ((k : ℕ) → k < n → (client_at clients k).client ≡ k) → x.client ≡ n → (k : ℕ) → k < n + 1 → (client_at (clients ++ x ∷ []) k).client ≡ k
-numbered_more clients x n long all is k less =
+pub fresh_more : (clients : List ClientView) (x : ClientView) (n : ℕ) → length clients ≡ n → ((k : ℕ) → k < n → client_at clients k ≡ fresh k) → x ≡ fresh n → (k : ℕ) → k < n + 1 → client_at (clients ++ x ∷ []) k ≡ fresh k
+fresh_more clients x n long all is k less =
     dite (ℕ_discrete k n)
-    (λ (e : k ≡ n). ap (λ (v : ClientView). v.client) (ap (client_at (clients ++ x ∷ [])) (e ∙ sym long) ∙ get_or-append_seam clients x [] (fresh 0)) ∙ is ∙ sym e)
+    (λ (e : k ≡ n). ap (client_at (clients ++ x ∷ [])) (e ∙ sym long) ∙ get_or-append_seam clients x [] (fresh 0) ∙ is ∙ ap fresh (sym e))
     (λ (ne : k ≢ n).
     let front : k < n = omega arith in
     let inside : k < length clients = omega (arith, long) in
-    ap (λ (v : ClientView). v.client) (get_or_append_left clients (x ∷ []) (fresh 0) k inside) ∙ all k front)
+    get_or_append_left clients (x ∷ []) (fresh 0) k inside ∙ all k front)
+
+abbrev pub client_of : AccountView → PassView → SeatView → ClientView
+client_of account pass seat = record { client = account.share.client; called = account.called.list; answered = account.answered.list; pass = pass; seat = seat }
+
+abbrev pub first_account : ℕ → Handle → AccountView
+first_account n handle = record { share = record { client = n; handle = handle; calls = 0 }; called = none_yet; answered = none_yet }
+
+-- a client that was just made
+pub is_fresh : (gate marks : TableId) (n : ℕ) (handle : Handle) (account : AccountView) (pass : PassStanding) (seat : SeatStanding) → account ≡ first_account n handle → IsClientPass gate pass → IsOther marks seat → client_of account pass.view seat.view ≡ fresh n
+is_fresh gate marks n handle account pass seat is passed seated =
+    ap (λ (a : AccountView). client_of a pass.view seat.view) is
+    ∙ ap (λ (p : PassStanding). client_of (first_account n handle) p.view seat.view) passed
+    ∙ ap (λ (s : SeatView). client_of (first_account n handle) (fresh_pass ticket_limit) s) seated.1

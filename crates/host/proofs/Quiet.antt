@@ -243,14 +243,14 @@ pub record GoesBefore (old : TracedView) (event : Event) (reply : Reply) (new : 
   pub served : IsServed 0 mid event reply new
 
 pub goes_before : CallsCount → (slots : ℕ) (old : BookView) (marked : TracedView) (event : Event) (reply : Reply) (new : BookView) → IsNoAct event → AreLooked slots old.traced marked
-    → ServesAfter (record old { traced = marked }) event reply new → GoesBefore old.traced event reply new.traced
+    → ServesAfter None (record old { traced = marked }) event reply new → GoesBefore old.traced event reply new.traced
 goes_before count slots old marked event reply new other looks after = go after.serves
   where
-    held_same : (held : TracedView) → HoldsFailure after.booked.traced event held → held ≡ after.booked.traced
+    held_same : (held : TracedView) → HoldsFailure None after.booked.traced event held → held ≡ after.booked.traced
     held_same held (inl same) = same
-    held_same held (inr (tag, piece, completion, is, holds)) = absurd (subst IsNoAct is other)
+    held_same held (inr (tag, piece, completion, why, is, holds)) = absurd (subst IsNoAct is other)
 
-    go : ServesEvent after.booked event reply new ⊎ IsLastAct after.count (record old { traced = marked }) after.booked event reply new → GoesBefore old.traced event reply new.traced
+    go : ServesEvent None after.booked event reply new ⊎ IsLastAct after.count (record old { traced = marked }) after.booked event reply new → GoesBefore old.traced event reply new.traced
     go (inl serves) = record {
       mid = after.booked.traced;
       still = still_before count slots after.count old marked after.booked looks after.books;

@@ -96,10 +96,10 @@ served_reply event reply old new (inr w) = wanting_reply event reply w.wants w.r
 last_reply : (many : ℕ) (before booked : BookView) (event : Event) (reply : Reply) (new : BookView) → IsLastAct many before booked event reply new → IsReplyTo event reply
 last_reply many before booked event reply new last = subst (λ (e : Event). IsReplyTo e reply) (sym last.is_act) (inl last.replies)
 
-after_reply : (old : BookView) (event : Event) (reply : Reply) (new : BookView) → ServesAfter old event reply new → IsReplyTo event reply
+after_reply : (old : BookView) (event : Event) (reply : Reply) (new : BookView) → ServesAfter None old event reply new → IsReplyTo event reply
 after_reply old event reply new after = go after.serves
   where
-    go : ServesEvent after.booked event reply new ⊎ IsLastAct after.count old after.booked event reply new → IsReplyTo event reply
+    go : ServesEvent None after.booked event reply new ⊎ IsLastAct after.count old after.booked event reply new → IsReplyTo event reply
     go (inl serves) = served_reply event reply serves.held new.traced serves.served
     go (inr last) = last_reply after.count old after.booked event reply new last
 

@@ -47,6 +47,11 @@ pub record AreNumbered (count : ℕ) (clients : List ClientView) : Type 0 where
   pub all : length clients ≡ count
   pub numbers : (c : ℕ) → c < count → (client_at clients c).client ≡ c
 
+-- all clients, by number, none of which has made a step
+pub record AreFresh (count : ℕ) (clients : List ClientView) : Type 0 where
+  pub all : length clients ≡ count
+  pub each : (c : ℕ) → c < count → client_at clients c ≡ fresh c
+
 -- WHAT A CLIENT KEEPS
 
 -- the client has a pass of the gate with a hold for each ticket that is out, a seat at the marks, and room for the

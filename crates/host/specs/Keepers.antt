@@ -98,3 +98,18 @@ pub record HasRemoved (label : Label) (old new : List Receipt) : Type 0 where
 pub record HasRemovedIfOk (label : Label) (reply : Reply) (old new : List Receipt) : Type 0 where
   pub accepted : reply ≡ OkReply → HasRemoved label old new
   pub otherwise : reply ≢ OkReply → new ≡ old
+
+-- a query was granted, and the removal was asked for behind it
+pub record IsQueriedFirst (old new : List Receipt) : Type 0 where
+  pub paused : List Receipt
+  pub reply : Reply
+  pub granted : HasNoted PauseLabel old paused
+  pub removed : HasRemovedIfOk RemoveLabel reply paused new
+
+-- the device was pulled out behind a query
+pub record IsPulledOut (old new : List Receipt) : Type 0 where
+  pub asked : Reply
+  pub queried : List Receipt
+  pub reply : Reply
+  pub told : HasNotedIfOk PauseLabel asked old queried
+  pub removed : HasRemovedIfOk SurpriseLabel reply queried new

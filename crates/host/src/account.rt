@@ -14,7 +14,7 @@ ghost use Rattle.host.specs.Tickets.{HoldsRequest, WasOpen};
 ghost use Rattle.host.specs.Opening.{IsHandleFor};
 
 use crate::bells::Concerned;
-use crate::call::{Answered, Call, Places, Reason, Refusal};
+use crate::call::{Answered, Call, Places, Refusal};
 use crate::host::Host;
 use crate::name::Naming;
 use crate::receipts::Receipts;
@@ -75,6 +75,14 @@ fn find_call<N: Naming>(book: &Book<N>, from: usize) -> Option<usize>
         }
     }
     None
+}
+
+/// A call that waits for its answer: the number of its request, the place of its label, and the receipt of that.
+#[derive(Drop)]
+struct Awaited<N: Naming> {
+    number: u64,
+    place: usize,
+    claim: Claims<TraceEntry, N>,
 }
 
 // Carries out a call, and finds its label.
@@ -209,11 +217,7 @@ impl<N: Naming> Account<N> {
             let Reply::Refused { refusal, bytes } = reply else {
                 unreachable!()
             };
-            return Err(Refusal {
-                reason: Reason::Refused(refusal),
-                bytes,
-                places: None,
-            });
+            return Err(Refusal::of_stack(refusal, bytes, None));
         };
         let claim = self.called.note(&host.history, book, place);
         match reply {
@@ -239,14 +243,8 @@ impl<N: Naming> Account<N> {
             }
             Reply::Refused { refusal, bytes } => {
                 self.answered.note(&host.history, book, place + 1);
-                Err(Refusal {
-                    reason: Reason::Refused(refusal),
-                    bytes,
-                    places: Some(Places {
-                        call: place,
-                        answer: place + 1,
-                    }),
-                })
+                let places = Places::at_once(place);
+                Err(Refusal::of_stack(refusal, bytes, Some(places)))
             }
             Reply::Handle(_) | Reply::Ok | Reply::Ignored => unreachable!(),
         }
@@ -290,13 +288,17 @@ impl<N: Naming> Account<N> {
             ..
         } = ticket;
         if let Some((answer, told)) = early {
-            return self.keep_answer(&host.history, place, place + 1, answer, told);
+            return self.keep_answer(&host.history, Places::at_once(place), answer, told);
         }
-        let mut claim = claim;
+        let mut awaited = Awaited {
+            number,
+            place,
+            claim,
+        };
         let client = self.share.client();
         let mut book = host.book.lock(rt);
         for _ in rt.forever() {
-            if let Some(answered) = self.answer_in(host, &mut book, number, place, &mut claim) {
+            if let Some(answered) = self.answer_in(host, &mut book, &mut awaited) {
                 return answered;
             }
             book = host.bells.client(client).wait(rt, book);
@@ -309,44 +311,40 @@ impl<N: Naming> Account<N> {
         &mut self,
         host: &Host<M, N>,
         book: &mut Book<N>,
-        number: u64,
-        call: usize,
-        claim: &mut Claims<TraceEntry, N>,
+        awaited: &mut Awaited<N>,
     ) -> Option<Answered>
-        requires claim { (q : ClientRequest) × (claim.old ≡ receipt call (CallLabel number q) self.old.share.client) }
+        requires claim { (q : ClientRequest) × (awaited.old.claim ≡ receipt awaited.old.place (CallLabel awaited.old.number q) self.old.share.client) }
         requires room { 0 < self.old.answered.room }
-        ensures claim { claim.new ≡ claim.old }
-        ensures taken { IfSome result (λ answered. IsTaken self.old number call answered self.new) }
+        ensures awaited { awaited.new ≡ awaited.old }
+        ensures taken { IfSome result (λ answered. IsTaken self.old awaited.old.number awaited.old.place answered self.new) }
         ensures none { IfNone result (self.new ≡ self.old) }
     {
-        book.check(&host.history, claim);
-        let (place, answer) = take_answer(host, book, number, call)?;
+        book.check(&host.history, &mut awaited.claim);
+        let call = awaited.place;
+        let (place, answer) = take_answer(host, book, awaited.number, call)?;
         let told = book.claim(&host.history, place);
-        Some(self.keep_answer(&host.history, call, place, answer, told))
+        let places = Places {
+            call,
+            answer: place,
+        };
+        Some(self.keep_answer(&host.history, places, answer, told))
     }
 
     // Keeps the receipt of an answer that stands in the trace.
     fn keep_answer(
         &mut self,
         history: &History<TraceEntry, N>,
-        call: usize,
-        place: usize,
+        places: Places,
         answer: Answer,
         claim: Claims<TraceEntry, N>,
     ) -> Answered
-        requires claim { claim ≡ receipt place (as_answer answer) self.old.share.client }
+        requires claim { claim ≡ receipt places.answer (as_answer answer) self.old.share.client }
         requires room { 0 < self.old.answered.room }
-        ensures result { result ≡ record { answer = answer; places = record { call = call; answer = place } } }
+        ensures result { result ≡ record { answer = answer; places = places } }
         ensures share { (self.new.share ≡ self.old.share) × (self.new.called ≡ self.old.called) }
         ensures kept { self.new.answered ≡ record { list = self.old.answered.list ++ claim; room = self.old.answered.room - 1 } }
     {
-        self.answered.keep(history, place, claim);
-        Answered {
-            answer,
-            places: Places {
-                call,
-                answer: place,
-            },
-        }
+        self.answered.keep(history, places.answer, claim);
+        Answered { answer, places }
     }
 }

@@ -1,7 +1,8 @@
 //! A client's call, and what the client is told.
 
-ghost use Rattle.std.specs.Prelude.{◌≡◌, None};
+ghost use Rattle.std.specs.Prelude.{◌≡◌, ◌<◌, ◌+◌, ◌^◌, None};
 ghost use Rattle.host.specs.Calls.{buffer_of, event_of};
+ghost use Rattle.host.specs.declared.call.Reason.TheVariants.{Refused};
 
 use compose::{Answer, Event, Handle, Refusal as Why};
 use sector::Bytes;
@@ -32,6 +33,19 @@ pub struct Places {
     pub answer: usize,
 }
 
+impl Places {
+    /// The places of a call at this place and of an answer right behind it.
+    pub(crate) fn at_once(call: usize) -> Places
+        requires fits { call + 1 < 2 ^ 64 }
+        ensures { result ≡ record { call = call; answer = call + 1 } }
+    {
+        Places {
+            call,
+            answer: call + 1,
+        }
+    }
+}
+
 /// How a call that was issued ended.
 #[derive(Debug, Drop)]
 pub struct Answered {
@@ -56,6 +70,19 @@ pub struct Refusal {
     pub reason: Reason,
     pub bytes: Bytes,
     pub places: Option<Places>,
+}
+
+impl Refusal {
+    /// The refusal of a call by the stack, with the places of its labels where it has any.
+    pub(crate) fn of_stack(why: Why, bytes: Bytes, places: Option<Places>) -> Refusal
+        ensures { result ≡ record { reason = Refused why; bytes = bytes; places = places } }
+    {
+        Refusal {
+            reason: Reason::Refused(why),
+            bytes,
+            places,
+        }
+    }
 }
 
 impl Call {

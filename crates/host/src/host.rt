@@ -5,7 +5,8 @@ ghost use mathlib.Core.Logic.{inl};
 ghost use Rattle.cancel_marks.specs.Marks.{IsOther};
 ghost use Rattle.book.specs.Book.{IsStepped, call_handle};
 ghost use Rattle.traced.specs.Serving.{is_handle_event};
-ghost use Rattle.host.specs.Clients.{AreNumbered};
+ghost use Rattle.remove_lock.specs.Gate.{fresh as fresh_pass};
+ghost use Rattle.host.specs.Clients.{AreFresh, AreNumbered, ticket_limit};
 ghost use Rattle.host.specs.Opening.{AreHandlesFor, IsClientPass, IsJournalFor};
 ghost use Rattle.host.specs.Replies.{IsReplyTo};
 ghost use Rattle.compose.specs.declared.Event.TheVariants.{Act, Finish, Reset};
@@ -15,20 +16,19 @@ use crate::bells::{Bells, Concerned};
 use crate::client::Client;
 use crate::desk::Board;
 use crate::name::Naming;
-use crate::opened::{HostFault, Opened};
+use crate::opened::{HostFault, Opened, Supplies};
 use crate::shared::{Disk, Door, Table};
 use book::{Beside, Book, Records};
-use cancel_marks::Seat;
 use chronicle::{Claims, History, Whole};
-use compose::{Event, Handle, Reply};
+use compose::{Event, Reply};
 use disk::Medium;
 use remove_lock::Pass;
 use sector_journal::{Journal, OfArmings, OfEntries};
 use std::alloc::{AllocError, Global};
-use std::marker::{Model, PhantomData};
+use std::marker::Model;
 use std::sync::ledger::Share as Part;
 use std::sync::{Mutex, Wait};
-use traced::{Share, TraceEntry, Traced};
+use traced::{Owned, Share, TraceEntry, Traced};
 
 /// A book and its journal, each under its lock, and what threads share beside them.
 #[derive(Drop)]
@@ -70,27 +70,30 @@ impl<N: Naming> Model for Keeper<N> {
     ghost invariant = { λ k. (k.part.parts ≡ 1) × (k.part.amount ≡ 0) × (k.pass.gate ≡ N.gate) };
 }
 
-// Makes a client for each handle, with a part of the ledger, a seat and a pass.
+// Makes a client for each handle, with a part of the ledger, a seat and a pass. The passes that are left come along.
 fn make_clients<N: Naming>(
     alloc: Global,
     history: &History<TraceEntry, N>,
     whole: &mut Whole<TraceEntry, N>,
     all: &mut Part<N>,
-    handles: Vec<Handle>,
-    seats: Vec<Seat>,
-    passes: &mut Vec<Pass>,
-) -> Result<Vec<Client<N>>, AllocError>
-    requires handles { AreHandlesFor N.partitions N.handles handles.items }
-    requires seats { (length seats.items ≡ length N.partitions) × All (IsOther N.marks) seats.items }
-    requires passes { (length passes.old.items ≡ length N.partitions + 1) × All (IsClientPass N.gate) passes.old.items }
+    supplies: Supplies,
+) -> Result<(Vec<Client<N>>, Vec<Pass>), AllocError>
+    requires handles { AreHandlesFor N.partitions N.handles supplies.handles.items }
+    requires seats { (length supplies.seats.items ≡ length N.partitions) × All (IsOther N.marks) supplies.seats.items }
+    requires passes { (length supplies.passes.items ≡ length N.partitions + 1) × All (IsClientPass N.gate) supplies.passes.items }
     requires parts { (all.old.parts ≡ length N.partitions + 1) × (all.old.amount ≡ 0) }
     ensures whole { whole.new ≡ whole.old }
     ensures rest { IfOk result (λ _. (all.new.parts ≡ 1) × (all.new.amount ≡ 0)) }
-    ensures passes { IfOk result (λ _. (length passes.new.items ≡ 1) × All (IsClientPass N.gate) passes.new.items) }
-    ensures clients { IfOk result (λ v. AreNumbered (length N.partitions) v.items) }
+    ensures passes { IfOk result (λ r. (length r.1.items ≡ 1) × All (IsClientPass N.gate) r.1.items) }
+    ensures clients { IfOk result (λ r. AreNumbered (length N.partitions) r.0.items) }
+    ensures fresh { IfOk result (λ r. AreFresh (length N.partitions) r.0.items) }
 {
+    let Supplies {
+        handles,
+        mut seats,
+        mut passes,
+    } = supplies;
     let mut clients = Vec::new(alloc);
-    let mut seats = seats;
     for c in 0..handles.len() {
         clients.reserve(1)?;
         let (Some(seat), Some(pass)) = (seats.pop(), passes.pop()) else {
@@ -111,39 +114,44 @@ fn make_clients<N: Naming>(
             out: 0,
         });
     }
-    Ok(clients)
+    Ok((clients, passes))
 }
 
-// Makes a client for each handle, and returns the pass that is left for the keeper with them.
+// Makes a client for each handle, and the keeper with what is left.
 fn hand_out<N: Naming>(
     alloc: Global,
     history: &History<TraceEntry, N>,
     whole: &mut Whole<TraceEntry, N>,
-    all: &mut Part<N>,
-    handles: Vec<Handle>,
-    seats: Vec<Seat>,
-    passes: Vec<Pass>,
-) -> Result<(Vec<Client<N>>, Pass), AllocError>
-    requires handles { AreHandlesFor N.partitions N.handles handles.items }
-    requires seats { (length seats.items ≡ length N.partitions) × All (IsOther N.marks) seats.items }
-    requires passes { (length passes.items ≡ length N.partitions + 1) × All (IsClientPass N.gate) passes.items }
-    requires parts { (all.old.parts ≡ length N.partitions + 1) × (all.old.amount ≡ 0) }
+    all: Part<N>,
+    supplies: Supplies,
+) -> Result<(Vec<Client<N>>, Keeper<N>), AllocError>
+    requires handles { AreHandlesFor N.partitions N.handles supplies.handles.items }
+    requires seats { (length supplies.seats.items ≡ length N.partitions) × All (IsOther N.marks) supplies.seats.items }
+    requires passes { (length supplies.passes.items ≡ length N.partitions + 1) × All (IsClientPass N.gate) supplies.passes.items }
+    requires parts { (all.parts ≡ length N.partitions + 1) × (all.amount ≡ 0) }
     ensures whole { whole.new ≡ whole.old }
-    ensures rest { IfOk result (λ _. (all.new.parts ≡ 1) × (all.new.amount ≡ 0)) }
-    ensures pass { IfOk result (λ r. IsClientPass N.gate r.1) }
     ensures clients { IfOk result (λ r. AreNumbered (length N.partitions) r.0.items) }
+    ensures fresh { IfOk result (λ r. AreFresh (length N.partitions) r.0.items) }
+    ensures keeper { IfOk result (λ r. r.1 ≡ record { pass = fresh_pass ticket_limit; told = [] }) }
 {
+    let mut all = all;
+    let (clients, passes) = make_clients(alloc, history, whole, &mut all, supplies)?;
     let mut passes = passes;
-    let clients = make_clients(alloc, history, whole, all, handles, seats, &mut passes)?;
     let Some(pass) = passes.pop() else {
         unreachable!()
     };
-    Ok((clients, pass))
+    let told = whole.no_claims(history);
+    let keeper = Keeper {
+        part: all,
+        pass,
+        told,
+    };
+    Ok((clients, keeper))
 }
 
 impl<M: Medium, N: Naming> Host<M, N> {
     /// A host of a stack and of the journal of its disk, in which nothing was entered, with its keeper and its clients,
-    /// client c over the partition that was given as number c.
+    /// client c over the partition that was given as number c. None of them has made a step: the gate is open to all.
     ///
     /// # Errors
     ///
@@ -151,17 +159,18 @@ impl<M: Medium, N: Naming> Host<M, N> {
     pub fn new(
         alloc: Global,
         opened: Opened,
-        journal: Journal<M, N>,
+        mut journal: Journal<M, N>,
         words: sector_journal::History<N>,
     ) -> Result<(Host<M, N>, Keeper<N>, Vec<Client<N>>), HostFault>
         requires named { opened ≡ record { rules = N.rules; opening = N.start; partitions = N.partitions; handles = N.handles; marks = N.marks; slots = N.slots; table = N.table; name = N.name; parts = N.parts; gate = N.gate } }
         requires disk { IsJournalFor N.rules journal }
         ensures clients { IfOk result (λ r. AreNumbered (length N.partitions) r.2.items) }
-        ensures keeper { IfOk result (λ r. r.1.told ≡ []) }
+        ensures fresh { IfOk result (λ r. AreFresh (length N.partitions) r.2.items) }
+        ensures keeper { IfOk result (λ r. r.1 ≡ record { pass = fresh_pass ticket_limit; told = [] }) }
     {
         let Opened {
             stack,
-            handles,
+            supplies,
             partitions,
             sizes,
             slots,
@@ -169,46 +178,34 @@ impl<M: Medium, N: Naming> Host<M, N> {
             ledger,
             marks,
             owner,
-            seats,
             gate,
-            passes,
         } = opened;
-        journal.shows_rule();
-        journal.shows_opening();
-        let disk = Disk::new();
-        let count = partitions.len();
+        let disk = Disk::of(&journal);
         let (history, mut whole) = history.named::<N>();
-        let (tally, mut all) = ledger.open::<N>();
-        let bells = Bells::new(alloc, count)?;
-        let (clients, pass) = hand_out(
-            alloc, &history, &mut whole, &mut all, handles, seats, passes,
-        )?;
-        let told = whole.no_claims(&history);
-        let traced = Traced::new(alloc, stack, whole, owner, tally, count, slots, sizes)?;
-        let mut journal = journal;
+        let (tally, all) = ledger.open::<N>();
+        let bells = Bells::new(alloc, partitions.len())?;
+        let (clients, keeper) = hand_out(alloc, &history, &mut whole, all, supplies)?;
+        let owned = Owned {
+            whole,
+            seat: owner,
+            slots,
+            tally,
+        };
+        let traced = Traced::new(alloc, stack, owned, partitions.len(), sizes)?;
         let book = Book::new(alloc, traced, &mut journal, &words)?;
+        let table = Table::new(marks);
+        let door = Door::new(gate);
         let host = Host {
             book: Mutex::new(book),
             journal: Mutex::new(journal),
             words,
             bells,
             history,
-            table: Table {
-                marks,
-                of: PhantomData,
-            },
-            door: Door {
-                gate,
-                of: PhantomData,
-            },
+            table,
+            door,
             disk,
             board: Board::blank(),
             alloc,
-        };
-        let keeper = Keeper {
-            part: all,
-            pass,
-            told,
         };
         Ok((host, keeper, clients))
     }

@@ -48,11 +48,19 @@ impl From<AllocError> for HostFault {
     }
 }
 
+/// What a host hands out: a handle and a seat for each client, and a pass for each and for the keeper.
+#[derive(Drop)]
+pub(crate) struct Supplies {
+    pub handles: Vec<Handle>,
+    pub seats: Vec<Seat>,
+    pub passes: Vec<Pass>,
+}
+
 /// A stack with a handle open for each client, and all that its threads will share, which has no name yet. Contracts
 /// see it as the names that a host of it has.
 pub struct Opened {
     pub(crate) stack: Stack<BookedAdapter>,
-    pub(crate) handles: Vec<Handle>,
+    pub(crate) supplies: Supplies,
     pub(crate) partitions: Vec<u8>,
     pub(crate) sizes: StackSizes,
     pub(crate) slots: usize,
@@ -60,9 +68,7 @@ pub struct Opened {
     pub(crate) ledger: Blank,
     pub(crate) marks: Marks,
     pub(crate) owner: Seat,
-    pub(crate) seats: Vec<Seat>,
     pub(crate) gate: Gate,
-    pub(crate) passes: Vec<Pass>,
 }
 
 impl Model for Opened {
@@ -83,7 +89,7 @@ impl Model for Opened {
       gate = o.gate;
     } };
 
-    ghost invariant = { λ o. IsReady o.partitions.items o.stack o.handles.items o.sizes o.slots o.ledger.parts o.marks o.owner o.seats.items o.gate o.passes.items };
+    ghost invariant = { λ o. IsReady o.partitions.items o.stack o.supplies.handles.items o.sizes o.slots o.ledger.parts o.marks o.owner o.supplies.seats.items o.gate o.supplies.passes.items };
 }
 
 // Makes a table of this many slots, with the owner's seat and one for each client.
@@ -197,7 +203,11 @@ impl Opened {
         let history = chronicle::Opened::new(alloc)?;
         Ok(Opened {
             stack,
-            handles: gear.handles,
+            supplies: Supplies {
+                handles: gear.handles,
+                seats: gear.seats,
+                passes: gear.passes,
+            },
             partitions: gear.partitions,
             sizes,
             slots,
@@ -205,9 +215,7 @@ impl Opened {
             ledger: Blank::new(partitions.len() as u64 + 1),
             marks: gear.marks,
             owner: gear.owner,
-            seats: gear.seats,
             gate: gear.gate,
-            passes: gear.passes,
         })
     }
 
@@ -215,7 +223,7 @@ impl Opened {
     pub fn end(self) {
         let Opened {
             stack: _,
-            handles: _,
+            supplies: _,
             partitions: _,
             sizes: _,
             slots: _,
@@ -223,9 +231,7 @@ impl Opened {
             ledger,
             marks: _,
             owner: _,
-            seats: _,
             gate: _,
-            passes: _,
         } = self;
         end_history::<Brand>(history);
         end_ledger::<Brand>(ledger);

@@ -1,11 +1,13 @@
 //! What the threads of a host share beside the locks: the table of marks, the gate, and what is known of the disk.
 
 ghost use Rattle.std.specs.Prelude.{◌≡◌, ◌<◌, Some};
-ghost use Rattle.host.specs.Opening.{IsDiskOf, IsOpening};
+ghost use Rattle.host.specs.Opening.{IsDiskOf, IsJournalFor, IsOpening};
 
 use crate::name::Naming;
 use cancel_marks::Marks;
+use disk::Medium;
 use remove_lock::Gate;
+use sector_journal::Journal;
 use std::marker::{Model, PhantomData};
 
 /// The table of marks, with a slot for each request that may be open.
@@ -28,12 +30,37 @@ pub(crate) struct Door<N: Naming> {
 }
 
 impl<N: Naming> Table<N> {
+    /// The table of a host whose stack may have as many requests open as it has slots.
+    pub(crate) fn new(marks: Marks) -> Table<N>
+        requires named { marks ≡ (N.marks, N.slots) }
+        requires slots { N.rules.open_requests ≡ Some N.slots }
+        requires bytes { 0 < N.rules.sector_size }
+        requires opening { IsOpening N.start }
+    {
+        Table {
+            marks,
+            of: PhantomData,
+        }
+    }
+
     /// Shows the caller what is known of the names.
     pub(crate) fn shows_opening(&self)
         ensures slots { N.rules.open_requests ≡ Some N.slots }
         ensures bytes { 0 < N.rules.sector_size }
         ensures opening { IsOpening N.start }
     {}
+}
+
+impl<N: Naming> Door<N> {
+    /// The gate that is named.
+    pub(crate) fn new(gate: Gate) -> Door<N>
+        requires named { gate ≡ N.gate }
+    {
+        Door {
+            gate,
+            of: PhantomData,
+        }
+    }
 }
 
 /// What is known of the sectors that the journal was opened with. Contracts see it as these sectors.
@@ -54,9 +81,12 @@ impl<N: Naming> Model for Disk<N> {
 }
 
 impl<N: Naming> Disk<N> {
-    pub(crate) fn new() -> Disk<N>
-        requires { IsDiskOf N.rules N.opening }
+    /// The sectors of a journal in which nothing was entered.
+    pub(crate) fn of<M: Medium>(journal: &Journal<M, N>) -> Disk<N>
+        requires disk { IsJournalFor N.rules journal.now }
     {
+        journal.shows_rule();
+        journal.shows_opening();
         Disk { of: PhantomData }
     }
 

@@ -1,16 +1,15 @@
 use Rattle.std.proofs.Common.{rules, ◌≡◌, ◌+◌, ◌<◌, ◌++◌, ◌∷◌, [], ℕ, List, length, refl, sym, ap, ◌∙◌, subst, arith, length-append}
 use Rattle.std.proofs.lemmas.Option.{slice_get_read}
 use Rattle.cancel_marks.specs.Marks.{IsOther}
-use Rattle.host.specs.Accounts.{AccountView}
-use Rattle.host.specs.Clients.{ClientView, client_at}
+use Rattle.host.specs.Clients.{ClientView, client_at, fresh}
 use Rattle.host.specs.Opening.{IsClientPass}
-use Rattle.host.proofs.Making.{new_client, numbered_more, one_less, popped}
+use Rattle.host.proofs.Making.{fresh_more, is_fresh, new_client, one_less, popped}
 use Rattle.host.proofs.host.make_clients.Goals as goal
 
 pub new-account-requires-clause-handle : goal.new-account-requires-clause-handle
 new-account-requires-clause-handle g c =
-    let within : c.loop-c.c < length c.args.handles.items = search rules in
-    c.requires.handles.each c.loop-c.c c.index.result.now (slice_get_read c.args.handles.items (length c.args.handles.items) c.loop-c.c c.index.result.now refl within c.index.ensures)
+    let within : c.loop-c.c < length c.args.supplies.handles.items = search rules in
+    c.requires.handles.each c.loop-c.c c.index.result.now (slice_get_read c.args.supplies.handles.items (length c.args.supplies.handles.items) c.loop-c.c c.index.result.now refl within c.index.ensures)
 
 pub invariant_of-push_reserved : goal.invariant_of-push_reserved
 invariant_of-push_reserved g c =
@@ -28,6 +27,9 @@ loop-c-preserved g c =
     let passes = one_less c.loop-c.passes.items c.pop-in-loop-c.new.self.items c.pop-in-loop-c.result c.in-Some-Some.pass c.in-Some-Some.is-1 c.pop-in-loop-c.ensures.items in
     let x : ClientView = record { client = c.new-account.result.share.client; called = c.new-account.result.called.list; answered = c.new-account.result.answered.list; pass = c.in-Some-Some.pass.view; seat = c.in-Some-Some.seat.view } in
     let items : c.push_reserved.new.self.items ≡ c.loop-c.clients.items ++ x ∷ [] = ◌∙◌ {A = List ClientView} c.push_reserved.ensures.items (ap (λ (vs : List ClientView). vs ++ x ∷ []) c.reserve.ensures.items) in
+    let are_fresh = subst (λ (vs : List ClientView). (k : ℕ) → k < c.loop-c.c + 1 → client_at vs k ≡ fresh k) (sym items)
+    (fresh_more c.loop-c.clients.items x c.loop-c.c at.made at.are_fresh
+    (is_fresh g.N.Naming-1.gate g.N.Naming-3.marks c.loop-c.c c.index.result.now c.new-account.result c.in-Some-Some.pass c.in-Some-Some.seat c.new-account.ensures pass.0 seat.0)) in
     record {
       whole = c.no_claims-in-loop-c.ensures.same ∙ c.no_claims.ensures.same ∙ at.whole;
       parts = (let p = at.parts in let s = c.split_off.ensures.parts_left in omega arith);
@@ -37,6 +39,6 @@ loop-c-preserved g c =
       are_seats = seat.1;
       are_passes = pass.1;
       made = (let m = at.made in omega (arith, ap length items, length-append c.loop-c.clients.items (x ∷ [])));
-      numbered = subst (λ (vs : List ClientView). (k : ℕ) → k < c.loop-c.c + 1 → (client_at vs k).client ≡ k) (sym items)
-          (numbered_more c.loop-c.clients.items x c.loop-c.c at.made at.numbered (ap (λ (a : AccountView). a.share.client) c.new-account.ensures));
+      numbered = λ k less. ap (λ (v : ClientView). v.client) (are_fresh k less);
+      are_fresh = are_fresh;
     }

@@ -1,6 +1,6 @@
 use Rattle.std.proofs.Common.{◌≡◌, ◌+◌, ◌<◌, ℕ, length, All}
 use Rattle.cancel_marks.specs.Marks.{IsOther}
-use Rattle.host.specs.Clients.{client_at}
+use Rattle.host.specs.Clients.{client_at, fresh}
 use Rattle.host.specs.Opening.{IsClientPass}
 use Rattle.host.proofs.host.make_clients.Given as goal
 
@@ -15,4 +15,5 @@ invariant-loop-c g l = record {
   are_passes : All (IsClientPass g.N.Naming-1.gate) l.passes.items;
   made : length l.clients.items ≡ l.c;
   numbered : (k : ℕ) → k < l.c → (client_at l.clients.items k).client ≡ k;
+  are_fresh : (k : ℕ) → k < l.c → client_at l.clients.items k ≡ fresh k;
 }

@@ -1,8 +1,9 @@
-use Rattle.std.proofs.Common.{◌≡◌, ◌+◌, ◌<◌, ◌≤◌, ◌++◌, ℕ, [], Option, Some, None, length, refl, sym, ap, ◌∙◌, subst, arith}
+use Rattle.std.proofs.Common.{◌≡◌, ◌+◌, ◌<◌, ◌≤◌, ◌++◌, ℕ, List, [], Option, Some, None, length, refl, sym, ap, ◌∙◌, subst, arith}
 use Rattle.std.specs.Prelude.{IfSome, slice_index_or}
 use Rattle.machine.specs.declared.ClientRequest.{ClientRequest}
 use Rattle.machine.specs.declared.Label.{Label}
 use Rattle.machine.specs.declared.Label.TheVariants.{Answer as AnswerLabel, Call as CallLabel}
+use Rattle.io_manager.specs.declared.Refusal.{Refusal as Why}
 use Rattle.io_manager.specs.declared.Reply.{Reply}
 use Rattle.io_manager.specs.Calls.{status_of_refusal}
 use Rattle.chronicle.specs.Claims.{AllStand}
@@ -12,10 +13,14 @@ use Rattle.host.specs.Receipts.{ReceiptsView, receipt}
 use Rattle.host.specs.Accounts.{AccountView, IsCalled, IsTurnedDown, told_request}
 use Rattle.host.specs.Calls.{HasCounted, IsAnsweredAtOnce, IsTold, Stands, buffer_of, request_of}
 use Rattle.host.specs.declared.call.Reason.TheVariants.{Refused}
+use Rattle.host.specs.declared.call.Places.{Places}
 use Rattle.host.specs.declared.call.Refusal.{Refusal}
 use Rattle.host.proofs.Issuing.{IsAnswerReceived, IsReceived, answer_received, called_view, received, stands_noted, stands_within}
 use Rattle.host.proofs.account.Account.issue_in.Goals as goal
 use Rattle.host.proofs.account.Account.issue_in.Goals.{After-note, After-note-claim}
+
+abbrev refusal_of : Why → List ℕ → Option Places → Refusal
+refusal_of why bytes places = record { reason = Refused why; bytes = bytes; places = places }
 
 -- what the book tells of the call, by its reply
 told : (g : _) (c : After-note-claim g) (reply : Reply) → c.carry_call-reply.result.0 ≡ reply
@@ -122,10 +127,12 @@ returns-in-Refused-reply-clause-refused g c =
     let new : AccountView = record { share = c.carry_call-reply.new.share; called = c.note-claim.new.self; answered = c.note.new.self } in
     let rooms = ap (λ (v : ReceiptsView). v.room) c.note.ensures.noted in
     let same = ap (λ (v : ReceiptsView). v.room) c.check-2.ensures.same.1 in
-    subst (λ (v : AccountView). IsTurnedDown (slice_index_or g.N.Naming-3.partitions v.share.client 0) v c.args.call refusal new) c.self.view_is
+    let is : c.of_stack-in-Refused-reply.result ≡ refusal = c.of_stack-in-Refused-reply.ensures ∙ ap (λ (p : Places). refusal_of c.in-Refused-reply.refusal c.in-Refused-reply.bytes (Some p)) c.at_once-places.ensures in
+    subst (λ (r : Refusal). IsTurnedDown (slice_index_or g.N.Naming-3.partitions c.args.self.now.share.client 0) c.args.self.now c.args.call r new) (sym is)
+    (subst (λ (v : AccountView). IsTurnedDown (slice_index_or g.N.Naming-3.partitions v.share.client 0) v c.args.call refusal new) c.self.view_is
     (record {
       bytes = t.0;
       same_client = t.1.1.counted.client;
       room = omega (arith, rooms, same);
       labels = record { number = t.1.0; behind = refl; above_calls = r.above_calls; above_answers = r.above_answers; called_is = r.list ∙ ap (λ x. c.self.inside.called.list ++ x) r.claim_is; answered_is = a.list ∙ ap (λ (v : ReceiptsView). v.list ++ receipt (place + 1) label c.self.inside.share.client) c.check-2.ensures.same.1 };
-    })
+    }))

@@ -5,16 +5,24 @@ use Rattle.host.specs.Opening.{IsOpening, Names}
 use Rattle.host.proofs.Opening.{marks_are}
 use Rattle.host.proofs.host.Host.new.Goals as goal
 
-pub invariant_of-host : goal.invariant_of-host
-invariant_of-host g c =
+pub new-table-requires-clause-named : goal.new-table-requires-clause-named
+new-table-requires-clause-named g c =
+    let named = c.opened.view_is ∙ c.requires.named in
+    marks_are c.opened.inside.marks g.N.Naming-3.marks g.N.Naming-3.slots (ap (λ (v : Names). v.marks) named) (c.opened.invariant.slots_is ∙ ap (λ (v : Names). v.slots) named)
+
+pub new-table-requires-clause-slots : goal.new-table-requires-clause-slots
+new-table-requires-clause-slots g c =
+    let named = c.opened.view_is ∙ c.requires.named in
+    ap (λ (v : Names). v.rules.open_requests) (sym named) ∙ c.opened.invariant.as_many ∙ ap (λ (v : Names). Some v.slots) named
+
+pub new-table-requires-clause-bytes : goal.new-table-requires-clause-bytes
+new-table-requires-clause-bytes g c =
     let named = c.opened.view_is ∙ c.requires.named in
     let kept = c.opened.invariant in
-    record {
-      is = marks_are c.opened.inside.marks g.N.Naming-3.marks g.N.Naming-3.slots (ap (λ (v : Names). v.marks) named) (kept.slots_is ∙ ap (λ (v : Names). v.slots) named);
-      slots = ap (λ (v : Names). v.rules.open_requests) (sym named) ∙ kept.as_many ∙ ap (λ (v : Names). Some v.slots) named;
-      bytes = subst (λ (r : Rules). 0 < r.sector_size) (ap (λ (v : Names). v.rules) named) (subst (λ (z : StackSizes). 0 < z.sector_size) kept.same_sizes kept.are_sizes.some_bytes);
-      opening = subst IsOpening (ap (λ (v : Names). v.opening) named) kept.opens;
-    }
+    subst (λ (r : Rules). 0 < r.sector_size) (ap (λ (v : Names). v.rules) named) (subst (λ (z : StackSizes). 0 < z.sector_size) kept.same_sizes kept.are_sizes.some_bytes)
 
-pub invariant_of-host-2 : goal.invariant_of-host-2
-invariant_of-host-2 g c = record { is = ap (λ (v : Names). v.gate) (c.opened.view_is ∙ c.requires.named) }
+pub new-table-requires-clause-opening : goal.new-table-requires-clause-opening
+new-table-requires-clause-opening g c = subst IsOpening (ap (λ (v : Names). v.opening) (c.opened.view_is ∙ c.requires.named)) c.opened.invariant.opens
+
+pub new-door-requires : goal.new-door-requires
+new-door-requires g c = record { named = ap (λ (v : Names). v.gate) (c.opened.view_is ∙ c.requires.named) }
