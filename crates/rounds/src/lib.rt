@@ -19,7 +19,7 @@ ghost use Rattle.traced.specs.Sizes.{AreSizes, sizes_of};
 ghost use Rattle.host.specs.Opening.{IsDiskFor};
 ghost use Rattle.rounds.specs.Faults.{IsRoundsFault};
 
-use crate::threads::serve;
+use crate::threads::{Blank, serve};
 pub use crate::threads::{Lanes, remove, start_lanes};
 use compose::Stack;
 use disk::Medium;
@@ -108,7 +108,10 @@ pub fn run<M: Medium + Send, R: Threads + Wait + Sync>(
     };
     match Opened::new(alloc, stack, sizes, slots, partitions.as_slice()) {
         Ok(opened) => match sector_journal::Opened::new(alloc) {
-            Ok(histories) => serve::<M, Brand, R>(rt, alloc, opened, histories, medium, plan),
+            Ok(histories) => {
+                let blank = Blank { histories, medium };
+                serve::<M, Brand, R>(rt, alloc, opened, blank, plan)
+            }
             Err(_) => {
                 opened.end();
                 Err(RoundsFault::NoMemory)

@@ -1,11 +1,12 @@
 //! The threads: lanes, a completion worker, and clients.
 
-ghost use Rattle.std.specs.Prelude.{◌≡◌, ◌≤◌, ◌<◌, ◌+◌, ◌*◌, ℕ, suc, IfErr, IfOk, IfSome, get_or, length};
+ghost use Rattle.std.specs.Prelude.{◌≡◌, ◌≤◌, ◌<◌, ◌+◌, ◌*◌, ℕ, suc, IfErr, IfOk, IfSome, MatchBool, get_or, length};
 ghost use Rattle.lanes.specs.Queue.{fresh_lane, issued, lanes_of, standing};
 ghost use Rattle.host.specs.Clients.{AreNumbered};
 ghost use Rattle.host.specs.Opening.{IsDiskFor};
 ghost use Rattle.sector_journal.specs.Journal.{entries_in};
 ghost use Rattle.srb.specs.Replaying.{Replays};
+ghost use Rattle.host.specs.Keepers.{IsPulledOut, IsQueriedFirst};
 ghost use Rattle.rounds.specs.declared.RoundsFault.TheVariants.{NoMemory};
 
 use crate::client::{Served, Shared, serve_client};
@@ -166,22 +167,22 @@ fn join_clients<N: Naming, R: Threads>(
     Ok((tally, clients))
 }
 
-/// Removes the device, by surprise where the query is refused. Returns whether the query was granted.
+/// Removes the device, by surprise where the query is refused. Returns whether the query was granted; the keeper has
+/// receipts of it then, and of a removal that was accepted.
 pub fn remove<M: Medium, N: Naming, R: Wait>(
     rt: &R,
     host: &Host<M, N>,
     keeper: &mut Keeper<N>,
-) -> bool {
-    match host.query_remove(rt, keeper) {
-        Reply::Ok => {
-            host.remove(rt, keeper);
-            true
-        }
-        _ => {
-            host.surprise_remove(rt, keeper);
-            false
-        }
+) -> bool
+    ensures told { MatchBool result (IsQueriedFirst keeper.old.told keeper.new.told) (IsPulledOut keeper.old.told keeper.new.told) }
+{
+    let asked = host.query_remove(rt, keeper);
+    if let Reply::Ok = asked {
+        host.remove(rt, keeper);
+        return true;
     }
+    host.surprise_remove(rt, keeper);
+    false
 }
 
 /// Starts the lanes and the worker, and has the clients do their rounds.
@@ -248,20 +249,25 @@ fn run_threads<M: Medium + Send, N: Naming + Send + Sync, R: Threads + Wait + Sy
     )
 }
 
+/// What a journal is made of: its histories, which have no name yet, and the medium of its sectors.
+pub(crate) struct Blank<M: Medium> {
+    pub histories: sector_journal::Opened,
+    pub medium: M,
+}
+
 /// Serves a stack: its clients do their rounds, and then its device is removed.
 pub(crate) fn serve<M: Medium + Send, N: Naming + Send + Sync, R: Threads + Wait + Sync>(
     rt: &R,
     alloc: Global,
     opened: Opened,
-    histories: sector_journal::Opened,
-    medium: M,
+    blank: Blank<M>,
     plan: Plan,
 ) -> Result<Done<M>, RoundsFault>
     requires named { opened ≡ record { rules = N.rules; opening = N.start; partitions = N.partitions; handles = N.handles; marks = N.marks; slots = N.slots; table = N.table; name = N.name; parts = N.parts; gate = N.gate } }
-    requires histories { histories ≡ record { armings = N.armings; entries = N.entries } }
-    requires sectors { (M.view medium).sectors ≡ N.opening }
-    requires unfailed { (M.view medium).failures ≡ 0 }
-    requires disk { IsDiskFor N.rules (M.view medium) }
+    requires histories { blank.histories ≡ record { armings = N.armings; entries = N.entries } }
+    requires sectors { (M.view blank.medium).sectors ≡ N.opening }
+    requires unfailed { (M.view blank.medium).failures ≡ 0 }
+    requires disk { IsDiskFor N.rules (M.view blank.medium) }
     requires parts { N.parts ≡ length N.partitions + 1 }
     requires clients { length N.partitions ≡ plan.clients }
     requires plan { (plan.clients ≤ 32) × (1 ≤ plan.depth) × (plan.depth ≤ 32) }
@@ -269,6 +275,7 @@ pub(crate) fn serve<M: Medium + Send, N: Naming + Send + Sync, R: Threads + Wait
     ensures replays { IfOk result (λ done. Replays (M.view done.medium).sector_size N.opening (entries_in done.entries.items) (M.view done.medium).sectors) }
     ensures fault { IfErr result (λ fault. fault ≡ NoMemory) }
 {
+    let Blank { histories, medium } = blank;
     let Ok((journal, words)) = Journal::<M, N>::new(
         alloc,
         histories,

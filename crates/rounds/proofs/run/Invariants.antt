@@ -20,4 +20,4 @@ abbrev pub ghosts-serve-N-Naming-4 : goal.ghosts-serve-N-Naming-4
 ghosts-serve-N-Naming-4 g a = record { table = a.opened.table }
 
 abbrev pub ghosts-serve-N-Naming-5 : goal.ghosts-serve-N-Naming-5
-ghosts-serve-N-Naming-5 g a = record { armings = a.histories.armings; entries = a.histories.entries; opening = (g.M.Medium.view a.medium).sectors }
+ghosts-serve-N-Naming-5 g a = record { armings = a.blank.histories.armings; entries = a.blank.histories.entries; opening = (g.M.Medium.view a.blank.medium).sectors }
