@@ -25,7 +25,7 @@ use std::alloc::{AllocError, Global};
 use std::process::Abort;
 use std::sync::ledger::Blank;
 use std::sync::{Mutex, Wait};
-use traced::{Share, TraceEntry, Traced};
+use traced::{Owned, Share, TraceEntry, Traced};
 
 /// One row of a test.
 #[derive(Debug, Clone, Copy)]
@@ -212,48 +212,64 @@ fn book_rest<M: Medium, N: Naming, R: Wait + Abort>(
     Ok(())
 }
 
-/// A book over this stack, beside a journal of this medium, carries the rows out.
+/// What a book of two clients and its journal are made of beside a stack, which has no name yet: the history of the
+/// trace, the ledger of the calls, sixty-four marks with the owner's seat, and the histories of the journal with the
+/// medium of its sectors.
+pub(crate) struct Gear<M: Medium> {
+    pub history: Opened<TraceEntry>,
+    pub ledger: Blank,
+    pub marks: Marks,
+    pub owner: Seat,
+    pub journal: sector_journal::Opened,
+    pub medium: M,
+}
+
+/// A book over this stack, beside a journal, carries the rows out.
 pub(crate) fn carry_out<M: Medium, N: Naming, R: Wait + Abort>(
     rt: &R,
     alloc: Global,
     ready: Ready<BookedAdapter>,
-    opened: Opened<TraceEntry>,
-    blank: Blank,
-    marks: Marks,
-    owner: Seat,
-    journal: sector_journal::Opened,
-    medium: M,
+    gear: Gear<M>,
     run: &Run,
 ) -> Result<(), AllocError>
-    requires history { opened ≡ N.table }
-    requires ledger { (blank.name ≡ N.name) × (blank.parts ≡ N.parts) × (N.parts ≡ 3) }
+    requires history { gear.history ≡ N.table }
+    requires ledger { (gear.ledger.name ≡ N.name) × (gear.ledger.parts ≡ N.parts) × (N.parts ≡ 3) }
     requires named { IsNamed N.rules N.start N.handles N.slots ready.stack }
     requires partitions { N.partitions ≡ 0 ∷ 0 ∷ [] }
     requires slots { N.slots ≡ 64 }
-    requires marks { marks ≡ (N.marks, N.slots) }
-    requires owner { owner ≡ standing N.marks 0 (starting 64) }
+    requires marks { gear.marks ≡ (N.marks, N.slots) }
+    requires owner { gear.owner ≡ standing N.marks 0 (starting 64) }
     requires first { IsFirst ready.stack }
     requires opens { ready.stack.state ≡ opening ready.stack.state.arrays }
     requires clients { AreClientsOf (0 ∷ 0 ∷ []) ready.stack.handles }
     requires handles { AreHandlesOf (0 ∷ 0 ∷ []) ready.handles.items ready.stack }
     requires sizes { (ready.sizes ≡ sizes_of ready.stack.rules) × AreSizes ready.sizes }
     requires apart { IsFalse ready.stack.adapter.faithful }
-    requires journal { journal ≡ record { armings = N.armings; entries = N.entries } }
-    requires medium { (M.view medium).sectors ≡ N.opening }
-    requires some { 1 ≤ length (M.view medium).sectors }
-    requires unfailed { (M.view medium).failures ≡ 0 }
+    requires journal { gear.journal ≡ record { armings = N.armings; entries = N.entries } }
+    requires medium { (M.view gear.medium).sectors ≡ N.opening }
+    requires some { 1 ≤ length (M.view gear.medium).sectors }
+    requires unfailed { (M.view gear.medium).failures ≡ 0 }
 {
-    let Ready {
-        stack,
-        handles,
-        sizes,
-    } = ready;
-    let (history, whole) = opened.named::<N>();
-    let (tally, mut all) = blank.open::<N>();
+    let Gear {
+        history,
+        ledger,
+        marks,
+        owner,
+        journal,
+        medium,
+    } = gear;
+    let (history, whole) = history.named::<N>();
+    let (tally, mut all) = ledger.open::<N>();
     let (mut journal, words) = Journal::<M, N>::new(alloc, journal, medium, 2, false)?;
-    let mut first = Share::new(0, handles[0], all.split_off(1, 0));
-    let mut second = Share::new(1, handles[1], all.split_off(1, 0));
-    let traced = Traced::new(alloc, stack, whole, owner, tally, 2, 64, sizes)?;
+    let mut first = Share::new(0, ready.handles[0], all.split_off(1, 0));
+    let mut second = Share::new(1, ready.handles[1], all.split_off(1, 0));
+    let owned = Owned {
+        whole,
+        seat: owner,
+        slots: 64,
+        tally,
+    };
+    let traced = Traced::new(alloc, ready.stack, owned, 2, ready.sizes)?;
     let book = Book::new(alloc, traced, &mut journal, &words)?;
     let journal = Mutex::new(journal);
     let mut desk = Desk {
@@ -269,14 +285,13 @@ pub(crate) fn carry_out<M: Medium, N: Naming, R: Wait + Abort>(
     book_rest(rt, &mut desk, run.entries)?;
     let Desk { mut book, .. } = desk;
     claim_first(&mut book, &history);
-    ask(rt, &mut book, run);
     all.merge(first.into_part());
     all.merge(second.into_part());
     book.audit(&mut all);
     compare(rt, alloc, book, run)
 }
 
-// The trace and the rows of a book are those that are wanted.
+// What is told of request 1, the trace and the rows of a book are those that are wanted.
 fn compare<N: Naming>(
     rt: &impl Abort,
     alloc: Global,
@@ -285,6 +300,8 @@ fn compare<N: Naming>(
 ) -> Result<(), AllocError>
     requires { N.partitions ≡ 0 ∷ 0 ∷ [] }
 {
+    let mut book = book;
+    ask(rt, &mut book, run);
     let (trace, mut rows, _receipts) = book.into_rows();
     same(
         rt,

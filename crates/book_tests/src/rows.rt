@@ -4,7 +4,7 @@ ghost use Rattle.std.specs.Prelude.{◌≡◌, ◌≤◌, IfOk, length};
 ghost use Rattle.cancel_marks.specs.Marks.{standing, starting};
 ghost use Rattle.probe.specs.Exchange.{IsIdle};
 
-use crate::desk::{Row, Run, carry_out};
+use crate::desk::{Gear, Row, Run, carry_out};
 use crate::opened::{open_two, sector_0};
 use crate::orders::Order;
 use cancel_marks::{Marks, Seat};
@@ -73,18 +73,15 @@ fn run_on<M: Medium, R: Wait + Abort>(
     let ready = open_two(rt, alloc, adapter_apart(alloc)?)?;
     let (marks, owner) = slots(alloc)?;
     let (opened, journal) = histories(alloc)?;
-    carry_out::<M, Brand, R>(
-        rt,
-        alloc,
-        ready,
-        opened,
-        Blank::new(3),
+    let gear = Gear {
+        history: opened,
+        ledger: Blank::new(3),
         marks,
         owner,
         journal,
         medium,
-        run,
-    )
+    };
+    carry_out::<M, Brand, R>(rt, alloc, ready, gear, run)
 }
 
 // A run beside a journal of a disk in memory, in which these sectors are bad.
