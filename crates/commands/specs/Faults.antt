@@ -2,6 +2,8 @@
 use Rattle.std.specs.Prelude.{ℕ, ◌++◌, List, Bool, true, false, codes}
 use Rattle.script.specs.Faults.{text_of as script_text}
 use Rattle.startup.specs.Texts.{text_of as startup_text}
+use Rattle.script_runs.specs.declared.faults.Error.{Error as RunError}
+use Rattle.script_runs.specs.declared.faults.Error.TheVariants.{Startup as RunStartup, Unreadable as RunUnreadable, Script as RunScript}
 use Rattle.commands.specs.declared.faults.Error.{Error}
 use Rattle.commands.specs.declared.faults.Error.TheVariants.{Usage, Startup, ScriptUnreadable, Script, NoMemory}
 
@@ -17,3 +19,9 @@ line_of NoMemory = codes "stackrun: no memory"
 abbrev pub is_usage : Error → Bool
 is_usage Usage = true
 is_usage _ = false
+
+-- the fault of a script that is not run to its end
+abbrev pub fault_of_run : RunError → Error
+fault_of_run (RunStartup fault) = Startup fault
+fault_of_run RunUnreadable = ScriptUnreadable
+fault_of_run (RunScript fault) = Script fault

@@ -3,7 +3,7 @@
 ghost use Rattle.std.specs.Prelude.{◌≡◌};
 ghost use Rattle.commands.specs.Faults.{is_usage};
 ghost use Rattle.startup.specs.declared.faults.Error.TheVariants.{Start};
-ghost use Rattle.commands.specs.declared.faults.Error.TheVariants.{NoMemory, Script, Startup};
+ghost use Rattle.commands.specs.declared.faults.Error.TheVariants.{NoMemory, Startup};
 
 use compose::StartFault;
 use script::ScriptFault;
@@ -88,10 +88,16 @@ impl From<StartFault> for Error {
     }
 }
 
-impl From<ScriptFault> for Error {
-    ghost from_gives = { λ why fault. fault ≡ Script why };
+impl From<script_runs::Error> for Error {
+    ghost use Rattle.commands.specs.Faults.{fault_of_run};
 
-    fn from(fault: ScriptFault) -> Error {
-        Error::Script(fault)
+    ghost from_gives = { λ why fault. fault ≡ fault_of_run why };
+
+    fn from(fault: script_runs::Error) -> Error {
+        match fault {
+            script_runs::Error::Startup(why) => Error::Startup(why),
+            script_runs::Error::Unreadable => Error::ScriptUnreadable,
+            script_runs::Error::Script(why) => Error::Script(why),
+        }
     }
 }

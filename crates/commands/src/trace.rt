@@ -1,15 +1,14 @@
 //! A script run through the stack of its settings, and its trace in print.
 
-ghost use Rattle.std.specs.Prelude.{ℕ, IfErr, IfOk, List, OnOk, Option};
+ghost use Rattle.std.specs.Prelude.{IfErr, OnOk};
 ghost use Rattle.script.specs.Trace.{Prints};
-ghost use Rattle.settings.specs.InRange.{AreInRange};
-ghost use Rattle.startup.specs.Reading.{IsAllOf};
-ghost use Rattle.commands.specs.Trace.{AreGiven, IsPrintOf, IsTraceFault, IsUnreadScript};
+ghost use Rattle.commands.specs.Trace.{IsPrintOf, IsTraceFault};
 
 use crate::faults::Error;
-use script::{Line, ScriptFault, lines, play};
-use settings::Config;
-use startup::{contents, fault_of, read_settings, start};
+use adapter::Adapter;
+use compose::Stack;
+use script::{Line, ScriptFault, play};
+use script_runs::{Playing, run};
 use std::alloc::Global;
 use std::io::{Read, Write};
 
@@ -19,7 +18,7 @@ use std::io::{Read, Write};
 ///
 /// The first of these that fits: the settings can't be read, or are refused; the script can't be read, or has a bad
 /// line; no stack of the settings could be started; `out` failed, after a beginning of the text. Where memory was
-/// refused, [`Error::NoMemory`] or the step's own error for it stands in place of any of them.
+/// refused, the step's own error for it stands in place of any of them.
 pub fn trace<C: Read + Drop, S: Read + Drop, O: Write>(
     alloc: Global,
     config: C,
@@ -29,44 +28,24 @@ pub fn trace<C: Read + Drop, S: Read + Drop, O: Write>(
     ensures text { OnOk result (Prints (O.contents out.old) (O.contents out.new) (IsPrintOf (C.remaining config) (S.remaining script))) }
     ensures fault { IfErr result (IsTraceFault (C.remaining config) (S.remaining script)) }
 {
-    let config = read_settings(alloc, config)?;
-    let script = bytes_of(alloc, script)?;
-    let Ok(text) = std::str::from_utf8(script.as_slice()) else {
-        return Err(Error::Script(ScriptFault::BadLine { line: 1 }));
-    };
-    let lines = lines(alloc, text)?;
-    play_lines(alloc, config, lines.as_slice(), out)
+    run::<Tracing, C, S, O>(alloc, config, script, out)?;
+    Ok(())
 }
 
-/// Plays the lines of a script through a stack of some settings, whichever inputs gave both.
-///
-/// # Errors
-///
-/// No stack of the settings could be started; `out` failed, after a beginning of the text; memory was refused.
-fn play_lines<O: Write>(
-    alloc: Global,
-    config: Config,
-    lines: &[Line<'_>],
-    out: &mut O,
-) -> Result<(), Error>
-    requires { AreInRange config }
-    ensures text { (settings script : Option (List ℕ)) → AreGiven settings script config lines.now → OnOk result (Prints (O.contents out.old) (O.contents out.new) (IsPrintOf settings script)) }
-    ensures fault { (settings script : Option (List ℕ)) → AreGiven settings script config lines.now → IfErr result (IsTraceFault settings script) }
-{
-    let mut stack = start(alloc, config)?;
-    match play(alloc, &mut stack, lines, out) {
-        Ok(()) => Ok(()),
-        Err(fault) => Err(Error::Script(fault)),
-    }
-}
+/// Lines are played with their replies and the labels of their steps in print.
+struct Tracing;
 
-/// Reads all bytes of a script.
-fn bytes_of<R: Read + Drop>(alloc: Global, script: R) -> Result<Vec<u8>, Error>
-    ensures all { IfOk result (λ bytes. IsAllOf (R.remaining script) bytes.items) }
-    ensures fault { IfErr result IsUnreadScript }
-{
-    match contents(alloc, script) {
-        Ok(bytes) => Ok(bytes),
-        Err(error) => Err(fault_of(&error, Error::ScriptUnreadable)),
+impl Playing for Tracing {
+    ghost use Rattle.script.specs.Trace.{line_text};
+
+    ghost text_of = { line_text };
+
+    fn play<A: Adapter, W: Write>(
+        alloc: Global,
+        stack: &mut Stack<A>,
+        lines: &[Line<'_>],
+        out: &mut W,
+    ) -> Result<(), ScriptFault> {
+        play(alloc, stack, lines, out)
     }
 }

@@ -1,10 +1,7 @@
 mod LinesRead
 mod Courses
-mod Written
 mod RecordedLabels
 mod PlayedLines
-mod Flushed
-mod Emitted
 mod Blaming
 mod SaidOfTraces
 mod Stopping

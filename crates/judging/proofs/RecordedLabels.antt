@@ -8,7 +8,7 @@ use Rattle.io_manager.specs.Right.{TakesAnswer, TakesLabel}
 use Rattle.io_manager.specs.Shown.{ManagerView}
 use Rattle.judging.specs.Recorded.{lines_text, whole_line}
 use Rattle.script.specs.Trace.{left_by, left_by_all, without_labels}
-use Rattle.judging.proofs.Written.{both, nothing}
+use Rattle.script.proofs.Printed.{both, nothing}
 
 -- taking an answer leaves those behind the first
 pub answer_taken : (old new : ManagerView) (answer : Option Answer) → TakesAnswer old answer new → new ≡ record old { answers = drop 1 old.answers }

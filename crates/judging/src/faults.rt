@@ -2,10 +2,8 @@
 
 ghost use Rattle.std.specs.Prelude.{◌≡◌};
 ghost use Rattle.judging.specs.inside.Faults.{is_usage};
-ghost use Rattle.startup.specs.declared.faults.Error.TheVariants.{Start};
-ghost use Rattle.judging.specs.declared.faults.Error.TheVariants.{NoMemory, Script, Startup};
+ghost use Rattle.judging.specs.declared.faults.Error.TheVariants.{NoMemory, Startup};
 
-use compose::StartFault;
 use script::ScriptFault;
 use startup::Ending;
 use std::alloc::{AllocError, AllocFailed};
@@ -97,19 +95,18 @@ impl From<startup::Error> for Error {
     }
 }
 
-impl From<StartFault> for Error {
-    ghost from_gives = { λ why fault. fault ≡ Startup (Start why) };
+impl From<script_runs::Error> for Error {
+    ghost use Rattle.judging.specs.inside.Faults.{fault_of_run};
 
-    fn from(fault: StartFault) -> Error {
-        Error::Startup(startup::Error::Start(fault))
-    }
-}
+    ghost from_gives = { λ why fault. fault ≡ fault_of_run why };
 
-impl From<ScriptFault> for Error {
-    ghost from_gives = { λ why fault. fault ≡ Script why };
-
-    fn from(fault: ScriptFault) -> Error {
-        Error::Script(fault)
+    fn from(fault: script_runs::Error) -> Error {
+        match fault {
+            script_runs::Error::Startup(why) => Error::Startup(why),
+            script_runs::Error::Unreadable => Error::ScriptUnreadable,
+            script_runs::Error::Script(ScriptFault::OutputFailed) => Error::OutputFailed,
+            script_runs::Error::Script(why) => Error::Script(why),
+        }
     }
 }
 

@@ -3,51 +3,54 @@
 ghost use Rattle.std.specs.Prelude.{◌≡◌, IfErr, OnOk};
 ghost use Rattle.std.specs.Io.KnownBytes.{Appends};
 ghost use Rattle.script.specs.Events.{AreNamed};
-ghost use Rattle.script.specs.Trace.{IsAllTaken, IsCarriedOut, Prints, left_by, without_labels};
-ghost use Rattle.judging.specs.Checked.{IsOutputFault};
-ghost use Rattle.judging.specs.Recorded.{IsLineRecorded, IsRecord, lines_text};
+ghost use Rattle.script.specs.Faults.{IsPrintFault};
+ghost use Rattle.script.specs.Trace.{IsAllTaken, IsCarriedOut, IsLineTold, IsTold, Prints, left_by, without_labels};
+ghost use Rattle.judging.specs.Recorded.{lines_text, record_text};
 
-use crate::Error;
 use adapter::Adapter;
 use compose::{Reply, Stack};
 use label_text::write_line;
 use machine::Label;
-use script::{Given, Line, Order, event};
+use script::{Given, Line, Order, ScriptFault, event};
+use script_runs::Playing;
 use std::alloc::Global;
 use std::io;
 use std::io::Write;
 
-/// Carries the lines of a script out, one after the other, and writes the labels of each step, one a line. The writer
-/// is flushed behind the last.
+/// Lines are played with the labels of their steps written, one a line. The writer is flushed behind the last.
+pub(crate) struct Recording;
+
+impl Playing for Recording {
+    ghost use Rattle.judging.specs.Recorded.{record_text};
+
+    ghost text_of = { record_text };
+
+    fn play<A: Adapter, W: Write>(
+        alloc: Global,
+        stack: &mut Stack<A>,
+        lines: &[Line<'_>],
+        out: &mut W,
+    ) -> Result<(), ScriptFault> {
+        record_each(alloc, stack, lines, out)?;
+        out.flush()?;
+        Ok(())
+    }
+}
+
+/// Carries the lines of a script out, one after the other, and writes the labels of each step, one a line.
 ///
 /// # Errors
 ///
-/// [`Error::NoMemory`], or [`Error::OutputFailed`]; the lines before may have been carried out.
-pub(crate) fn record_lines<A: Adapter, W: Write>(
-    alloc: Global,
-    stack: &mut Stack<A>,
-    lines: &[Line<'_>],
-    out: &mut W,
-) -> Result<(), Error>
-    requires taken { IsAllTaken stack.old }
-    ensures text { OnOk result (Prints (W.contents out.old) (W.contents out.new) (λ text. IsRecord stack.old lines.now text stack.new)) }
-    ensures fault { IfErr result IsOutputFault }
-{
-    record_each(alloc, stack, lines, out)?;
-    out.flush()?;
-    Ok(())
-}
-
-/// Does what [`record_lines`] does, and does not flush the writer.
+/// [`ScriptFault::NoMemory`], or [`ScriptFault::OutputFailed`]; the lines before may have been carried out.
 fn record_each<A: Adapter, W: Write>(
     alloc: Global,
     stack: &mut Stack<A>,
     lines: &[Line<'_>],
     out: &mut W,
-) -> Result<(), Error>
+) -> Result<(), ScriptFault>
     requires taken { IsAllTaken stack.old }
-    ensures text { OnOk result (Prints (W.contents out.old) (W.contents out.new) (λ text. IsRecord stack.old lines.now text stack.new)) }
-    ensures fault { IfErr result IsOutputFault }
+    ensures text { OnOk result (Prints (W.contents out.old) (W.contents out.new) (λ text. IsTold record_text stack.old lines.now text stack.new)) }
+    ensures fault { IfErr result IsPrintFault }
 {
     let mut given = Given::new(alloc);
     for line in lines {
@@ -63,12 +66,12 @@ fn record_line<A: Adapter, W: Write>(
     line: &Line<'_>,
     given: &mut Given,
     out: &mut W,
-) -> Result<(), Error>
+) -> Result<(), ScriptFault>
     requires taken { IsAllTaken stack.old }
     requires named { AreNamed given.old }
     ensures named { OnOk result (AreNamed given.new) }
-    ensures text { OnOk result (Prints (W.contents out.old) (W.contents out.new) (λ text. IsLineRecorded (record { stack = stack.old; given = given.old }) line.now text (record { stack = stack.new; given = given.new }))) }
-    ensures fault { IfErr result IsOutputFault }
+    ensures text { OnOk result (Prints (W.contents out.old) (W.contents out.new) (λ text. IsLineTold record_text (record { stack = stack.old; given = given.old }) line.now text (record { stack = stack.new; given = given.new }))) }
+    ensures fault { IfErr result IsPrintFault }
 {
     let reply = carry_out(alloc, stack, line.order, given);
     given.keep(&reply)?;

@@ -1,16 +1,12 @@
 //! The trace of a script, from the stack of its settings.
 
-ghost use Rattle.std.specs.Prelude.{ℕ, IfErr, IfOk, List, OnOk, Option};
+ghost use Rattle.std.specs.Prelude.{IfErr, OnOk};
 ghost use Rattle.script.specs.Trace.{Prints};
-ghost use Rattle.settings.specs.InRange.{AreInRange};
-ghost use Rattle.startup.specs.Reading.{IsAllOf};
-ghost use Rattle.judging.specs.Recorded.{AreGiven, IsRecordFault, IsRecordOf, IsUnreadScript};
+ghost use Rattle.judging.specs.Recorded.{IsRecordFault, IsRecordOf};
 
 use crate::faults::Error;
-use crate::recording::record_lines;
-use script::{Line, ScriptFault, lines};
-use settings::Config;
-use startup::{contents, fault_of, read_settings, start};
+use crate::recording::Recording;
+use script_runs::run;
 use std::alloc::Global;
 use std::io::{Read, Write};
 
@@ -20,7 +16,7 @@ use std::io::{Read, Write};
 ///
 /// The first of these that fits: the settings can't be read, or are refused; the script can't be read, or has a bad
 /// line; no stack of the settings could be started; `out` failed, after a beginning of the text. Where memory was
-/// refused, [`Error::NoMemory`] or the step's own error for it stands in place of any of them.
+/// refused, the step's own error for it stands in place of any of them.
 pub fn record_script<C: Read + Drop, S: Read + Drop, O: Write>(
     alloc: Global,
     config: C,
@@ -30,44 +26,6 @@ pub fn record_script<C: Read + Drop, S: Read + Drop, O: Write>(
     ensures text { OnOk result (Prints (O.contents out.old) (O.contents out.new) (IsRecordOf (C.remaining config) (S.remaining script))) }
     ensures fault { IfErr result (IsRecordFault (C.remaining config) (S.remaining script)) }
 {
-    let config = read_settings(alloc, config)?;
-    let script = bytes_of(alloc, script)?;
-    let Ok(text) = std::str::from_utf8(script.as_slice()) else {
-        return Err(Error::Script(ScriptFault::BadLine { line: 1 }));
-    };
-    let lines = lines(alloc, text)?;
-    play_lines(alloc, config, lines.as_slice(), out)
-}
-
-/// Records the lines of a script on a stack of some settings, whichever inputs gave both.
-///
-/// # Errors
-///
-/// No stack of the settings could be started; `out` failed, after a beginning of the text; memory was refused.
-fn play_lines<O: Write>(
-    alloc: Global,
-    config: Config,
-    lines: &[Line<'_>],
-    out: &mut O,
-) -> Result<(), Error>
-    requires { AreInRange config }
-    ensures text { (settings script : Option (List ℕ)) → AreGiven settings script config lines.now → OnOk result (Prints (O.contents out.old) (O.contents out.new) (IsRecordOf settings script)) }
-    ensures fault { (settings script : Option (List ℕ)) → AreGiven settings script config lines.now → IfErr result (IsRecordFault settings script) }
-{
-    let mut stack = start(alloc, config)?;
-    match record_lines(alloc, &mut stack, lines, out) {
-        Ok(()) => Ok(()),
-        Err(fault) => Err(fault),
-    }
-}
-
-/// Reads all bytes of a script.
-fn bytes_of<R: Read + Drop>(alloc: Global, script: R) -> Result<Vec<u8>, Error>
-    ensures all { IfOk result (λ bytes. IsAllOf (R.remaining script) bytes.items) }
-    ensures fault { IfErr result IsUnreadScript }
-{
-    match contents(alloc, script) {
-        Ok(bytes) => Ok(bytes),
-        Err(error) => Err(fault_of(&error, Error::ScriptUnreadable)),
-    }
+    run::<Recording, C, S, O>(alloc, config, script, out)?;
+    Ok(())
 }

@@ -4,6 +4,9 @@ use Rattle.std.specs.Fmt.{decimal}
 use Rattle.std.specs.declared.io.ErrorKind.{ErrorKind}
 use Rattle.std.specs.declared.io.ErrorKind.TheVariants.{OutOfMemory}
 use Rattle.script.specs.Faults.{text_of as script_text}
+use Rattle.script.specs.declared.ScriptFault.TheVariants.{BadLine as BadScriptLine, NoMemory as WantOfMemory, OutputFailed as PrintFailed}
+use Rattle.script_runs.specs.declared.faults.Error.{Error as RunError}
+use Rattle.script_runs.specs.declared.faults.Error.TheVariants.{Startup as RunStartup, Unreadable as RunUnreadable, Script as RunScript}
 use Rattle.startup.specs.Texts.{text_of as startup_text}
 use Rattle.judging.specs.declared.faults.Error.{Error}
 use Rattle.judging.specs.declared.faults.Error.TheVariants.{Usage, Startup, TraceUnreadable, ScriptUnreadable, BadLine, Script, OutputFailed, NoMemory}
@@ -29,3 +32,11 @@ pub record IsOfWrite (kind : ErrorKind) (fault : Error) : Type 0 where
   pub memory : kind ≡ OutOfMemory → fault ≡ NoMemory
   pub output : kind ≢ OutOfMemory → fault ≡ OutputFailed
   pub either : (fault ≡ OutputFailed) ⊎ (fault ≡ NoMemory)
+
+-- the fault of a script that is not run to its end
+abbrev pub fault_of_run : RunError → Error
+fault_of_run (RunStartup fault) = Startup fault
+fault_of_run RunUnreadable = ScriptUnreadable
+fault_of_run (RunScript (BadScriptLine line)) = Script (BadScriptLine line)
+fault_of_run (RunScript WantOfMemory) = Script WantOfMemory
+fault_of_run (RunScript PrintFailed) = OutputFailed

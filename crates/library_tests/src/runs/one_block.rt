@@ -62,7 +62,10 @@ fn trace(alloc: Global, config: &str, script: &str, out: &mut Vec<u8>) -> Result
         Ok(config) => config,
         Err(fault) => return Err(Error::Startup(startup::Error::Settings(fault))),
     };
-    let lines = lines(alloc, script)?;
+    let lines = match lines(alloc, script) {
+        Ok(lines) => lines,
+        Err(fault) => return Err(Error::Script(fault)),
+    };
     let settings = Settings {
         window: config.window,
         open_requests: config.open_requests,

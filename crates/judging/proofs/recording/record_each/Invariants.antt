@@ -1,7 +1,7 @@
 use Rattle.std.proofs.Common.{take}
 use Rattle.script.specs.Events.{AreNamed}
-use Rattle.script.specs.Trace.{IsAllTaken, Prints}
-use Rattle.judging.specs.Recorded.{IsRecordTo}
+use Rattle.script.specs.Trace.{IsAllTaken, IsToldTo, Prints}
+use Rattle.judging.specs.Recorded.{record_text}
 use Rattle.judging.proofs.recording.record_each.Given as goal
 
 -- the lines so far are recorded, and what was given stands under its number
@@ -10,5 +10,5 @@ invariant-loop-line g l = record {
   taken : IsAllTaken l.stack;
   named : AreNamed l.given;
   text : Prints (g.W.Write.contents l.initial.out) (g.W.Write.contents l.out)
-      (λ text. IsRecordTo l.initial.stack (take l.line-index l.lines) text (record { stack = l.stack; given = l.given }));
+      (λ text. IsToldTo record_text l.initial.stack (take l.line-index l.lines) text (record { stack = l.stack; given = l.given }));
 }

@@ -1,0 +1,2 @@
+mod Blaming
+mod Written

@@ -1,0 +1,39 @@
+-- What is written of settings and a script.
+use Rattle.std.proofs.Common.{◌≡◌, ℕ, List, Option, subst, sym, ◌∙◌}
+use Rattle.io_manager.specs.Shown.{ManagerView}
+use Rattle.settings.specs.declared.Config.{Config}
+use Rattle.startup.specs.Reading.{AreRead, IsAllOf}
+use Rattle.startup.specs.Started.{IsStartOf}
+use Rattle.script.specs.declared.Line.{Line}
+use Rattle.script.specs.Script.{AreEvents, lines_of}
+use Rattle.script.specs.Trace.{IsTold, LineText, Prints}
+use Rattle.script_runs.specs.Runs.{AreGiven, IsTextOf}
+
+module _ (config script : Option (List ℕ)) (settings : Config) (are_read : AreRead config settings) where
+  -- settings and the lines of a script, each as they were read
+  pub given : (text bytes items : List ℕ) (lines : List Line) → IsAllOf script items → text ≡ bytes
+      → bytes ≡ items → AreEvents (lines_of text) lines → AreGiven config script settings lines
+  given text bytes items lines all same_text same_bytes events = record {
+    are_read = are_read;
+    script_text = text;
+    all = subst (IsAllOf script) (sym (same_text ∙ same_bytes)) all;
+    events = events;
+  }
+
+  -- played by the stack of those settings
+  pub written : (text_of : LineText) (lines shown : List Line) (start last : ManagerView) (a b : Option (List ℕ))
+      → AreGiven config script settings lines → shown ≡ lines → IsStartOf settings start
+      → Prints a b (λ text. IsTold text_of start shown text last) → Prints a b (IsTextOf text_of config script)
+  written text_of lines shown start last a b are_given same_lines starts trace = record {
+    text = trace.text;
+    is = record {
+      settings = settings;
+      lines = lines;
+      given = are_given;
+      start = start;
+      starts = starts;
+      last = last;
+      told = subst (λ (ls : List Line). IsTold text_of start ls trace.text last) same_lines trace.is;
+    };
+    appends = trace.appends;
+  }

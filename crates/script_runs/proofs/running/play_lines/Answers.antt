@@ -1,0 +1,19 @@
+use Rattle.std.proofs.Common.{◌≡◌, Err, refl, rules}
+use Rattle.startup.specs.declared.faults.Error.TheVariants.{Start}
+use Rattle.script_runs.specs.declared.faults.Error.TheVariants.{Startup}
+use Rattle.script_runs.proofs.Blaming.{by_play}
+use Rattle.script_runs.proofs.Written.{written}
+use Rattle.script_runs.proofs.running.play_lines.Goals as goal
+
+pub returns-in_err-stack-clause-fault : goal.returns-in_err-stack-clause-fault
+returns-in_err-stack-clause-fault g c settings script given =
+    let told : c.from_residual.result ≡ Err (Startup (Start c.in_err-stack.field-0.0)) = search rules in
+    rw told (c.args.config, c.args.lines.now, given, c.in_err-stack.ensures.fault)
+
+pub returns-clause-fault : goal.returns-clause-fault
+returns-clause-fault g c settings script given =
+    by_play _ _ c.args.config given.are_read c.args.lines.now c.in-Err.fault given c.in-Err.ensures.fault
+
+pub returns-in-Ok-clause-text : goal.returns-in-Ok-clause-text
+returns-in-Ok-clause-text g c settings script given =
+    written _ _ _ given.are_read g.P.Playing.text_of _ _ _ _ _ _ given (refl) c.in_ok-stack.ensures.view c.in-Ok.ensures.text
