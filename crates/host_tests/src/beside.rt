@@ -2,14 +2,16 @@
 
 ghost use Rattle.std.specs.Prelude.{◌≡◌, ◌<◌, IfOk};
 
-use crate::disks::{TWO, disk, start_for};
+use crate::bench::Bench;
+use crate::disks::{TWO, disk};
 use crate::holding::Holding;
-use crate::scenes::{Scene, Want, play_scene};
+use crate::opening::ready_over;
+use crate::scenes::{Scene, Setting, Want, play_scene};
 use crate::texts;
 use cancel_marks::Marking;
 use compose::Refusal as Why;
 use disk::{BadSector, Medium, NoMemory};
-use host::{Answered, Call, Client, Host, HostFault, Naming, Opened, Reason, Ticket};
+use host::{Answered, Call, Client, Host, Naming, Reason, Ticket};
 use lanes::Turnstile;
 use sector::{Bytes, Extent};
 use std::alloc::{AllocError, Global};
@@ -145,12 +147,11 @@ struct BesideTransfer<'a, C: Clock> {
 impl<'a, C: Clock> Scene for BesideTransfer<'a, C> {
     fn play<M: Medium, N: Naming, R: Wait>(
         &self,
-        rt: &R,
-        alloc: Global,
-        host: &Host<M, N>,
+        bench: &Bench<M, N, R>,
         first: &mut Client<N>,
         second: &mut Client<N>,
     ) -> Result<String, AllocError> {
+        let (rt, alloc, host) = (bench.rt, bench.alloc, bench.host);
         let (one, other) = (buffer(alloc)?, buffer(alloc)?);
         let ticket = read_first(rt, host, first, one)?;
         self.holding.await_held(rt);
@@ -176,12 +177,11 @@ struct BesideReset<'a, C: Clock> {
 impl<'a, C: Clock> Scene for BesideReset<'a, C> {
     fn play<M: Medium, N: Naming, R: Wait>(
         &self,
-        rt: &R,
-        alloc: Global,
-        host: &Host<M, N>,
+        bench: &Bench<M, N, R>,
         first: &mut Client<N>,
         _second: &mut Client<N>,
     ) -> Result<String, AllocError> {
+        let (rt, alloc, host) = (bench.rt, bench.alloc, bench.host);
         let one = buffer(alloc)?;
         let ticket = read_first(rt, host, first, one)?;
         self.holding.await_held(rt);
@@ -215,12 +215,11 @@ fn read_and_wait<M: Medium, N: Naming, R: Wait>(
 impl<'a, C: Clock> Scene for BesideTurnstile<'a, C> {
     fn play<M: Medium, N: Naming, R: Wait>(
         &self,
-        rt: &R,
-        alloc: Global,
-        host: &Host<M, N>,
+        bench: &Bench<M, N, R>,
         first: &mut Client<N>,
         second: &mut Client<N>,
     ) -> Result<String, AllocError> {
+        let (rt, alloc, host) = (bench.rt, bench.alloc, bench.host);
         let (one, other) = (buffer(alloc)?, buffer(alloc)?);
         let ticket = read_first(rt, host, first, one)?;
         self.holding.await_held(rt);
@@ -241,24 +240,11 @@ fn run_over<
     rt: &R,
     alloc: Global,
     medium: M,
-    scene: &S,
-    turnstile: &T,
+    setting: Setting<'_, S, T>,
     want: &Want,
 ) -> Result<(), AllocError> {
-    let (stack, sizes) = start_for(rt, alloc, &medium, 2)?;
-    match Opened::new(alloc, stack, sizes, 64, &[0, 0]) {
-        Ok(opened) => match sector_journal::Opened::new(alloc) {
-            Ok(histories) => play_scene::<M, Brand, S, T, R>(
-                rt, alloc, opened, histories, medium, scene, turnstile, want,
-            ),
-            Err(refused) => {
-                opened.end();
-                Err(refused)
-            }
-        },
-        Err(HostFault::NoMemory) => Err(AllocError),
-        Err(fault) => panic!(rt; "{fault}"),
-    }
+    let ready = ready_over(rt, alloc, medium, 2, &[0, 0])?;
+    play_scene::<M, Brand, S, T, R>(rt, alloc, ready, setting, want)
 }
 
 // The mark is carried out before the call that comes after it, while the piece is transferred; its act comes behind
@@ -279,7 +265,11 @@ fn transfer_beside_call(rt: HostRuntime) -> Result<(), Fail> {
         rt: &rt,
     };
     let scene = BesideTransfer { holding: &holding };
-    run_over(&rt, alloc, medium, &scene, &Open, &TRANSFER)?;
+    let setting = Setting {
+        scene: &scene,
+        turnstile: &Open,
+    };
+    run_over(&rt, alloc, medium, setting, &TRANSFER)?;
     assert!(rt; !holding.has_given_up(&rt), "the turns have run out");
     Ok(())
 }
@@ -297,7 +287,11 @@ fn reset_beside_a_turnstile(rt: HostRuntime) -> Result<(), Fail> {
     let holding = Holding::new(&rt);
     let scene = BesideReset { holding: &holding };
     let turnstile = HoldsFirst { holding: &holding };
-    run_over(&rt, alloc, disk(alloc, TWO)?, &scene, &turnstile, &RESET)?;
+    let setting = Setting {
+        scene: &scene,
+        turnstile: &turnstile,
+    };
+    run_over(&rt, alloc, disk(alloc, TWO)?, setting, &RESET)?;
     assert!(rt; !holding.has_given_up(&rt), "the turns have run out");
     Ok(())
 }
@@ -315,14 +309,11 @@ fn second_is_answered_while_first_is_held(rt: HostRuntime) -> Result<(), Fail> {
     let holding = Holding::new(&rt);
     let scene = BesideTurnstile { holding: &holding };
     let turnstile = HoldsFirst { holding: &holding };
-    run_over(
-        &rt,
-        alloc,
-        disk(alloc, TWO)?,
-        &scene,
-        &turnstile,
-        &TURNSTILE,
-    )?;
+    let setting = Setting {
+        scene: &scene,
+        turnstile: &turnstile,
+    };
+    run_over(&rt, alloc, disk(alloc, TWO)?, setting, &TURNSTILE)?;
     assert!(rt; !holding.has_given_up(&rt), "the turns have run out");
     Ok(())
 }

@@ -4,15 +4,16 @@ ghost use Rattle.std.specs.Prelude.{◌≡◌, ◌≤◌, ◌∷◌, [], ◌+◌
 ghost use Rattle.host.specs.Clients.{AreNumbered};
 ghost use Rattle.host.specs.Opening.{IsDiskFor};
 
+use crate::bench::Bench;
 use crate::disks::TWO;
 use crate::expect::{same, same_at};
-use crate::opening::open_host;
+use crate::opening::{Ready, open_host};
 use crate::replaying::replay;
 use crate::texts;
 use crate::user::{Deed, User};
 use compose::{Refusal as Why, Reply};
 use disk::Medium;
-use host::{Client, Closed, Host, Keeper, Naming, Opened};
+use host::{Client, Closed, Host, Keeper, Naming};
 use lanes::{Desk, Step};
 use machine::Label;
 use sector_journal::Entered;
@@ -41,6 +42,13 @@ pub(crate) enum Row<'a> {
     Host(Drive, &'a str),
     /// A tag's lane does what it has to do.
     Lane(u8, Step),
+}
+
+/// Both clients of a test.
+#[derive(Drop)]
+struct Users<N: Naming> {
+    first: User<N>,
+    second: User<N>,
 }
 
 /// What is wanted of a client: the places of its calls, of the answers that it was told of, and of its row.
@@ -80,14 +88,13 @@ fn step<M: Medium, N: Naming, R: Wait>(
 
 // Takes a step that is no client's, and checks its reply.
 fn go<M: Medium, N: Naming, R: Wait + Abort>(
-    rt: &R,
-    alloc: Global,
-    host: &Host<M, N>,
+    bench: &Bench<M, N, R>,
     keeper: &mut Keeper<N>,
     drive: Drive,
     want: &str,
 ) -> Result<(), AllocError> {
-    let reply = step(rt, host, keeper, drive);
+    let (rt, alloc) = (bench.rt, bench.alloc);
+    let reply = step(rt, bench.host, keeper, drive);
     if let Reply::Refused {
         refusal: Why::InsufficientResources,
         ..
@@ -114,22 +121,20 @@ fn serve<D: Desk, R: Wait + Abort>(rt: &R, desk: &D, tag: u8, want: Step) {
 
 // Carries the rows of a test out one by one.
 fn play<M: Medium, N: Naming, R: Wait + Abort>(
-    rt: &R,
-    alloc: Global,
-    host: &Host<M, N>,
+    bench: &Bench<M, N, R>,
     keeper: &mut Keeper<N>,
-    first: &mut User<N>,
-    second: &mut User<N>,
+    users: &mut Users<N>,
     rows: &[Row],
 ) -> Result<(), AllocError>
-    ensures first { first.new.client ≡ first.old.client }
-    ensures second { second.new.client ≡ second.old.client }
+    ensures first { users.new.first.client ≡ users.old.first.client }
+    ensures second { users.new.second.client ≡ users.old.second.client }
 {
+    let (rt, alloc, host) = (bench.rt, bench.alloc, bench.host);
     for row in rows {
         match *row {
-            Row::By(0, deed, want) => first.go(rt, alloc, host, deed, want)?,
-            Row::By(_, deed, want) => second.go(rt, alloc, host, deed, want)?,
-            Row::Host(drive, want) => go(rt, alloc, host, keeper, drive, want)?,
+            Row::By(0, deed, want) => users.first.go(rt, alloc, host, deed, want)?,
+            Row::By(_, deed, want) => users.second.go(rt, alloc, host, deed, want)?,
+            Row::Host(drive, want) => go(bench, keeper, drive, want)?,
             Row::Lane(tag, want) => serve(rt, host, tag, want),
         }
     }
@@ -153,20 +158,21 @@ pub(crate) fn two_of<N: Naming>(rt: &impl Abort, clients: Vec<Client<N>>) -> (Cl
 
 // Carries the rows of a test out, and checks that both clients were told what is wanted.
 fn play_and_compare<M: Medium, N: Naming, R: Wait + Abort>(
-    rt: &R,
-    alloc: Global,
-    host: &Host<M, N>,
+    bench: &Bench<M, N, R>,
     keeper: &mut Keeper<N>,
-    first: &mut User<N>,
-    second: &mut User<N>,
+    users: &mut Users<N>,
     run: &Run,
 ) -> Result<(), AllocError>
-    ensures first { first.new.client ≡ first.old.client }
-    ensures second { second.new.client ≡ second.old.client }
+    ensures first { users.new.first.client ≡ users.old.first.client }
+    ensures second { users.new.second.client ≡ users.old.second.client }
 {
-    play(rt, alloc, host, keeper, first, second, run.rows)?;
-    first.compare(rt, 0, run.first.calls, run.first.answers);
-    second.compare(rt, 1, run.second.calls, run.second.answers);
+    play(bench, keeper, users, run.rows)?;
+    users
+        .first
+        .compare(bench.rt, 0, run.first.calls, run.first.answers);
+    users
+        .second
+        .compare(bench.rt, 1, run.second.calls, run.second.answers);
     Ok(())
 }
 
@@ -188,9 +194,7 @@ pub(crate) fn given_back<N: Naming>(
 
 // Two clients play the rows, and come back.
 fn play_by_two<M: Medium, N: Naming, R: Wait + Abort>(
-    rt: &R,
-    alloc: Global,
-    host: &Host<M, N>,
+    bench: &Bench<M, N, R>,
     keeper: &mut Keeper<N>,
     clients: Vec<Client<N>>,
     run: &Run,
@@ -198,10 +202,14 @@ fn play_by_two<M: Medium, N: Naming, R: Wait + Abort>(
     requires two { AreNumbered 2 clients.items }
     ensures two { IfOk result (λ back. AreNumbered 2 back.items) }
 {
-    let back = Vec::with_capacity(alloc, 2)?;
-    let (first, second) = two_of(rt, clients);
-    let (mut first, mut second) = (User::new(first), User::new(second));
-    let played = play_and_compare(rt, alloc, host, keeper, &mut first, &mut second, run);
+    let back = Vec::with_capacity(bench.alloc, 2)?;
+    let (first, second) = two_of(bench.rt, clients);
+    let mut users = Users {
+        first: User::new(first),
+        second: User::new(second),
+    };
+    let played = play_and_compare(bench, keeper, &mut users, run);
+    let Users { first, second } = users;
     let back = given_back(back, first.into_client(), second.into_client());
     played?;
     Ok(back)
@@ -211,22 +219,25 @@ fn play_by_two<M: Medium, N: Naming, R: Wait + Abort>(
 fn play_and_close<M: Medium, N: Naming, R: Wait + Abort>(
     rt: &R,
     alloc: Global,
-    opened: Opened,
-    histories: sector_journal::Opened,
-    medium: M,
+    ready: Ready<M>,
     run: &Run,
 ) -> Result<(Closed<N>, M), AllocError>
-    requires named { opened ≡ record { rules = N.rules; opening = N.start; partitions = N.partitions; handles = N.handles; marks = N.marks; slots = N.slots; table = N.table; name = N.name; parts = N.parts; gate = N.gate } }
-    requires histories { histories ≡ record { armings = N.armings; entries = N.entries } }
-    requires sectors { (M.view medium).sectors ≡ N.opening }
-    requires unfailed { (M.view medium).failures ≡ 0 }
-    requires disk { IsDiskFor N.rules (M.view medium) }
+    requires named { ready.opened ≡ record { rules = N.rules; opening = N.start; partitions = N.partitions; handles = N.handles; marks = N.marks; slots = N.slots; table = N.table; name = N.name; parts = N.parts; gate = N.gate } }
+    requires histories { ready.histories ≡ record { armings = N.armings; entries = N.entries } }
+    requires sectors { (M.view ready.medium).sectors ≡ N.opening }
+    requires unfailed { (M.view ready.medium).failures ≡ 0 }
+    requires disk { IsDiskFor N.rules (M.view ready.medium) }
     requires partitions { length N.partitions ≡ 2 }
     requires parts { N.parts ≡ length N.partitions + 1 }
 {
-    let (host, keeper, clients) = open_host::<M, N>(alloc, opened, histories, medium, 2)?;
+    let (host, keeper, clients) = open_host::<M, N>(alloc, ready, 2)?;
     let mut keeper = keeper;
-    let back = play_by_two(rt, alloc, &host, &mut keeper, clients, run)?;
+    let bench = Bench {
+        rt,
+        alloc,
+        host: &host,
+    };
+    let back = play_by_two(&bench, &mut keeper, clients, run)?;
     Ok(host.close(keeper, back))
 }
 
@@ -249,22 +260,18 @@ pub(crate) fn compare_acts(rt: &impl Abort, trace: &[TraceEntry], entries: &[Ent
 pub(crate) fn carry_out<M: Medium, N: Naming, R: Wait + Abort>(
     rt: &R,
     alloc: Global,
-    opened: Opened,
-    histories: sector_journal::Opened,
-    medium: M,
+    ready: Ready<M>,
     run: &Run,
 ) -> Result<(), AllocError>
-    requires named { opened ≡ record { rules = N.rules; opening = N.start; partitions = N.partitions; handles = N.handles; marks = N.marks; slots = N.slots; table = N.table; name = N.name; parts = N.parts; gate = N.gate } }
-    requires histories { histories ≡ record { armings = N.armings; entries = N.entries } }
-    requires sectors { (M.view medium).sectors ≡ N.opening }
-    requires unfailed { (M.view medium).failures ≡ 0 }
-    requires disk { IsDiskFor N.rules (M.view medium) }
+    requires named { ready.opened ≡ record { rules = N.rules; opening = N.start; partitions = N.partitions; handles = N.handles; marks = N.marks; slots = N.slots; table = N.table; name = N.name; parts = N.parts; gate = N.gate } }
+    requires histories { ready.histories ≡ record { armings = N.armings; entries = N.entries } }
+    requires sectors { (M.view ready.medium).sectors ≡ N.opening }
+    requires unfailed { (M.view ready.medium).failures ≡ 0 }
+    requires disk { IsDiskFor N.rules (M.view ready.medium) }
     requires partitions { length N.partitions ≡ 2 }
     requires parts { N.parts ≡ length N.partitions + 1 }
 {
-    let (closed, mut medium) = play_and_close::<M, N, R>(
-        rt, alloc, opened, histories, medium, run,
-    )?;
+    let (closed, mut medium) = play_and_close::<M, N, R>(rt, alloc, ready, run)?;
     let Closed {
         trace,
         rows,

@@ -6,13 +6,13 @@ ghost use Rattle.lanes.specs.Queue.{issued};
 ghost use Rattle.host.specs.Opening.{IsDiskFor};
 
 use crate::beside::Open;
-use crate::disks::{TWO, disk, start_for};
+use crate::disks::{TWO, disk};
 use crate::expect::same;
 use crate::holding::Holding;
-use crate::opening::open_host;
+use crate::opening::{Ready, open_host, ready_over};
 use crate::texts;
 use disk::Medium;
-use host::{Call, Client, Host, HostFault, Keeper, Naming, Opened, Ticket};
+use host::{Call, Client, Host, Keeper, Naming, Ticket};
 use lanes::{Completions, Desk, Pass, Step, Turnstile, Woken};
 use rounds::{Lanes, remove, start_lanes};
 use sector::Bytes;
@@ -46,6 +46,7 @@ where
     OfArmings<N>: chronicle::Naming,
     OfEntries<N>: chronicle::Naming,
 {
+    alloc: Global,
     host: &'a Host<M, N>,
     worker: &'a Holding<'a, C>,
 }
@@ -114,10 +115,10 @@ fn answer_to<M: Medium, N: Naming, R: Wait>(
 // A client reads four sectors at once, and is told of each. Nobody is held where a read can't be issued.
 fn read_four<M: Medium, N: Naming, R: Wait, C: Clock>(
     rt: &R,
-    alloc: Global,
     desk: &LetsGo<M, N, C>,
     client: &mut Client<N>,
 ) -> Result<String, AllocError> {
+    let alloc = desk.alloc;
     let one = read_at(rt, alloc, desk.host, client, 0);
     let two = read_at(rt, alloc, desk.host, client, 512);
     let three = read_at(rt, alloc, desk.host, client, 1024);
@@ -135,6 +136,13 @@ fn read_four<M: Medium, N: Naming, R: Wait, C: Clock>(
     Ok(text)
 }
 
+/// The keeper of a host and its one client.
+#[derive(Drop)]
+struct Alone<N: Naming> {
+    keeper: Keeper<N>,
+    client: Client<N>,
+}
+
 // The worker and four lanes beside a client, and the removal.
 fn run_threads<
     M: Medium + Send,
@@ -143,12 +151,10 @@ fn run_threads<
     C: Clock + Sync,
 >(
     rt: &R,
-    alloc: Global,
     desk: &LetsGo<M, N, C>,
     completions: &Completions,
     passes: Vec<Pass>,
-    keeper: Keeper<N>,
-    client: Client<N>,
+    alone: Alone<N>,
 ) -> Result<String, AllocError>
     requires { passes.items ≡ issued completions.now.id 4 }
 {
@@ -162,7 +168,7 @@ fn run_threads<
         |scope| -> Result<String, AllocError>
             requires { passes.items ≡ issued completions.now.id 4 }
         {
-            let (mut keeper, mut client) = (keeper, client);
+            let mut alone = alone;
             let lanes = Lanes {
                 desk,
                 completions,
@@ -170,12 +176,12 @@ fn run_threads<
                 at_worker: &turnstile,
             };
             let seen = if start_lanes(rt, scope, lanes, passes, 4) {
-                read_four(rt, alloc, desk, &mut client)
+                read_four(rt, desk, &mut alone.client)
             } else {
                 Err(AllocError)
             };
             desk.worker.let_go(rt);
-            remove(rt, desk.host, &mut keeper);
+            remove(rt, desk.host, &mut alone.keeper);
             seen
         },
     )
@@ -187,21 +193,14 @@ fn run<
     N: Naming + Send + Sync,
     R: Threads + Wait + Sync + Abort,
     C: Clock + Sync,
->(
-    rt: &R,
-    alloc: Global,
-    opened: Opened,
-    histories: sector_journal::Opened,
-    medium: M,
-    clock: &C,
-) -> Result<(), AllocError>
-    requires named { opened ≡ record { rules = N.rules; opening = N.start; partitions = N.partitions; handles = N.handles; marks = N.marks; slots = N.slots; table = N.table; name = N.name; parts = N.parts; gate = N.gate } }
-    requires histories { histories ≡ record { armings = N.armings; entries = N.entries } }
-    requires sectors { (M.view medium).sectors ≡ N.opening }
-    requires unfailed { (M.view medium).failures ≡ 0 }
-    requires disk { IsDiskFor N.rules (M.view medium) }
+>(rt: &R, alloc: Global, ready: Ready<M>, clock: &C) -> Result<(), AllocError>
+    requires named { ready.opened ≡ record { rules = N.rules; opening = N.start; partitions = N.partitions; handles = N.handles; marks = N.marks; slots = N.slots; table = N.table; name = N.name; parts = N.parts; gate = N.gate } }
+    requires histories { ready.histories ≡ record { armings = N.armings; entries = N.entries } }
+    requires sectors { (M.view ready.medium).sectors ≡ N.opening }
+    requires unfailed { (M.view ready.medium).failures ≡ 0 }
+    requires disk { IsDiskFor N.rules (M.view ready.medium) }
 {
-    let (host, keeper, clients) = open_host::<M, N>(alloc, opened, histories, medium, 4)?;
+    let (host, keeper, clients) = open_host::<M, N>(alloc, ready, 4)?;
     let mut clients = clients;
     let Some(client) = clients.pop() else {
         panic!(rt; "no client")
@@ -211,10 +210,12 @@ fn run<
     };
     let worker = Holding::new(clock);
     let desk = LetsGo {
+        alloc,
         host: &host,
         worker: &worker,
     };
-    let seen = run_threads(rt, alloc, &desk, &completions, passes, keeper, client)?;
+    let alone = Alone { keeper, client };
+    let seen = run_threads(rt, &desk, &completions, passes, alone)?;
     same(
         rt,
         &seen.as_str(),
@@ -230,18 +231,8 @@ fn run_over<M: Medium + Send, R: Threads + Wait + Sync + Abort, C: Clock + Sync>
     medium: M,
     clock: &C,
 ) -> Result<(), AllocError> {
-    let (stack, sizes) = start_for(rt, alloc, &medium, 4)?;
-    match Opened::new(alloc, stack, sizes, 64, &[0]) {
-        Ok(opened) => match sector_journal::Opened::new(alloc) {
-            Ok(histories) => run::<M, Brand, R, C>(rt, alloc, opened, histories, medium, clock),
-            Err(refused) => {
-                opened.end();
-                Err(refused)
-            }
-        },
-        Err(HostFault::NoMemory) => Err(AllocError),
-        Err(fault) => panic!(rt; "{fault}"),
-    }
+    let ready = ready_over(rt, alloc, medium, 4, &[0])?;
+    run::<M, Brand, R, C>(rt, alloc, ready, clock)
 }
 
 #[test]

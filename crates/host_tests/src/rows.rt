@@ -1,8 +1,9 @@
 //! Runs worked by hand.
 
 use crate::desk::{Drive, Part, Row, Run, carry_out};
-use crate::disks::{TWO, disk, start, start_for};
+use crate::disks::{TWO, disk, start};
 use crate::expect::same;
+use crate::opening::ready_over;
 use crate::user::Deed;
 use disk::Medium;
 use host::{HostFault, Opened};
@@ -20,18 +21,8 @@ fn run_over<M: Medium, R: Wait + Abort>(
     medium: M,
     run: &Run,
 ) -> Result<(), AllocError> {
-    let (stack, sizes) = start_for(rt, alloc, &medium, 2)?;
-    match Opened::new(alloc, stack, sizes, 64, &[0, 1]) {
-        Ok(opened) => match sector_journal::Opened::new(alloc) {
-            Ok(histories) => carry_out::<M, Brand, R>(rt, alloc, opened, histories, medium, run),
-            Err(refused) => {
-                opened.end();
-                Err(refused)
-            }
-        },
-        Err(HostFault::NoMemory) => Err(AllocError),
-        Err(fault) => panic!(rt; "{fault}"),
-    }
+    let ready = ready_over(rt, alloc, medium, 2, &[0, 1])?;
+    carry_out::<M, Brand, R>(rt, alloc, ready, run)
 }
 
 fn run_on_disk<R: Wait + Abort>(rt: &R, alloc: Global, run: &Run) -> Result<(), AllocError> {

@@ -5,14 +5,15 @@ ghost use Rattle.lanes.specs.Queue.{issued};
 ghost use Rattle.host.specs.Clients.{AreNumbered};
 ghost use Rattle.host.specs.Opening.{IsDiskFor};
 
+use crate::bench::Bench;
 use crate::beside::Open;
 use crate::desk::{compare_acts, given_back, two_of};
 use crate::disks::TWO;
-use crate::opening::open_host;
+use crate::opening::{Ready, open_host};
 use crate::replaying::replay;
 use crate::texts;
 use disk::Medium;
-use host::{Client, Closed, Host, Keeper, Naming, Opened};
+use host::{Client, Closed, Host, Keeper, Naming};
 use lanes::{Completions, Pass, Turnstile};
 use rounds::{Lanes, remove, start_lanes};
 use sector_journal::Entered;
@@ -28,9 +29,7 @@ pub(crate) trait Scene {
 
     fn play<M: Medium, N: Naming, R: Wait>(
         &self,
-        rt: &R,
-        alloc: Global,
-        host: &Host<M, N>,
+        bench: &Bench<M, N, R>,
         first: &mut Client<N>,
         second: &mut Client<N>,
     ) -> Result<String, AllocError>
@@ -38,42 +37,44 @@ pub(crate) trait Scene {
         ensures second { second.new.client ≡ second.old.client };
 }
 
-/// Both clients and the keeper after a scene, and what was seen.
+/// The keeper of a host and both its clients.
 #[derive(Drop)]
-struct Played<N: Naming> {
+struct Company<N: Naming> {
     keeper: Keeper<N>,
     first: Client<N>,
     second: Client<N>,
-    seen: Result<String, AllocError>,
+}
+
+/// A scene, and the turnstile that its lanes pass.
+#[derive(Drop)]
+pub(crate) struct Setting<'a, S, T> {
+    pub scene: &'a S,
+    pub turnstile: &'a T,
+}
+
+/// The queue from the lanes to the worker, with the passes of both.
+struct Queue<'a> {
+    completions: &'a Completions,
+    passes: Vec<Pass>,
 }
 
 // Plays the scene, and removes the device.
 fn play_and_remove<M: Medium, N: Naming, S: Scene, R: Wait>(
-    rt: &R,
-    alloc: Global,
-    host: &Host<M, N>,
-    keeper: Keeper<N>,
-    first: Client<N>,
-    second: Client<N>,
+    bench: &Bench<M, N, R>,
+    company: &mut Company<N>,
     scene: &S,
     has_lanes: bool,
-) -> Played<N>
-    ensures first { result.first.client ≡ first.client }
-    ensures second { result.second.client ≡ second.client }
+) -> Result<String, AllocError>
+    ensures first { company.new.first.client ≡ company.old.first.client }
+    ensures second { company.new.second.client ≡ company.old.second.client }
 {
-    let (mut keeper, mut first, mut second) = (keeper, first, second);
     let seen = if has_lanes {
-        scene.play(rt, alloc, host, &mut first, &mut second)
+        scene.play(bench, &mut company.first, &mut company.second)
     } else {
         Err(AllocError)
     };
-    remove(rt, host, &mut keeper);
-    Played {
-        keeper,
-        first,
-        second,
-        seen,
-    }
+    remove(bench.rt, bench.host, &mut company.keeper);
+    seen
 }
 
 // Two lanes and the worker, the two clients, and the removal.
@@ -84,38 +85,39 @@ fn run_threads<
     T: Turnstile + Sync,
     R: Threads + Wait + Sync,
 >(
-    rt: &R,
-    alloc: Global,
-    host: &Host<M, N>,
-    completions: &Completions,
-    passes: Vec<Pass>,
-    keeper: Keeper<N>,
-    first: Client<N>,
-    second: Client<N>,
-    scene: &S,
-    turnstile: &T,
-) -> Played<N>
-    requires { passes.items ≡ issued completions.now.id 2 }
-    ensures first { result.first.client ≡ first.client }
-    ensures second { result.second.client ≡ second.client }
+    bench: &Bench<M, N, R>,
+    queue: Queue<'_>,
+    company: Company<N>,
+    setting: Setting<'_, S, T>,
+) -> (Company<N>, Result<String, AllocError>)
+    requires { queue.passes.items ≡ issued queue.completions.now.id 2 }
+    ensures first { result.0.first.client ≡ company.first.client }
+    ensures second { result.0.second.client ≡ company.second.client }
 {
     let open = Open;
+    let Queue {
+        completions,
+        passes,
+    } = queue;
+    let Setting { scene, turnstile } = setting;
     thread::scope(
         thread::scope_env(),
-        rt,
-        |scope| -> Played<N>
+        bench.rt,
+        |scope| -> (Company<N>, Result<String, AllocError>)
             requires { passes.items ≡ issued completions.now.id 2 }
-            ensures first { result.first.client ≡ first.client }
-            ensures second { result.second.client ≡ second.client }
+            ensures first { result.0.first.client ≡ company.first.client }
+            ensures second { result.0.second.client ≡ company.second.client }
         {
+            let mut company = company;
             let lanes = Lanes {
-                desk: host,
+                desk: bench.host,
                 completions,
                 turnstile,
                 at_worker: &open,
             };
-            let has_lanes = start_lanes(rt, scope, lanes, passes, 2);
-            play_and_remove(rt, alloc, host, keeper, first, second, scene, has_lanes)
+            let has_lanes = start_lanes(bench.rt, scope, lanes, passes, 2);
+            let seen = play_and_remove(bench, &mut company, scene, has_lanes);
+            (company, seen)
         },
     )
 }
@@ -131,12 +133,11 @@ fn play_and_close<
     rt: &R,
     alloc: Global,
     host: Host<M, N>,
-    keeper: Keeper<N>,
-    clients: Vec<Client<N>>,
-    scene: &S,
-    turnstile: &T,
+    company: Company<N>,
+    setting: Setting<'_, S, T>,
 ) -> Result<(String, Closed<N>, M), AllocError>
-    requires two { AreNumbered 2 clients.items }
+    requires first { company.first.client ≡ 0 }
+    requires second { company.second.client ≡ 1 }
     requires partitions { length N.partitions ≡ 2 }
     requires parts { N.parts ≡ length N.partitions + 1 }
 {
@@ -144,25 +145,21 @@ fn play_and_close<
     let Ok((completions, passes)) = Completions::new(alloc, 1, 2) else {
         return Err(AllocError);
     };
-    let (first, second) = two_of(rt, clients);
-    let played = run_threads(
+    let bench = Bench {
         rt,
         alloc,
-        &host,
-        &completions,
+        host: &host,
+    };
+    let queue = Queue {
+        completions: &completions,
         passes,
+    };
+    let (company, seen) = run_threads(&bench, queue, company, setting);
+    let Company {
         keeper,
         first,
         second,
-        scene,
-        turnstile,
-    );
-    let Played {
-        keeper,
-        first,
-        second,
-        seen,
-    } = played;
+    } = company;
     let back = given_back(back, first, second);
     let (closed, medium) = host.close(keeper, back);
     Ok((seen?, closed, medium))
@@ -209,25 +206,26 @@ pub(crate) fn play_scene<
 >(
     rt: &R,
     alloc: Global,
-    opened: Opened,
-    histories: sector_journal::Opened,
-    medium: M,
-    scene: &S,
-    turnstile: &T,
+    ready: Ready<M>,
+    setting: Setting<'_, S, T>,
     want: &Want,
 ) -> Result<(), AllocError>
-    requires named { opened ≡ record { rules = N.rules; opening = N.start; partitions = N.partitions; handles = N.handles; marks = N.marks; slots = N.slots; table = N.table; name = N.name; parts = N.parts; gate = N.gate } }
-    requires histories { histories ≡ record { armings = N.armings; entries = N.entries } }
-    requires sectors { (M.view medium).sectors ≡ N.opening }
-    requires unfailed { (M.view medium).failures ≡ 0 }
-    requires disk { IsDiskFor N.rules (M.view medium) }
+    requires named { ready.opened ≡ record { rules = N.rules; opening = N.start; partitions = N.partitions; handles = N.handles; marks = N.marks; slots = N.slots; table = N.table; name = N.name; parts = N.parts; gate = N.gate } }
+    requires histories { ready.histories ≡ record { armings = N.armings; entries = N.entries } }
+    requires sectors { (M.view ready.medium).sectors ≡ N.opening }
+    requires unfailed { (M.view ready.medium).failures ≡ 0 }
+    requires disk { IsDiskFor N.rules (M.view ready.medium) }
     requires partitions { length N.partitions ≡ 2 }
     requires parts { N.parts ≡ length N.partitions + 1 }
 {
-    let (host, keeper, clients) = open_host::<M, N>(alloc, opened, histories, medium, 2)?;
-    let (seen, closed, medium) = play_and_close(
-        rt, alloc, host, keeper, clients, scene, turnstile,
-    )?;
+    let (host, keeper, clients) = open_host::<M, N>(alloc, ready, 2)?;
+    let (first, second) = two_of(rt, clients);
+    let company = Company {
+        keeper,
+        first,
+        second,
+    };
+    let (seen, closed, medium) = play_and_close(rt, alloc, host, company, setting)?;
     let trace = trace_of(alloc, closed.trace.as_slice())?;
     assert_eq!(rt; seen.as_str(), want.seen);
     assert_eq!(rt; trace.as_str(), want.trace);

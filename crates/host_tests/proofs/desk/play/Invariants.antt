@@ -2,4 +2,4 @@ use Rattle.std.proofs.Common.{◌≡◌}
 use Rattle.host_tests.proofs.desk.play.Given as goal
 
 abbrev pub invariant-loop-row : goal.invariant-loop-row
-invariant-loop-row g l = (l.first.client ≡ l.fn.first.client) × (l.second.client ≡ l.fn.second.client)
+invariant-loop-row g l = (l.users.first.client ≡ l.fn.users.first.client) × (l.users.second.client ≡ l.fn.users.second.client)

@@ -1,23 +1,23 @@
 use Rattle.host_tests.proofs.full_queue.run_over.Given as goal
 
 abbrev pub ghosts-run-N-Ledger : goal.ghosts-run-N-Ledger
-ghosts-run-N-Ledger g a = record { name = a.opened.name; parts = a.opened.parts }
+ghosts-run-N-Ledger g a = record { name = a.ready.opened.name; parts = a.ready.opened.parts }
 
 abbrev pub ghosts-run-N-Naming-1 : goal.ghosts-run-N-Naming-1
-ghosts-run-N-Naming-1 g a = record { gate = a.opened.gate }
+ghosts-run-N-Naming-1 g a = record { gate = a.ready.opened.gate }
 
 abbrev pub ghosts-run-N-Naming-3 : goal.ghosts-run-N-Naming-3
 ghosts-run-N-Naming-3 g a = record {
-  rules = a.opened.rules;
-  start = a.opened.opening;
-  partitions = a.opened.partitions;
-  handles = a.opened.handles;
-  marks = a.opened.marks;
-  slots = a.opened.slots;
+  rules = a.ready.opened.rules;
+  start = a.ready.opened.opening;
+  partitions = a.ready.opened.partitions;
+  handles = a.ready.opened.handles;
+  marks = a.ready.opened.marks;
+  slots = a.ready.opened.slots;
 }
 
 abbrev pub ghosts-run-N-Naming-4 : goal.ghosts-run-N-Naming-4
-ghosts-run-N-Naming-4 g a = record { table = a.opened.table }
+ghosts-run-N-Naming-4 g a = record { table = a.ready.opened.table }
 
 abbrev pub ghosts-run-N-Naming-5 : goal.ghosts-run-N-Naming-5
-ghosts-run-N-Naming-5 g a = record { armings = a.histories.armings; entries = a.histories.entries; opening = (g.M.Medium.view a.medium).sectors }
+ghosts-run-N-Naming-5 g a = record { armings = a.ready.histories.armings; entries = a.ready.histories.entries; opening = (g.M.Medium.view a.ready.medium).sectors }
