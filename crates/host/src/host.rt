@@ -1,6 +1,6 @@
 //! The host, and its keeper.
 
-ghost use Rattle.std.specs.Prelude.{◌≡◌, ◌+◌, [], All, IfOk, None, false, length};
+ghost use Rattle.std.specs.Prelude.{◌≡◌, ◌+◌, [], All, IfErr, IfOk, None, false, length};
 ghost use mathlib.Core.Logic.{inl};
 ghost use Rattle.cancel_marks.specs.Marks.{IsOther};
 ghost use Rattle.book.specs.Book.{IsStepped, call_handle};
@@ -8,6 +8,7 @@ ghost use Rattle.traced.specs.Serving.{is_handle_event};
 ghost use Rattle.remove_lock.specs.Gate.{fresh as fresh_pass};
 ghost use Rattle.host.specs.Clients.{AreFresh, AreNumbered, ticket_limit};
 ghost use Rattle.host.specs.Opening.{AreHandlesFor, IsClientPass, IsJournalFor};
+ghost use Rattle.host.specs.declared.opened.HostFault.TheVariants.{NoMemory};
 ghost use Rattle.host.specs.Replies.{IsReplyTo};
 ghost use Rattle.compose.specs.declared.Event.TheVariants.{Act, Finish, Reset};
 
@@ -167,6 +168,7 @@ impl<M: Medium, N: Naming> Host<M, N> {
         ensures clients { IfOk result (λ r. AreNumbered (length N.partitions) r.2.items) }
         ensures fresh { IfOk result (λ r. AreFresh (length N.partitions) r.2.items) }
         ensures keeper { IfOk result (λ r. r.1 ≡ record { pass = fresh_pass ticket_limit; told = [] }) }
+        ensures fault { IfErr result (λ fault. fault ≡ NoMemory) }
     {
         let Opened {
             stack,

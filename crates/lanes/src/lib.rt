@@ -1,5 +1,5 @@
-//! Lanes: one thread for each tag of a disk, which acts the pieces started on it, and a worker, which finishes the pieces that
-//! the lanes hand over through a bounded queue. A lane stands for what a device does with one tag on its own; an item in the
+//! Lanes: one thread for each tag of a disk, which has the adapter carry out the pieces started on it, and a worker, which
+//! finishes the pieces that the lanes hand over through a bounded queue. A lane stands for what a device does with one tag on its own; an item in the
 //! queue for a completed SRB that StorPortNotification (RequestComplete) hands to the port; the worker for the port's
 //! completion DPC.
 //!
@@ -61,13 +61,13 @@ pub struct Woken {
     pub is_removed: bool,
 }
 
-/// Where the pieces of a disk's tags are acted and finished. Many threads share one.
+/// Where the pieces of a disk's tags are carried out and finished. Many threads share one.
 pub trait Desk {
     /// Waits for the tag's next step. It is [`Step::Ready`] once for each piece started on the tag, also one that a reset
     /// met. It is [`Step::Ended`] once the disk is removed.
     fn next<R: Wait>(&self, rt: &R, tag: u8) -> Step;
 
-    /// Has the adapter act the piece on the tag.
+    /// Has the adapter carry out the piece on the tag.
     fn act<R: Wait>(&self, rt: &R, tag: u8);
 
     /// Completes the piece on the tag.
@@ -223,8 +223,8 @@ impl Completions {
     }
 }
 
-/// A tag's lane. For each piece started on the tag it passes the turnstile, acts, and puts an item for the worker; where the
-/// queue is full it finishes the piece itself. It ends once the disk is removed, and gives its pass back.
+/// A tag's lane. For each piece started on the tag it passes the turnstile, has the piece carried out, and puts an item for
+/// the worker; where the queue is full it finishes the piece itself. It ends once the disk is removed, and gives its pass back.
 pub fn serve_lane<R: Wait, D: Desk, T: Turnstile>(
     rt: &R,
     desk: &D,
