@@ -14,7 +14,7 @@ use std::test::Fail;
 type Act = (Kind, u64, u8, usize);
 
 /// Entries, and what their replay on a disk of zeros comes to. The journal's medium has 5 in each byte of sector 1.
-static CASES: [(&str, &[Act], Result<(), ReplayFault>); 9] = [
+static CASES: [(&str, &[Act], Result<(), ReplayFault>); 13] = [
     (
         "a write and a read",
         &[
@@ -29,6 +29,11 @@ static CASES: [(&str, &[Act], Result<(), ReplayFault>); 9] = [
         &[(Kind::Write, 1, 5, 512), (Kind::Flush, 0, 0, 0)],
         Ok(()),
     ),
+    (
+        "a flush of some bytes",
+        &[(Kind::Write, 1, 5, 512), (Kind::Flush, 0, 5, 512)],
+        Err(ReplayFault::Differs),
+    ),
     ("no write", &[], Err(ReplayFault::Differs)),
     (
         "a write of other bytes",
@@ -41,8 +46,23 @@ static CASES: [(&str, &[Act], Result<(), ReplayFault>); 9] = [
         Err(ReplayFault::Differs),
     ),
     (
+        "a write of the first sector",
+        &[(Kind::Write, 1, 5, 512), (Kind::Write, 0, 5, 512)],
+        Err(ReplayFault::Differs),
+    ),
+    (
         "a read of other bytes",
         &[(Kind::Read, 1, 5, 512), (Kind::Write, 1, 5, 512)],
+        Err(ReplayFault::Differs),
+    ),
+    (
+        "a read of half a sector",
+        &[(Kind::Write, 1, 5, 512), (Kind::Read, 1, 5, 256)],
+        Err(ReplayFault::Differs),
+    ),
+    (
+        "a read of a sector and a half",
+        &[(Kind::Write, 1, 5, 512), (Kind::Read, 1, 5, 768)],
         Err(ReplayFault::Differs),
     ),
     (
@@ -101,8 +121,8 @@ fn entries_replay(rt: HostRuntime) -> Result<(), Fail> {
         let entries = entries(alloc, acts)?;
         let mut fresh = disk(alloc, &[])?;
         let mut medium = disk(alloc, &after)?;
-        let whole = Extent { first: 0, count: 3 };
-        let outcome = replay(alloc, &entries, &mut fresh, &mut medium, &[whole]);
+        let moved = [Extent { first: 0, count: 1 }, Extent { first: 1, count: 2 }];
+        let outcome = replay(alloc, &entries, &mut fresh, &mut medium, &moved);
         assert_eq!(&rt; outcome, wanted, "{name}");
     }
     Ok(())
