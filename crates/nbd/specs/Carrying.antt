@@ -58,9 +58,15 @@ pub record Gets (F : Faulting) (old : Content) (offset count : ℕ) (o : Outcome
   pub got : (o ≡ success (slice_range old.bytes offset (offset + count))) ⊎ Fails F old o new
   pub same : new ≡ old
 
--- the flush succeeded or failed; nothing changed
+-- the array failed, and the command brought nothing
+pub record Faults (F : Faulting) (old : Content) (o : Outcome) (new : Content) : Type 0 where
+  pub error : ReplyError
+  pub why : IsFaulty F old error new
+  pub is : o ≡ failure error
+
+-- the flush succeeded, or the array failed; nothing changed. A flush asks for no memory
 pub record Flushes (F : Faulting) (old : Content) (o : Outcome) (new : Content) : Type 0 where
-  pub flushed : (o ≡ success []) ⊎ Fails F old o new
+  pub flushed : (o ≡ success []) ⊎ Faults F old o new
   pub same : new ≡ old
 
 -- a command was carried out, with the bytes that came behind its request

@@ -1,5 +1,5 @@
 -- A session over storage whose content isn't shown. A relation of the storage's own tells what each command does to it.
-use Rattle.std.specs.Prelude.{◌≡◌, ◌≢◌, ◌⊎◌, ℕ, Bool, List, [], ◌∷◌, ◌++◌, length, Option, MatchResult}
+use Rattle.std.specs.Prelude.{◌≡◌, ◌≢◌, ◌<◌, ◌⊎◌, ℕ, Bool, List, [], ◌∷◌, ◌++◌, length, Option, MatchResult}
 use Rattle.nbd.specs.declared.End.{End}
 use Rattle.nbd.specs.declared.arrays.Sizes.{Sizes}
 use Rattle.nbd.specs.declared.requests.Request.{Request}
@@ -15,9 +15,9 @@ use Rattle.nbd.specs.Session.{Begins, Exchange, IsLast, IsTold, asked_by, said, 
 use Rattle.nbd.specs.Handshake.{AreFlags, EndsGreeting, IsLastOption, Leads, answers_to}
 
 module _ {S : Type 0} (Carries : Command → List ℕ → S → Outcome → S → Type 0) (sizes : Sizes) where
-  -- a command was carried out, or there was no memory for its bytes
+  -- a command was carried out, or there was no memory for the bytes behind its request
   abbrev pub CarriesOver : Command → List ℕ → S → Outcome → S → Type 0
-  CarriesOver command payload old o new = Carries command payload old o new ⊎ ((o ≡ failure Enomem) × (new ≡ old))
+  CarriesOver command payload old o new = Carries command payload old o new ⊎ ((0 < length {A = ℕ} payload) × (o ≡ failure Enomem) × (new ≡ old))
 
   -- a request that asks for a command is carried out; any other fails by its error, and nothing is done
   abbrev pub ServesOver : Request → List ℕ → S → Outcome → S → Type 0

@@ -1,6 +1,6 @@
 //! Bytes from a reader.
 
-ghost use Rattle.std.specs.Prelude.{◌≡◌, ◌≤◌, IfErr, IfOk, IfSome, MatchOption, OnOk, length, replicate};
+ghost use Rattle.std.specs.Prelude.{◌≡◌, ◌≤◌, ◌<◌, IsNone, IfErr, IfOk, IfSome, MatchOption, OnOk, length, replicate};
 ghost use Rattle.std.specs.Io.KnownBytes.{Consumes};
 ghost use Rattle.nbd.specs.inside.Streams.{Skips, Takes};
 
@@ -111,7 +111,8 @@ pub(crate) fn take_all<R: Read>(
 
 /// Returns memory that was kept with room for this many bytes, or nothing where more is refused.
 fn sized(kept: Vec<u8>, count: u32) -> Option<Vec<u8>>
-    ensures { IfSome result (λ room. length room.items ≡ count) }
+    ensures room { IfSome result (λ room. length room.items ≡ count) }
+    ensures none { IsNone result → 0 < count }
 {
     let mut room = kept;
     match room.resize(count as usize, 0) {
@@ -130,6 +131,7 @@ pub(crate) fn take_all_in<R: Ahead>(
     input: &mut R,
     count: u32,
 ) -> Result<Option<Vec<u8>>, End>
+    ensures none { IfOk result (λ found. IsNone found → 0 < count) }
     ensures taken { IfOk result (λ found. MatchOption found (Skips count (R.remaining input.old) (R.remaining input.new)) (λ bytes. Takes count (R.remaining input.old) (R.remaining input.new) bytes.items)) }
     ensures ended { IfErr result (λ end. end ≡ End.Input) }
 {
