@@ -1,11 +1,14 @@
 -- An input behind more bytes.
-use Rattle.std.proofs.Common.{◌≡◌, ℕ, ◌+◌, Bool, true, false, true≢false, List, [], ◌++◌, length, drop, Option, None, Some, refl, sym, ap, ◌∙◌, append_assoc, append-nil, length-append, drop-drop, arith, ◌≤◌, ◌-◌, subst, take, length-drop, take_all}
+use Rattle.std.proofs.Common.{◌≡◌, ℕ, ◌+◌, Bool, true, false, true≢false, List, [], ◌++◌, length, drop, Option, None, Some, refl, sym, ap, ◌∙◌, append_assoc, append-nil, length-append, drop-drop, arith, ◌≤◌, ◌-◌, subst, take, take-take, length-drop, length-take, take_all}
 use Rattle.std.proofs.Math.Seq.{drop-append_seam}
 use Rattle.std.proofs.Math.ListN.{drop_of_length-le}
+use Rattle.std.specs.Prelude.{IfSome}
+use Rattle.std.specs.Io.{StartsWith}
 use Rattle.std.specs.Io.KnownBytes.{Consumes, IsAtEnd}
+use Rattle.nbd.specs.Requests.{IsRequest}
 use Rattle.nbd.proofs.Streaming.{takes_more}
 use Rattle.read_ahead.specs.Standing.{behind}
-use Rattle.read_ahead.specs.inside.Places.{Stands, is_lost}
+use Rattle.read_ahead.specs.inside.Places.{Brings, Stands, is_lost}
 use Rattle.read_ahead.specs.declared.place.Place.{Place}
 use Rattle.read_ahead.specs.declared.place.Place.TheVariants.{Here, Away, Lost}
 
@@ -89,3 +92,11 @@ passes_whole left given place n at fetched there h far =
 -- A part that goes to the end is all the rest
 pub whole_rest : (xs ys : List ℕ) (k : ℕ) → xs ≡ ys → drop k ys ≡ take (length xs - k) (drop k xs)
 whole_rest xs ys k same = ap (drop k) (sym same) ∙ sym (take_all (length xs - k) (drop k xs) (omega (arith, length-drop k xs)))
+
+-- what the bytes that are there begin with, all bytes that come begin with
+pub brings_all : (known : Option (List ℕ)) (ahead : List ℕ) (count : ℕ) → IfSome known (λ xs. StartsWith xs ahead) → Brings ahead count → IfSome known (λ xs. Brings xs count)
+brings_all None ahead count next b = tt
+brings_all (Some xs) ahead count next b =
+    let there : 28 ≤ length ahead = omega (arith, b.is_request.long, length-take 28 ahead) in
+    let same : take 28 ahead ≡ take 28 xs = sym (ap (λ (l : List ℕ). take 28 l) next) ∙ take-take 28 (length ahead) xs there in
+    record { request = b.request; is_request = subst (λ (l : List ℕ). IsRequest l b.request) same b.is_request; as_many = b.as_many }

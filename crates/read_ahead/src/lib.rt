@@ -10,6 +10,7 @@ ghost use Rattle.std.specs.Prelude.{◌≡◌, ◌≤◌, IfErr, IfSome, length}
 ghost use Rattle.std.specs.Io.{ReadsAtMost};
 ghost use Rattle.std.specs.Io.KnownBytes.{Consumes, ReadConsumes};
 ghost use Rattle.std.specs.IoError.{error_kind};
+ghost use Rattle.read_ahead.specs.inside.Places.{Brings};
 ghost use Rattle.std.specs.declared.io.ErrorKind.TheVariants.{UnexpectedEof};
 
 mod place;
@@ -176,7 +177,8 @@ impl<J: Naming, H: Wait + Copy, I: Ahead + Drop> ReadAhead<J, H, I> {
     ///
     /// Where memory was refused. Nothing was read.
     fn ask(&mut self, count: usize) -> Result<(), AllocError>
-        requires { count ≤ LONGEST }
+        requires few { count ≤ LONGEST }
+        requires brings { IfSome self.old (λ xs. Brings xs count) }
         ensures { self.new ≡ self.old }
     {
         let mut room = mem::replace(&mut self.spare, Vec::new(self.alloc));
@@ -189,7 +191,8 @@ impl<J: Naming, H: Wait + Copy, I: Ahead + Drop> ReadAhead<J, H, I> {
 
     /// Reads the header that comes next, and hands the input to the second thread.
     fn hand_over(&mut self, header: Vec<u8>, room: Vec<u8>)
-        requires { length header.items ≡ 28 }
+        requires header { length header.items ≡ 28 }
+        requires brings { IfSome self.old (λ xs. Brings xs (length room.items)) }
         ensures { self.new ≡ self.old }
     {
         let (Some(shared), Some(at)) = (&self.shared, self.at.checked_add(HEADER as u64)) else {
@@ -288,7 +291,8 @@ impl<J: Naming, H: Wait + Copy, I: Ahead + Drop> Ahead for ReadAhead<J, H, I> {
 /// The length of the write that begins, if it is long and not all there. Of more bytes than a write may have no memory
 /// is taken.
 fn long_write(bytes: &[u8]) -> Option<usize>
-    ensures { IfSome result (λ count. count ≤ LONGEST) }
+    ensures few { IfSome result (λ count. count ≤ LONGEST) }
+    ensures brings { IfSome result (Brings bytes.now) }
 {
     let (header, rest) = bytes.split_at_checked(HEADER)?;
     let count = payload_count(parse_request(header)?) as usize;

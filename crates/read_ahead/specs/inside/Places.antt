@@ -1,6 +1,8 @@
 -- Where an input is, and the bytes that were fetched before.
-use Rattle.std.specs.Prelude.{ℕ, ◌+◌, Bool, true, false, List, length, Option, ⊤}
+use Rattle.std.specs.Prelude.{◌≡◌, ℕ, ◌+◌, Bool, true, false, List, length, take, Option, ⊤}
 use Rattle.std.specs.Io.KnownBytes.{Consumes}
+use Rattle.nbd.specs.declared.requests.Request.{Request}
+use Rattle.nbd.specs.Requests.{IsRequest, payload_count}
 use Rattle.read_ahead.specs.Standing.{behind}
 use Rattle.read_ahead.specs.declared.place.Place.{Place}
 use Rattle.read_ahead.specs.declared.place.Place.TheVariants.{Here, Away, Lost}
@@ -16,3 +18,9 @@ abbrev pub Stands : {I : Type 0} → (I → Option (List ℕ)) → Option (List 
 Stands left given (Here input) n fetched = Consumes (behind n given) (left input) fetched
 Stands left given Away n fetched = Consumes (behind n given) (behind (n + length fetched) given) fetched
 Stands left given Lost n fetched = ⊤
+
+-- These bytes begin with the header of a request behind which this many bytes come
+pub record Brings (bytes : List ℕ) (count : ℕ) : Type 0 where
+  pub request : Request
+  pub is_request : IsRequest (take 28 bytes) request
+  pub as_many : count ≡ payload_count request
