@@ -29,7 +29,7 @@ use Rattle.io_manager.specs.declared.Refusal.{Refusal}
 use Rattle.io_manager.specs.declared.Reply.{Reply}
 use Rattle.io_manager.specs.declared.Reply.TheVariants.{Handle as HandleReply, Ok as Done, Request as Requested, Answered, Refused, Ignored}
 use Rattle.io_manager.specs.Shown.{ManagerView}
-use Rattle.io_manager.specs.Right.{ActReplies, BooksPiece, FinishReplies, FitsTogether, HasNoneFresh as HasNoneFreshIn, IsOfAnother, IsRight as IsRightCall, IsRightBy, TakesAnswerOf, Told, TransferReplies, as_answer, end_labels, tells_nothing}
+use Rattle.io_manager.specs.Right.{ActReplies, BooksPiece, FinishReplies, FitsTogether, HasNoneFresh as HasNoneFreshIn, IsOfAnother, IsRight as IsRightCall, IsRightBy, TakesAnswerOf, Told, TransferReplies, as_answer, end_labels, labels_of, tells_nothing}
 use Rattle.io_manager.specs.Calls.{call_on, partition_of, without_bytes}
 use Rattle.srb.specs.declared.Kind.TheVariants.{Read as ReadKind, Write as WriteKind, Flush as FlushKind}
 use Rattle.compose.specs.declared.Event.{Event}
@@ -39,8 +39,8 @@ use Rattle.compose.specs.Right.{IsRight}
 use Rattle.compose.specs.Journaled.{ArmedMayBeBooked, BookedActsAddEntries, IdleActsKeepEntries, StepsKeepEntries, StepsStayApart, IsJournaled, IsNoAct, IsOfPiece as IsOfTags, with_entry}
 use Rattle.compose.proofs.JournaledKept.{IsLed, led}
 use Rattle.compose.proofs.JournaledStep.{there_mapped}
-use Rattle.volume.specs.Working.{Asks, answers_of, fresh_count}
-use Rattle.volume.proofs.Steps.{answers-append, rest_of, untaken_told}
+use Rattle.volume.specs.Working.{Asks, IsQuiet, answers_of, fresh_count}
+use Rattle.volume.proofs.Steps.{answers-append, quiet_rest, rest_of, untaken_told}
 use Rattle.volume.specs.Opening.{IsOn}
 use Rattle.serving.proofs.Called.{IsCalled, called}
 use Rattle.serving.proofs.Steady.{IsNoAnswerTo, act_steady, asked_steady, called_unanswered, finish_steady}
@@ -113,6 +113,7 @@ relabelled old new ls es h arrays trace before told =
 pub Goes-refl : (v : CarriedView) → Goes v v
 Goes-refl v = record {
   labels = [];
+  all_quiet = All-nil IsQuiet;
   deeds = [];
   same_rules = refl;
   same_handles = refl;
@@ -131,6 +132,7 @@ exchanged xs ys zs =
 pub Goes-trans : (old mid new : CarriedView) → Goes old mid → Goes mid new → Goes old new
 Goes-trans old mid new a b = record {
   labels = a.labels ++ b.labels;
+  all_quiet = All-append IsQuiet a.labels b.labels a.all_quiet b.all_quiet;
   deeds = a.deeds ++ b.deeds;
   same_rules = b.same_rules ∙ a.same_rules;
   same_handles = b.same_handles ∙ a.same_handles;
@@ -169,6 +171,12 @@ untaken_by t old new own by =
     let e : new.labels ≡ rest_of t = by.in_order ∙ ap (λ (o : List Label). ((o ++ map as_label t.device) ++ map as_answer t.answers) ++ end_labels t.ends) own in
     subst (λ (ls : List Label). IsPermutation (map as_answer new.answers) (answers_of ls ++ map as_answer old.answers)) (sym e) (untaken_told t old.answers new.answers by.untaken)
 
+-- labels of a step of no labels of its own
+quiet_by : (t : Told) (old new : ManagerView) → t.own ≡ [] → IsRightBy false t old new → All IsQuiet new.labels
+quiet_by t old new own by =
+    let e : new.labels ≡ rest_of t = by.in_order ∙ ap (λ (o : List Label). ((o ++ map as_label t.device) ++ map as_answer t.answers) ++ end_labels t.ends) own in
+    subst (λ (ls : List Label). All IsQuiet ls) (sym e) (quiet_rest t)
+
 own_none : (t : Told) (old : ManagerView) → t ≡ tells_nothing old → t.own ≡ []
 own_none t old e = ap (λ (x : Told). x.own) e
 
@@ -188,6 +196,22 @@ finish_untaken old new tag (HandleReply given) h = absurd h.replies
 finish_untaken old new tag (Requested id) h = absurd h.replies
 finish_untaken old new tag (Answered answer) h = absurd h.replies
 finish_untaken old new tag (Refused reason bytes) h = absurd h.replies
+
+act_quiet : (old new : ManagerView) (tag : ℕ) (reply : Reply) → IsRightCall (ActReplies old tag reply new) old new → All IsQuiet new.labels
+act_quiet old new tag Done h = quiet_by h.told old new h.replies.0.no_own h.by
+act_quiet old new tag Ignored h = quiet_by h.told old new (own_none h.told old h.replies.0.nothing) h.by
+act_quiet old new tag (HandleReply given) h = absurd h.replies
+act_quiet old new tag (Requested id) h = absurd h.replies
+act_quiet old new tag (Answered answer) h = absurd h.replies
+act_quiet old new tag (Refused reason bytes) h = absurd h.replies
+
+finish_quiet : (old new : ManagerView) (tag : ℕ) (reply : Reply) → IsRightCall (FinishReplies old tag reply new) old new → All IsQuiet new.labels
+finish_quiet old new tag Done h = quiet_by h.told old new h.replies.0.no_own h.by
+finish_quiet old new tag Ignored h = quiet_by h.told old new (own_none h.told old h.replies.0.nothing) h.by
+finish_quiet old new tag (HandleReply given) h = absurd h.replies
+finish_quiet old new tag (Requested id) h = absurd h.replies
+finish_quiet old new tag (Answered answer) h = absurd h.replies
+finish_quiet old new tag (Refused reason bytes) h = absurd h.replies
 
 act_handles : (old new : ManagerView) (tag : ℕ) (reply : Reply) → IsRightCall (ActReplies old tag reply new) old new → new.handles ≡ old.handles
 act_handles old new tag Done h = h.replies.1.handles
@@ -227,9 +251,11 @@ module _ (keep : StepsKeepEntries) (apart : StepsStayApart) (old new : ManagerVi
     sectors = s.sectors ∙ ap (λ (r : Rules). r.disk_sectors) (sym by.by.same_rules);
   }
 
-  pub others_go : (disk : DiskView) → new.handles ≡ old.handles → new.state.paused ≡ old.state.paused → IsPermutation (map as_answer new.answers) (answers_of new.labels ++ map as_answer old.answers) → Goes (over old disk) (over (record new { labels = [] }) disk)
-  others_go disk handles paused untaken = record {
+  pub others_go : (disk : DiskView) → All IsQuiet new.labels → new.handles ≡ old.handles → new.state.paused ≡ old.state.paused → IsPermutation (map as_answer new.answers) (answers_of new.labels ++ map as_answer old.answers)
+      → Goes (over old disk) (over (record new { labels = [] }) disk)
+  others_go disk all_quiet handles paused untaken = record {
     labels = new.labels;
+    all_quiet = all_quiet;
     deeds = [];
     same_rules = by.by.same_rules;
     same_handles = handles;
@@ -242,7 +268,7 @@ module _ (keep : StepsKeepEntries) (apart : StepsStayApart) (old new : ManagerVi
   }
 
 pub finish_goes : StepsKeepEntries → StepsStayApart → (old new : ManagerView) (disk : DiskView) (tag : ℕ) (reply : Reply) → IsRight old (Finish tag) reply new → Goes (over old disk) (over (record new { labels = [] }) disk)
-finish_goes keep apart old new disk tag reply right = others_go keep apart old new (Finish tag) reply tt right disk (finish_handles old new tag reply right) (finish_steady old new tag reply right) (finish_untaken old new tag reply right)
+finish_goes keep apart old new disk tag reply right = others_go keep apart old new (Finish tag) reply tt right disk (finish_quiet old new tag reply right) (finish_handles old new tag reply right) (finish_steady old new tag reply right) (finish_untaken old new tag reply right)
 
 -- AN ACT
 
@@ -301,6 +327,7 @@ module _ (idle : IdleActsKeepEntries) (adds : BookedActsAddEntries) (may : Armed
     booked_goes : Goes (over old before) (over (record new { labels = [] }) after)
     booked_goes = record {
       labels = new.labels;
+      all_quiet = act_quiet booked new tag reply right;
       deeds = deed ∷ [];
       same_rules = new_rules;
       same_handles = act_handles booked new tag reply right ∙ ap (λ (v : ManagerView). v.handles) has.books.same;
@@ -337,6 +364,7 @@ module _ (idle : IdleActsKeepEntries) (adds : BookedActsAddEntries) (may : Armed
     idle_goes : Goes (over old before) (over (record new { labels = [] }) after)
     idle_goes = record {
       labels = new.labels;
+      all_quiet = act_quiet booked new tag reply right;
       deeds = [];
       same_rules = idle_new;
       same_handles = act_handles booked new tag reply right ∙ ap (λ (v : ManagerView). v.handles) none.same_stack;
@@ -530,6 +558,13 @@ answered_now first now disk event answer transfer right =
           (subst (λ (ls : List Label). Contains ls (as_answer answer)) (sym own)
           (subst (λ (a : Answer). Contains (Call number (without_bytes ask.0) ∷ AnswerLabel number Success 0 [] ∷ []) (as_answer a)) (sym same)
           (Contains-append_right (Call number (without_bytes ask.0) ∷ []) (AnswerLabel number Success 0 [] ∷ []) (AnswerLabel number Success 0 []) (head_there (AnswerLabel number Success 0 []) []))));
+      alone = record {
+        number = number;
+        request = without_bytes ask.0;
+        behind = AnswerLabel number Success 0 [] ∷ rest_of h.right.told;
+        first = labels ∙ ap (λ (o : List Label). ((o ++ map as_label h.right.told.device) ++ map as_answer h.right.told.answers) ++ end_labels h.right.told.ends) own;
+        all_quiet = All-cons IsQuiet (AnswerLabel number Success 0 []) (rest_of h.right.told) tt (quiet_rest h.right.told);
+      };
     }
 
 all_front : {X : Type 0} (P : X → Type 0) (xs ys : List X) → All P (xs ++ ys) → All P xs
@@ -581,6 +616,13 @@ module _ (keep : StepsKeepEntries) (apart : StepsStayApart) (first now : Manager
         called =
             inl (subst (λ (n : ℕ). Contains (now.labels ++ drained.labels) (Call n ask.0)) (sym same) (Contains-append_left now.labels drained.labels (Call id.number ask.0) (call_there (cleared first) now ask.0 id h)));
         answered = answer_there answer c;
+        alone = record {
+          number = id.number;
+          request = ask.0;
+          behind = rest_of h.right.told ++ drained.labels;
+          first = ap (λ (ls : List Label). ls ++ drained.labels) (call_labels (cleared first) now ask.0 id h);
+          all_quiet = All-append IsQuiet (rest_of h.right.told) drained.labels (quiet_rest h.right.told) drained.all_quiet;
+        };
       }
 
   -- had it no answer, a request would be open with no piece out
@@ -660,6 +702,15 @@ fewer_since true old booked new tag same h = subst (λ (s : State). fresh_count 
 fewer_since false old booked new tag same h = h
 
 -- A HANDLE
+
+-- an open tells nothing
+pub open_silent : (old new : ManagerView) (partition : ℕ) (reply : Reply) → IsRight old (Open partition) reply new → new.labels ≡ []
+open_silent old new partition (HandleReply given) h = h.by.in_order ∙ ap labels_of h.replies.0.nothing
+open_silent old new partition (Refused reason bytes) h = h.by.in_order ∙ ap labels_of h.replies.1.unmoved.nothing
+open_silent old new partition Done h = absurd h.replies
+open_silent old new partition (Requested id) h = absurd h.replies
+open_silent old new partition (Answered answer) h = absurd h.replies
+open_silent old new partition Ignored h = absurd h.replies
 
 module _ (old new after : ManagerView) (partition : ℕ) (is_after : after ≡ record new { labels = [] }) (rules_are : after.rules ≡ old.rules) where
   on_given : (handle : Handle) → IsRight old (Open partition) (HandleReply handle) new → IsOn after handle partition

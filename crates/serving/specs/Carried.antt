@@ -1,5 +1,5 @@
 -- A stack whose sectors stand in a storage: what is told of it, and what its pieces did there.
-use Rattle.std.specs.Prelude.{◌≡◌, ◌⊎◌, ℕ, false, List, [], ◌∷◌, ◌++◌, map, Contains, IsFalse, IsPermutation, Result, Ok, Err, MatchResult}
+use Rattle.std.specs.Prelude.{◌≡◌, ◌⊎◌, ℕ, false, List, [], ◌∷◌, ◌++◌, map, All, Contains, IsFalse, IsPermutation, Result, Ok, Err, MatchResult}
 use Rattle.srb.specs.declared.Srb.{Srb}
 use Rattle.srb.specs.declared.Entry.{Entry}
 use Rattle.srb.specs.declared.Completion.{Completion}
@@ -19,7 +19,7 @@ use Rattle.io_manager.specs.Right.{BooksPiece, as_answer}
 use Rattle.compose.specs.declared.Event.{Event}
 use Rattle.compose.specs.Journaled.{IsJournaled}
 use Rattle.compose.specs.Right.{IsRight}
-use Rattle.volume.specs.Working.{Asks, answers_of}
+use Rattle.volume.specs.Working.{Asks, IsQuiet, answers_of}
 use Rattle.file_disk.specs.Transfers.{DiskView, IsOfPiece, Transfers}
 
 pub record CarriedView : Type 0 where
@@ -97,6 +97,8 @@ TellsOn old labels entries new =
 -- the stack moved by these labels, and the storage by what their acts and failures were; answers wait to be taken
 pub record Goes (old new : CarriedView) : Type 0 where
   pub labels : List Label
+  -- none of them is a call, a cancel, or pauses or removes the device
+  pub all_quiet : All IsQuiet labels
   pub deeds : List Deed
   pub same_rules : new.stack.rules ≡ old.stack.rules
   pub same_handles : new.stack.handles ≡ old.stack.handles
@@ -109,13 +111,22 @@ pub record Goes (old new : CarriedView) : Type 0 where
 
 -- REQUESTS
 
--- the event's request was called under the answer's number, and the answer is one of what was told
+-- one call stands first, and it is the only one; nor is there a cancel, or a label that pauses or removes the device
+pub record HasOneCall (labels : List Label) : Type 0 where
+  pub number : ℕ
+  pub request : ClientRequest
+  pub behind : List Label
+  pub first : labels ≡ Call number request ∷ behind
+  pub all_quiet : All IsQuiet behind
+
+-- the event's request was called under the answer's number, and nothing else was. The answer is one of what was told
 pub record IsAnsweredBy (old : CarriedView) (event : Event) (answer : Answer) (labels : List Label) : Type 0 where
   pub request : ClientRequest
   pub asks : Asks old.stack event request
   -- a request of no bytes is answered at once, and the label of its call has no bytes
   pub called : Contains labels (Call answer.number request) ⊎ Contains labels (Call answer.number (without_bytes request))
   pub answered : Contains labels (as_answer answer)
+  pub alone : HasOneCall labels
 
 -- the stack, on which no answer waited, refused the event at once, and nothing was moved
 pub record IsRefusedAtOnce (old : CarriedView) (event : Event) (reason : Refusal) (labels : List Label) (deeds : List Deed) : Type 0 where

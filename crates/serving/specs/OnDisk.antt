@@ -108,6 +108,8 @@ pub record IsOpened (c : Config) (p : ℕ) (calls : List Call) (filed : FiledVie
   pub arrays : List (List (List ℕ))
   pub trace : List Label
   pub begins : IsTold arrays trace [] filed.carried.stack
+  -- nor was anything called
+  pub none_called : trace ≡ []
 
 -- the settings have no bad sectors, and have this partition
 abbrev pub AreServable : Config → ℕ → Type 0

@@ -6,10 +6,10 @@
 //! - [`serve_disk`] (`served`): what was read and written is a session of the NBD protocol, over the bytes of the
 //!   partition of the settings' disk, which are zeros at its start. Or nothing was read or written, and it tells why.
 //! - [`open_file`] (`opened`, `fault`): nothing was asked of the storage but its sector 0, whose table gives the
-//!   partitions of the settings. The stack has their limits. Or it tells why not.
-//! - [`serve_file`]: the stack answered each request of the session that it called, or refused it at once. All labels
-//!   of the stack are one run of the machine. The storage got just the calls of the pieces that acted there, and each
-//!   piece did in the run what its calls did.
+//!   partitions of the settings. The stack has their limits, and nothing was called of it. Or it tells why not.
+//! - [`serve_file`]: the stack answered each request of the session that it called, or refused it at once, and nothing
+//!   else was called of it. All labels of the stack are one run of the machine. The storage got just the calls of the
+//!   pieces that acted there, and each piece did in the run what its calls did.
 //! - [`put_table`] (`synced`, `fault`): the table was written and synced. Or a call failed, the last that was made, or
 //!   there was no memory, and nothing was called.
 //! - [`command`] (`asked`, `fault`): paths, partition and flag are those that the parser of the command line found

@@ -3,7 +3,6 @@
 ghost use Rattle.std.specs.Prelude.{◌≡◌, ◌≢◌, ◌≤◌, ◌<◌, ◌⊎◌, ℕ, ◌*◌, ◌^◌, List, [], length, map};
 ghost use Rattle.std.specs.Prelude.{IfErr, IfOk, IsFalse, IsTrue, Ok, OnOk, None};
 ghost use Rattle.std.specs.Result.{result_err};
-ghost use Rattle.machine.specs.declared.Label.{Label};
 ghost use Rattle.io_manager.specs.declared.Refusal.TheVariants.{InvalidParameter};
 ghost use Rattle.io_manager.specs.declared.Reply.TheVariants.{Handle as HandleReply, Refused};
 ghost use Rattle.mbr.specs.Faults.{told_by};
@@ -272,7 +271,7 @@ fn opened(stack: &mut Stack<BookedAdapter>, alloc: Global, partition: u8) -> Res
     ensures taken { stack.new.labels ≡ [] }
     ensures rules { stack.new.rules ≡ stack.old.rules }
     ensures stands { (disk : DiskView) → StandsIn (quiet stack.old) disk → StandsIn (quiet stack.new) disk }
-    ensures told { (labels : List Label) × TellsOn (quiet stack.old) labels [] (quiet stack.new) }
+    ensures told { TellsOn (quiet stack.old) [] [] (quiet stack.new) }
     ensures same_paused { stack.new.state.paused ≡ stack.old.state.paused }
     ensures on { IfOk result (λ handle. IsOn (quiet stack.new) handle partition) }
     ensures fault { IfErr result (λ fault. (fault ≡ NoMemory) ⊎ ((fault ≡ NoPartition) × (length stack.old.rules.partitions ≤ partition))) }

@@ -36,10 +36,11 @@ returns-clause-opened g c = record {
   on = c.in_ok-handle.ensures.on;
   bytes = c.in_ok-sizes.ensures.bytes;
   arrays = first_arrays c.args.config c.in_ok-first.first.items c.in_ok-stack.stack c.in_ok-stack.ensures.started;
-  trace = c.in_ok-handle.ensures.told.0;
+  trace = [];
   begins =
-      c.in_ok-handle.ensures.told.1 (first_arrays c.args.config c.in_ok-first.first.items c.in_ok-stack.stack c.in_ok-stack.ensures.started) [] []
+      c.in_ok-handle.ensures.told (first_arrays c.args.config c.in_ok-first.first.items c.in_ok-stack.stack c.in_ok-stack.ensures.started) [] []
       (told_at_first c.args.config c.in_ok-first.first.items c.in_ok-stack.stack c.in_ok-stack.ensures.started);
+  none_called = refl;
 }
 
 -- WHERE IT FAILS

@@ -1,9 +1,10 @@
-use Rattle.std.proofs.Common.{[], sym, subst, ap, ◌∙◌}
+use Rattle.std.proofs.Common.{◌≡◌, List, [], sym, subst, ap, ◌∙◌}
+use Rattle.machine.specs.declared.Label.{Label}
 use Rattle.io_manager.specs.Shown.{ManagerView}
 use Rattle.compose.specs.declared.Event.TheVariants.{Open}
 use Rattle.compose.proofs.JournaledKept.{led}
 use Rattle.serving.specs.Carried.{StandsIn, TellsOn, quiet}
-use Rattle.serving.proofs.Carrying.{on_opened, others_stand, others_told}
+use Rattle.serving.proofs.Carrying.{on_opened, open_silent, others_stand, others_told}
 use Rattle.serving.proofs.Failing.{on_refused}
 use Rattle.serving.proofs.Quiet.{quiet_after}
 use Rattle.serving.proofs.Steady.{open_steady}
@@ -19,12 +20,13 @@ returns-clause-stands c = λ disk s.
     c.step_untraced-reply.ensures.untraced.right disk s)
 
 pub returns-clause-told : goal.returns-clause-told
-returns-clause-told c = (
-  c.step_untraced-reply.ensures.untraced.stepped.labels,
-  subst (λ (v : ManagerView). TellsOn (quiet c.args.stack.now) c.step_untraced-reply.ensures.untraced.stepped.labels [] v) (sym (quiet_after _ _ _ _ c.step_untraced-reply.ensures.untraced))
-      (others_told c.laws_of_entries.ensures.kept c.laws_of_entries.ensures.apart (quiet c.args.stack.now) c.step_untraced-reply.ensures.untraced.stepped (Open c.args.partition) c.step_untraced-reply.result tt
-      c.step_untraced-reply.ensures.untraced.right),
-)
+returns-clause-told c =
+    let silent : c.step_untraced-reply.ensures.untraced.stepped.labels ≡ [] =
+    open_silent (quiet c.args.stack.now) c.step_untraced-reply.ensures.untraced.stepped c.args.partition c.step_untraced-reply.result c.step_untraced-reply.ensures.untraced.right in
+    subst (λ (v : ManagerView). TellsOn (quiet c.args.stack.now) [] [] v) (sym (quiet_after _ _ _ _ c.step_untraced-reply.ensures.untraced))
+    (subst (λ (ls : List Label). TellsOn (quiet c.args.stack.now) ls [] (record c.step_untraced-reply.ensures.untraced.stepped { labels = [] })) silent
+    (others_told c.laws_of_entries.ensures.kept c.laws_of_entries.ensures.apart (quiet c.args.stack.now) c.step_untraced-reply.ensures.untraced.stepped (Open c.args.partition) c.step_untraced-reply.result tt
+    c.step_untraced-reply.ensures.untraced.right))
 
 pub returns-clause-same_paused : goal.returns-clause-same_paused
 returns-clause-same_paused c =
