@@ -2,6 +2,8 @@
 use Rattle.std.specs.Prelude.{◌≡◌, ℕ, ◌-◌, ◌%◌, ◌/◌, ◌^◌, Bool, false, List, drop, length, replicate, take, Option, Some, None, if◌then◌else◌}
 use Rattle.cdb.specs.declared.Cdb.{Cdb}
 use Rattle.cdb.specs.declared.Cdb.TheVariants.{Read10, Write10, Sync10, ReadCapacity10, Read16, Write16, Sync16, ReadCapacity16}
+use Rattle.cdb.specs.declared.CdbFault.{CdbFault}
+use Rattle.cdb.specs.Faults.{HasFault}
 use Rattle.cdb.specs.Meaning.{Means}
 use Rattle.srb.specs.declared.Kind.{Kind}
 use Rattle.srb.specs.declared.Kind.TheVariants.{Read, Write, Flush}
@@ -36,6 +38,8 @@ pub record IsToldOf (piece : ℕ) (srb : Srb) (told : StackArmed) : Type 0 where
   pub high : told.piece_high ≡ piece / 2 ^ 64
   -- what its command block asks for
   pub asked : (command : Cdb) → Means srb.block command → told.asked ≡ shown_asked (asked_by command)
+  -- a block with a fault asks to move nothing
+  pub faulty : (fault : CdbFault) → HasFault srb.block fault → told.asked ≡ shown_asked None
   pub many : told.length ≡ length srb.data
   pub block_length : told.block_length ≡ length srb.block
   pub block : take (length srb.block) told.block ≡ srb.block

@@ -1,10 +1,12 @@
 -- What C is answered.
-use Rattle.std.specs.Prelude.{◌≡◌, ◌⊎◌, ℕ, List}
+use Rattle.std.specs.Prelude.{◌≡◌, ◌⊎◌, ℕ, List, Err, MatchBool, nat_eq}
 use Rattle.ntstatus.specs.Codes.{value_of}
+use Rattle.ntstatus.specs.declared.NtStatus.TheVariants.{Success}
+use Rattle.machine.specs.declared.ClientRequest.{ClientRequest}
 use Rattle.io_manager.specs.declared.Refusal.TheVariants.{InsufficientResources}
 use Rattle.volume.specs.declared.Error.{Error}
 use Rattle.volume.specs.declared.Error.TheVariants.{Refused}
-use Rattle.volume.specs.Calls.{AreInBounds, IsFault, IsSameDisk, IsWriteFault as IsVolumeWriteFault}
+use Rattle.volume.specs.Calls.{AreInBounds, IsAnswered, IsFault, IsSameDisk, IsToldAsAnswered, IsWriteFault as IsVolumeWriteFault, WasSent}
 use Rattle.volume.specs.Shown.{VolumeView}
 use Rattle.saddlemug.specs.Statuses.{fault_status}
 
@@ -22,3 +24,15 @@ IsReadFault v offset count fault = (fault ≡ Refused InsufficientResources) ⊎
 -- nothing changed
 abbrev pub IsWriteFault : VolumeView → ℕ → List ℕ → Error → VolumeView → Type 0
 IsWriteFault old offset bytes fault new = ((fault ≡ Refused InsufficientResources) × IsSameDisk old new) ⊎ IsVolumeWriteFault old offset bytes fault new
+
+-- a request ended with a fault of this kind: it was sent, and its one answer has the fault's status; or it was refused,
+-- and not sent
+pub record EndsWith (old : VolumeView) (q : ClientRequest) (IsWhy : Error → Type 0) (new : VolumeView) (fault : Error) : Type 0 where
+  pub why : IsWhy fault
+  pub answered : IsToldAsAnswered {X = Unit {0}} old q (Err fault) new
+  pub sent : WasSent old new fault
+
+-- 0 is told of a request that was answered with SUCCESS, and of any other the number of the status of the fault with
+-- which it ended
+abbrev pub IsToldNumber : VolumeView → ClientRequest → (Error → Type 0) → VolumeView → ℕ → Type 0
+IsToldNumber old q IsWhy new number = MatchBool (nat_eq number 0) (IsAnswered old q Success new) (IsNumberOf (EndsWith old q IsWhy new) number)

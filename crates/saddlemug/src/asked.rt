@@ -1,7 +1,9 @@
 //! What a piece asks for, and the piece as C is told it.
 
-ghost use Rattle.std.specs.Prelude.{◌≡◌, ◌≤◌, ◌-◌, IfSome, Some, drop, length, replicate, take};
+ghost use Rattle.std.specs.Prelude.{◌≡◌, ◌≤◌, ◌-◌, IfSome, None, Some, drop, length, replicate, take};
 ghost use Rattle.cdb.specs.declared.Cdb.{Cdb};
+ghost use Rattle.cdb.specs.declared.CdbFault.{CdbFault};
+ghost use Rattle.cdb.specs.Faults.{HasFault};
 ghost use Rattle.cdb.specs.Meaning.{Means};
 ghost use Rattle.saddlemug.specs.Asking.{IsToldOf, asked_by, shown_asked, to_move};
 
@@ -88,6 +90,7 @@ fn asked_by(command: Cdb) -> Option<Asked>
 /// Returns what a block asks to move.
 pub(crate) fn asked_in(block: &[u8]) -> Option<Asked>
     ensures by_meaning { (command : Cdb) → Means block.now command → result ≡ asked_by command }
+    ensures by_fault { (fault : CdbFault) → HasFault block.now fault → result ≡ None }
     ensures asks { IfSome result (λ asked. (command : Cdb) × Means block.now command × (asked_by command ≡ Some asked)) }
 {
     match decode(block) {

@@ -1,7 +1,7 @@
 //! What C holds, and the calls on it.
 
 ghost use Rattle.std.specs.Prelude.{◌≡◌, ◌≢◌, ◌*◌, ⊤, Err, length, IfErr, IfOk, MatchResult};
-ghost use Rattle.volume.specs.Calls.{AreInBounds, IsFault, IsSameDisk, Reads, Writes};
+ghost use Rattle.volume.specs.Calls.{AreInBounds, IsFault, IsSameDisk, IsToldAsAnswered, Reads, WasSent, Writes, flush_of, read_of, write_of};
 ghost use Rattle.saddlemug.specs.Calls.{IsReadFault, IsWriteFault};
 ghost use Rattle.ntstatus.specs.declared.NtStatus.TheVariants.{InvalidDeviceRequest, Success};
 ghost use Rattle.saddlemug.specs.Holding.{IfInMemory, IfOver, IsAnyStack, IsAnyVolume, IsOver, IsStack, IsVolume, places_in};
@@ -56,6 +56,8 @@ impl Instance {
         requires { IsAnyVolume self.old }
         ensures held { IsAnyVolume self.new }
         ensures reads { IsVolume (λ v. MatchResult result (λ _. Reads v.content offset (length buffer.old) buffer.new) (IsReadFault v offset (length buffer.old))) self.old }
+        ensures answered { IsVolume (λ old. IsVolume (λ new. IsToldAsAnswered old (read_of old offset (length buffer.old)) result new) self.new) self.old }
+        ensures sent { IsVolume (λ old. IsVolume (λ new. IfErr result (WasSent old new)) self.new) self.old }
         ensures as_it_was { IfErr result (λ _. buffer.new ≡ buffer.old) }
         ensures same { IsVolume (λ old. IsVolume (IsSameDisk old) self.new) self.old }
     {
@@ -81,6 +83,8 @@ impl Instance {
         ensures held { IsAnyVolume self.new }
         ensures in_bounds { IsVolume (λ v. IfOk result (λ _. AreInBounds v.content offset (length bytes.now))) self.old }
         ensures writes { IsVolume (λ old. IsVolume (λ new. MatchResult result (λ _. Writes old offset bytes.now new) (λ fault. IsWriteFault old offset bytes.now fault new)) self.new) self.old }
+        ensures answered { IsVolume (λ old. IsVolume (λ new. IsToldAsAnswered old (write_of old offset bytes.now through) result new) self.new) self.old }
+        ensures sent { IsVolume (λ old. IsVolume (λ new. IfErr result (WasSent old new)) self.new) self.old }
     {
         match self {
             Instance::Volume(volume) => write_from(volume, alloc, offset, bytes, through),
@@ -97,6 +101,8 @@ impl Instance {
         requires { IsAnyVolume self.old }
         ensures held { IsAnyVolume self.new }
         ensures flushes { IsVolume (λ v. IfErr result (IsFault v ⊤)) self.old }
+        ensures answered { IsVolume (λ old. IsVolume (λ new. IsToldAsAnswered old (flush_of old) result new) self.new) self.old }
+        ensures sent { IsVolume (λ old. IsVolume (λ new. IfErr result (WasSent old new)) self.new) self.old }
         ensures same { IsVolume (λ old. IsVolume (IsSameDisk old) self.new) self.old }
     {
         match self {
@@ -210,6 +216,8 @@ fn read_into<A: Adapter>(
     buffer: &mut [u8],
 ) -> Result<(), Error>
     ensures reads { MatchResult result (λ _. Reads volume.old.content offset (length buffer.old) buffer.new) (IsReadFault volume.old offset (length buffer.old)) }
+    ensures answered { IsToldAsAnswered volume.old (read_of volume.old offset (length buffer.old)) result volume.new }
+    ensures sent { IfErr result (WasSent volume.old volume.new) }
     ensures as_it_was { IfErr result (λ _. buffer.new ≡ buffer.old) }
     ensures same { IsSameDisk volume.old volume.new }
 {
@@ -240,6 +248,8 @@ fn write_from<A: Adapter>(
 ) -> Result<(), Error>
     ensures in_bounds { IfOk result (λ _. AreInBounds volume.old.content offset (length bytes.now)) }
     ensures writes { MatchResult result (λ _. Writes volume.old offset bytes.now volume.new) (λ fault. IsWriteFault volume.old offset bytes.now fault volume.new) }
+    ensures answered { IsToldAsAnswered volume.old (write_of volume.old offset bytes.now through) result volume.new }
+    ensures sent { IfErr result (WasSent volume.old volume.new) }
 {
     match copied(alloc, bytes) {
         Ok(copy) => volume.write(alloc, offset, copy, through),

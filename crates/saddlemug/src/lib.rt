@@ -9,6 +9,9 @@
 //! - [`saddlemug_read`] (`reads`, `as_it_was`): a read that succeeds has put just the bytes of the partition into the
 //!   buffer, and one that fails leaves the buffer as it was.
 //! - [`saddlemug_write`] (`writes`): a write that succeeds has replaced just its bytes.
+//! - [`saddlemug_read`], [`saddlemug_write`] and [`saddlemug_flush`] (`answered`): 0 says that just this request was
+//!   made, with write-through as asked, and that its one answer was SUCCESS. Any other number is that of the status
+//!   with which the request was answered, or that of its refusal, which sent no command.
 //! - [`saddlemug_stack_step`], [`saddlemug_stack_take_label`], [`saddlemug_stack_take_answer`] and
 //!   [`saddlemug_over_armed`] (`as_it_was`): where nothing is told, what would hold it is as it was. So is a buffer
 //!   behind the bytes that were put into it.

@@ -1,8 +1,8 @@
 //! What C calls on a volume.
 
 ghost use Rattle.std.specs.Prelude.{◌≡◌, ◌⊎◌, ◌*◌, ⊤, None, MatchBool, length, nat_eq};
-ghost use Rattle.volume.specs.Calls.{AreInBounds, IsFault, IsSameDisk, Reads, Writes};
-ghost use Rattle.saddlemug.specs.Calls.{IsNumberOf, IsReadFault, IsWriteFault};
+ghost use Rattle.volume.specs.Calls.{AreInBounds, IsFault, IsSameDisk, Reads, Writes, flush_of, read_of, write_of};
+ghost use Rattle.saddlemug.specs.Calls.{IsNumberOf, IsReadFault, IsToldNumber, IsWriteFault};
 ghost use Rattle.saddlemug.specs.Holding.{HoldsAnyVolume, HoldsVolume};
 ghost use Rattle.saddlemug.specs.Opened.{IsNewVolume, IsVolumeStatus};
 ghost use Rattle.saddlemug.specs.Statuses.{IsNumberOfStatus};
@@ -73,6 +73,7 @@ pub extern "C" fn saddlemug_read(
     requires { HoldsAnyVolume cell.old.held }
     ensures held { HoldsAnyVolume cell.new.held }
     ensures reads { HoldsVolume (λ v. MatchBool (nat_eq result 0) (Reads v.content offset (length buffer.old) buffer.new) (IsNumberOf (IsReadFault v offset (length buffer.old)) result)) cell.old.held }
+    ensures answered { HoldsVolume (λ old. HoldsVolume (λ new. IsToldNumber old (read_of old offset (length buffer.old)) (IsReadFault old offset (length buffer.old)) new result) cell.new.held) cell.old.held }
     ensures as_it_was { (result ≡ 0) ⊎ (buffer.new ≡ buffer.old) }
     ensures same { HoldsVolume (λ old. HoldsVolume (IsSameDisk old) cell.new.held) cell.old.held }
 {
@@ -95,6 +96,7 @@ pub extern "C" fn saddlemug_write(
     ensures held { HoldsAnyVolume cell.new.held }
     ensures in_bounds { HoldsVolume (λ v. MatchBool (nat_eq result 0) (AreInBounds v.content offset (length bytes.now)) ⊤) cell.old.held }
     ensures writes { HoldsVolume (λ old. HoldsVolume (λ new. MatchBool (nat_eq result 0) (Writes old offset bytes.now new) (IsNumberOf (λ fault. IsWriteFault old offset bytes.now fault new) result)) cell.new.held) cell.old.held }
+    ensures answered { HoldsVolume (λ old. HoldsVolume (λ new. IsToldNumber old (write_of old offset bytes.now through) (λ fault. IsWriteFault old offset bytes.now fault new) new result) cell.new.held) cell.old.held }
 {
     let mut held = cell.take(alloc);
     let outcome = held.write(alloc, offset, bytes, through);
@@ -108,6 +110,7 @@ pub extern "C" fn saddlemug_flush(alloc: Global, cell: &mut Cell) -> u32
     requires { HoldsAnyVolume cell.old.held }
     ensures held { HoldsAnyVolume cell.new.held }
     ensures flushes { HoldsVolume (λ v. MatchBool (nat_eq result 0) ⊤ (IsNumberOf (IsFault v ⊤) result)) cell.old.held }
+    ensures answered { HoldsVolume (λ old. HoldsVolume (λ new. IsToldNumber old (flush_of old) (IsFault old ⊤) new result) cell.new.held) cell.old.held }
     ensures same { HoldsVolume (λ old. HoldsVolume (IsSameDisk old) cell.new.held) cell.old.held }
 {
     let mut held = cell.take(alloc);
