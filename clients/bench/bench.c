@@ -197,7 +197,9 @@ main(void)
 	expect("a disk in memory", saddlemug_stack_armed(&stack, 0, &armed), SADDLEMUG_INVALID_DEVICE_REQUEST);
 	saddlemug_stack_close(&stack);
 	over();
-	if (!failed)
-		puts("the bench found what it expected");
+	if (!failed && puts("the bench found what it expected") >= 0 && fflush(stdout) != 0) {
+		perror("bench: standard output");
+		return 1;
+	}
 	return failed;
 }

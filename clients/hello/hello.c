@@ -36,5 +36,8 @@ main(void)
 	if (status != SADDLEMUG_SUCCESS)
 		return failed("read", status);
 	printf("sector 1 of %" PRIu64 ": %s\n", sizes.sectors, (const char *) sector);
-	return 0;
+	if (fflush(stdout) == 0)
+		return 0;
+	perror("hello: standard output");
+	return 1;
 }

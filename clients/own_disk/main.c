@@ -6,6 +6,7 @@
 #include <stdlib.h>
 #include <string.h>
 
+#include "descriptors.h"
 #include "own_disk.h"
 
 /* The longest request, in bytes. */
@@ -77,6 +78,8 @@ main(int argc, char **argv)
 	bool reads = argc == 5 && strcmp(argv[2], "read") == 0 && is_number(argv[4], &length);
 	bool writes = argc == 4 && strcmp(argv[2], "write") == 0;
 
+	if (!take_descriptors())
+		return 1;
 	if (!(reads || writes) || !is_number(argv[3], &offset)) {
 		fputs("usage: own_disk FILE read OFFSET LENGTH | own_disk FILE write OFFSET\n", stderr);
 		return 2;
