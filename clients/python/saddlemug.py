@@ -1,0 +1,536 @@
+"""The storage stack of libsaddlemug, for Python: volumes, stacks that are stepped event by event, and storage of one's own.
+
+It needs the shared library (`make -C clients shared`), which it looks for in SADDLEMUG_LIBRARY, beside this file, in
+`../out`, and where the system's loader looks. It takes no other package.
+
+    with Volume(CONFIG) as volume:
+        volume.write(0, b"a" * 512)
+        assert volume.read(0, 512) == b"a" * 512
+
+    with Stack(CONFIG) as stack:
+        handle = stack.step(Open(0)).id
+        request = stack.step(Read(handle, 0, 512)).id
+        stack.step(Act(0))
+        stack.step(Finish(0))
+        print(stack.answers())
+
+Each call that fails raises `Failed`, which has the status by number and by name. The contract of each call is that of the C
+call of the same name in saddlemug.h. One stack or volume is used by one thread at a time."""
+
+from __future__ import annotations
+
+import ctypes
+import ctypes.util
+import enum
+import os
+from ctypes import POINTER, byref, c_bool, c_size_t, c_uint8, c_uint32, c_uint64, c_void_p
+from dataclasses import dataclass
+from typing import Iterator, Optional, Union
+
+__all__ = [
+    "Act", "Answer", "Asked", "Armed", "Cancel", "CancelRemove", "Close", "Disk", "Failed", "Finish", "Flush", "Id", "Label",
+    "LabelKind", "Mark", "Open", "QueryRemove", "Read", "Remove", "Reply", "ReplyKind", "Reset", "Stack", "Status",
+    "SurpriseRemove", "Volume", "Write",
+]
+
+
+class Status(enum.IntEnum):
+    """The statuses of the calls and answers, as ntstatus.h has them (without STATUS_)."""
+
+    SUCCESS = 0x00000000
+    DEVICE_BUSY = 0x80000011
+    INVALID_HANDLE = 0xC0000008
+    INVALID_PARAMETER = 0xC000000D
+    NO_SUCH_DEVICE = 0xC000000E
+    INVALID_DEVICE_REQUEST = 0xC0000010
+    NONEXISTENT_SECTOR = 0xC0000015
+    DELETE_PENDING = 0xC0000056
+    INSUFFICIENT_RESOURCES = 0xC000009A
+    DEVICE_DATA_ERROR = 0xC000009C
+    MEDIA_WRITE_PROTECTED = 0xC00000A2
+    DEVICE_NOT_READY = 0xC00000A3
+    CANCELLED = 0xC0000120
+    IO_DEVICE_ERROR = 0xC0000185
+    NOT_FOUND = 0xC0000225
+
+
+class Failed(Exception):
+    """A call that was not carried out."""
+
+    def __init__(self, call: str, status: Status):
+        super().__init__(f"{call}: {status.name} ({status:#010x})")
+        self.status = status
+
+
+def _check(call: str, status: int) -> None:
+    if status:
+        raise Failed(call, Status(status))
+
+
+# The structs of saddlemug.h.
+
+
+class _Room(ctypes.Structure):
+    _fields_ = [("at", c_void_p)]
+
+
+class _Sizes(ctypes.Structure):
+    _fields_ = [("sector_size", c_uint64), ("sectors", c_uint64)]
+
+
+class _Id(ctypes.Structure):
+    _fields_ = [("number", c_uint64), ("slot", c_uint32)]
+
+
+class _Event(ctypes.Structure):
+    _fields_ = [
+        ("kind", c_uint32), ("partition", c_uint8), ("tag", c_uint8), ("through", c_bool), ("one", c_bool),
+        ("handle", _Id), ("request", _Id), ("offset", c_uint64), ("length", c_uint64),
+    ]
+
+
+class _Reply(ctypes.Structure):
+    _fields_ = [("kind", c_uint32), ("status", c_uint32), ("id", _Id)]
+
+
+class _Label(ctypes.Structure):
+    _fields_ = [
+        ("kind", c_uint32), ("status", c_uint32), ("number", c_uint64), ("information", c_uint64), ("piece_low", c_uint64),
+        ("piece_high", c_uint64), ("tag", c_uint32), ("class_", c_uint32), ("request", c_uint32), ("partition", c_uint32),
+        ("offset", c_uint64), ("length", c_uint64), ("through", c_uint32), ("bytes", c_uint64),
+    ]
+
+
+class _Answer(ctypes.Structure):
+    _fields_ = [("number", c_uint64), ("information", c_uint64), ("status", c_uint32), ("bytes", c_uint64)]
+
+
+class _Disk(ctypes.Structure):
+    _fields_ = [
+        ("sectors", c_uint64), ("max_transfer", c_uint32), ("depth", c_uint32), ("window", c_uint32),
+        ("open_requests", c_uint32),
+    ]
+
+
+class _Asked(ctypes.Structure):
+    _fields_ = [("kind", c_uint32), ("through", c_uint32), ("first", c_uint64), ("count", c_uint64)]
+
+
+class _Armed(ctypes.Structure):
+    _fields_ = [
+        ("piece_low", c_uint64), ("piece_high", c_uint64), ("asked", _Asked), ("bytes", c_void_p), ("length", c_uint64),
+        ("block_length", c_uint32), ("block", c_uint8 * 16),
+    ]
+
+
+class _Completion(ctypes.Structure):
+    _fields_ = [
+        ("srb_status", c_uint8), ("scsi_status", c_uint8), ("has_sense", c_bool), ("key", c_uint8), ("asc", c_uint8),
+        ("ascq", c_uint8),
+    ]
+
+
+class _Booking(ctypes.Structure):
+    _fields_ = [
+        ("piece_low", c_uint64), ("piece_high", c_uint64), ("length", c_uint64), ("tag", c_uint8), ("failed", c_bool),
+        ("completion", _Completion),
+    ]
+
+
+_ROOM = POINTER(_Room)
+_CALLS = {
+    "saddlemug_open": (c_uint32, [_ROOM, c_void_p, c_size_t, c_uint8]),
+    "saddlemug_sizes": (_Sizes, [_ROOM]),
+    "saddlemug_read": (c_uint32, [_ROOM, c_uint64, c_void_p, c_size_t]),
+    "saddlemug_write": (c_uint32, [_ROOM, c_uint64, c_void_p, c_size_t, c_bool]),
+    "saddlemug_flush": (c_uint32, [_ROOM]),
+    "saddlemug_close": (None, [_ROOM]),
+    "saddlemug_stack_open": (c_uint32, [_ROOM, c_void_p, c_size_t]),
+    "saddlemug_stack_step": (c_uint32, [_ROOM, POINTER(_Event), c_void_p, c_size_t, POINTER(_Reply)]),
+    "saddlemug_stack_take_label": (c_bool, [_ROOM, POINTER(_Label), c_void_p, c_size_t]),
+    "saddlemug_stack_take_answer": (c_bool, [_ROOM, POINTER(_Answer), c_void_p, c_size_t]),
+    "saddlemug_stack_close": (None, [_ROOM]),
+    "saddlemug_over_open": (c_uint32, [_ROOM, POINTER(_Disk), c_void_p, c_size_t]),
+    "saddlemug_over_armed": (c_uint32, [_ROOM, c_uint8, POINTER(_Armed)]),
+    "saddlemug_over_book": (c_uint32, [_ROOM, POINTER(_Booking)]),
+}
+
+
+def _load() -> ctypes.CDLL:
+    here = os.path.dirname(os.path.abspath(__file__))
+    places = [os.environ.get("SADDLEMUG_LIBRARY"), f"{here}/libsaddlemug.so", f"{here}/../out/libsaddlemug.so"]
+    found = next((it for it in places if it and os.path.exists(it)), None) or ctypes.util.find_library("saddlemug")
+    if not found:
+        raise ImportError("libsaddlemug.so is not found: `make -C clients shared` builds it, SADDLEMUG_LIBRARY names it")
+    library = ctypes.CDLL(found)
+    for name, (result, arguments) in _CALLS.items():
+        call = getattr(library, name)
+        call.restype, call.argtypes = result, arguments
+    return library
+
+
+_c = _load()
+
+
+def _room_for(length: int) -> ctypes.Array:
+    """A buffer, which C wants to be there also for no bytes."""
+    return (c_uint8 * max(length, 1))()
+
+
+def _settings(settings: Union[str, bytes]) -> bytes:
+    return settings.encode() if isinstance(settings, str) else settings
+
+
+class Volume:
+    """One partition of a new disk in memory as an array of bytes. `settings` is a TOML text (docs/USING.md)."""
+
+    def __init__(self, settings: Union[str, bytes], partition: int = 0):
+        self._room = _Room(None)
+        text = _settings(settings)
+        _check("open", _c.saddlemug_open(byref(self._room), text, len(text), partition))
+
+    @property
+    def sector_size(self) -> int:
+        """Bytes of a sector."""
+        return _c.saddlemug_sizes(self._open()).sector_size
+
+    @property
+    def sectors(self) -> int:
+        """Sectors of the partition."""
+        return _c.saddlemug_sizes(self._open()).sectors
+
+    def read(self, offset: int, length: int) -> bytes:
+        """Reads whole sectors, 65,536 at most; both numbers are in bytes."""
+        buffer = _room_for(length)
+        _check("read", _c.saddlemug_read(self._open(), offset, buffer, length))
+        return bytes(buffer)[:length]
+
+    def write(self, offset: int, data: bytes, through: bool = False) -> None:
+        """Writes whole sectors, past volatile caches if `through` (SBC: FUA)."""
+        _check("write", _c.saddlemug_write(self._open(), offset, data, len(data), through))
+
+    def flush(self) -> None:
+        """Flushes the disk's caches (SBC: SYNCHRONIZE CACHE)."""
+        _check("flush", _c.saddlemug_flush(self._open()))
+
+    def close(self) -> None:
+        """Ends the volume and its disk. A second call does nothing."""
+        if self._room.at:
+            _c.saddlemug_close(byref(self._room))
+
+    def _open(self):
+        if not self._room.at:
+            raise Failed("volume", Status.INVALID_HANDLE)
+        return byref(self._room)
+
+    def __enter__(self) -> Volume:
+        return self
+
+    def __exit__(self, *_) -> None:
+        self.close()
+
+
+@dataclass(frozen=True)
+class Id:
+    """A handle or an open request. Numbers rise from 1, and none is given twice; a slot is."""
+
+    number: int
+    slot: int
+
+
+# The events of a stack. Offsets and lengths are in bytes.
+
+
+@dataclass(frozen=True)
+class Open:
+    """A handle on a partition, counted from 0 (IRP_MJ_CREATE)."""
+
+    partition: int
+
+
+@dataclass(frozen=True)
+class Close:
+    """The handle is closed, and its requests cancelled (IRP_MJ_CLEANUP)."""
+
+    handle: Id
+
+
+@dataclass(frozen=True)
+class Read:
+    handle: Id
+    offset: int
+    length: int
+
+
+@dataclass(frozen=True)
+class Write:
+    handle: Id
+    offset: int
+    data: bytes
+    through: bool = False
+
+
+@dataclass(frozen=True)
+class Flush:
+    handle: Id
+
+
+@dataclass(frozen=True)
+class Cancel:
+    """All requests of the handle, or the one that is named (CancelIoEx)."""
+
+    handle: Id
+    request: Optional[Id] = None
+
+
+@dataclass(frozen=True)
+class Mark:
+    """The open request of this number, whatever its handle (IoCancelIrp)."""
+
+    number: int
+
+
+@dataclass(frozen=True)
+class QueryRemove:
+    """May the disk go? Where it may, requests are held from now on."""
+
+
+@dataclass(frozen=True)
+class CancelRemove:
+    """The query is taken back, and held requests go on."""
+
+
+@dataclass(frozen=True)
+class Remove:
+    """The disk is removed, after a query."""
+
+
+@dataclass(frozen=True)
+class SurpriseRemove:
+    """The disk was pulled out."""
+
+
+@dataclass(frozen=True)
+class Act:
+    """The adapter carries out, or fails, the command on a tag, counted from 0."""
+
+    tag: int
+
+
+@dataclass(frozen=True)
+class Finish:
+    """The adapter hands the command on a tag back, whether or not it acted."""
+
+    tag: int
+
+
+@dataclass(frozen=True)
+class Reset:
+    """Each command that did nothing fails, and each that is out will come back bad."""
+
+
+Event = Union[
+    Open, Close, Read, Write, Flush, Cancel, Mark, QueryRemove, CancelRemove, Remove, SurpriseRemove, Act, Finish, Reset
+]
+# In the order of `enum saddlemug_event_kind`.
+_EVENTS = [
+    Open, Close, Read, Write, Flush, Cancel, Mark, QueryRemove, CancelRemove, Remove, SurpriseRemove, Act, Finish, Reset
+]
+
+
+def _event(event: Event) -> _Event:
+    told = _Event(kind=_EVENTS.index(type(event)))
+    for name in ("partition", "tag", "offset", "length", "through"):
+        if hasattr(event, name):
+            setattr(told, name, getattr(event, name))
+    if hasattr(event, "handle"):
+        told.handle = _Id(event.handle.number, event.handle.slot)
+    if isinstance(event, Cancel) and event.request:
+        told.one, told.request = True, _Id(event.request.number, event.request.slot)
+    if isinstance(event, Mark):
+        told.request = _Id(event.number, 0)
+    return told
+
+
+class ReplyKind(enum.IntEnum):
+    HANDLE = 0
+    DONE = 1
+    REQUEST = 2
+    ANSWERED = 3
+    REFUSED = 4
+    IGNORED = 5
+
+
+@dataclass(frozen=True)
+class Reply:
+    """What a step answers: a new handle or request in `id`; why it was refused, or how it was answered at once, in `status`."""
+
+    kind: ReplyKind
+    status: Status
+    id: Id
+
+
+class LabelKind(enum.IntEnum):
+    CALLED = 0
+    STARTED = 1
+    ACTED = 2
+    FAULTED = 3
+    RETURNED = 4
+    ANSWERED = 5
+    CANCELLED = 6
+    PAUSED = 7
+    RESUMED = 8
+    REMOVING = 9
+    SURPRISED = 10
+    REMOVED = 11
+
+
+@dataclass(frozen=True)
+class Label:
+    """What a step did. What the kind doesn't have is 0 or empty."""
+
+    kind: LabelKind
+    number: int
+    status: Status
+    information: int
+    piece: int
+    tag: int
+    returned: int  # 0 good, 1 busy, 2 bad
+    request: int  # 0 read, 1 write, 2 flush
+    partition: int  # counted from 1; 0 where the handle isn't open
+    offset: int
+    length: int
+    through: bool
+    data: bytes
+
+
+@dataclass(frozen=True)
+class Answer:
+    number: int
+    status: Status
+    information: int
+    data: bytes
+
+
+@dataclass(frozen=True)
+class Disk:
+    """A disk of the program's own: its sectors, the longest command in sectors, tags, requests at work and open at once."""
+
+    sectors: int
+    max_transfer: int = 2048
+    depth: int = 32
+    window: int = 64
+    open_requests: int = 64
+
+
+class Asked(enum.IntEnum):
+    READ = 0
+    WRITE = 1
+    FLUSH = 2
+    OTHERWISE = 3
+
+
+@dataclass(frozen=True)
+class Armed:
+    """A command at the adapter that could act. `room` is where its bytes stand: those of a write, or the place for those that
+    a read brings, until it is booked."""
+
+    tag: int
+    piece: int
+    kind: Asked
+    through: bool
+    first: int
+    count: int
+    block: bytes
+    room: memoryview
+
+
+class Stack:
+    """A stack over a new disk in memory, of TOML settings; or over storage of the program's own, where `first` is sector 0
+    of a `Disk`, with its partition table."""
+
+    def __init__(self, settings: Union[str, bytes, Disk], first: Optional[bytes] = None):
+        self._room = _Room(None)
+        self._longest = 1 << 20
+        if isinstance(settings, Disk):
+            if first is None:
+                raise TypeError("a stack over a Disk needs its first sector")
+            disk = _Disk(settings.sectors, settings.max_transfer, settings.depth, settings.window, settings.open_requests)
+            _check("open", _c.saddlemug_over_open(byref(self._room), byref(disk), first, len(first)))
+        else:
+            text = _settings(settings)
+            _check("open", _c.saddlemug_stack_open(byref(self._room), text, len(text)))
+
+    def step(self, event: Event) -> Reply:
+        """Carries one event out. Labels of the step before that were not taken are let go."""
+        told, reply = _event(event), _Reply()
+        data = event.data if isinstance(event, Write) else b""
+        if isinstance(event, (Read, Write)):
+            self._longest = max(self._longest, event.length if isinstance(event, Read) else len(data))
+        _check("step", _c.saddlemug_stack_step(self._open(), byref(told), data, len(data), byref(reply)))
+        return Reply(ReplyKind(reply.kind), Status(reply.status), Id(reply.id.number, reply.id.slot))
+
+    def labels(self) -> Iterator[Label]:
+        """Takes the labels of the last step, the earliest first."""
+        label, buffer = _Label(), self._buffer()
+        while _c.saddlemug_stack_take_label(self._open(), byref(label), buffer, len(buffer)):
+            yield Label(
+                LabelKind(label.kind), label.number, Status(label.status), label.information,
+                label.piece_low | label.piece_high << 64, label.tag, label.class_, label.request, label.partition,
+                label.offset, label.length, bool(label.through), ctypes.string_at(buffer, min(label.bytes, len(buffer))),
+            )
+
+    def answers(self) -> list[Answer]:
+        """Takes all answers that wait, the lowest number first."""
+        answer, buffer, found = _Answer(), self._buffer(), []
+        while _c.saddlemug_stack_take_answer(self._open(), byref(answer), buffer, len(buffer)):
+            data = ctypes.string_at(buffer, min(answer.bytes, len(buffer)))
+            found.append(Answer(answer.number, Status(answer.status), answer.information, data))
+        return found
+
+    def armed(self, tag: int) -> Optional[Armed]:
+        """The command on a tag that could act, of a stack over storage of one's own; None where there is none."""
+        armed = _Armed()
+        status = _c.saddlemug_over_armed(self._open(), tag, byref(armed))
+        if status == Status.NOT_FOUND:
+            return None
+        _check("armed", status)
+        place = (c_uint8 * armed.length).from_address(armed.bytes) if armed.length else (c_uint8 * 0)()
+        return Armed(
+            tag, armed.piece_low | armed.piece_high << 64, Asked(armed.asked.kind), bool(armed.asked.through),
+            armed.asked.first, armed.asked.count, bytes(armed.block[: armed.block_length]), memoryview(place).cast("B"),
+        )
+
+    def book_done(self, armed: Armed) -> None:
+        """Books that the command's bytes were moved: those of a read stand in its room."""
+        self._book(armed, _Booking(length=len(armed.room)))
+
+    def book_failed(self, armed: Armed, key: int, asc: int, ascq: int) -> None:
+        """Books that the command failed, with CHECK CONDITION and this sense (SPC)."""
+        self._book(armed, _Booking(failed=True, completion=_Completion(0x84, 2, True, key, asc, ascq)))
+
+    def close(self) -> None:
+        """Ends the stack, and its disk in memory. A second call does nothing."""
+        if self._room.at:
+            _c.saddlemug_stack_close(byref(self._room))
+
+    def _book(self, armed: Armed, booking: _Booking) -> None:
+        booking.tag = armed.tag
+        booking.piece_low, booking.piece_high = armed.piece & (1 << 64) - 1, armed.piece >> 64
+        _check("book", _c.saddlemug_over_book(self._open(), byref(booking)))
+
+    def _buffer(self) -> ctypes.Array:
+        if getattr(self, "_kept", None) is None or len(self._kept) < self._longest:
+            self._kept = (c_uint8 * self._longest)()
+        return self._kept
+
+    def _open(self):
+        if not self._room.at:
+            raise Failed("stack", Status.INVALID_HANDLE)
+        return byref(self._room)
+
+    def __enter__(self) -> Stack:
+        return self
+
+    def __exit__(self, *_) -> None:
+        self.close()
