@@ -1,6 +1,7 @@
 /* An nbdkit plugin over the static library: nbdkit ./saddlemug.so size=256M [sector=512] [transfer=128], or
  * nbdkit ./saddlemug.so settings=FILE [partition=0], for a disk in memory; or
- * nbdkit ./saddlemug.so file=IMAGE [partition=0] [sector=512] [transfer=2048], for a raw image file. */
+ * nbdkit ./saddlemug.so file=IMAGE [partition=0] [sector=512] [transfer=2048], for a raw image file or a block device.
+ * Partitions count from 0. Over a file requests run side by side. */
 #include <errno.h>
 #include <inttypes.h>
 #include <malloc.h>
@@ -13,14 +14,17 @@
 
 #include "descriptors.h"
 #include "own_disk.h"
+#include "status.h"
 
-#define THREAD_MODEL NBDKIT_THREAD_MODEL_SERIALIZE_ALL_REQUESTS
+/* Over a file; a volume in memory is used by one thread at a time. */
+#define THREAD_MODEL NBDKIT_THREAD_MODEL_PARALLEL
 
 /* Sectors of the longest request that the library takes. */
 #define LONGEST 65536
 
-static int64_t size = 64 << 20;
-static uint32_t sector = 512, transfer;
+/* What was given; 0 or NULL: nothing. */
+static int64_t size;
+static uint32_t sector, transfer;
 static char *settings_file, *image_file;
 static uint8_t partition;
 static bool has_partition;
@@ -30,8 +34,9 @@ static struct saddlemug volume;
 static struct own_disk image = {.file = -1};
 
 static struct saddlemug_sizes sizes;
+static bool read_only;
 
-/* A request takes memory for copies of its bytes, and gives it back: keep that memory in the process. */
+/* A request takes memory for copies of its bytes, and gives it back: keep that memory in the process, for all threads. */
 static void
 load(void)
 {
@@ -40,6 +45,16 @@ load(void)
 	mallopt(M_MMAP_THRESHOLD, 1 << 30);
 	mallopt(M_TRIM_THRESHOLD, 1 << 30);
 	mallopt(M_TOP_PAD, 64 << 20);
+	mallopt(M_ARENA_MAX, 1);
+}
+
+static int
+is_given(const char *key, uint64_t number)
+{
+	if (number != 0)
+		return 0;
+	nbdkit_error("%s=0 is no %s", key, key);
+	return -1;
 }
 
 static int
@@ -47,12 +62,12 @@ config(const char *key, const char *value)
 {
 	if (strcmp(key, "size") == 0) {
 		size = nbdkit_parse_size(value);
-		return size < 0 ? -1 : 0;
+		return size < 0 ? -1 : is_given(key, size);
 	}
 	if (strcmp(key, "sector") == 0)
-		return nbdkit_parse_uint32_t(key, value, &sector);
+		return nbdkit_parse_uint32_t(key, value, &sector) != 0 ? -1 : is_given(key, sector);
 	if (strcmp(key, "transfer") == 0)
-		return nbdkit_parse_uint32_t(key, value, &transfer);
+		return nbdkit_parse_uint32_t(key, value, &transfer) != 0 ? -1 : is_given(key, transfer);
 	if (strcmp(key, "settings") == 0) {
 		free(settings_file);
 		settings_file = nbdkit_realpath(value);
@@ -71,16 +86,55 @@ config(const char *key, const char *value)
 	return -1;
 }
 
+/* A file brings its size, settings bring all sizes, and a disk of a size is one partition. */
+static int
+config_complete(void)
+{
+	const char *beside = NULL;
+	if (image_file != NULL)
+		beside = settings_file != NULL ? "settings" : size != 0 ? "size" : NULL;
+	else if (settings_file != NULL)
+		beside = size != 0 ? "size" : sector != 0 ? "sector" : transfer != 0 ? "transfer" : NULL;
+	if (beside != NULL) {
+		nbdkit_error("%s is not for a disk with %s", beside, image_file != NULL ? "file" : "settings");
+		return -1;
+	}
+	if (has_partition && image_file == NULL && settings_file == NULL) {
+		nbdkit_error("partition is for a disk with file or settings");
+		return -1;
+	}
+	if (sector == 0)
+		sector = 512;
+	return 0;
+}
+
+static int
+thread_model(void)
+{
+	return image_file != NULL ? NBDKIT_THREAD_MODEL_PARALLEL : NBDKIT_THREAD_MODEL_SERIALIZE_ALL_REQUESTS;
+}
+
+/* Is the volume write protected? Its first sector is written as it is. */
+static bool
+is_protected(void)
+{
+	uint8_t bytes[4096];
+	uint32_t status = saddlemug_read(&volume, 0, bytes, sizes.sector_size);
+	return status == SADDLEMUG_SUCCESS
+		&& saddlemug_write(&volume, 0, bytes, sizes.sector_size, false) == SADDLEMUG_MEDIA_WRITE_PROTECTED;
+}
+
 static int
 open_with(const char *text, size_t length)
 {
 	uint32_t status = saddlemug_open(&volume, (const uint8_t *) text, length, partition);
 	if (status != SADDLEMUG_SUCCESS) {
-		nbdkit_error("saddlemug_open: status %08" PRIX32 "%s", status,
-			status == SADDLEMUG_INVALID_PARAMETER ? ": no such settings, or no such partition" : "");
+		nbdkit_error("saddlemug_open: %s%s", status_name(status), status == SADDLEMUG_INVALID_PARAMETER
+			? ": no such settings, or no such partition; partitions count from 0" : "");
 		return -1;
 	}
 	sizes = saddlemug_sizes(&volume);
+	read_only = is_protected();
 	return 0;
 }
 
@@ -107,14 +161,15 @@ open_with_file(void)
 static int
 open_image(void)
 {
-	struct own_disk_options options = {.sector_size = sector, .transfer = transfer != 0 ? transfer : 2048, .depth = 16,
-		.partition = has_partition ? partition : -1};
+	struct own_disk_options options = {.sector_size = sector, .transfer = transfer != 0 ? transfer : 2048,
+		.depth = OWN_DISK_TAGS, .partition = has_partition ? partition : -1};
 	const char *why = own_disk_open(&image, image_file, &options);
 	if (why != NULL) {
 		nbdkit_error("%s: %s", image_file, why);
 		return -1;
 	}
 	sizes = (struct saddlemug_sizes){.sector_size = sector, .sectors = image.size / sector};
+	read_only = image.read_only;
 	return 0;
 }
 
@@ -130,7 +185,9 @@ get_ready(void)
 		return open_with_file();
 	if (transfer == 0)
 		transfer = 128;
-	if (sector == 0 || size % sector != 0 || size / sector > UINT32_MAX) {
+	if (size == 0)
+		size = 64 << 20;
+	if (size % sector != 0 || size / sector > UINT32_MAX) {
 		nbdkit_error("size %" PRIi64 " is no number of sectors that a partition has", size);
 		return -1;
 	}
@@ -175,7 +232,14 @@ block_size(void *handle, uint32_t *minimum, uint32_t *preferred, uint32_t *maxim
 	return 0;
 }
 
-/* Each connection goes to the one volume, so that a flush is of all that was answered on any. */
+static int
+can_write(void *handle)
+{
+	(void) handle;
+	return !read_only;
+}
+
+/* Each connection goes to the one disk, so that a flush is of all that was answered on any. */
 static int
 can_multi_conn(void *handle)
 {
@@ -195,7 +259,7 @@ answered(const char *call, uint32_t status)
 {
 	if (status == SADDLEMUG_SUCCESS)
 		return 0;
-	nbdkit_error("%s: status %08" PRIX32, call, status);
+	nbdkit_error("%s: %s", call, status_name(status));
 	switch (status) {
 	case SADDLEMUG_INVALID_PARAMETER:
 		errno = EINVAL;
@@ -204,7 +268,7 @@ answered(const char *call, uint32_t status)
 		errno = ENOMEM;
 		break;
 	case SADDLEMUG_MEDIA_WRITE_PROTECTED:
-		errno = EROFS;
+		errno = read_only ? EROFS : ENOSPC;
 		break;
 	default:
 		errno = EIO;
@@ -268,13 +332,17 @@ static struct nbdkit_plugin plugin = {
 	.description = "a disk in memory, or a raw image file, behind a proved storage stack",
 	.load = load,
 	.config = config,
+	.config_complete = config_complete,
 	.config_help = "size=SIZE [sector=512|4096] [transfer=SECTORS], or settings=FILE [partition=NUMBER], or\n"
-		"file=IMAGE [partition=NUMBER] [sector=512|4096] [transfer=SECTORS]",
+		"file=IMAGE [partition=NUMBER] [sector=512|4096] [transfer=SECTORS]\n"
+		"Partitions count from 0, unused entries of the table left out; a file with no partition named is one as a whole.",
+	.thread_model = thread_model,
 	.magic_config_key = "size",
 	.get_ready = get_ready,
 	.unload = unload,
 	.open = open_,
 	.get_size = get_size,
+	.can_write = can_write,
 	.block_size = block_size,
 	.can_multi_conn = can_multi_conn,
 	.can_fua = can_fua,

@@ -1,62 +1,113 @@
 /* Serves a file through the proved stack: own_disk FILE read OFFSET LENGTH, or own_disk FILE write OFFSET, of standard input.
- * The file is one partition; bytes are moved by threads of the program's own. */
+ * The file is one partition. Several requests are out at once, each in a thread of its own. */
 #include <errno.h>
-#include <inttypes.h>
 #include <stdio.h>
 #include <stdlib.h>
 #include <string.h>
 
 #include "descriptors.h"
 #include "own_disk.h"
+#include "status.h"
 
-/* The longest request, in bytes. */
+/* The longest request, in bytes, and how many are out. */
 #define LONGEST (1 << 20)
+#define REQUESTS 8
 
-static uint8_t bytes[LONGEST];
+struct request {
+	struct own_disk *disk;
+	bool writes;
+	uint64_t offset;
+	size_t length;
+	uint32_t status;
+	bool started;
+	pthread_t thread;
+	uint8_t bytes[LONGEST];
+};
+
+static struct request requests[REQUESTS];
+
+static void *
+carry(void *argument)
+{
+	struct request *it = argument;
+	it->status = it->writes ? own_disk_write(it->disk, it->offset, it->bytes, it->length, false)
+		: own_disk_read(it->disk, it->offset, it->bytes, it->length);
+	return NULL;
+}
 
 static int
-said(const char *what, uint32_t status)
+said(const struct own_disk *disk, const char *what, uint32_t status)
 {
-	fprintf(stderr, "own_disk: %s: status %08" PRIX32 "\n", what, status);
+	bool full = status == SADDLEMUG_MEDIA_WRITE_PROTECTED && !disk->read_only;
+	fprintf(stderr, "own_disk: %s: %s%s\n", what, status_name(status), full ? ": no space is left" : "");
 	return 1;
+}
+
+/* Carries out the first of the requests, side by side. 0 where each succeeded. */
+static int
+carry_all(size_t count)
+{
+	for (size_t i = 0; i < count; i++) {
+		struct request *it = &requests[i];
+		it->started = pthread_create(&it->thread, NULL, carry, it) == 0;
+		if (!it->started)
+			carry(it);
+	}
+	int failed = 0;
+	for (size_t i = 0; i < count; i++) {
+		struct request *it = &requests[i];
+		if (it->started)
+			pthread_join(it->thread, NULL);
+		if (it->status != SADDLEMUG_SUCCESS && !failed)
+			failed = said(it->disk, it->writes ? "write" : "read", it->status);
+	}
+	return failed;
 }
 
 static int
 read_out(struct own_disk *disk, uint64_t offset, uint64_t length)
 {
 	while (length > 0) {
-		size_t count = length < LONGEST ? length : LONGEST;
-		uint32_t status = own_disk_read(disk, offset, bytes, count);
-		if (status != SADDLEMUG_SUCCESS)
-			return said("read", status);
-		if (fwrite(bytes, 1, count, stdout) != count)
-			break;
-		offset += count;
-		length -= count;
+		size_t count = 0;
+		for (; count < REQUESTS && length > 0; count++) {
+			struct request *it = &requests[count];
+			it->disk = disk;
+			it->offset = offset;
+			it->length = length < LONGEST ? length : LONGEST;
+			offset += it->length;
+			length -= it->length;
+		}
+		if (carry_all(count) != 0)
+			return 1;
+		for (size_t i = 0; i < count; i++)
+			if (fwrite(requests[i].bytes, 1, requests[i].length, stdout) != requests[i].length)
+				return perror("own_disk: standard output"), 1;
 	}
-	if (length == 0 && fflush(stdout) == 0)
-		return 0;
-	perror("own_disk: standard output");
-	return 1;
+	return fflush(stdout) == 0 ? 0 : (perror("own_disk: standard output"), 1);
 }
 
 static int
 write_in(struct own_disk *disk, uint64_t offset)
 {
-	size_t count;
-	uint32_t status;
-	while ((count = fread(bytes, 1, LONGEST, stdin)) > 0) {
-		status = own_disk_write(disk, offset, bytes, count, false);
-		if (status != SADDLEMUG_SUCCESS)
-			return said("write", status);
-		offset += count;
+	size_t count = REQUESTS;
+	while (count == REQUESTS) {
+		for (count = 0; count < REQUESTS; count++) {
+			struct request *it = &requests[count];
+			it->disk = disk;
+			it->writes = true;
+			it->offset = offset;
+			it->length = fread(it->bytes, 1, LONGEST, stdin);
+			if (it->length == 0)
+				break;
+			offset += it->length;
+		}
+		if (carry_all(count) != 0)
+			return 1;
 	}
-	if (ferror(stdin)) {
-		perror("own_disk: standard input");
-		return 1;
-	}
-	status = own_disk_flush(disk);
-	return status == SADDLEMUG_SUCCESS ? 0 : said("flush", status);
+	if (ferror(stdin))
+		return perror("own_disk: standard input"), 1;
+	uint32_t status = own_disk_flush(disk);
+	return status == SADDLEMUG_SUCCESS ? 0 : said(disk, "flush", status);
 }
 
 /* A number of bytes. */
@@ -73,8 +124,8 @@ int
 main(int argc, char **argv)
 {
 	uint64_t offset, length;
-	struct own_disk disk;
-	struct own_disk_options options = {.sector_size = 512, .transfer = 128, .depth = 8, .partition = -1, .threads = true};
+	static struct own_disk disk;
+	struct own_disk_options options = {.sector_size = 512, .transfer = 128, .depth = 16, .partition = -1};
 	bool reads = argc == 5 && strcmp(argv[2], "read") == 0 && is_number(argv[4], &length);
 	bool writes = argc == 4 && strcmp(argv[2], "write") == 0;
 

@@ -1,199 +1,24 @@
+/* A file is opened: its locks, its size, its partition table, and the stack over it. */
+#define _GNU_SOURCE
 #define _FILE_OFFSET_BITS 64
 #include <errno.h>
 #include <fcntl.h>
-#include <pthread.h>
 #include <string.h>
 #include <sys/file.h>
-#include <sys/stat.h>
 #include <unistd.h>
 
 #include "own_disk.h"
 
-/* The most tags. */
-#define TAGS 32
+/* The tools of qemu tell each other what they do with an image by shared locks on single bytes: from byte 100 on what one
+ * does, from byte 200 on what it suffers of nobody else. */
+#define DOES 100
+#define SUFFERS_NOT 200
+enum { TO_READ = 0, TO_WRITE = 1, TO_RESIZE = 3 };
 
-/* A command that is out, and what became of it. */
-struct move {
-	const struct own_disk *disk;
-	struct saddlemug_armed armed;
-	struct saddlemug_booking booking;
-	pthread_t thread;
-};
-
-/* Fails with sense data. SPC: 3 MEDIUM ERROR, 4 HARDWARE ERROR, 5 ILLEGAL REQUEST, 7 DATA PROTECT. */
-static void
-fail(struct move *move, uint8_t key, uint8_t asc)
+static uint64_t
+get_32(const uint8_t *at)
 {
-	move->booking.failed = true;
-	move->booking.completion = (struct saddlemug_completion){
-		.srb_status = 0x84, .scsi_status = 2, .has_sense = true, .key = key, .asc = asc};
-}
-
-/* All bytes, also where a call reads fewer. The file's end is an error: the disk has sectors there. */
-static bool
-read_all(int file, uint8_t *at, uint64_t length, uint64_t offset)
-{
-	while (length > 0) {
-		ssize_t count = pread(file, at, length, offset);
-		if (count < 0 && errno == EINTR)
-			continue;
-		if (count <= 0)
-			return false;
-		at += count;
-		offset += count;
-		length -= count;
-	}
-	return true;
-}
-
-static bool
-write_all(int file, const uint8_t *at, uint64_t length, uint64_t offset)
-{
-	while (length > 0) {
-		ssize_t count = pwrite(file, at, length, offset);
-		if (count < 0 && errno == EINTR)
-			continue;
-		if (count <= 0)
-			return false;
-		at += count;
-		offset += count;
-		length -= count;
-	}
-	return true;
-}
-
-static void
-move_write(struct move *move, int file, uint64_t offset)
-{
-	if (move->disk->read_only)
-		fail(move, 7, 0x27); /* WRITE PROTECTED */
-	else if (!write_all(file, move->armed.bytes, move->armed.length, offset))
-		fail(move, 3, 0x0C); /* WRITE ERROR */
-	else if (move->armed.asked.through && fdatasync(file) != 0)
-		fail(move, 4, 0);
-}
-
-/* Moves the bytes of one command. */
-static void *
-move_bytes(void *argument)
-{
-	struct move *move = argument;
-	const struct saddlemug_asked *asked = &move->armed.asked;
-	int file = move->disk->file;
-	uint64_t offset = asked->first * move->disk->sector_size - move->disk->before;
-
-	switch (asked->kind) {
-	case SADDLEMUG_ASKS_TO_READ:
-		if (!read_all(file, move->armed.bytes, move->armed.length, offset))
-			fail(move, 3, 0x11); /* UNRECOVERED READ ERROR */
-		break;
-	case SADDLEMUG_ASKS_TO_WRITE:
-		move_write(move, file, offset);
-		break;
-	case SADDLEMUG_ASKS_TO_FLUSH:
-		if (fdatasync(file) != 0)
-			fail(move, 4, 0);
-		break;
-	default:
-		fail(move, 5, 0x20); /* INVALID COMMAND OPERATION CODE */
-	}
-	return NULL;
-}
-
-/* The commands that could act. */
-static size_t
-armed_now(struct own_disk *disk, struct move *moves)
-{
-	size_t count = 0;
-	for (uint8_t tag = 0; tag < disk->depth; tag++) {
-		struct move *move = &moves[count];
-		if (saddlemug_stack_armed(&disk->stack, tag, &move->armed) != SADDLEMUG_SUCCESS)
-			continue;
-		move->disk = disk;
-		move->booking = (struct saddlemug_booking){.piece_low = move->armed.piece_low,
-			.piece_high = move->armed.piece_high, .length = move->armed.length, .tag = tag};
-		count++;
-	}
-	return count;
-}
-
-/* Moves the bytes of all of them. No call of the library is made meanwhile. */
-static void
-move_all(struct own_disk *disk, struct move *moves, size_t count)
-{
-	bool started[TAGS] = {false};
-	for (size_t i = 0; i < count; i++) {
-		started[i] = disk->threads && pthread_create(&moves[i].thread, NULL, move_bytes, &moves[i]) == 0;
-		if (!started[i])
-			move_bytes(&moves[i]);
-	}
-	for (size_t i = 0; i < count; i++)
-		if (started[i])
-			pthread_join(moves[i].thread, NULL);
-}
-
-static void
-step(struct own_disk *disk, uint32_t kind, uint8_t tag)
-{
-	struct saddlemug_event event = {.kind = kind, .tag = tag};
-	struct saddlemug_reply reply;
-	uint8_t none = 0;
-	saddlemug_stack_step(&disk->stack, &event, &none, 0, &reply);
-}
-
-/* Carries out the commands that are out, and hands them back. Were there any? */
-static bool
-serve(struct own_disk *disk)
-{
-	struct move moves[TAGS];
-	size_t count = armed_now(disk, moves);
-	move_all(disk, moves, count);
-	for (size_t i = 0; i < count; i++) {
-		saddlemug_stack_book(&disk->stack, &moves[i].booking);
-		step(disk, SADDLEMUG_ACT, moves[i].booking.tag);
-		step(disk, SADDLEMUG_FINISH, moves[i].booking.tag);
-	}
-	return count > 0;
-}
-
-/* A request from its call to its answer, whose bytes go into the buffer. */
-static uint32_t
-carry(struct own_disk *disk, const struct saddlemug_event *event, const uint8_t *bytes, size_t length, uint8_t *buffer, size_t room)
-{
-	struct saddlemug_reply reply;
-	struct saddlemug_answer answer;
-	uint32_t status = saddlemug_stack_step(&disk->stack, event, bytes, length, &reply);
-	if (status != SADDLEMUG_SUCCESS)
-		return status;
-	if (reply.kind != SADDLEMUG_IS_REQUEST)
-		return reply.status;
-	while (!saddlemug_stack_take_answer(&disk->stack, &answer, buffer, room))
-		if (!serve(disk))
-			return SADDLEMUG_INSUFFICIENT_RESOURCES;
-	return answer.status;
-}
-
-uint32_t
-own_disk_read(struct own_disk *disk, uint64_t offset, uint8_t *buffer, size_t length)
-{
-	struct saddlemug_event event = {.kind = SADDLEMUG_READ, .handle = disk->handle, .offset = offset, .length = length};
-	return carry(disk, &event, buffer, 0, buffer, length);
-}
-
-uint32_t
-own_disk_write(struct own_disk *disk, uint64_t offset, const uint8_t *bytes, size_t length, bool through)
-{
-	struct saddlemug_event event = {.kind = SADDLEMUG_WRITE, .handle = disk->handle, .offset = offset, .through = through};
-	uint8_t none = 0;
-	return carry(disk, &event, bytes, length, &none, 0);
-}
-
-uint32_t
-own_disk_flush(struct own_disk *disk)
-{
-	struct saddlemug_event event = {.kind = SADDLEMUG_FLUSH, .handle = disk->handle};
-	uint8_t none = 0;
-	return carry(disk, &event, &none, 0, &none, 0);
+	return at[0] | (uint64_t) at[1] << 8 | (uint64_t) at[2] << 16 | (uint64_t) at[3] << 24;
 }
 
 static void
@@ -201,12 +26,6 @@ put_32(uint8_t *at, uint64_t number)
 {
 	for (int i = 0; i < 4; i++)
 		at[i] = number >> (8 * i);
-}
-
-static uint64_t
-get_32(const uint8_t *at)
-{
-	return at[0] | (uint64_t) at[1] << 8 | (uint64_t) at[2] << 16 | (uint64_t) at[3] << 24;
 }
 
 /* An MBR with one partition, of all sectors behind the first. */
@@ -218,6 +37,46 @@ make_table(uint8_t *sector, uint64_t count)
 	put_32(sector + 446 + 12, count);
 	sector[510] = 0x55;
 	sector[511] = 0xAA;
+}
+
+/* The sectors of a partition, counted from 0 in the used entries of a table. 0: there is none. */
+static uint64_t
+sectors_of(const uint8_t *table, int partition)
+{
+	for (const uint8_t *entry = table + 446; entry < table + 510; entry += 16)
+		if (entry[4] != 0 && partition-- == 0)
+			return get_32(entry + 12);
+	return 0;
+}
+
+/* Locks a byte for as long as the file is open. False where somebody keeps that off. */
+static bool
+mark(int file, off_t byte)
+{
+	struct flock lock = {.l_type = F_RDLCK, .l_whence = SEEK_SET, .l_start = byte, .l_len = 1};
+	return fcntl(file, F_OFD_SETLK, &lock) == 0 || (errno != EAGAIN && errno != EACCES);
+}
+
+/* Has somebody else locked a byte? */
+static bool
+is_marked(int file, off_t byte)
+{
+	struct flock lock = {.l_type = F_WRLCK, .l_whence = SEEK_SET, .l_start = byte, .l_len = 1};
+	return fcntl(file, F_OFD_GETLK, &lock) == 0 && lock.l_type != F_UNLCK;
+}
+
+/* Tells qemu's tools what is done here, and looks at what they do. Where the system has no such locks nobody is kept off. */
+static bool
+lock_bytes(const struct own_disk *disk)
+{
+	int file = disk->file;
+	if (!mark(file, DOES + TO_READ) || !mark(file, SUFFERS_NOT + TO_WRITE) || !mark(file, SUFFERS_NOT + TO_RESIZE))
+		return false;
+	if (!disk->read_only && !mark(file, DOES + TO_WRITE))
+		return false;
+	if (is_marked(file, DOES + TO_WRITE) || is_marked(file, DOES + TO_RESIZE) || is_marked(file, SUFFERS_NOT + TO_READ))
+		return false;
+	return disk->read_only || !is_marked(file, SUFFERS_NOT + TO_WRITE);
 }
 
 /* Opens the file, to be read alone where it can't be written, and locks it. */
@@ -233,32 +92,46 @@ open_file(struct own_disk *disk, const char *path)
 		return strerror(errno);
 	if (flock(disk->file, LOCK_EX | LOCK_NB) != 0)
 		return errno == EWOULDBLOCK ? "it is in use" : strerror(errno);
-	return NULL;
+	return lock_bytes(disk) ? NULL : "it is in use";
 }
 
-/* Sector 0 of the disk, and how many sectors it has. */
+static bool
+read_sector(int file, uint8_t *at, size_t length)
+{
+	size_t has = 0;
+	while (has < length) {
+		ssize_t count = pread(file, at + has, length - has, has);
+		if (count < 0 && errno == EINTR)
+			continue;
+		if (count <= 0)
+			return false;
+		has += count;
+	}
+	return true;
+}
+
+/* Sector 0 of the disk, and how many sectors it has. A block device tells its size by its end. */
 static const char *
 look_at(struct own_disk *disk, int partition, uint8_t *first, uint64_t *sectors)
 {
-	struct stat is;
-	if (fstat(disk->file, &is) != 0)
+	off_t end = lseek(disk->file, 0, SEEK_END);
+	if (end < 0)
 		return strerror(errno);
-	uint64_t size = is.st_size, count = size / disk->sector_size;
-	if (size == 0 || size % disk->sector_size != 0 || count > UINT32_MAX)
-		return "its size is no number of sectors that a partition has";
-	disk->size = size;
-	*sectors = count;
-	if (partition >= 0) {
-		if (!read_all(disk->file, first, disk->sector_size, 0))
-			return "its first sector can't be read";
-		if (partition < 4)
-			disk->size = get_32(first + 446 + 16 * partition + 12) * disk->sector_size;
+	*sectors = (uint64_t) end / disk->sector_size;
+	if (*sectors == 0 || end % disk->sector_size != 0)
+		return "its size is no number of sectors";
+	if (partition < 0) {
+		if (*sectors > UINT32_MAX)
+			return "it has more sectors than a partition";
+		disk->size = end;
+		disk->before = disk->sector_size;
+		make_table(first, (*sectors)++);
 		return NULL;
 	}
-	make_table(first, count);
-	disk->before = disk->sector_size;
-	*sectors = count + 1;
-	return NULL;
+	if (!read_sector(disk->file, first, disk->sector_size))
+		return "its first sector can't be read";
+	disk->size = sectors_of(first, partition) * disk->sector_size;
+	return disk->size != 0 ? NULL : "it has no such partition: they are counted from 0, and unused entries of the table left out";
 }
 
 /* Opens the stack, and a handle on the partition. */
@@ -266,7 +139,7 @@ static const char *
 open_stack(struct own_disk *disk, const struct own_disk_options *options, const uint8_t *first, uint64_t sectors)
 {
 	struct saddlemug_disk sizes = {.sectors = sectors, .max_transfer = options->transfer, .depth = options->depth,
-		.window = options->depth, .open_requests = options->depth};
+		.window = OWN_DISK_REQUESTS, .open_requests = OWN_DISK_REQUESTS};
 	struct saddlemug_event event = {.kind = SADDLEMUG_OPEN, .partition = options->partition < 0 ? 0 : options->partition};
 	struct saddlemug_reply reply;
 	uint8_t none = 0;
@@ -274,7 +147,7 @@ open_stack(struct own_disk *disk, const struct own_disk_options *options, const 
 	if (saddlemug_stack_open_over(&disk->stack, &sizes, first, disk->sector_size) != SADDLEMUG_SUCCESS)
 		return "there is no such disk: its sizes or its partition table are wrong";
 	if (saddlemug_stack_step(&disk->stack, &event, &none, 0, &reply) != SADDLEMUG_SUCCESS || reply.kind != SADDLEMUG_IS_HANDLE)
-		return "it has no such partition";
+		return "its partition can't be opened";
 	disk->handle = reply.id;
 	return NULL;
 }
@@ -286,9 +159,13 @@ own_disk_open(struct own_disk *disk, const char *path, const struct own_disk_opt
 	uint64_t sectors = 0;
 	const char *why;
 
-	*disk = (struct own_disk){.file = -1, .threads = options->threads, .sector_size = options->sector_size, .depth = options->depth};
+	*disk = (struct own_disk){.file = -1, .sector_size = options->sector_size, .depth = options->depth,
+		.lock = PTHREAD_MUTEX_INITIALIZER, .room = PTHREAD_COND_INITIALIZER,
+		.syncs = {.lock = PTHREAD_MUTEX_INITIALIZER, .ended = PTHREAD_COND_INITIALIZER}};
 	if (disk->sector_size != 512 && disk->sector_size != 4096)
 		return "a sector has 512 or 4096 bytes";
+	if (disk->depth == 0 || disk->depth > OWN_DISK_TAGS)
+		return "there are 1 to 32 tags";
 	why = open_file(disk, path);
 	if (why == NULL)
 		why = look_at(disk, options->partition, first, &sectors);
