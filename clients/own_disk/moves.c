@@ -109,14 +109,23 @@ write_sparse(int file, const uint8_t *at, uint64_t length, uint64_t offset)
 	return 0;
 }
 
+uint64_t
+own_disk_synced(struct own_disk *disk)
+{
+	pthread_mutex_lock(&disk->syncs.lock);
+	uint64_t finished = disk->syncs.finished;
+	pthread_mutex_unlock(&disk->syncs.lock);
+	return finished;
+}
+
 /* Syncs the file: by a sync that begins behind this call, one for all who wait. The system tells an error once, to whoever
- * syncs: so any sync that failed since this call is also its own. */
+ * syncs: so any sync that failed since the command went out is also its own. */
 static bool
-sync_file(struct own_disk *disk)
+sync_file(struct own_disk *disk, const struct own_disk_move *move)
 {
 	struct own_disk_syncs *syncs = &disk->syncs;
 	pthread_mutex_lock(&syncs->lock);
-	uint64_t ended = syncs->finished, needed = syncs->started + 1;
+	uint64_t needed = syncs->started + 1;
 	while (syncs->finished < needed) {
 		if (syncs->started > syncs->finished) {
 			pthread_cond_wait(&syncs->ended, &syncs->lock);
@@ -131,7 +140,7 @@ sync_file(struct own_disk *disk)
 			syncs->failed = syncs->finished;
 		pthread_cond_broadcast(&syncs->ended);
 	}
-	bool good = syncs->failed <= ended;
+	bool good = syncs->failed <= move->synced;
 	pthread_mutex_unlock(&syncs->lock);
 	return good;
 }
@@ -148,7 +157,7 @@ write_bytes(struct own_disk *disk, struct own_disk_move *move, uint64_t offset)
 		fail(move, 7, 0x27, 7); /* SPACE ALLOCATION FAILED WRITE PROTECT */
 	else if (error != 0)
 		fail(move, 3, 0x0C, 0); /* WRITE ERROR */
-	else if (move->armed.asked.through && !sync_file(disk))
+	else if (move->armed.asked.through && !sync_file(disk, move))
 		fail(move, 4, 0, 0);
 }
 
@@ -167,7 +176,7 @@ own_disk_move_bytes(struct own_disk *disk, struct own_disk_move *move)
 		write_bytes(disk, move, offset);
 		break;
 	case SADDLEMUG_ASKS_TO_FLUSH:
-		if (!sync_file(disk))
+		if (!sync_file(disk, move))
 			fail(move, 4, 0, 0);
 		break;
 	default:

@@ -26,7 +26,7 @@ static void
 make_ready(struct own_disk *disk, uint8_t tag)
 {
 	struct own_disk_move *move = &disk->moves[tag];
-	*move = (struct own_disk_move){.state = OWN_DISK_READY};
+	*move = (struct own_disk_move){.state = OWN_DISK_READY, .synced = own_disk_synced(disk)};
 	move->told = saddlemug_stack_armed(&disk->stack, tag, &move->armed) == SADDLEMUG_SUCCESS;
 	move->booking = (struct saddlemug_booking){.piece_low = move->armed.piece_low, .piece_high = move->armed.piece_high,
 		.length = move->armed.length, .tag = tag};

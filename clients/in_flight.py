@@ -1,0 +1,88 @@
+#!/usr/bin/env python3
+"""Sixteen requests out at once, and something goes wrong.
+
+usage: in_flight.py gone|short|full FOLDER
+
+A server of the file FOLDER/disk, of a mebibyte of zeros, listens on FOLDER/socket. gone: a client goes with
+sixteen writes out, and the next finds each written or not, and each sector whole. short: the file has half of its bytes: a
+read of the rest fails, and those beside it don't. full: the file system has room for some of the writes alone; each that
+succeeded is read. Its status is 0 where all was as it should be."""
+
+import os
+import sys
+
+from nbd_client import ENOSPC, FLUSH, READ, WRITE, Client
+
+LENGTH = 4096
+OUT = 16
+EIO = 5
+
+
+def connected(folder):
+    return Client(["socat", "-", f"UNIX-CONNECT:{folder}/socket"])
+
+
+def answers(client, numbers):
+    """Returns error and bytes of each of the requests, in their order."""
+    got = {}
+    while len(got) < len(numbers):
+        number, error, data = client.reply()
+        got[number] = error, data
+    return [got[it] for it in numbers]
+
+
+def writes(client, byte, places):
+    return [client.send(WRITE, at * LENGTH, LENGTH, bytes([byte + at % OUT]) * LENGTH) for at in places]
+
+
+def reads(client, places):
+    return answers(client, [client.send(READ, at * LENGTH, LENGTH) for at in places])
+
+
+def gone(folder):
+    places = range(OUT)
+    first = connected(folder)
+    assert all(error == 0 for error, _ in answers(first, writes(first, 1, places)))
+    writes(first, 101, places)
+    first.kill()
+    first.server.wait()
+    second = connected(folder)
+    for _ in range(3):
+        for at, (error, data) in zip(places, reads(second, places)):
+            assert error == 0
+            assert all(len(set(data[i : i + 512])) == 1 for i in range(0, LENGTH, 512)), at
+            assert set(data) <= {1 + at, 101 + at}, at
+    assert all(error == 0 for error, _ in answers(second, writes(second, 201, places)))
+    assert [data[0] for _, data in reads(second, places)] == [201 + at for at in places]
+    return second.leave()
+
+
+def short(folder):
+    client = connected(folder)
+    os.truncate(f"{folder}/disk", 1 << 19)
+    for _ in range(20):
+        found = reads(client, [at * 16 + at for at in range(OUT)])
+        assert [error for error, _ in found] == [0] * 8 + [EIO] * 8, found
+        assert all(not any(data) for _, data in found)
+    return client.leave()
+
+
+def full(folder):
+    client = connected(folder)
+    places = range(0, 256, 2)
+    errors = []
+    for at in range(0, len(places), OUT):
+        errors += [error for error, _ in answers(client, writes(client, 1, places[at : at + OUT]))]
+    assert set(errors) == {0, ENOSPC}, set(errors)
+    ((error, _),) = answers(client, [client.send(FLUSH)])
+    assert error == 0
+    for at, error in zip(places, errors):
+        ((read_error, data),) = reads(client, [at])
+        assert read_error == 0
+        assert error != 0 or set(data) == {1 + at % OUT}, at
+    return client.leave()
+
+
+if __name__ == "__main__":
+    what, folder = sys.argv[1:]
+    sys.exit({"gone": gone, "short": short, "full": full}[what](folder))

@@ -1,0 +1,63 @@
+"""A client of the NBD protocol for tests: it starts a server on pipes, and may have many requests out."""
+
+import signal
+import struct
+import subprocess
+
+READ, WRITE, LEAVE, FLUSH = range(4)
+FUA = 1
+ENOSPC = 28
+
+
+class Client:
+    """A server that was started, and the one session with it."""
+
+    def __init__(self, words, env=None, errors=subprocess.DEVNULL):
+        self.server = subprocess.Popen(words, stdin=subprocess.PIPE, stdout=subprocess.PIPE, stderr=errors, env=env, bufsize=0)
+        self.out = {}
+        self.number = 0
+        greeting = self.take(18)
+        assert greeting[:16] == b"NBDMAGICIHAVEOPT", greeting
+        self.put(struct.pack(">I", 3) + b"IHAVEOPT" + struct.pack(">II", 1, 0))
+        self.size, self.flags = struct.unpack(">QH", self.take(10))
+
+    def take(self, count):
+        """Returns so many bytes from the server. EOFError: it ended."""
+        got = b""
+        while len(got) < count:
+            some = self.server.stdout.read(count - len(got))
+            if not some:
+                raise EOFError
+            got += some
+        return got
+
+    def put(self, data):
+        """Sends bytes."""
+        rest = memoryview(data)
+        while rest:
+            rest = rest[self.server.stdin.write(rest) :]
+
+    def send(self, kind, offset=0, length=0, data=b"", fua=False):
+        """Sends a request, and returns its number."""
+        self.number += 1
+        self.out[self.number] = length if kind == READ else 0
+        flags = FUA if fua else 0
+        self.put(struct.pack(">IHHQQI", 0x25609513, flags, kind, self.number, offset, length) + data)
+        return self.number
+
+    def reply(self):
+        """Returns the number of the request that was answered next, its error (0: none) and the bytes that were read."""
+        magic, error, number = struct.unpack(">IIQ", self.take(16))
+        assert magic == 0x67446698, magic
+        length = self.out.pop(number)
+        return number, error, self.take(length) if error == 0 else b""
+
+    def kill(self):
+        """Ends the server at once, as kill -9 does."""
+        self.server.send_signal(signal.SIGKILL)
+
+    def leave(self):
+        """Ends the session as a client should, and returns the server's status."""
+        self.put(struct.pack(">IHHQQI", 0x25609513, 0, LEAVE, 0, 0, 0))
+        self.server.stdin.close()
+        return self.server.wait(30)
