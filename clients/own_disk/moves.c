@@ -77,16 +77,25 @@ run_of(const uint8_t *at, uint64_t length, uint64_t offset, bool *zeros)
 	return count;
 }
 
-/* How many of so many bytes are in a hole of the file, from the first on. */
+/* How many of so many bytes are in a hole of the file, from the first on. A system may tell a hole of bytes that it is just
+ * writing out (ext4 does at times): so they have to be read as zeros too. */
 static uint64_t
 hole_of(int file, uint64_t length, uint64_t offset)
 {
+	uint8_t bytes[BLOCK];
 	off_t data = lseek(file, offset, SEEK_DATA);
 	if (data < 0 && errno == ENXIO)
 		data = lseek(file, 0, SEEK_END);
 	if (data < 0 || (uint64_t) data <= offset)
 		return 0;
-	return (uint64_t) data - offset < length ? (uint64_t) data - offset : length;
+	if ((uint64_t) data - offset < length)
+		length = (uint64_t) data - offset;
+	for (uint64_t at = 0; at < length; at += BLOCK) {
+		uint64_t count = length - at < BLOCK ? length - at : BLOCK;
+		if (!read_all(file, bytes, count, offset + at) || !is_zero(bytes, count))
+			return at;
+	}
+	return length;
 }
 
 /* All bytes, but for zeros where the file has a hole. 0, or the number of the error. */

@@ -1,5 +1,6 @@
-/* Requests of several threads over one disk in a file, each read compared: stress FILE SECONDS. Each thread has sectors of its
- * own, whose bytes it knows, and all share some, of which each must be of one write as a whole. */
+/* Requests of several threads over one disk in a file of zeros, each read compared: stress FILE SECONDS. Each thread has
+ * sectors of its own, whose bytes it knows, and all share some, in runs of 64 that one command reads or writes: each run must
+ * be of one write as a whole. */
 #include <stdio.h>
 #include <stdlib.h>
 #include <string.h>
@@ -13,6 +14,7 @@
 #define SECTOR 512
 #define OWN 512  /* sectors of a thread */
 #define MOST 160 /* of a request: more than a command has, so that some have two */
+#define RUN 64   /* of shared ones */
 
 static struct own_disk disk;
 static time_t end;
@@ -56,19 +58,18 @@ write_some(struct worker *worker, uint64_t sector, uint64_t count, bool own)
 		wrong(worker, status_name(status), sector);
 }
 
-/* Each sector has one stamp; one of its own, the one that was written. */
+/* Each sector of its own has the stamp that was written; of shared ones all have the same. */
 static void
 read_some(struct worker *worker, uint64_t sector, uint64_t count, bool own)
 {
 	uint32_t status = own_disk_read(&disk, sector * SECTOR, (uint8_t *) worker->bytes, count * SECTOR);
 	if (status != SADDLEMUG_SUCCESS)
 		wrong(worker, status_name(status), sector);
-	for (uint64_t i = 0; i < count; i++) {
+	for (uint64_t i = 0; i < count && !worker->failed; i++) {
 		const uint64_t *words = worker->bytes + i * SECTOR / 8;
-		if (memcmp(words, words + 1, SECTOR - 8) != 0)
-			wrong(worker, "two writes in one sector", sector + i);
-		if (own && words[0] != worker->written[sector + i - worker->first])
-			wrong(worker, "another write", sector + i);
+		uint64_t wanted = own ? worker->written[sector + i - worker->first] : worker->bytes[0];
+		if (words[0] != wanted || memcmp(words, words + 1, SECTOR - 8) != 0)
+			wrong(worker, own ? "another write" : "two writes", sector + i);
 	}
 }
 
@@ -78,8 +79,8 @@ work(void *argument)
 	struct worker *worker = argument;
 	while (time(NULL) < end && !worker->failed) {
 		bool own = below(worker, 2) == 0;
-		uint64_t count = 1 + below(worker, MOST);
-		uint64_t sector = own ? worker->first + below(worker, OWN - count) : below(worker, OWN - count);
+		uint64_t count = own ? 1 + below(worker, MOST) : RUN;
+		uint64_t sector = own ? worker->first + below(worker, OWN - count) : RUN * below(worker, OWN / RUN);
 		worker->requests++;
 		if (below(worker, 64) == 0 && own_disk_flush(&disk) != SADDLEMUG_SUCCESS)
 			wrong(worker, "a flush failed", 0);
