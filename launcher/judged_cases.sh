@@ -1,15 +1,18 @@
-# The judge's cases: the trace of each script of examples/, recorded and judged; traces with a label that a wrong body of the
-# stack would show; the picture; cuts of another stack; and the words that its launcher answers by itself. They lie as the
-# cases of `stackrun` do.
+# The judge's cases: the trace of each script of examples/, recorded and judged; labels that break a rule; lines that tell no
+# label; traces with a label that a wrong body of the stack would show; pictures; cuts of another stack; and words.
 
-# Makes the judge the program that is tried, in a folder of its own. For a shell that ends behind its cases.
-be_judge() {
-    name=stackjudge
+# Makes a program the one that is tried, in a folder of its own. For a shell that ends behind its cases.
+be_program() {
+    name=$1
     crate=$top/crates/$name
     program=$crate/out/$name
-    first_words=(check)
-    scratch=$scratch/judged
+    scratch=$scratch/$name
     mkdir -p "$scratch"
+}
+
+be_judge() {
+    be_program stackjudge
+    first_words=(check)
 }
 
 # Sets `lasting` to the words of a check of a second or two, with its files.
@@ -26,22 +29,6 @@ recorded_folders() {
     done < <(example_folders)
 }
 
-# Notes what a case is to print and to end with; it says nothing.
-want() {
-    cat > "$scratch/wanted/$1.stdout"
-    : > "$scratch/wanted/$1.stderr"
-    echo "$2" > "$scratch/wanted/$1.status"
-}
-
-# Adds a case: a word, the settings of a folder, and a file.
-add_case_of() {
-    local settings
-    settings=$(settings_of "$3")
-    given+=(--data "$(name_of "$settings")=$settings")
-    add_case "$1" "$2" "$(name_of "$settings")" '{}'
-    cp "$4" "$scratch/cases/$1"
-}
-
 # The labels that `stackrun trace` printed, and those of a trace without what such lines hide.
 printed_labels() { grep -E '^(call|start|act|fault|return|answer|cancel|pause|resume|remove|surprise|removed)( |$)' "$1" || true; }
 
@@ -53,80 +40,136 @@ legal_line() { awk '{ n[$1]++ } END { print "legal: " NR " labels, " n["call"] +
 # Whether a partition of these settings has more sectors than the judge is to hold in memory.
 is_too_large() { awk '$1 == "count" && $3 > 1048576 { found = 1 } END { exit !found }' "$1"; }
 
-# Adds the trace of a folder's script: it is what is recorded, has the labels that the script's run prints, and is legal.
-add_recorded() {
+# Runs the judge on a folder's script and its trace: the trace is what is recorded, has the labels that the script's run prints,
+# and is legal.
+run_recorded() {
     local it trace=$scratch/trace part
     it=$(name_of "$1")
     copy_or "$1/trace" "$trace" $'# this folder has no trace\n'
-    add_case_of "record.$it" record "$1" "$1/script"
     want "record.$it" 0 < "$trace"
+    run_case "record.$it" record "$(settings_of "$1")" "$1/script"
     printed_labels "$1/stdout" | want "labels.$it" 0
     for part in stderr status; do cp "$scratch/wanted/labels.$it.$part" "$scratch/found"; done
     shown_labels "$trace" > "$scratch/found/labels.$it.stdout"
     ! is_too_large "$(settings_of "$1")" || return 0
-    add_case_of "check.$it" check "$1" "$trace"
     legal_line "$trace" | want "check.$it" 0
+    run_case "check.$it" check "$(settings_of "$1")" "$trace"
 }
 
-# Adds the picture that the pages show.
-add_picture() {
-    add_case picture picture '{}'
-    cp "$top/examples/cancelled_in_three_places/trace" "$scratch/cases/picture"
-    want picture 0 < "$top/docs/cancelled_in_three_places.svg"
+# Keeps of what a case printed only as many lines as are wanted, unless that is none.
+keep_wanted_lines() {
+    local count
+    count=$(wc -l < "$scratch/wanted/$1.stdout")
+    [ "$count" = 0 ] || sed -i "$((count + 1)),\$d" "$scratch/found/$1.stdout"
 }
 
-# Adds what wrong bodies of the stack would show, each a line of a table: a trace with another label in a line, and the line
-# that is refused, with the rule that it breaks.
-add_wrong_bodies() {
-    local body folder line label at rule it k=0
-    while IFS='|' read -r body folder line label at rule; do
-        [[ $body != '#'* && -n $body ]] || continue
-        for it in body folder line label at rule; do read -r "${it?}" <<< "${!it}"; done
-        k=$((k + 1)) it=wrong.$(printf '%02d' "$k").$body
-        awk -v line="$line" -v label="$label" 'NR == line { $0 = label } { print }' "$top/examples/$folder/trace" > "$scratch/trace"
-        add_case_of "$it" check "$top/examples/$folder" "$scratch/trace"
-        want "$it" 1 <<< "line $at: $rule"
-    done < "$top/examples/judged/wrong_bodies"
+# Runs the judge on what a wrong body of the stack would show: the trace of a folder with another label in a line. The line that
+# is refused is compared, with the rule that it breaks, and not what was open there.
+run_wrong_body() {
+    local body=$2 folder=$top/examples/$3 line=$4 label=$5 at=$6 rule=$7 it
+    it=$1.$body
+    awk -v line="$line" -v label="$label" 'NR == line { $0 = label } { print }' "$folder/trace" > "$scratch/trace"
+    want "$it" 1 <<< "line $at: $rule"
+    run_case "$it" check "$(settings_of "$folder")" "$scratch/trace"
+    keep_wanted_lines "$it"
 }
 
-# Adds a trace of another stack, which cuts requests otherwise than this one: it is refused, and legal where any cut will do,
-# whether it is said how far its check comes or not.
-add_cuts() {
+# Runs the judge on a line that tells no label.
+run_bad_line() {
+    printf '%b\n' "$3" > "$scratch/trace"
+    want "$1" 1 "stackjudge: trace line 1: bad word in column $2"$'\n' < /dev/null
+    run_case "$1" check "$top/examples/judged/config.toml" "$scratch/trace"
+}
+
+# Parts the cases of a folder into files: their traces, the words of their checks, and what is printed and said.
+split_labels() {
+    awk -v into="$2/" '
+        /^\[/ { gsub(/[][]/, ""); file = into $1; $1 = ""; print > (file ".words"); is_trace = 1; next }
+        /^> / { print substr($0, 3) > (file ".stdout"); is_trace = 0; next }
+        /^! / { print substr($0, 3) > (file ".stderr"); is_trace = 0; next }
+        is_trace { print > (file ".escaped") }' "$1/cases"
+}
+
+# Runs the judge on the labels of one of these cases.
+run_labels_of() {
+    local it words file=${2%.words} said='' status=1
+    it=$1.${file##*/}
+    read -r -a words < "$2"
+    printf '%b' "$(cat "$file.escaped")\n" > "$scratch/trace"
+    [ ! -f "$file.stderr" ] || said=$(cat "$file.stderr")$'\n'
+    ! grep -q '^legal' "$file.stdout" 2> /dev/null || status=0
+    copy_or "$file.stdout" "$scratch/printed"
+    want "$it" "$status" "$said" < "$scratch/printed"
+    run_case "$it" check "${words[@]}" "$3/config.toml" "$scratch/trace"
+    keep_wanted_lines "$it"
+}
+
+# Runs the judge on the labels of all cases of a folder.
+run_labels() {
+    local it
+    mkdir -p "$scratch/split.$1"
+    split_labels "$2" "$scratch/split.$1"
+    for it in "$scratch/split.$1"/*.words; do run_labels_of "labels_of.$1" "$it" "$2"; done
+}
+
+# Has the judge draw the picture that the pages show.
+run_picture() {
+    want picture.pages 0 < "$top/docs/cancelled_in_three_places.svg"
+    run_case picture.pages picture "$top/examples/cancelled_in_three_places/trace"
+}
+
+# Has the judge draw a trace of a folder, as a file there is named: each line of it is to be a piece of a line that is printed.
+run_drawing() {
+    local it line options=()
+    it=$(name_of "$1/$2")
+    it=picture.${it#examples.judged.pictures.}
+    [ "$2" = picture ] || options=("--$2")
+    want "$it" 0 < "$1/$2"
+    run_case "$it" picture "${options[@]}" "$1/trace"
+    mv "$scratch/found/$it.stdout" "$scratch/drawn"
+    while IFS= read -r line; do
+        ! grep -qF -- "$line" "$scratch/drawn" || echo "$line"
+    done < "$1/$2" > "$scratch/found/$it.stdout"
+}
+
+# Runs the judge on a trace of another stack, which cuts requests otherwise than this one: it is refused, and legal where any cut
+# will do, whether it is said how far its check comes or not.
+run_cuts() {
     local folder=$top/examples/judged
-    add_case_of cuts.refused check "$folder" "$folder/cut_elsewhere.trace"
     want cuts.refused 1 << 'END'
 line 4: request 1 asks for it, but no piece begins at its sector 8: it is cut at multiples of 64
 open: request 1, begun
 out: piece 1 of request 1, on tag 0
 END
-    add_case_of cuts.legal check "$folder" "$folder/cut_elsewhere.trace"
-    sed -i '1a --any-cut' "$scratch/cases/cuts.legal.args"
+    run_case cuts.refused check "$folder/config.toml" "$folder/cut_elsewhere.trace"
     want cuts.legal 0 <<< 'legal: 8 labels, 1 requests, 2 pieces'
-    add_case_of cuts.watched check "$folder" "$folder/cut_elsewhere.trace"
-    sed -i '1a --progress\n--any-cut' "$scratch/cases/cuts.watched.args"
+    run_case cuts.legal check --any-cut "$folder/config.toml" "$folder/cut_elsewhere.trace"
     want cuts.watched 0 <<< 'legal: 8 labels, 1 requests, 2 pieces'
+    run_case cuts.watched check --progress --any-cut "$folder/config.toml" "$folder/cut_elsewhere.trace"
 }
 
-make_judge_cases() {
-    local folder
-    mkdir -p "$scratch"/{cases,wanted,found}
-    while IFS= read -r folder; do add_recorded "$folder"; done < <(recorded_folders)
-    add_picture
-    add_wrong_bodies
-    add_cuts
-    add_words "$top/launcher/judged_at_once"
-}
-
-# Of a wrong body the line with the rule is compared, and not what was open there.
-count_judge_cases() {
-    local it
-    for it in "$scratch"/found/wrong.*.stdout; do [ ! -f "$it" ] || sed -i '2,$d' "$it"; done
+# Runs all cases of the judge, and compares them.
+run_judge_cases() {
+    local folder it
+    make_case_folders
+    while IFS= read -r folder; do run_recorded "$folder"; done < <(recorded_folders)
+    for it in rules large; do run_labels "$it" "$top/examples/judged/$it"; done
+    each_row bad_lines "$top/examples/judged/bad_lines" run_bad_line
+    each_row wrong "$top/examples/judged/wrong_bodies" run_wrong_body
+    run_picture
+    for it in "$top"/examples/judged/pictures/*/{picture,events}; do run_drawing "${it%/*}" "${it##*/}"; done
+    run_cuts
+    run_refused_words
+    run_answered_at_once "$top/launcher/judged_at_once"
     count_cases "stackjudge, scripts recorded" record.
     count_cases "stackjudge, labels of their traces" labels.
     count_cases "stackjudge, their traces judged" check.
-    count_cases "stackjudge, the picture" picture
+    count_cases "stackjudge, rules" labels_of.
+    count_cases "stackjudge, lines of no label" bad_lines.
     count_cases "stackjudge, wrong bodies" wrong.
+    count_cases "stackjudge, pictures" picture.
     count_cases "stackjudge, cuts of another stack" cuts.
+    count_cases "stackjudge, words refused" refused.
     count_cases "stackjudge, words answered at once" words.
     cp "$scratch"/*.counts "${scratch%/*}"
 }

@@ -1,9 +1,10 @@
-# Runs the tests by unproved builds, several crates at once. With --built: the cases of both programs, by those built.
+# Runs the tests by unproved builds, several crates at once. With --built: the cases of the programs, by those built.
+. "$top/launcher/session_cases.sh"
 
-# The crates with tests, and both programs, whose cases are tests too: those that stand on most come first, since they take
+# The crates with tests, and the programs, whose cases are tests too: those that stand on most come first, since they take
 # longest.
 test_crates() {
-    printf '%s\n' stackrun stackjudge
+    printf '%s\n' stackrun stackjudge nbd_disk
     awk '!/^#/ { print NF, $1 }' "$top/crates.txt" | sort -rn | tr -d : | while read -r _ name; do
         ! grep -rqF '#[test]' "$top/crates/$name/src" || echo "$name"
     done
@@ -40,10 +41,14 @@ try_tests() {
 # Tests a crate, and notes that this came to an end.
 test_crate() {
     case $1 in
-        stackrun) try_cases make_cases count_all_cases make_lasting_run ;;
+        stackrun) try_cases run_stackrun_cases make_lasting_run ;;
         stackjudge) (
             be_judge
-            try_cases make_judge_cases count_judge_cases make_lasting_check
+            try_cases run_judge_cases make_lasting_check
+        ) ;;
+        nbd_disk) (
+            be_program nbd_disk
+            try_cases run_server_cases make_lasting_session
         ) ;;
         *) try_tests "$1" ;;
     esac
@@ -56,15 +61,16 @@ stop_jobs() {
     for job in $(jobs -p); do kill -- "-$job" 2> /dev/null || true; done
 }
 
-# Runs the cases of both programs by those that were built.
+# Runs the cases of the programs by those that were built.
 test_built() {
-    [ -x "$program" ] && [ -x "$top/crates/stackjudge/out/stackjudge" ] || { say "it is not built, or stackjudge isn't" && exit 1; }
+    local it
+    for it in stackrun stackjudge nbd_disk; do
+        [ -x "$top/crates/$it/out/$it" ] || { say "$it is not built" && exit 1; }
+    done
     make_scratch
-    run_built_cases make_cases count_all_cases
-    (
-        be_judge
-        run_built_cases make_judge_cases count_judge_cases
-    )
+    run_stackrun_cases
+    (be_judge && run_judge_cases)
+    (be_program nbd_disk && run_server_cases)
     tally
 }
 
