@@ -93,28 +93,31 @@ HasReceipts partition old call reason None new = HasNoReceipt old new × IsWitho
 HasReceipts partition old call (Refused reason) (Some places) new = AreAnsweredAt partition call reason places old.client old.called old.answered new.called new.answered
 HasReceipts partition old call TooManyTickets (Some places) new = ⊥
 
--- why a pass got no hold: it saw the gate closed, or it has as many as its quota
+-- why a pass got no hold: it saw the gate closed, which it did not close itself, or it has as many as its quota
 abbrev pub HasNoHold : Reason → PassView → PassView → Type 0
-HasNoHold (Refused DeletePending) old new = (new.holds ≡ old.holds) × (new.quota ≡ old.quota) × (new.saw_closed ≡ true)
+HasNoHold (Refused DeletePending) old new = (new.holds ≡ old.holds) × (new.quota ≡ old.quota) × (new.saw_closed ≡ true) × (new.closed ≡ old.closed)
 HasNoHold (Refused _) old new = ⊥
 HasNoHold TooManyTickets old new = (new ≡ old) × (old.holds ≡ old.quota)
 
--- the call got no ticket, and the caller's bytes come back
+-- the call got no ticket, and the caller's bytes come back; the pass has closed nothing
 pub record IsRefused (partition : ℕ) (old : ClientView) (call : Call) (refusal : Refusal) (new : ClientView) : Type 0 where
   pub bytes : refusal.bytes ≡ buffer_of call
   pub client : new.client ≡ old.client
   pub holds : new.pass.holds ≡ old.pass.holds
+  pub closes_nothing : new.pass.closed ≡ old.pass.closed
   pub seat : new.seat ≡ old.seat
   pub receipts : HasReceipts partition old call refusal.reason refusal.places new
 
 -- WAITING
 
--- the client was told the answer to the ticket's request, which stands behind its call; the ticket's hold is given back
+-- the client was told the answer to the ticket's request, which stands behind its call; the ticket's hold is given back, and
+-- the pass has closed nothing
 pub record IsWaited (old : ClientView) (t : TicketView) (answered : Answered) (new : ClientView) : Type 0 where
   pub call : answered.places.call ≡ t.place
   pub behind : t.place < answered.places.answer
   pub number : answered.answer.number ≡ t.number
   pub holds : new.pass.holds ≡ old.pass.holds - 1
+  pub closes_nothing : new.pass.closed ≡ old.pass.closed
   pub adds : new ≡ record old { answered = old.answered ++ receipt answered.places.answer (as_answer answered.answer) old.client; pass = new.pass }
 
 -- MARKING

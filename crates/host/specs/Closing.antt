@@ -1,10 +1,12 @@
 -- What a closed host gives.
-use Rattle.std.specs.Prelude.{◌≡◌, ◌<◌, ℕ, zero, suc, ◌+◌, List, [], ◌∷◌, Some, map, length, slice_get, take, if◌then◌else◌}
+use Rattle.std.specs.Prelude.{◌≡◌, ◌<◌, ℕ, zero, suc, ◌+◌, Bool, true, false, List, [], ◌∷◌, Some, map, length, slice_get, take, if◌then◌else◌}
 use Rattle.machine.specs.declared.Label.{Label}
-use Rattle.machine.specs.declared.Label.TheVariants.{Removed}
+use Rattle.machine.specs.declared.Label.TheVariants.{Device, Removed}
+use Rattle.srb.specs.declared.DeviceLabel.TheVariants.{Start, Act, Fault, Return}
 use Rattle.machine.specs.Rules.{Rules, as_faithful}
 use Rattle.machine.specs.State.{State, opening}
 use Rattle.sector.specs.Extents.{sectors_in}
+use Rattle.srb.specs.Replaying.{Replays}
 use Rattle.machine_laws.specs.Booked.{AreOfActs}
 use Rattle.machine_laws.specs.Lifting.{over_disk}
 use Rattle.sector_journal.specs.declared.acted.Entered.{Entered}
@@ -76,8 +78,27 @@ pub record AreFirst (trace : List Label) (entries : List Entered) (receipts : Li
   pub numbered : receipts ≡ numbered_from 0 taken
   pub of_acts : AreOfActs trace trace (entries_in taken)
 
--- these labels are a run of the machine whose acts read and write the sectors, from those of the disk on
-pub record IsFaithfulRun (rules : Rules) (disk : List (List ℕ)) (trace : List Label) : Type 0 where
+-- the label is an act
+abbrev pub is_act : Label → Bool
+is_act (Device (Act piece bytes)) = true
+is_act (Device (Start piece tag block)) = false
+is_act (Device (Fault piece)) = false
+is_act (Device (Return piece class)) = false
+is_act _ = false
+
+-- how many of the labels are acts
+abbrev pub act_count : List Label → ℕ
+act_count [] = 0
+act_count (label ∷ labels) = if is_act label then suc (act_count labels) else act_count labels
+
+-- these labels are a run of the machine whose acts read and write the sectors, from those of the disk on; its acts are the
+-- first entries. Where it has as many acts as there are entries, it ends with the sectors of the medium
+pub record IsFaithfulRun (rules : Rules) (disk : List (List ℕ)) (trace : List Label) (entries : List Entered) (sectors : List (List ℕ)) : Type 0 where
+  pub taken : List Entered
+  pub first : BeginsWith entries taken
+  pub of_acts : AreOfActs trace trace (entries_in taken)
   pub after : List (List ℕ)
+  pub replays : Replays rules.sector_size disk (entries_in taken) after
+  pub all : act_count trace ≡ length entries → after ≡ sectors
   pub last : State
   pub run : Run (as_faithful rules) (opening (map (sectors_in disk) rules.partitions)) trace (over_disk rules after last)

@@ -65,6 +65,7 @@ fn give_back<M: Medium, N: Naming>(host: &Host<M, N>, pass: &mut Pass, out: usiz
     ensures gate { pass.new.gate ≡ N.gate }
     ensures quota { pass.new.view.quota ≡ pass.old.view.quota }
     ensures holds { (result ≡ pass.new.view.holds) × (result ≡ out - 1) }
+    ensures closed { pass.new.view.closed ≡ pass.old.view.closed }
 {
     if out == 0 {
         return 0;

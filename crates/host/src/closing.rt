@@ -87,7 +87,8 @@ impl<M: Medium, N: Naming> Host<M, N> {
     ///
     /// Beside them what acts did: the acts of the trace, in order, are the first entries, and all entries, replayed
     /// from the sectors that the journal was opened with, give the sectors of the medium. So the trace is a run whose
-    /// acts read and write sectors, from those that the journal was opened with on.
+    /// acts read and write sectors, from those that the journal was opened with on, to those of the medium where the trace
+    /// has as many acts as there are entries.
     pub fn close(self, keeper: Keeper<N>, clients: Vec<Client<N>>) -> (Closed<N>, M)
         requires parts { N.parts ≡ length N.partitions + 1 }
         requires all { AreNumbered (length N.partitions) clients.items }
@@ -96,7 +97,7 @@ impl<M: Medium, N: Naming> Host<M, N> {
         ensures settled_at_removed { SettledAtRemoved N.rules N.start result.0.trace.items }
         ensures acts { AreFirst (labels_of result.0.trace.items) result.0.entries.items result.0.receipts }
         ensures replays { Replays (M.view result.1).sector_size N.opening (entries_in result.0.entries.items) (M.view result.1).sectors }
-        ensures run { IsFaithfulRun N.rules N.opening (labels_of result.0.trace.items) }
+        ensures run { IsFaithfulRun N.rules N.opening (labels_of result.0.trace.items) result.0.entries.items (M.view result.1).sectors }
     {
         laws_of_removals();
         machine_laws::journals_close_runs();

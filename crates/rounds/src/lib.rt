@@ -3,8 +3,9 @@
 //! [`remove`].
 //!
 //! It promises to the crate above, by the contract of [`run`], that no more calls have succeeded than were made
-//! (`most`), that the entries of the journal give the sectors (`replays`), and that a partition is missed only where
-//! the stack has none (`fault`). Each client compares at run time what it reads with what it wrote, and a [`Tally`]
+//! (`most`), that the entries of the journal give the sectors (`replays`), that the trace is a run of the sector machine
+//! whose acts read and write them, its acts the first entries (`run`), and that a partition is missed only where the
+//! stack has none (`fault`). Each client compares at run time what it reads with what it wrote, and a [`Tally`]
 //! counts what differed. The crate promises nothing of progress.
 #![tactic(auto)]
 
@@ -14,8 +15,10 @@ mod threads;
 ghost use Rattle.std.specs.Prelude.{◌≡◌, ◌≤◌, ◌*◌, IfErr, IfOk, IsFalse, Some};
 ghost use Rattle.sector_journal.specs.Journal.{entries_in};
 ghost use Rattle.srb.specs.Replaying.{Replays};
+ghost use Rattle.traced.specs.Entries.{labels_of};
 ghost use Rattle.traced.specs.Opening.{IsNew};
 ghost use Rattle.traced.specs.Sizes.{AreSizes, sizes_of};
+ghost use Rattle.host.specs.Closing.{IsFaithfulRun};
 ghost use Rattle.host.specs.Opening.{IsDiskFor};
 ghost use Rattle.rounds.specs.Faults.{IsRoundsFault};
 
@@ -31,7 +34,7 @@ use std::marker::Brand;
 use std::sync::Wait;
 use std::thread::Threads;
 use thiserror::Error;
-use traced::StackSizes;
+use traced::{StackSizes, TraceEntry};
 
 /// What the clients do.
 #[derive(Debug, Clone, Copy, PartialEq, Eq, Drop)]
@@ -57,10 +60,11 @@ pub struct Tally {
     pub differing: u64,
 }
 
-/// What is left of the rounds: their tally, what acts did to the sectors, in order, and the medium.
+/// What is left of the rounds: their tally, the trace, what acts did to the sectors, in order, and the medium.
 #[derive(Drop)]
 pub struct Done<M: Medium> {
     pub tally: Tally,
+    pub trace: Vec<TraceEntry>,
     pub entries: Vec<Entered>,
     pub medium: M,
 }
@@ -101,6 +105,7 @@ pub fn run<M: Medium + Send, R: Threads + Wait + Sync>(
     requires plan { (1 ≤ plan.clients) × (plan.clients ≤ 32) × (1 ≤ plan.depth) × (plan.depth ≤ 32) }
     ensures most { IfOk result (λ done. done.tally.answered ≤ 2 * (plan.clients * plan.rounds)) }
     ensures replays { IfOk result (λ done. Replays (M.view done.medium).sector_size (M.view medium).sectors (entries_in done.entries.items) (M.view done.medium).sectors) }
+    ensures run { IfOk result (λ done. IsFaithfulRun stack.rules (M.view medium).sectors (labels_of done.trace.items) done.entries.items (M.view done.medium).sectors) }
     ensures fault { IfErr result (IsRoundsFault stack.rules) }
 {
     let Ok(partitions) = Vec::from_elem(alloc, 0, usize::from(plan.clients)) else {

@@ -3,9 +3,11 @@
 ghost use Rattle.std.specs.Prelude.{◌≡◌, ◌≤◌, ◌<◌, ◌+◌, ◌*◌, ℕ, suc, IfErr, IfOk, IfSome, MatchBool, get_or, length};
 ghost use Rattle.lanes.specs.Queue.{fresh_lane, issued, lanes_of, standing};
 ghost use Rattle.host.specs.Clients.{AreNumbered};
+ghost use Rattle.host.specs.Closing.{IsFaithfulRun};
 ghost use Rattle.host.specs.Opening.{IsDiskFor};
 ghost use Rattle.sector_journal.specs.Journal.{entries_in};
 ghost use Rattle.srb.specs.Replaying.{Replays};
+ghost use Rattle.traced.specs.Entries.{labels_of};
 ghost use Rattle.host.specs.Keepers.{IsPulledOut, IsQueriedFirst};
 ghost use Rattle.rounds.specs.declared.RoundsFault.TheVariants.{NoMemory};
 
@@ -273,6 +275,7 @@ pub(crate) fn serve<M: Medium + Send, N: Naming + Send + Sync, R: Threads + Wait
     requires plan { (plan.clients ≤ 32) × (1 ≤ plan.depth) × (plan.depth ≤ 32) }
     ensures most { IfOk result (λ done. done.tally.answered ≤ 2 * (plan.clients * plan.rounds)) }
     ensures replays { IfOk result (λ done. Replays (M.view done.medium).sector_size N.opening (entries_in done.entries.items) (M.view done.medium).sectors) }
+    ensures run { IfOk result (λ done. IsFaithfulRun N.rules N.opening (labels_of done.trace.items) done.entries.items (M.view done.medium).sectors) }
     ensures fault { IfErr result (λ fault. fault ≡ NoMemory) }
 {
     let Blank { histories, medium } = blank;
@@ -306,6 +309,7 @@ pub(crate) fn serve<M: Medium + Send, N: Naming + Send + Sync, R: Threads + Wait
     let (closed, medium) = host.close(keeper, clients);
     Ok(Done {
         tally,
+        trace: closed.trace,
         entries: closed.entries,
         medium,
     })
