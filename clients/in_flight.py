@@ -1,15 +1,18 @@
 #!/usr/bin/env python3
 """Sixteen requests out at once, and something goes wrong.
 
-usage: in_flight.py gone|short|full FOLDER
+usage: in_flight.py gone|short|full FOLDER | target FOLDER PROCESS
 
 A server of the file FOLDER/disk, of a mebibyte of zeros, listens on FOLDER/socket. gone: a client goes with
 sixteen writes out, and the next finds each written or not, and each sector whole. short: the file has half of its bytes: a
 read of the rest fails, and those beside it don't. full: the file system has room for some of the writes alone; each that
-succeeded is read. Its status is 0 where all was as it should be."""
+succeeded is read. target: PROCESS is the target below the server; it is killed with sixteen writes out, each of which fails;
+FOLDER/down is made, and once FOLDER/up is there all goes on. Its status is 0 where all was as it should be."""
 
 import os
+import signal
 import sys
+import time
 
 from nbd_client import ENOSPC, FLUSH, READ, WRITE, Client
 
@@ -83,6 +86,25 @@ def full(folder):
     return client.leave()
 
 
+def target(folder, process):
+    client = connected(folder)
+    places = range(OUT)
+    assert all(error == 0 for error, _ in answers(client, writes(client, 1, places)))
+    os.kill(process, signal.SIGSTOP)
+    numbers = writes(client, 101, places)
+    time.sleep(0.3)
+    os.kill(process, signal.SIGKILL)
+    assert [error for error, _ in answers(client, numbers)] == [EIO] * OUT
+    open(f"{folder}/down", "wb").close()
+    while not os.path.exists(f"{folder}/up"):
+        time.sleep(0.05)
+    for at, (error, data) in zip(places, reads(client, places)):
+        assert error == 0 and set(data) <= {1 + at, 101 + at}, (at, error)
+    assert all(error == 0 for error, _ in answers(client, writes(client, 201, places)))
+    assert [data[0] for _, data in reads(client, places)] == [201 + at for at in places]
+    return client.leave()
+
+
 if __name__ == "__main__":
-    what, folder = sys.argv[1:]
-    sys.exit({"gone": gone, "short": short, "full": full}[what](folder))
+    what, folder, *more = sys.argv[1:]
+    sys.exit({"gone": gone, "short": short, "full": full, "target": target}[what](folder, *map(int, more)))

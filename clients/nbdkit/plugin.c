@@ -1,7 +1,7 @@
 /* An nbdkit plugin over the static library: nbdkit ./saddlemug.so size=256M [sector=512] [transfer=128], or
  * nbdkit ./saddlemug.so settings=FILE [partition=0], for a disk in memory; or
  * nbdkit ./saddlemug.so file=IMAGE [partition=0] [sector=512] [transfer=2048], for a raw image file or a block device.
- * Partitions count from 0. Over a file requests run side by side. */
+ * Or nbdkit ./saddlemug.so iscsi=URL [partition=0] [transfer=2048], for a target. Partitions count from 0. Over a file requests run side by side. */
 #include <errno.h>
 #include <inttypes.h>
 #include <malloc.h>
@@ -27,7 +27,7 @@ static int64_t size;
 static uint32_t sector, transfer;
 static char *settings_file, *image_file;
 static uint8_t partition;
-static bool has_partition;
+static bool has_partition, is_target;
 
 /* The one or the other. */
 static struct saddlemug volume;
@@ -78,6 +78,12 @@ config(const char *key, const char *value)
 		image_file = nbdkit_realpath(value);
 		return image_file == NULL ? -1 : 0;
 	}
+	if (strcmp(key, "iscsi") == 0) {
+		free(image_file);
+		image_file = strdup(value);
+		is_target = true;
+		return image_file == NULL ? -1 : 0;
+	}
 	if (strcmp(key, "partition") == 0) {
 		has_partition = true;
 		return nbdkit_parse_uint8_t(key, value, &partition);
@@ -92,11 +98,11 @@ config_complete(void)
 {
 	const char *beside = NULL;
 	if (image_file != NULL)
-		beside = settings_file != NULL ? "settings" : size != 0 ? "size" : NULL;
+		beside = settings_file != NULL ? "settings" : size != 0 ? "size" : is_target && sector != 0 ? "sector" : NULL;
 	else if (settings_file != NULL)
 		beside = size != 0 ? "size" : sector != 0 ? "sector" : transfer != 0 ? "transfer" : NULL;
 	if (beside != NULL) {
-		nbdkit_error("%s is not for a disk with %s", beside, image_file != NULL ? "file" : "settings");
+		nbdkit_error("%s is not for a disk with %s", beside, is_target ? "iscsi" : image_file != NULL ? "file" : "settings");
 		return -1;
 	}
 	if (has_partition && image_file == NULL && settings_file == NULL) {
@@ -106,6 +112,16 @@ config_complete(void)
 	if (sector == 0)
 		sector = 512;
 	return 0;
+}
+
+static void
+dump_plugin(void)
+{
+#ifdef WITH_ISCSI
+	puts("iscsi=yes");
+#else
+	puts("iscsi=no");
+#endif
 }
 
 static int
@@ -168,7 +184,7 @@ open_image(void)
 		nbdkit_error("%s: %s", image_file, why);
 		return -1;
 	}
-	sizes = (struct saddlemug_sizes){.sector_size = sector, .sectors = image.size / sector};
+	sizes = (struct saddlemug_sizes){.sector_size = image.sector_size, .sectors = image.size / image.sector_size};
 	read_only = image.read_only;
 	return 0;
 }
@@ -268,7 +284,7 @@ answered(const char *call, uint32_t status)
 		errno = ENOMEM;
 		break;
 	case SADDLEMUG_MEDIA_WRITE_PROTECTED:
-		errno = read_only ? EROFS : ENOSPC;
+		errno = image_file != NULL && own_disk_is_full(&image, status) ? ENOSPC : EROFS;
 		break;
 	default:
 		errno = EIO;
@@ -334,8 +350,9 @@ static struct nbdkit_plugin plugin = {
 	.config = config,
 	.config_complete = config_complete,
 	.config_help = "size=SIZE [sector=512|4096] [transfer=SECTORS], or settings=FILE [partition=NUMBER], or\n"
-		"file=IMAGE [partition=NUMBER] [sector=512|4096] [transfer=SECTORS]\n"
+		"file=IMAGE [partition=NUMBER] [sector=512|4096] [transfer=SECTORS], or iscsi=URL [partition=NUMBER] [transfer=SECTORS]\n"
 		"Partitions count from 0, unused entries of the table left out; a file with no partition named is one as a whole.",
+	.dump_plugin = dump_plugin,
 	.thread_model = thread_model,
 	.magic_config_key = "size",
 	.get_ready = get_ready,

@@ -1,5 +1,5 @@
 /* Serves a file through the proved stack: own_disk FILE read OFFSET LENGTH, or own_disk FILE write OFFSET, of standard input.
- * The file is one partition. Several requests are out at once, each in a thread of its own. */
+ * The file is one partition; of a target, iscsi://HOST[:PORT]/NAME/UNIT in place of FILE, it is the first. Several requests are out at once, each in a thread of its own. */
 #include <errno.h>
 #include <stdio.h>
 #include <stdlib.h>
@@ -38,8 +38,8 @@ carry(void *argument)
 static int
 said(const struct own_disk *disk, const char *what, uint32_t status)
 {
-	bool full = status == SADDLEMUG_MEDIA_WRITE_PROTECTED && !disk->read_only;
-	fprintf(stderr, "own_disk: %s: %s%s\n", what, status_name(status), full ? ": no space is left" : "");
+	const char *full = own_disk_is_full(disk, status) ? ": no space is left" : "";
+	fprintf(stderr, "own_disk: %s: %s%s\n", what, status_name(status), full);
 	return 1;
 }
 

@@ -6,6 +6,7 @@
 #include <unistd.h>
 
 #include "own_disk.h"
+#include "target.h"
 
 /* Bytes of a block of a file. A hole is made of whole ones. */
 #define BLOCK 4096
@@ -77,8 +78,8 @@ run_of(const uint8_t *at, uint64_t length, uint64_t offset, bool *zeros)
 	return count;
 }
 
-/* How many of so many bytes are in a hole of the file, from the first on. A system may tell a hole of bytes that it is just
- * writing out (ext4 does at times): so they have to be read as zeros too. */
+/* How many of so many bytes are in a hole of the file, from the first on. A system may tell a hole where it is just writing
+ * bytes out (seen of ext4, once in an hour of writes and syncs): so they have to be read as zeros too. */
 static uint64_t
 hole_of(int file, uint64_t length, uint64_t offset)
 {
@@ -176,6 +177,10 @@ own_disk_move_bytes(struct own_disk *disk, struct own_disk_move *move)
 	const struct saddlemug_asked *asked = &move->armed.asked;
 	uint64_t offset = asked->first * disk->sector_size - disk->before;
 
+	if (disk->target != NULL) {
+		target_carry_out(disk->target, move);
+		return;
+	}
 	switch (asked->kind) {
 	case SADDLEMUG_ASKS_TO_READ:
 		if (!read_all(disk->file, move->armed.bytes, move->armed.length, offset))

@@ -8,6 +8,7 @@
 #include <unistd.h>
 
 #include "own_disk.h"
+#include "target.h"
 
 /* The tools of qemu tell each other what they do with an image by shared locks on single bytes: from byte 100 on what one
  * does, from byte 200 on what it suffers of nobody else. */
@@ -110,6 +111,13 @@ read_sector(int file, uint8_t *at, size_t length)
 	return true;
 }
 
+static const char *
+find_partition(struct own_disk *disk, int partition, const uint8_t *first)
+{
+	disk->size = sectors_of(first, partition) * disk->sector_size;
+	return disk->size != 0 ? NULL : "it has no such partition: they are counted from 0, and unused entries of the table left out";
+}
+
 /* Sector 0 of the disk, and how many sectors it has. A block device tells its size by its end. */
 static const char *
 look_at(struct own_disk *disk, int partition, uint8_t *first, uint64_t *sectors)
@@ -130,8 +138,7 @@ look_at(struct own_disk *disk, int partition, uint8_t *first, uint64_t *sectors)
 	}
 	if (!read_sector(disk->file, first, disk->sector_size))
 		return "its first sector can't be read";
-	disk->size = sectors_of(first, partition) * disk->sector_size;
-	return disk->size != 0 ? NULL : "it has no such partition: they are counted from 0, and unused entries of the table left out";
+	return find_partition(disk, partition, first);
 }
 
 /* Opens the stack, and a handle on the partition. */
@@ -166,9 +173,15 @@ own_disk_open(struct own_disk *disk, const char *path, const struct own_disk_opt
 		return "a sector has 512 or 4096 bytes";
 	if (disk->depth == 0 || disk->depth > OWN_DISK_TAGS)
 		return "there are 1 to 32 tags";
-	why = open_file(disk, path);
-	if (why == NULL)
-		why = look_at(disk, options->partition, first, &sectors);
+	if (strncmp(path, "iscsi://", 8) == 0) {
+		why = target_open(&disk->target, path, &sectors, &disk->sector_size, first);
+		if (why == NULL)
+			why = find_partition(disk, options->partition < 0 ? 0 : options->partition, first);
+	} else {
+		why = open_file(disk, path);
+		if (why == NULL)
+			why = look_at(disk, options->partition, first, &sectors);
+	}
 	if (why == NULL)
 		why = open_stack(disk, options, first, sectors);
 	if (why != NULL)
@@ -182,6 +195,9 @@ own_disk_close(struct own_disk *disk)
 	if (disk->stack.at != NULL)
 		saddlemug_stack_close(&disk->stack);
 	disk->stack.at = NULL;
+	if (disk->target != NULL)
+		target_close(disk->target);
+	disk->target = NULL;
 	if (disk->file >= 0)
 		close(disk->file);
 	disk->file = -1;

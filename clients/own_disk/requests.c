@@ -122,6 +122,7 @@ step(struct own_disk *disk, uint32_t kind, uint8_t tag)
 	struct saddlemug_reply reply;
 	uint8_t none = 0;
 	saddlemug_stack_step(&disk->stack, &event, &none, 0, &reply);
+	take_labels(disk);
 }
 
 static uint64_t
@@ -137,7 +138,7 @@ static void
 move_bytes(struct own_disk *disk, struct own_disk_move *move)
 {
 	const struct saddlemug_asked *asked = &move->armed.asked;
-	bool under = disk->quick >= QUICK_ONES && asked->kind != SADDLEMUG_ASKS_TO_FLUSH && !asked->through;
+	bool under = disk->quick >= QUICK_ONES && asked->kind != SADDLEMUG_ASKS_TO_FLUSH && !asked->through && disk->target == NULL;
 	if (!under) {
 		wake_one(disk);
 		pthread_mutex_unlock(&disk->lock);
@@ -163,7 +164,6 @@ serve(struct own_disk *disk, struct own_disk_move *move)
 	move->state = OWN_DISK_NONE;
 	step(disk, SADDLEMUG_ACT, tag);
 	step(disk, SADDLEMUG_FINISH, tag);
-	take_labels(disk);
 }
 
 /* Serves what is out, whoever asked for it, until this request has its answer. */
