@@ -1,0 +1,340 @@
+/* An nbdkit filter that writes down what clients saw: each call and each answer, with their bytes.
+ *
+ *     nbdkit --filter=./record.so nbd socket=SERVER record=FILE [record-limit=BYTES]
+ *
+ * A call's line is written before the request goes to the server, an answer's before it goes to the client: so the server did
+ * what it did between the two lines, and the client saw no less time between them. The lines are those of docs/TRACES.md:
+ *
+ *     call R read|write OFF LEN [through] in 0 [BYTES]    call R flush in 0    call R trim OFF LEN [through] in 0
+ *     answer R STATUS INFO [BYTES]
+ *
+ * BYTES are runs, a5*512,00*2, or x and hexadecimal digits where that is shorter. A request to write zeros is a write of them. A
+ * broken connection is no answer, and a remark says so. A file that is there is gone on with, and its numbers too. A request
+ * that can't be written down is not made, or has no answer in the file and fails. */
+#include <errno.h>
+#include <fcntl.h>
+#include <inttypes.h>
+#include <pthread.h>
+#include <stdarg.h>
+#include <stdbool.h>
+#include <stdio.h>
+#include <stdlib.h>
+#include <string.h>
+#include <unistd.h>
+
+#define NBDKIT_API_VERSION 2
+#include <nbdkit-filter.h>
+
+/* What a line has beside its bytes. */
+#define HEAD 128
+
+static char *path;
+static int file = -1;
+static uint32_t limit = 1 << 18;
+static pthread_mutex_t lock = PTHREAD_MUTEX_INITIALIZER;
+
+/* Under the lock: the next number, and the lines that are not written yet. */
+static uint64_t next_number = 1;
+static char *lines;
+static size_t length, room;
+
+static int
+config(nbdkit_next_config *next, nbdkit_backend *backend, const char *key, const char *value)
+{
+	if (strcmp(key, "record-limit") == 0)
+		return nbdkit_parse_uint32_t(key, value, &limit);
+	if (strcmp(key, "record") != 0)
+		return next(backend, key, value);
+	free(path);
+	path = nbdkit_absolute_path(value);
+	return path == NULL ? -1 : 0;
+}
+
+static int
+config_complete(nbdkit_next_config_complete *next, nbdkit_backend *backend)
+{
+	if (path != NULL)
+		return next(backend);
+	nbdkit_error("record=FILE is missing");
+	return -1;
+}
+
+/* Goes on behind the numbers of a file that is there. */
+static int
+get_ready(int model)
+{
+	char *line = NULL;
+	size_t line_room = 0;
+	uint64_t number;
+	FILE *old = fopen(path, "r");
+	(void) model;
+	while (old != NULL && getline(&line, &line_room, old) > 0)
+		if (sscanf(line, "call %" SCNu64, &number) == 1 && number >= next_number)
+			next_number = number + 1;
+	free(line);
+	if (old != NULL)
+		fclose(old);
+	file = open(path, O_WRONLY | O_APPEND | O_CREAT | O_CLOEXEC, 0666);
+	if (file >= 0)
+		return 0;
+	nbdkit_error("%s: %m", path);
+	return -1;
+}
+
+/* Writes the lines that wait. */
+static bool
+write_lines(void)
+{
+	size_t done = 0;
+	while (done < length) {
+		ssize_t count = write(file, lines + done, length - done);
+		if (count < 0 && errno == EINTR)
+			continue;
+		if (count <= 0) {
+			nbdkit_error("%s: %m", path);
+			memmove(lines, lines + done, length -= done);
+			return false;
+		}
+		done += count;
+	}
+	length = 0;
+	return true;
+}
+
+static bool
+make_room(size_t wanted)
+{
+	if (room - length >= wanted)
+		return true;
+	char *larger = realloc(lines, length + wanted);
+	if (larger == NULL)
+		return false;
+	lines = larger;
+	room = length + wanted;
+	return true;
+}
+
+static size_t
+run_of(const uint8_t *bytes, size_t count)
+{
+	size_t run = 1;
+	while (run < count && bytes[run] == bytes[0])
+		run++;
+	return run;
+}
+
+/* Whether runs are no longer than digits. */
+static bool
+are_runs_short(const uint8_t *bytes, size_t count)
+{
+	size_t text = 0;
+	for (size_t at = 0, run; at < count && text <= 2 * count; at += run) {
+		run = run_of(bytes + at, count - at);
+		text += snprintf(NULL, 0, "%zu", run) + 4;
+	}
+	return text <= 2 * count;
+}
+
+/* The bytes of a line, behind a space. There is room. */
+static void
+add_bytes(const uint8_t *bytes, size_t count)
+{
+	if (are_runs_short(bytes, count)) {
+		for (size_t at = 0, run; at < count; at += run) {
+			run = run_of(bytes + at, count - at);
+			length += sprintf(lines + length, "%c%02x*%zu", at == 0 ? ' ' : ',', bytes[at], run);
+		}
+		return;
+	}
+	length += sprintf(lines + length, " x");
+	for (size_t at = 0; at < count; at++, length += 2) {
+		lines[length] = "0123456789abcdef"[bytes[at] >> 4];
+		lines[length + 1] = "0123456789abcdef"[bytes[at] & 15];
+	}
+}
+
+/* Notes a line. There are bytes where `count` isn't 0. */
+static bool
+note(const uint8_t *bytes, size_t count, const char *format, ...)
+{
+	va_list arguments;
+	if (!make_room(HEAD + 2 * count))
+		return false;
+	va_start(arguments, format);
+	length += vsnprintf(lines + length, HEAD, format, arguments);
+	va_end(arguments);
+	if (count > 0)
+		add_bytes(bytes, count);
+	lines[length++] = '\n';
+	return length <= limit || write_lines();
+}
+
+/* Notes a call, and gives its number; 0 where it can't be noted, and so is not to be made. */
+static uint64_t
+called(const char *kind, uint32_t count, uint64_t offset, uint32_t flags, const void *bytes, size_t has)
+{
+	const char *through = (flags & NBDKIT_FLAG_FUA) != 0 ? "through " : "";
+	pthread_mutex_lock(&lock);
+	uint64_t number = next_number++;
+	bool noted = strcmp(kind, "flush") == 0 ? note(NULL, 0, "call %" PRIu64 " flush in 0", number)
+		: note(bytes, has, "call %" PRIu64 " %s %" PRIu64 " %" PRIu32 " %sin 0", number, kind, offset, count, through);
+	pthread_mutex_unlock(&lock);
+	return noted ? number : 0;
+}
+
+static const char *
+status_of(int error)
+{
+	switch (error) {
+	case EPERM:
+	case EROFS:
+	case ENOSPC:
+		return "MEDIA_WRITE_PROTECTED";
+	case EINVAL:
+		return "INVALID_PARAMETER";
+	case EOPNOTSUPP:
+		return "INVALID_DEVICE_REQUEST";
+	default:
+		return "IO_DEVICE_ERROR";
+	}
+}
+
+static bool
+is_broken(int error)
+{
+	return error == ESHUTDOWN || error == ENOTCONN || error == ECONNRESET || error == EPIPE || error == ETIMEDOUT;
+}
+
+/* Notes an answer. The result is that of the request. */
+static int
+answered(uint64_t number, int result, int *error, uint32_t count, const void *bytes, size_t has)
+{
+	bool noted;
+	pthread_mutex_lock(&lock);
+	if (result == 0)
+		noted = note(bytes, has, "answer %" PRIu64 " SUCCESS %" PRIu32, number, count);
+	else if (is_broken(*error))
+		noted = note(NULL, 0, "# request %" PRIu64 " has no answer: the connection broke", number);
+	else
+		noted = note(NULL, 0, "answer %" PRIu64 " %s 0", number, status_of(*error));
+	pthread_mutex_unlock(&lock);
+	if (noted)
+		return result;
+	*error = EIO;
+	return -1;
+}
+
+static int
+not_made(int *error)
+{
+	*error = EIO;
+	return -1;
+}
+
+static int
+pread_(nbdkit_next *next, void *handle, void *buffer, uint32_t count, uint64_t offset, uint32_t flags, int *error)
+{
+	(void) handle;
+	uint64_t number = called("read", count, offset, 0, NULL, 0);
+	if (number == 0)
+		return not_made(error);
+	int result = next->pread(next, buffer, count, offset, flags, error);
+	return answered(number, result, error, count, buffer, count);
+}
+
+static int
+pwrite_(nbdkit_next *next, void *handle, const void *buffer, uint32_t count, uint64_t offset, uint32_t flags, int *error)
+{
+	(void) handle;
+	uint64_t number = called("write", count, offset, flags, buffer, count);
+	if (number == 0)
+		return not_made(error);
+	int result = next->pwrite(next, buffer, count, offset, flags, error);
+	return answered(number, result, error, count, NULL, 0);
+}
+
+static int
+zero(nbdkit_next *next, void *handle, uint32_t count, uint64_t offset, uint32_t flags, int *error)
+{
+	(void) handle;
+	const char *through = (flags & NBDKIT_FLAG_FUA) != 0 ? "through " : "";
+	pthread_mutex_lock(&lock);
+	uint64_t number = next_number++;
+	bool noted = note(NULL, 0, "call %" PRIu64 " write %" PRIu64 " %" PRIu32 " %sin 0 00*%" PRIu32, number, offset, count, through, count);
+	pthread_mutex_unlock(&lock);
+	if (!noted)
+		return not_made(error);
+	int result = next->zero(next, count, offset, flags, error);
+	return answered(number, result, error, count, NULL, 0);
+}
+
+static int
+trim(nbdkit_next *next, void *handle, uint32_t count, uint64_t offset, uint32_t flags, int *error)
+{
+	(void) handle;
+	uint64_t number = called("trim", count, offset, flags, NULL, 0);
+	if (number == 0)
+		return not_made(error);
+	int result = next->trim(next, count, offset, flags, error);
+	return answered(number, result, error, count, NULL, 0);
+}
+
+static int
+flush_(nbdkit_next *next, void *handle, uint32_t flags, int *error)
+{
+	(void) handle;
+	uint64_t number = called("flush", 0, 0, 0, NULL, 0);
+	if (number == 0)
+		return not_made(error);
+	int result = next->flush(next, flags, error);
+	return answered(number, result, error, 0, NULL, 0);
+}
+
+/* Where holes are is no matter of calls and answers. */
+static int
+can_extents(nbdkit_next *next, void *handle)
+{
+	(void) next;
+	(void) handle;
+	return 0;
+}
+
+/* A client has left: its lines are written. */
+static int
+finalize(nbdkit_next *next, void *handle)
+{
+	(void) next;
+	(void) handle;
+	pthread_mutex_lock(&lock);
+	bool good = write_lines();
+	pthread_mutex_unlock(&lock);
+	return good ? 0 : -1;
+}
+
+static void
+unload(void)
+{
+	if (file >= 0 && write_lines())
+		close(file);
+	free(lines);
+	free(path);
+}
+
+static struct nbdkit_filter filter = {
+	.name = "record",
+	.longname = "what clients saw, as calls and answers",
+	.config = config,
+	.config_complete = config_complete,
+	.config_help = "record=FILE [record-limit=BYTES]: where calls and answers go, and how many bytes of them wait",
+	.get_ready = get_ready,
+	.unload = unload,
+	.finalize = finalize,
+	.can_extents = can_extents,
+	.pread = pread_,
+	.pwrite = pwrite_,
+	.zero = zero,
+	.trim = trim,
+	.flush = flush_,
+};
+
+NBDKIT_REGISTER_FILTER(filter)
