@@ -1,0 +1,46 @@
+# Lays out the sources, and looks over them and the scripts. What isn't installed is said and left out.
+
+# The files of the repository that are scripts of this kind, by their first line.
+scripts() {
+    local it
+    git -C "$top" ls-files | while IFS= read -r it; do
+        [[ ! -f $top/$it || $(head -n 1 "$top/$it" | tr -d '\0') != '#!'*"$1"* ]] || printf '%s\n' "$top/$it"
+    done
+}
+
+# Lays out the sources of all crates.
+format() {
+    local it
+    for it in "$top"/crates/*/; do (cd "$it" && rt fmt); done
+}
+
+# Names the sources that are not in the layout of `rt fmt`, and fails where there are any.
+check_layout() {
+    local rt
+    rt=$(readlink -f "$(command -v rt)")
+    find "$top"/crates/*/{src,specs,proofs} \( -name '*.rt' -o -name '*.antt' \) -print0 2> /dev/null \
+        | xargs -0 "${rt%/*}/rattle" fmt --check
+}
+
+# Has a tool look over files, if it is there.
+look_over() {
+    local tool=$1
+    shift
+    if ! command -v "$tool" > /dev/null; then
+        say "$tool isn't installed"
+        return
+    fi
+    "$@"
+}
+
+# The parts of the launchers set and read each other's variables, and are found as they run; an assignment expands no `?`.
+lint() {
+    local shell=() python=() status=0
+    mapfile -t shell < <(scripts bash)
+    mapfile -t python < <(scripts python3)
+    check_layout || status=1
+    look_over shellcheck shellcheck -s bash -S warning -e SC1090,SC1091,SC2034,SC2125,SC2154 \
+        "${shell[@]}" "$top"/launcher/*.sh || status=1
+    look_over ruff ruff check -q "${python[@]}" || status=1
+    [ "$status" = 0 ] && echo "nothing to change"
+}

@@ -1,0 +1,103 @@
+#!/usr/bin/env python3
+"""which_setting.py NAME CONFIG: says on standard error which setting of CONFIG is at fault, for the program NAME, which
+has said what kind of fault it is. It says nothing where it finds none, and where this Python reads no TOML."""
+import sys
+
+try:
+    import tomllib
+except ImportError:
+    sys.exit()
+
+# Each key with the values that it may have, in the order in which programs look at them.
+WHOLE = {
+    "sector_size": (512, 4096),
+    "sectors": range(1, 2**40 + 1),
+    "max_transfer": range(1, 65_536 + 1),
+    "depth": range(1, 32 + 1),
+    "window": range(1, 64 + 1),
+    "open_requests": range(1, 64 + 1),
+}
+OPTIONAL = ("open_requests", "type")
+OF_PARTITION = {"first": range(2**32), "count": range(2**32), "type": range(1, 255 + 1)}
+KEYS = (*WHOLE, "write_protected", "bad_sectors", "partition")
+
+
+def shown(value):
+    """A value as TOML has it, cut short."""
+    text = f'"{value}"' if isinstance(value, str) else str(value)
+    text = text.lower() if isinstance(value, bool) else text
+    return text if len(text) <= 40 else text[:37] + "..."
+
+
+def of_range(values):
+    """What is said of a range."""
+    if isinstance(values, range):
+        return f"it is {values[0]} to {values[-1]}"
+    return "it is " + " or ".join(map(str, values))
+
+
+def is_whole(value):
+    return isinstance(value, int) and not isinstance(value, bool)
+
+
+def numbers(table, ranges, where):
+    """The first key of a table that is missing or out of range."""
+    for key, values in ranges.items():
+        if key not in table:
+            if key not in OPTIONAL:
+                return f"{where}{key} is missing: {of_range(values)}"
+        elif not is_whole(table[key]) or table[key] not in values:
+            return f"{where}{key} = {shown(table[key])}, and {of_range(values)}"
+    return None
+
+
+def unknown(settings, partitions):
+    """The first key that no setting has."""
+    for key in settings:
+        if key not in KEYS:
+            return f"{shown(key)} is no key: there are {', '.join(KEYS)}"
+    for at, partition in enumerate(partitions):
+        for key in partition if isinstance(partition, dict) else ():
+            if key not in OF_PARTITION:
+                return f"partition {at}: {shown(key)} is no key: there are {', '.join(OF_PARTITION)}"
+    return None
+
+
+def in_lists(settings, partitions):
+    """The first fault of `write_protected`, `bad_sectors` and the partitions."""
+    if not isinstance(settings.get("write_protected", False), bool):
+        return f"write_protected = {shown(settings['write_protected'])}, and it is true or false"
+    bad = settings.get("bad_sectors", [])
+    if not isinstance(bad, list):
+        return f"bad_sectors = {shown(bad)}, and it is a list of sectors"
+    for sector in bad:
+        if not is_whole(sector) or sector not in range(settings["sectors"]):
+            return f"bad_sectors has {shown(sector)}, and each is a sector of the disk, 0 to {settings['sectors'] - 1}"
+    if not isinstance(settings.get("partition", []), list):
+        return "partition is no list of tables: write [[partition]]"
+    for at, partition in enumerate(partitions):
+        if not isinstance(partition, dict):
+            return f"partition {at} is no table"
+        if fault := numbers(partition, OF_PARTITION, f"partition {at}: "):
+            return fault
+    return None
+
+
+def fault_of(settings):
+    """What is at fault, or None."""
+    partitions = settings.get("partition", [])
+    partitions = partitions if isinstance(partitions, list) else []
+    if found := unknown(settings, partitions):
+        return found
+    if len(partitions) > 4:
+        return f"{len(partitions)} partitions, and there are four at most"
+    return numbers(settings, WHOLE, "") or in_lists(settings, partitions)
+
+
+try:
+    with open(sys.argv[2], "rb") as it:
+        found = fault_of(tomllib.load(it))
+except (OSError, ValueError, RecursionError):
+    found = None
+if found:
+    print(f"{sys.argv[1]}: CONFIG: {found}", file=sys.stderr)
