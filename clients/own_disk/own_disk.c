@@ -167,7 +167,7 @@ own_disk_open(struct own_disk *disk, const char *path, const struct own_disk_opt
 	const char *why;
 
 	*disk = (struct own_disk){.file = -1, .sector_size = options->sector_size, .depth = options->depth,
-		.lock = PTHREAD_MUTEX_INITIALIZER, .room = PTHREAD_COND_INITIALIZER,
+		.lock = PTHREAD_ADAPTIVE_MUTEX_INITIALIZER_NP, .room = PTHREAD_COND_INITIALIZER,
 		.syncs = {.lock = PTHREAD_MUTEX_INITIALIZER, .ended = PTHREAD_COND_INITIALIZER}};
 	if (disk->sector_size != 512 && disk->sector_size != 4096)
 		return "a sector has 512 or 4096 bytes";
