@@ -3,8 +3,8 @@
 
 A command has to end with status 0, or with that of the text behind its block ('status 1'). What stands behind it in its
 block is all that it prints; so is the next block where the text before that ends with 'It prints:', and 'It begins:' gives
-the first lines alone. Lines with a word in capitals show a form and are not run; nor are `./stackrun build` and
-`./stackrun test`, which the gate runs by itself."""
+the first lines alone. Lines with a word in capitals show a form and are not run; nor are those of
+`./stackrun` that build, test or look over the crates, nor one that creates an image."""
 
 import glob
 import os
@@ -16,7 +16,7 @@ TOP = os.path.dirname(os.path.dirname(os.path.realpath(__file__)))
 PAGES = ["*.md", "docs/*.md", "clients/*.md", "examples/*.md", "examples/*/*.md"]
 FORM = re.compile(r"\b[A-Z]{3,}\b|\[")
 STATUS = re.compile(r"\bstatus (\d)\b")
-LEFT_OUT = re.compile(r"\./stackrun (build|test)\b")
+LEFT_OUT = re.compile(r"\./stackrun (build|test|fmt|lint)\b|--create\b")
 
 
 def blocks(page):
