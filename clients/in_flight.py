@@ -3,11 +3,11 @@
 
 usage: in_flight.py gone|short|full FOLDER | target FOLDER PROCESS
 
-A server of the file FOLDER/disk, of a mebibyte of zeros, listens on FOLDER/socket. gone: a client goes with
-sixteen writes out, and the next finds each written or not, and each sector whole. short: the file has half of its bytes: a
-read of the rest fails, and those beside it don't. full: the file system has room for some of the writes alone; each that
-succeeded is read. target: PROCESS is the target below the server; it is killed with sixteen writes out, each of which fails;
-FOLDER/down is made, and once FOLDER/up is there all goes on. Its status is 0 where all was as it should be."""
+A server of the file FOLDER/disk, of a mebibyte of zeros, listens on FOLDER/socket. gone: a client goes with sixteen
+writes out, and the next finds each written or not, and each sector whole. short: the file has half of its bytes: a read
+of the rest fails, and those beside it don't. full: the file system has room for some of the writes alone; each that
+succeeded is read. target: PROCESS is the target below the server; it is killed with sixteen writes out, each of which
+fails; FOLDER/down is made, and once FOLDER/up is there all goes on. Its status is 0 where all was as it should be."""
 
 import os
 import signal
@@ -22,7 +22,13 @@ EIO = 5
 
 
 def connected(folder):
-    return Client(["socat", "-", f"UNIX-CONNECT:{folder}/socket"])
+    """Returns a client. The server may not listen yet."""
+    for _ in range(50):
+        try:
+            return Client(["socat", "-", f"UNIX-CONNECT:{folder}/socket"])
+        except EOFError:
+            time.sleep(0.1)
+    raise EOFError
 
 
 def answers(client, numbers):

@@ -13,7 +13,8 @@ class Client:
     """A server that was started, and the one session with it."""
 
     def __init__(self, words, env=None, errors=subprocess.DEVNULL):
-        self.server = subprocess.Popen(words, stdin=subprocess.PIPE, stdout=subprocess.PIPE, stderr=errors, env=env, bufsize=0)
+        pipe = subprocess.PIPE
+        self.server = subprocess.Popen(words, stdin=pipe, stdout=pipe, stderr=errors, env=env, bufsize=0)
         self.out = {}
         self.number = 0
         greeting = self.take(18)
@@ -46,7 +47,7 @@ class Client:
         return self.number
 
     def reply(self):
-        """Returns the number of the request that was answered next, its error (0: none) and the bytes that were read."""
+        """Returns the number of the request that is answered next, its error (0: none) and the bytes that were read."""
         magic, error, number = struct.unpack(">IIQ", self.take(16))
         assert magic == 0x67446698, magic
         length = self.out.pop(number)

@@ -1,14 +1,15 @@
 /* losing.so: a volatile cache below a program, for tests of what stands after a loss of power.
  *
- * Preloaded, it keeps in memory what the program writes to one file by pwrite, sector by sector, and brings it to the file by
- * fdatasync or fsync; and at random times a random sector, as a cache does that is short of room. It cuts writes short. So a
- * SIGKILL at any moment leaves in each sector of the file what the last sync brought there, or one of the values told since.
+ * Preloaded, it keeps in memory what the program writes to one file by pwrite, sector by sector, and brings it to
+ * the file by fdatasync or fsync; and at random times a random sector, as a cache does that is short of room. It
+ * cuts writes short. So a SIGKILL at any moment leaves in each sector of the file what the last sync brought there,
+ * or one of the values told since.
  *
- * LOSING_FILE: the end of the path of the file, which has 32 MiB at most. LOSING_SEED. LOSING_EARLY: of 1000 calls, how many
- * bring a sector early. LOSING_DELAY: microseconds that a call takes; LOSING_NOTHING=1: and that is all, the file has what is
- * written at once. LOSING_LIE=1: a sync does nothing (a disk that lies).
- * LOSING_FAIL=N: sync number N fails with EIO. As Linux does, what was not synced counts as synced from then on: it is read
- * until it is dropped from memory, and need not reach the file. */
+ * LOSING_FILE: the end of the path of the file, which has 32 MiB at most. LOSING_SEED. LOSING_EARLY: of 1000 calls,
+ * how many bring a sector early. LOSING_DELAY: microseconds that a call takes; LOSING_NOTHING=1: and that is all,
+ * the file has what is written at once. LOSING_LIE=1: a sync does nothing (a disk that lies). LOSING_FAIL=N: sync
+ * number N fails with EIO. As Linux does, what was not synced counts as synced from then on: it is read until it is
+ * dropped from memory, and need not reach the file. */
 #define _GNU_SOURCE
 #include <dlfcn.h>
 #include <errno.h>

@@ -3,14 +3,14 @@
 
 usage: sessions.py [--lie | --fail N [--careless] | --plain] [--out REQUESTS] [--seed N] KILLS FOLDER SERVER..
 
-SERVER.. is a program that serves the file FOLDER/disk.img, which is there, to one NBD client on its standard input and
-output, as `nbdkit -s saddlemug.so file=FOLDER/disk.img` does; FOLDER/losing.so is the cache. --first SECTOR: where in the
-file the client's first sector stands.
+SERVER.. is a program that serves the file FOLDER/disk.img, which is there, to one NBD client on its standard input
+and output, as `nbdkit -s saddlemug.so file=FOLDER/disk.img` does; FOLDER/losing.so is the cache. --first SECTOR: where
+in the file the client's first sector stands.
 
-Of each sector it is known which values a read may give (now), and which a loss of power may leave (left). Each read is held
-against the first, and the file after each kill against the second. Of several requests that are out no two have a sector in
-common. --plain: no cache; then what a read may give is left. --lie: a sync does nothing, and --careless: a failed sync is
-taken for one that was not made. Both have to be caught.
+Of each sector it is known which values a read may give (now), and which a loss of power may leave (left). Each read is
+held against the first, and the file after each kill against the second. Of several requests that are out no two have a
+sector in common. --plain: no cache; then what a read may give is left. --lie: a sync does nothing, and --careless: a
+failed sync is taken for one that was not made. Both have to be caught.
 
 Prints how many sectors could have had several values, and what was found; its status is 0 where nothing was wrong."""
 
@@ -125,8 +125,8 @@ class Sessions:
             pass
 
     def note(self, batch):
-        """What the answers say. A flush concerns what was answered before it was called, and so not the others; and where a
-        sync failed beside it, perhaps nothing."""
+        """What the answers say. A flush concerns what was answered before it was called, and so not the others; and
+        where a sync failed beside it, perhaps nothing."""
         before = self.table.now
         doubtful = any(it.error != 0 and (it.fua or it.kind == FLUSH) for it in batch)
         if any(it.error == 0 and it.kind == FLUSH for it in batch) and not doubtful:
@@ -150,7 +150,8 @@ class Sessions:
             self.uncertain += len(set(allowed[sector])) > 1
             self.older += value != allowed[sector][0]
             if value not in allowed[sector]:
-                self.wrong.append(f"sector {sector} has {value[:20]}, and not {[it[:20] for it in allowed[sector][:3]]}")
+                wanted = [it[:20] for it in allowed[sector][:3]]
+                self.wrong.append(f"sector {sector} has {value[:20]}, and not {wanted}")
             self.table.now[sector], self.table.left[sector] = [value], [value]
 
     def session(self, number):
@@ -181,7 +182,8 @@ def main():
     sessions = Sessions(chosen.server, chosen)
     for number in range(chosen.kills):
         sessions.session(number)
-    print(f"{chosen.kills} kills, {sessions.uncertain} uncertain sectors, {sessions.older} not at their newest, {len(sessions.wrong)} wrong")
+    print(f"{chosen.kills} kills, {sessions.uncertain} uncertain sectors, {sessions.older} not at their newest", end="")
+    print(f", {len(sessions.wrong)} wrong")
     print(*sessions.wrong[:3], sep="\n", end="")
     return len(sessions.wrong) != 0
 

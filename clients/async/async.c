@@ -1,6 +1,7 @@
-/* Sixteen commands out at once over storage that takes 5 ms for each: what an emulator or a service does that has a device of
- * its own. There is one lock, around every call of the library. A thread for each tag waits until a command went out on it,
- * moves its bytes with the lock let go, since their place stays where it is until they are booked, and hands it back. */
+/* Sixteen commands out at once over storage that takes 5 ms for each: what an emulator or a service does that has a
+ * device of its own. There is one lock, around every call of the library. A thread for each tag waits until a
+ * command went out on it, moves its bytes with the lock let go, since their place stays where it is until they are
+ * booked, and hands it back. */
 #include <pthread.h>
 #include <stdio.h>
 #include <string.h>
@@ -32,7 +33,8 @@ static struct server {
 	pthread_t thread;
 } servers[TAGS];
 
-/* What is asked, by the request's number; and of each place whether a request is open, and the byte that it is full of. */
+/* What is asked, by the request's number; and of each place whether a request is open, and the byte that it is full
+ * of. */
 static struct {
 	bool reads;
 	unsigned slot;
@@ -128,8 +130,9 @@ call(unsigned number)
 	busy[slot] = true;
 	if (!reads)
 		memset(bytes, holds[slot] = number, sizeof bytes);
-	struct saddlemug_reply reply = step((struct saddlemug_event){.kind = reads ? SADDLEMUG_READ : SADDLEMUG_WRITE, .handle = handle,
-		.offset = (uint64_t) slot * LENGTH, .length = LENGTH}, bytes, reads ? 0 : LENGTH);
+	struct saddlemug_event event = {.kind = reads ? SADDLEMUG_READ : SADDLEMUG_WRITE, .handle = handle,
+		.offset = (uint64_t) slot * LENGTH, .length = LENGTH};
+	struct saddlemug_reply reply = step(event, bytes, reads ? 0 : LENGTH);
 	wrong += reply.kind != SADDLEMUG_IS_REQUEST || reply.id.number != number;
 }
 
@@ -138,7 +141,8 @@ static bool
 open_stack(void)
 {
 	static uint8_t *entry = storage[0] + 446;
-	struct saddlemug_disk disk = {.sectors = SECTORS, .max_transfer = 128, .depth = TAGS, .window = OPEN, .open_requests = OPEN};
+	struct saddlemug_disk disk = {.sectors = SECTORS, .max_transfer = 128, .depth = TAGS, .window = OPEN,
+		.open_requests = OPEN};
 	entry[4] = 0x83;
 	entry[8] = 1;
 	for (int i = 0; i < 4; i++)

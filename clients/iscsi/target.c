@@ -1,5 +1,5 @@
-/* One thread has the connection; those that carry commands out hand them to it, and wait. A connection that breaks fails what
- * is out: nothing is sent a second time. The next command connects anew. */
+/* One thread has the connection; those that carry commands out hand them to it, and wait. A connection that breaks
+ * fails what is out: nothing is sent a second time. The next command connects anew. */
 #include <poll.h>
 #include <stdlib.h>
 #include <string.h>
@@ -262,8 +262,9 @@ static const char *
 look_at(struct target *target, uint64_t *sectors, uint32_t *sector_size, uint8_t *first)
 {
 	struct scsi_task *task = iscsi_readcapacity16_sync(target->iscsi, target->unit);
-	struct scsi_readcapacity16 *told = task != NULL && task->status == SCSI_STATUS_GOOD ? scsi_datain_unmarshall(task) : NULL;
-	bool good = told != NULL;
+	bool good = task != NULL && task->status == SCSI_STATUS_GOOD;
+	struct scsi_readcapacity16 *told = good ? scsi_datain_unmarshall(task) : NULL;
+	good = told != NULL;
 	if (good) {
 		*sectors = told->returned_lba + 1;
 		*sector_size = told->block_length;

@@ -1,5 +1,5 @@
-/* An iSCSI target below the stack: the command blocks that the stack made go out as they are, and what comes back is booked as
- * it is. */
+/* An iSCSI target below the stack: the command blocks that the stack made go out as they are, and what comes back is
+ * booked as it is. */
 #ifndef TARGET_H
 #define TARGET_H
 
@@ -9,9 +9,10 @@ struct target;
 
 #ifdef WITH_ISCSI
 
-/* Logs in at iscsi://HOST[:PORT]/NAME/UNIT, asks unit attentions away, and tells the sectors, their bytes and the first of them,
- * of which there are 4096 bytes at most. NULL, or why not. */
-const char *target_open(struct target **target, const char *url, uint64_t *sectors, uint32_t *sector_size, uint8_t *first);
+/* Logs in at iscsi://HOST[:PORT]/NAME/UNIT, asks unit attentions away, and tells the sectors, their bytes and the
+ * first of them, of which there are 4096 bytes at most. NULL, or why not. */
+const char *target_open(struct target **target, const char *url, uint64_t *sectors, uint32_t *sector_size,
+	uint8_t *first);
 
 /* Carries a command that was told out, and notes what became of it. Any thread may call it, also while others do. */
 void target_carry_out(struct target *target, struct own_disk_move *move);

@@ -1,7 +1,8 @@
-/* An nbdkit plugin over the static library: nbdkit ./saddlemug.so size=256M [sector=512] [transfer=128], or
- * nbdkit ./saddlemug.so settings=FILE [partition=0], for a disk in memory; or
- * nbdkit ./saddlemug.so file=IMAGE [partition=0] [sector=512] [transfer=2048], for a raw image file or a block device.
- * Or nbdkit ./saddlemug.so iscsi=URL [partition=0] [transfer=2048], for a target. Partitions count from 0. Over a file requests run side by side. */
+/* An nbdkit plugin over the static library: nbdkit ./saddlemug.so size=256M [sector=512] [transfer=128], or nbdkit
+ * ./saddlemug.so settings=FILE [partition=0], for a disk in memory; or nbdkit ./saddlemug.so file=IMAGE
+ * [partition=0] [sector=512] [transfer=2048], for a raw image file or a block device. Or nbdkit ./saddlemug.so
+ * iscsi=URL [partition=0] [transfer=2048], for a target. Partitions count from 0. Over a file requests run side by
+ * side. */
 #include <errno.h>
 #include <inttypes.h>
 #include <malloc.h>
@@ -36,7 +37,8 @@ static struct own_disk image = {.file = -1};
 static struct saddlemug_sizes sizes;
 static bool read_only;
 
-/* A request takes memory for copies of its bytes, and gives it back: keep that memory in the process, for all threads. */
+/* A request takes memory for copies of its bytes, and gives it back: keep that memory in the process, for all
+ * threads. */
 static void
 load(void)
 {
@@ -307,7 +309,8 @@ pread_(void *handle, void *buffer, uint32_t count, uint64_t offset, uint32_t fla
 	(void) flags;
 	for (uint8_t *at = buffer; count > 0;) {
 		uint32_t piece = piece_of(count);
-		uint32_t status = image_file != NULL ? own_disk_read(&image, offset, at, piece) : saddlemug_read(&volume, offset, at, piece);
+		uint32_t status = image_file != NULL ? own_disk_read(&image, offset, at, piece)
+			: saddlemug_read(&volume, offset, at, piece);
 		if (answered("read", status) != 0)
 			return -1;
 		at += piece;
@@ -350,7 +353,8 @@ static struct nbdkit_plugin plugin = {
 	.config = config,
 	.config_complete = config_complete,
 	.config_help = "size=SIZE [sector=512|4096] [transfer=SECTORS], or settings=FILE [partition=NUMBER], or\n"
-		"file=IMAGE [partition=NUMBER] [sector=512|4096] [transfer=SECTORS], or iscsi=URL [partition=NUMBER] [transfer=SECTORS]\n"
+		"file=IMAGE [partition=NUMBER] [sector=512|4096] [transfer=SECTORS], or\n"
+		"iscsi=URL [partition=NUMBER] [transfer=SECTORS]\n"
 		"Partitions count from 0, unused entries of the table left out; a file with no partition named is one as a whole.",
 	.dump_plugin = dump_plugin,
 	.thread_model = thread_model,

@@ -1,5 +1,6 @@
-/* Serves a file through the proved stack: own_disk FILE read OFFSET LENGTH, or own_disk FILE write OFFSET, of standard input.
- * The file is one partition; of a target, iscsi://HOST[:PORT]/NAME/UNIT in place of FILE, it is the first. Several requests are out at once, each in a thread of its own. */
+/* Serves a file through the proved stack: own_disk FILE read OFFSET LENGTH, or own_disk FILE write OFFSET, of
+ * standard input. The file is one partition; of a target, iscsi://HOST[:PORT]/NAME/UNIT in place of FILE, it is the
+ * first. Several requests are out at once, each in a thread of its own. */
 #include <errno.h>
 #include <stdio.h>
 #include <stdlib.h>

@@ -60,7 +60,8 @@ is_zero(const uint8_t *at, uint64_t length)
 	return at[0] == 0 && memcmp(at, at + 1, length - 1) == 0;
 }
 
-/* How many of the bytes that begin here, of a file at this offset, are in blocks of zeros, if the first is, or else in others. */
+/* How many of the bytes that begin here, of a file at this offset, are in blocks of zeros, if the first is, or else
+ * in others. */
 static uint64_t
 run_of(const uint8_t *at, uint64_t length, uint64_t offset, bool *zeros)
 {
@@ -78,8 +79,8 @@ run_of(const uint8_t *at, uint64_t length, uint64_t offset, bool *zeros)
 	return count;
 }
 
-/* How many of so many bytes are in a hole of the file, from the first on. A system may tell a hole where it is just writing
- * bytes out (seen of ext4, once in an hour of writes and syncs): so they have to be read as zeros too. */
+/* How many of so many bytes are in a hole of the file, from the first on. A system may tell a hole where it is just
+ * writing bytes out (seen of ext4, once in an hour of writes and syncs): so they have to be read as zeros too. */
 static uint64_t
 hole_of(int file, uint64_t length, uint64_t offset)
 {
@@ -128,8 +129,8 @@ own_disk_synced(struct own_disk *disk)
 	return finished;
 }
 
-/* Syncs the file: by a sync that begins behind this call, one for all who wait. The system tells an error once, to whoever
- * syncs: so any sync that failed since the command went out is also its own. */
+/* Syncs the file: by a sync that begins behind this call, one for all who wait. The system tells an error once, to
+ * whoever syncs: so any sync that failed since the command went out is also its own. */
 static bool
 sync_file(struct own_disk *disk, const struct own_disk_move *move)
 {

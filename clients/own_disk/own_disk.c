@@ -10,8 +10,8 @@
 #include "own_disk.h"
 #include "target.h"
 
-/* The tools of qemu tell each other what they do with an image by shared locks on single bytes: from byte 100 on what one
- * does, from byte 200 on what it suffers of nobody else. */
+/* The tools of qemu tell each other what they do with an image by shared locks on single bytes: from byte 100 on
+ * what one does, from byte 200 on what it suffers of nobody else. */
 #define DOES 100
 #define SUFFERS_NOT 200
 enum { TO_READ = 0, TO_WRITE = 1, TO_RESIZE = 3 };
@@ -66,7 +66,8 @@ is_marked(int file, off_t byte)
 	return fcntl(file, F_OFD_GETLK, &lock) == 0 && lock.l_type != F_UNLCK;
 }
 
-/* Tells qemu's tools what is done here, and looks at what they do. Where the system has no such locks nobody is kept off. */
+/* Tells qemu's tools what is done here, and looks at what they do. Where the system has no such locks nobody is kept
+ * off. */
 static bool
 lock_bytes(const struct own_disk *disk)
 {
@@ -115,7 +116,8 @@ static const char *
 find_partition(struct own_disk *disk, int partition, const uint8_t *first)
 {
 	disk->size = sectors_of(first, partition) * disk->sector_size;
-	return disk->size != 0 ? NULL : "it has no such partition: they are counted from 0, and unused entries of the table left out";
+	return disk->size != 0 ? NULL
+		: "it has no such partition: they are counted from 0, and unused entries of the table left out";
 }
 
 /* Sector 0 of the disk, and how many sectors it has. A block device tells its size by its end. */
@@ -153,7 +155,8 @@ open_stack(struct own_disk *disk, const struct own_disk_options *options, const 
 
 	if (saddlemug_stack_open_over(&disk->stack, &sizes, first, disk->sector_size) != SADDLEMUG_SUCCESS)
 		return "there is no such disk: its sizes or its partition table are wrong";
-	if (saddlemug_stack_step(&disk->stack, &event, &none, 0, &reply) != SADDLEMUG_SUCCESS || reply.kind != SADDLEMUG_IS_HANDLE)
+	if (saddlemug_stack_step(&disk->stack, &event, &none, 0, &reply) != SADDLEMUG_SUCCESS
+		|| reply.kind != SADDLEMUG_IS_HANDLE)
 		return "its partition can't be opened";
 	disk->handle = reply.id;
 	return NULL;

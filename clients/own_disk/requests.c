@@ -1,4 +1,5 @@
-/* Requests of several threads. One lock is around the library; the bytes of the commands that are out are moved outside of it. */
+/* Requests of several threads. One lock is around the library; the bytes of the commands that are out are moved
+ * outside of it. */
 #include <pthread.h>
 #include <time.h>
 
@@ -32,7 +33,8 @@ make_ready(struct own_disk *disk, uint8_t tag)
 		.length = move->armed.length, .tag = tag};
 }
 
-/* Answers go straight into the buffers of who waits for them: the stack gives the earliest first, as the list has them. */
+/* Answers go straight into the buffers of who waits for them: the stack gives the earliest first, as the list has
+ * them. */
 static void
 hand_out(struct own_disk *disk)
 {
@@ -133,12 +135,14 @@ microseconds(void)
 	return (uint64_t) now.tv_sec * 1000000 + now.tv_nsec / 1000;
 }
 
-/* Moves a command's bytes outside of the lock; but where the last ones took no longer than waking a thread does, under it. */
+/* Moves a command's bytes outside of the lock; but where the last ones took no longer than waking a thread does,
+ * under it. */
 static void
 move_bytes(struct own_disk *disk, struct own_disk_move *move)
 {
 	const struct saddlemug_asked *asked = &move->armed.asked;
-	bool under = disk->quick >= QUICK_ONES && asked->kind != SADDLEMUG_ASKS_TO_FLUSH && !asked->through && disk->target == NULL;
+	bool may_wait = asked->kind == SADDLEMUG_ASKS_TO_FLUSH || asked->through || disk->target != NULL;
+	bool under = disk->quick >= QUICK_ONES && !may_wait;
 	if (!under) {
 		wake_one(disk);
 		pthread_mutex_unlock(&disk->lock);
@@ -185,7 +189,8 @@ await(struct own_disk *disk, struct own_disk_request *mine)
 
 /* Calls a request, and puts it behind the others. False where it has its answer already, or is refused. */
 static bool
-call(struct own_disk *disk, const struct saddlemug_event *event, const uint8_t *bytes, size_t length, struct own_disk_request *mine)
+call(struct own_disk *disk, const struct saddlemug_event *event, const uint8_t *bytes, size_t length,
+	struct own_disk_request *mine)
 {
 	struct saddlemug_reply reply;
 	mine->status = saddlemug_stack_step(&disk->stack, event, bytes, length, &reply);
@@ -207,7 +212,8 @@ call(struct own_disk *disk, const struct saddlemug_event *event, const uint8_t *
 
 /* A request from its call to its answer, whose bytes go into the buffer. */
 static uint32_t
-carry(struct own_disk *disk, const struct saddlemug_event *event, const uint8_t *bytes, size_t length, uint8_t *buffer, size_t room)
+carry(struct own_disk *disk, const struct saddlemug_event *event, const uint8_t *bytes, size_t length,
+	uint8_t *buffer, size_t room)
 {
 	struct own_disk_request mine = {.buffer = buffer, .room = room};
 	pthread_cond_init(&mine.wake, NULL);

@@ -1,6 +1,6 @@
-/* Requests of several threads over one disk in a file of zeros, each read compared: stress FILE SECONDS. Each thread has
- * sectors of its own, whose bytes it knows, and all share some, in runs of 64 that one command reads or writes: each run must
- * be of one write as a whole. */
+/* Requests of several threads over one disk in a file of zeros, each read compared: stress FILE SECONDS. Each thread
+ * has sectors of its own, whose bytes it knows, and all share some, in runs of 64 that one command reads or writes:
+ * each run must be of one write as a whole. */
 #include <stdio.h>
 #include <stdlib.h>
 #include <string.h>
@@ -53,7 +53,8 @@ write_some(struct worker *worker, uint64_t sector, uint64_t count, bool own)
 		worker->bytes[i] = stamp;
 	for (uint64_t i = 0; own && i < count; i++)
 		worker->written[sector + i - worker->first] = stamp;
-	uint32_t status = own_disk_write(&disk, sector * SECTOR, (uint8_t *) worker->bytes, count * SECTOR, below(worker, 16) == 0);
+	bool through = below(worker, 16) == 0;
+	uint32_t status = own_disk_write(&disk, sector * SECTOR, (uint8_t *) worker->bytes, count * SECTOR, through);
 	if (status != SADDLEMUG_SUCCESS)
 		wrong(worker, status_name(status), sector);
 }

@@ -2,15 +2,18 @@
  *
  *     nbdkit --filter=./record.so nbd socket=SERVER record=FILE [record-limit=BYTES]
  *
- * A call's line is written before the request goes to the server, an answer's before it goes to the client: so the server did
- * what it did between the two lines, and the client saw no less time between them. The lines are those of docs/TRACES.md:
+ * A call's line is written before the request goes to the server, an answer's before it goes to the client: so the
+ * server did what it did between the two lines, and the client saw no less time between them. The lines are those of
+ * docs/TRACES.md:
  *
  *     call R read|write OFF LEN [through] in 0 [BYTES]    call R flush in 0    call R trim OFF LEN [through] in 0
  *     answer R STATUS INFO [BYTES]
  *
- * BYTES are runs, a5*512,00*2, or x and hexadecimal digits where that is shorter. A request to write zeros is a write of them. A
- * broken connection is no answer, and a remark says so. A file that is there is gone on with, and its numbers too. A request
- * that can't be written down is not made, or has no answer in the file and fails. */
+ * BYTES are runs, a5*512,00*2, or x and hexadecimal digits where that is shorter. A request to write zeros is a
+ * write of them. A broken connection is no answer, and a remark says so. A file that is there is gone on with, and
+ * its numbers too. A request that can't be written down is not made, or has no answer in the file and fails. Whole
+ * lines are written, as soon as they have more than BYTES (262,144) together, and when a client leaves: with a limit
+ * of 0 the file has them all, also where this is killed. */
 #include <errno.h>
 #include <fcntl.h>
 #include <inttypes.h>
@@ -243,7 +246,8 @@ pread_(nbdkit_next *next, void *handle, void *buffer, uint32_t count, uint64_t o
 }
 
 static int
-pwrite_(nbdkit_next *next, void *handle, const void *buffer, uint32_t count, uint64_t offset, uint32_t flags, int *error)
+pwrite_(nbdkit_next *next, void *handle, const void *buffer, uint32_t count, uint64_t offset, uint32_t flags,
+	int *error)
 {
 	(void) handle;
 	uint64_t number = called("write", count, offset, flags, buffer, count);
@@ -260,7 +264,8 @@ zero(nbdkit_next *next, void *handle, uint32_t count, uint64_t offset, uint32_t 
 	const char *through = (flags & NBDKIT_FLAG_FUA) != 0 ? "through " : "";
 	pthread_mutex_lock(&lock);
 	uint64_t number = next_number++;
-	bool noted = note(NULL, 0, "call %" PRIu64 " write %" PRIu64 " %" PRIu32 " %sin 0 00*%" PRIu32, number, offset, count, through, count);
+	bool noted = note(NULL, 0, "call %" PRIu64 " write %" PRIu64 " %" PRIu32 " %sin 0 00*%" PRIu32, number, offset,
+		count, through, count);
 	pthread_mutex_unlock(&lock);
 	if (!noted)
 		return not_made(error);
