@@ -10,6 +10,7 @@ A test ends well, or for want of memory. What it compares before that is as ever
 requests is refused may differ from run to run, and how many there are.
 """
 import os
+import re
 import subprocess
 import sys
 import tempfile
@@ -34,6 +35,19 @@ SCRIPTS = {
 
 REFUSED = 'refused E5'
 
+# How a test that ended for want of memory says so: by the name of its error.
+WANT_OF_MEMORY = re.compile(r'AllocError|AllocFailed|NoMemory')
+
+# Tests of two calls that wait for one another, each in a thread of its own: where no thread can be made, one call comes
+# after the other, and the first waits for ever. And tests of a disk in a file, which fails a piece that it has no memory
+# for, as they then see.
+NOT_REFUSED = (
+    'turnstiles::lanes_finish_each_piece_once',
+    'turnstiles::full_queue_hands_back',
+    'files::each_command_is_carried_out',
+    'files::each_failure_has_its_completion',
+)
+
 
 class Wrong(Exception):
     pass
@@ -43,7 +57,7 @@ def counted(words, shim, at, folder):
     """Runs it with one request for memory refused; its status, what it printed, and how many requests there were."""
     count = os.path.join(folder, 'count')
     added = {'LD_PRELOAD': shim, 'REFUSE_AT': str(at), 'REFUSE_COUNT': count}
-    ran = subprocess.run(words, env={**os.environ, **added}, capture_output=True, text=True, timeout=60)
+    ran = subprocess.run(words, cwd=folder, env={**os.environ, **added}, capture_output=True, text=True, timeout=60)
     asked = 0
     if os.path.exists(count):
         with open(count) as f:
@@ -109,12 +123,14 @@ def sweep_tests(program, shim, folder):
         if not line.endswith(': test'):
             continue
         name = line[: -len(': test')]
+        if name in NOT_REFUSED:
+            continue
         status, _, _, asked = counted([program, name], shim, 0, folder)
         if status:
             raise Wrong('%s ends with %d' % (name, status))
         for at in range(1, asked + 1):
             status, out, err, _ = counted([program, name], shim, at, folder)
-            if status and 'AllocError' not in out + err:
+            if status and not WANT_OF_MEMORY.search(out + err):
                 raise Wrong('%s, request %d for memory: status %d, %s' % (name, at, status, (out + err)[-300:]))
         total += asked
     if total == 0:

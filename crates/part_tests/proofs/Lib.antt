@@ -1,1 +1,4 @@
 pub mod Below
+pub mod Known
+pub mod Opened
+pub mod Reserved

@@ -40,7 +40,7 @@ fn fills<M: Medium>(
     assert!(rt; extent.count <= 16 && medium.sector_size() <= 4096 && medium.failures() < 1000);
     let length = extent.count as usize * medium.sector_size() as usize;
     let before = medium.failures();
-    medium.reserve(extent).ok().ok_or("no memory")?;
+    medium.reserve(extent)?;
     let bytes = vec![in alloc; byte; length]?;
     let mut buffer = vec![in alloc; 0; length]?;
     let done = write_then_read(medium, extent, &bytes, &mut buffer).is_ok();
@@ -95,7 +95,7 @@ fn bad_sectors_fail_whole(rt: HostRuntime) -> Result<(), Fail> {
     for size in [512, 4096] {
         assert!(rt; size <= 4096);
         let bad = vec![in alloc; 7, 3, 7]?;
-        let mut disk = VecDisk::new(alloc, size, 16, bad).ok().ok_or("no memory")?;
+        let mut disk = VecDisk::new(alloc, size, 16, bad)?;
         fails_whole(&rt, alloc, &mut disk, EXTENTS.as_slice())?;
         let bad = vec![in alloc; 7, 3, 7]?;
         let mut disk = SparseDisk::new(alloc, size, 16, bad);
@@ -104,91 +104,64 @@ fn bad_sectors_fail_whole(rt: HostRuntime) -> Result<(), Fail> {
     Ok(())
 }
 
-#[test]
-fn starts_blank_or_refuses(rt: HostRuntime) -> Result<(), Fail> {
-    let alloc = rt.alloc();
-    let mut disk = VecDisk::new(alloc, 512, 2, vec![in alloc; 1]?)
-        .ok()
-        .ok_or("no memory")?;
-    let mut buffer = [0xff; 512];
-    let first = Extent { first: 0, count: 1 };
-    same(&rt, &disk.read(first, &mut buffer), &Ok(()));
-    assert!(rt; buffer == [0; 512]);
-    let huge = VecDisk::new(alloc, 4096, 1 << 50, vec![in alloc; 1]?);
-    assert!(rt; huge.is_err_and(|fault| fault == NoMemory));
-    let texts = format!(in alloc; "{}, {}", NoMemory, BadSector)?;
-    same(&rt, &texts.as_str(), &"no memory, bad sector");
-    Ok(())
-}
+// What a sector begins with: how many bytes, and which. The rest are zeros. None where it can't be read.
+type Begins = Option<(usize, u8)>;
 
-// The bytes of a sector, or none where it can't be read.
-fn sector_at<M: Medium>(
-    rt: &impl Abort,
-    alloc: Global,
-    medium: &mut M,
-    sector: u64,
-) -> Result<Option<Vec<u8>>, Fail> {
+// Checks what a sector of a disk has.
+fn begins<M: Medium>(rt: &impl Abort, medium: &mut M, sector: u64, want: Begins) {
     assert!(rt; sector < medium.sectors());
-    assert!(rt; medium.sector_size() <= 4096 && medium.failures() < 1000);
+    assert!(rt; medium.sector_size() == 512 && medium.failures() < 1000);
     let extent = Extent {
         first: sector,
         count: 1,
     };
-    let mut buffer = vec![in alloc; 0xff; medium.sector_size() as usize]?;
-    match medium.read(extent, &mut buffer) {
-        Ok(()) => Ok(Some(buffer)),
-        Err(BadSector) => Ok(None),
+    let mut buffer = [0xff; 512];
+    let read = medium.read(extent, &mut buffer);
+    same_at(rt, &read.is_ok(), &want.is_some(), &sector);
+    if let Some((count, byte)) = want {
+        for (at, found) in buffer.iter().enumerate() {
+            let there = if at < count { byte } else { 0 };
+            assert!(rt; *found == there, "byte {at} of {sector}");
+        }
     }
 }
 
-// Some bytes and zeros after them; sector 2 is bad.
+// Zeros, or some bytes and zeros after them; a bad sector.
 #[test]
-fn starts_with_bytes_or_refuses(rt: HostRuntime) -> Result<(), Fail> {
+fn starts_as_it_was_told_or_refuses(rt: HostRuntime) -> Result<(), Fail> {
     let alloc = rt.alloc();
+    let mut disk = VecDisk::new(alloc, 512, 2, vec![in alloc; 1]?)?;
+    begins(&rt, &mut disk, 0, Some((0, 0)));
     let first = vec![in alloc; 0xa5; 600]?;
-    let mut disk = VecDisk::starting_with(alloc, 512, 4, &first, vec![in alloc; 2]?)
-        .ok()
-        .ok_or("no memory")?;
-    let mut end = vec![in alloc; 0xa5; 88]?;
-    end.resize(512, 0)?;
-    same(
-        &rt,
-        &sector_at(&rt, alloc, &mut disk, 0)?,
-        &Some(vec![in alloc; 0xa5; 512]?),
-    );
-    same(&rt, &sector_at(&rt, alloc, &mut disk, 1)?, &Some(end));
-    same(&rt, &sector_at(&rt, alloc, &mut disk, 2)?, &None);
-    same(
-        &rt,
-        &sector_at(&rt, alloc, &mut disk, 3)?,
-        &Some(vec![in alloc; 0; 512]?),
-    );
-    let huge = VecDisk::starting_with(alloc, 4096, 1 << 50, &first, vec![in alloc; 2]?);
-    assert!(rt; huge.is_err_and(|fault| fault == NoMemory));
+    let mut disk = VecDisk::starting_with(alloc, 512, 4, &first, vec![in alloc; 2]?)?;
+    for (sector, want) in [
+        (0, Some((512, 0xa5))),
+        (1, Some((88, 0xa5))),
+        (2, None),
+        (3, Some((0, 0))),
+    ] {
+        begins(&rt, &mut disk, sector, want);
+    }
+    // Two sectors of a large disk, which takes room for them alone.
+    let mut first = vec![in alloc; 0xa5; 512]?;
+    first.resize(1024, 0x5a)?;
+    let mut disk = SparseDisk::starting_with(alloc, 512, 1 << 40, &first, vec![in alloc; 1]?)?;
+    for (sector, want) in [(0, Some((512, 0xa5))), (1, None), (2, Some((0, 0)))] {
+        begins(&rt, &mut disk, sector, want);
+    }
+    same(&rt, &disk.failures(), &1);
     Ok(())
 }
 
-// A disk that begins with these two sectors, and takes room for them alone.
 #[test]
-fn starts_sparse_with_sectors(rt: HostRuntime) -> Result<(), Fail> {
+fn refuses_more_than_there_is_memory(rt: HostRuntime) -> Result<(), Fail> {
     let alloc = rt.alloc();
-    let mut first = vec![in alloc; 0xa5; 512]?;
-    first.resize(1024, 0x5a)?;
-    let mut disk = SparseDisk::starting_with(alloc, 512, 1 << 40, &first, vec![in alloc; 1]?)
-        .ok()
-        .ok_or("no memory")?;
-    same(
-        &rt,
-        &sector_at(&rt, alloc, &mut disk, 0)?,
-        &Some(vec![in alloc; 0xa5; 512]?),
-    );
-    same(&rt, &sector_at(&rt, alloc, &mut disk, 1)?, &None);
-    same(
-        &rt,
-        &sector_at(&rt, alloc, &mut disk, 2)?,
-        &Some(vec![in alloc; 0; 512]?),
-    );
-    same(&rt, &disk.failures(), &1);
+    let huge = VecDisk::new(alloc, 4096, 1 << 50, vec![in alloc; 1]?);
+    assert!(rt; huge.is_err_and(|fault| fault == NoMemory));
+    let huge = VecDisk::starting_with(alloc, 4096, 1 << 50, &[0xa5; 600], vec![in alloc; 2]?);
+    assert!(rt; huge.is_err_and(|fault| fault == NoMemory));
+    let texts = format!(in alloc; "{}, {}", NoMemory, BadSector)?;
+    same(&rt, &texts.as_str(), &"no memory, bad sector");
     Ok(())
 }
 
@@ -210,12 +183,18 @@ fn reads_as<M: Medium>(rt: &impl Abort, disk: &mut M, sector: u64, byte: u8) {
 }
 
 // Writes bytes over an extent that is reserved.
-fn puts<M: Medium>(rt: &impl Abort, disk: &mut M, extent: Extent, bytes: &[u8]) {
+fn puts<M: Medium>(
+    rt: &impl Abort,
+    disk: &mut M,
+    extent: Extent,
+    bytes: &[u8],
+) -> Result<(), NoMemory> {
     assert!(rt; extent.is_within(disk.sectors()) && extent.count <= 1000);
     assert!(rt; bytes.len() as u64 == extent.count * 512);
-    assert!(rt; disk.reserve(extent).is_ok());
+    disk.reserve(extent)?;
     assert!(rt; disk.failures() == 0 && disk.sector_size() == 512);
     same(rt, &disk.write(extent, bytes), &Ok(()));
+    Ok(())
 }
 
 // Writes each sector of an extent with a byte of its own, and reads it back; the sectors next to it stay zeros.
@@ -231,7 +210,7 @@ fn spreads<M: Medium>(
     for sector in extent.first..behind {
         bytes.resize(bytes.len() + 512, mark_of(sector))?;
     }
-    puts(rt, disk, extent, &bytes);
+    puts(rt, disk, extent, &bytes)?;
     for sector in extent.first.saturating_sub(1)..=behind {
         let inside = extent.first <= sector && sector < behind;
         if sector < disk.sectors() {
@@ -266,8 +245,7 @@ fn spreads_over_chunks(rt: HostRuntime) -> Result<(), Fail> {
     Ok(())
 }
 
-// The one test that passes with each allocation failing in turn: a reservation that was refused changed nothing that is
-// read, and serves when it is made again.
+// A reservation that was refused changed nothing that is read, and serves when it is made again.
 #[test]
 fn reserves_or_refuses(rt: HostRuntime) -> Result<(), Fail> {
     let mut disk = SparseDisk::new(rt.alloc(), 512, 200, Vec::new(rt.alloc()));
@@ -284,14 +262,10 @@ fn reserves_or_refuses(rt: HostRuntime) -> Result<(), Fail> {
         first: 127,
         count: 2,
     };
-    puts(&rt, &mut disk, over_two, &[0xa5; 1024]);
+    puts(&rt, &mut disk, over_two, &[0xa5; 1024])?;
     for sector in 0..200 {
-        let mark = if sector == 127 || sector == 128 {
-            0xa5
-        } else {
-            0
-        };
-        reads_as(&rt, &mut disk, sector, mark);
+        let is_there = sector == 127 || sector == 128;
+        reads_as(&rt, &mut disk, sector, if is_there { 0xa5 } else { 0 });
     }
     Ok(())
 }

@@ -1,4 +1,4 @@
-//! Tests of extents.
+//! Tests of extents, and of bytes that keep their memory.
 
 ghost use Rattle.std.specs.Prelude.{◌≡◌};
 
@@ -13,14 +13,13 @@ fn extent(first: u64, count: u64) -> Extent
 }
 
 #[test]
-fn cuts_and_shifts(rt: HostRuntime) {
-    assert!(rt; extent(2048, 100).cut(64) == (extent(2048, 64), extent(2112, 36)));
-    assert!(rt; extent(2048, 64).cut(64) == (extent(2048, 64), extent(2112, 0)));
-    assert!(rt; extent(5, 3).shift(2048) == extent(2053, 3));
-}
-
-#[test]
-fn sees_shared_sectors(rt: HostRuntime) {
+fn extents_are_cut_and_share_sectors(rt: HostRuntime) {
+    for (count, rest) in [(100, 36), (64, 0)] {
+        let (low, high) = extent(2048, count).cut(64);
+        same(&rt, &low, &extent(2048, 64));
+        same(&rt, &high, &extent(2112, rest));
+    }
+    same(&rt, &extent(5, 3).shift(2048), &extent(2053, 3));
     let last = u64::MAX;
     for (one, other, shared) in [
         (extent(2048, 1024), extent(3072, 1024), false),
@@ -33,36 +32,50 @@ fn sees_shared_sectors(rt: HostRuntime) {
         same_at(&rt, &one.overlaps(other), &shared, &one);
         same_at(&rt, &other.overlaps(one), &shared, &one);
     }
-    assert!(rt; extent(4095, 1).is_within(4096));
-    assert!(rt; !extent(4095, 2).is_within(4096));
-    assert!(rt; !extent(last, 2).is_within(last));
+    for (first, count, sectors, within) in [
+        (4095, 1, 4096, true),
+        (4095, 2, 4096, false),
+        (last, 2, last, false),
+    ] {
+        same(&rt, &extent(first, count).is_within(sectors), &within);
+    }
 }
+
+/// The last offset in bytes that begins a sector of 512.
+const FAR: u64 = 0xFFFF_FFFF_FFFF_FE00;
+
+/// The number of that sector.
+const LAST: u64 = 0x007F_FFFF_FFFF_FFFF;
+
+/// The offset and the length in bytes, the size of a sector, how many sectors there are, and those that are meant.
+const COUNTED: [(u64, u64, u32, u64, Option<(u64, u64)>); 11] = [
+    (523_776, 512, 512, 1024, Some((1023, 1))),
+    (523_776, 1024, 512, 1024, None),
+    (511, 512, 512, 1024, None),
+    (512, 511, 512, 1024, None),
+    (524_288, 0, 512, 1024, Some((1024, 0))),
+    (524_800, 0, 512, 1024, None),
+    (512, 4096, 4096, 1024, None),
+    (4096, 4096, 4096, 1024, Some((1, 1))),
+    (FAR, 512, 512, 0x0080_0000_0000_0000, Some((LAST, 1))),
+    (FAR, 1024, 512, 0x0080_0000_0000_0000, None),
+    (FAR, FAR, 512, 0xFFFF_FFFF_FFFF_FFFF, Some((LAST, LAST))),
+];
 
 #[test]
 fn counts_bytes_in_sectors(rt: HostRuntime) -> Result<(), Fail> {
-    let far = u64::MAX - 511;
-    for (offset, length, size, sectors, want) in [
-        (523_776, 512, 512, 1024, Some(extent(1023, 1))),
-        (523_776, 1024, 512, 1024, None),
-        (511, 512, 512, 1024, None),
-        (512, 511, 512, 1024, None),
-        (524_288, 0, 512, 1024, Some(extent(1024, 0))),
-        (524_800, 0, 512, 1024, None),
-        (512, 4096, 4096, 1024, None),
-        (4096, 4096, 4096, 1024, Some(extent(1, 1))),
-        (far, 512, 512, 1 << 55, Some(extent((1 << 55) - 1, 1))),
-        (far, 1024, 512, 1 << 55, None),
-        (
-            far,
-            far,
-            512,
-            u64::MAX,
-            Some(extent((1 << 55) - 1, (1 << 55) - 1)),
-        ),
-    ] {
+    for (offset, length, size, sectors, want) in COUNTED {
         assert!(rt; size > 0);
-        let got = bytes_to_sectors(offset, length, size, sectors);
-        same_at(&rt, &got, &want.ok_or(InvalidParameter), &length);
+        let want = match want {
+            Some((first, count)) => Ok(extent(first, count)),
+            None => Err(InvalidParameter),
+        };
+        same_at(
+            &rt,
+            &bytes_to_sectors(offset, length, size, sectors),
+            &want,
+            &length,
+        );
     }
     let text = format!(in rt.alloc(); "{}", InvalidParameter)?;
     same(
@@ -73,31 +86,19 @@ fn counts_bytes_in_sectors(rt: HostRuntime) -> Result<(), Fail> {
     Ok(())
 }
 
+/// What stands behind bytes that are emptied is kept, and told to nobody but who takes the memory.
 #[test]
-fn bytes_are_a_list(rt: HostRuntime) -> Result<(), Fail> {
+fn bytes_keep_their_memory(rt: HostRuntime) -> Result<(), Fail> {
     let bytes = Bytes::new(vec![in rt.alloc(); 1, 2]?);
     same(&rt, &bytes.as_slice(), &[1, 2].as_slice());
     same(&rt, &bytes.len(), &2);
     let bytes = bytes.overwritten(&[3, 4]);
     same(&rt, &bytes.as_slice(), &[3, 4].as_slice());
     let kept = bytes.emptied().into_vec();
-    same(&rt, &kept.len(), &0);
-    same(&rt, &kept.capacity(), &2);
-    Ok(())
-}
-
-/// What stands behind the bytes is kept, and told to nobody but who takes the memory.
-#[test]
-fn bytes_that_are_emptied_keep_their_memory(rt: HostRuntime) -> Result<(), Fail> {
+    same(&rt, &(kept.len(), kept.capacity()), &(0, 2));
     let bytes = Bytes::new(vec![in rt.alloc(); 1, 2]?).emptied();
     same(&rt, &bytes.as_slice().len(), &0);
-    let spare = bytes.into_spare();
-    same(&rt, &spare.as_slice(), &[1, 2].as_slice());
-    Ok(())
-}
-
-#[test]
-fn label_room_takes_bytes(rt: HostRuntime) -> Result<(), Fail> {
+    same(&rt, &bytes.into_spare().as_slice(), &[1, 2].as_slice());
     let mut room = LabelRoom::new(rt.alloc(), 3)?;
     same(&rt, &room.capacity(), &3);
     let taken = room.take();

@@ -48,28 +48,14 @@ fn in_turn(gate: &Gate, a: &mut Pass, b: &mut Pass) -> Result<(), &'static str>
 
 #[test]
 fn drains_once_the_hold_is_released(rt: HostRuntime) -> Result<(), Fail> {
-    let Ok((gate, mut a, mut b)) = two(rt.alloc(), 1, 1) else {
-        panic!(rt; "no memory")
-    };
+    let (gate, mut a, mut b) = two(rt.alloc(), 1, 1)?;
     same(&rt, &in_turn(&gate, &mut a, &mut b), &Ok(()));
-    Ok(())
-}
-
-// The one test that passes with each allocation failing in turn.
-#[test]
-fn is_a_gate_or_no_memory(rt: HostRuntime) -> Result<(), Fail> {
-    match two(rt.alloc(), 1, 1) {
-        Ok((gate, mut a, mut b)) => same(&rt, &in_turn(&gate, &mut a, &mut b), &Ok(())),
-        Err(fault) => same(&rt, &fault, &GateFault::NoMemory),
-    }
     Ok(())
 }
 
 #[test]
 fn never_drains_past_a_dropped_hold(rt: HostRuntime) -> Result<(), Fail> {
-    let Ok((gate, mut a, mut b)) = two(rt.alloc(), 1, 0) else {
-        panic!(rt; "no memory")
-    };
+    let (gate, mut a, mut b) = two(rt.alloc(), 1, 0)?;
     assert!(rt; gate.acquire(&mut a).is_ok());
     drop(a);
     gate.close_gate(&mut b);
@@ -89,7 +75,7 @@ fn never_drains_past_a_dropped_hold(rt: HostRuntime) -> Result<(), Fail> {
 
 #[test]
 fn takes_quotas_up_to_the_limit(rt: HostRuntime) -> Result<(), Fail> {
-    assert!(rt; two(rt.alloc(), 4_294_967_295, 1).is_ok());
+    let _most = two(rt.alloc(), 4_294_967_295, 1)?;
     let Err(fault) = Gate::new(rt.alloc(), &[4_294_967_295, 2]) else {
         panic!(rt; "too large")
     };
@@ -100,9 +86,7 @@ fn takes_quotas_up_to_the_limit(rt: HostRuntime) -> Result<(), Fail> {
         &text.as_str(),
         &"the quotas add up to more than 2^32 holds",
     );
-    let Ok((_, passes)) = Gate::new(rt.alloc(), &[]) else {
-        panic!(rt; "no memory")
-    };
+    let (_, passes) = Gate::new(rt.alloc(), &[])?;
     assert!(rt; passes.is_empty());
     Ok(())
 }
@@ -124,9 +108,7 @@ fn churn(gate: &Gate, mut pass: Pass) -> (Pass, u32)
 
 #[test]
 fn drains_after_two_threads(rt: HostRuntime) -> Result<(), Fail> {
-    let Ok((gate, a, b)) = two(rt.alloc(), 1, 1) else {
-        panic!(rt; "no memory")
-    };
+    let (gate, a, b) = two(rt.alloc(), 1, 1)?;
     let shared = &gate;
     let ((mut a, first), (_b, second)) = join(&rt, || churn(shared, a), || churn(shared, b));
     assert!(rt; first == 10_000 && second == 10_000);

@@ -52,9 +52,7 @@ fn in_turn(
 
 #[test]
 fn marks_only_the_number_in_the_slot(rt: HostRuntime) -> Result<(), Fail> {
-    let Ok((marks, mut owner, mut other)) = two(rt.alloc()) else {
-        panic!(rt; "no memory")
-    };
+    let (marks, mut owner, mut other) = two(rt.alloc())?;
     let (answers, looks) = in_turn(&marks, &mut owner, &mut other);
     let want = [
         Marking::Gone,
@@ -69,22 +67,10 @@ fn marks_only_the_number_in_the_slot(rt: HostRuntime) -> Result<(), Fail> {
     Ok(())
 }
 
-// The one test that passes with each allocation failing in turn.
-#[test]
-fn is_a_table_or_no_memory(rt: HostRuntime) -> Result<(), Fail> {
-    if let Ok((marks, mut owner, mut other)) = two(rt.alloc()) {
-        let (answers, _) = in_turn(&marks, &mut owner, &mut other);
-        assert!(rt; answers[1] == Marking::Marked);
-    }
-    Ok(())
-}
-
 #[test]
 fn numbers_end_below_two_to_the_62nd(rt: HostRuntime) -> Result<(), Fail> {
     let last = (1 << 62) - 1;
-    let Ok((marks, mut owner, mut other)) = two(rt.alloc()) else {
-        panic!(rt; "no memory")
-    };
+    let (marks, mut owner, mut other) = two(rt.alloc())?;
     marks.arm(&mut owner, 1, last);
     let missed = [
         marks.mark(&mut other, 1, 0),
@@ -106,9 +92,7 @@ fn makes_tables_of_any_size_in_memory(rt: HostRuntime) -> Result<(), Fail> {
     };
     let text = format!(in rt.alloc(); "{fault}")?;
     same(&rt, &text.as_str(), &"no memory");
-    let Ok((_, seats)) = Marks::new(rt.alloc(), 0, 0) else {
-        panic!(rt; "no memory")
-    };
+    let (_, seats) = Marks::new(rt.alloc(), 0, 0)?;
     assert!(rt; seats.is_empty());
     Ok(())
 }
@@ -122,9 +106,7 @@ fn mark_first(marks: &Marks, mut seat: Seat) -> Marking
 
 #[test]
 fn one_of_two_threads_marks(rt: HostRuntime) -> Result<(), Fail> {
-    let Ok((marks, mut owner, other)) = two(rt.alloc()) else {
-        panic!(rt; "no memory")
-    };
+    let (marks, mut owner, other) = two(rt.alloc())?;
     marks.arm(&mut owner, 0, 5);
     let shared = &marks;
     let (a, b) = join(

@@ -1,13 +1,12 @@
-//! Climbs through four drivers, a packet on its way down, and the numbers of the WDK.
+//! Climbs through four drivers, and a packet on its way down.
 
 ghost use Rattle.std.specs.Prelude.{◌≡◌, ◌<◌, ◌+◌};
 ghost use Rattle.arrayvec.specs.ArrayVec.{array_vec_len};
 
 use crate::expect::{same, same_at};
-use bitflags::Flags;
 use irp::{
     CancelRoutine, Climb, Control, Done, Driver, IoStatus, Irp, LocationFlags, MajorFunction,
-    MinorFunction, Payload, StackLocation, complete, resume,
+    Payload, StackLocation, complete, resume,
 };
 use ntstatus::NtStatus;
 use sector::{Bytes, Extent};
@@ -84,49 +83,62 @@ fn bytes_of(rt: &impl Abort, payload: Payload) -> Bytes {
     }
 }
 
+/// What partition, filter and class ask for, whether the packet is cancelled, its status, and whose routines are called.
+type Row = (Asked, Asked, Asked, bool, NtStatus, &'static [Driver]);
+
+const CLIMBS: [Row; 4] = [
+    (
+        ON_BOTH,
+        ON_BOTH,
+        ON_ERROR,
+        false,
+        NtStatus::Success,
+        &[Driver::Filter, Driver::Partition],
+    ),
+    (
+        ON_BOTH,
+        ON_BOTH,
+        ON_ERROR,
+        false,
+        NtStatus::IoDeviceError,
+        &[Driver::Class, Driver::Filter, Driver::Partition],
+    ),
+    (
+        NEVER,
+        NEVER,
+        ON_CANCEL,
+        true,
+        NtStatus::Success,
+        &[Driver::Class],
+    ),
+    (NEVER, NEVER, ON_CANCEL, false, NtStatus::Success, &[]),
+];
+
+/// Has a packet climb, and checks which routines it meets and how it ends.
+fn climbs(rt: &impl Abort, irp: Irp, status: NtStatus, called: &[Driver]) {
+    let mut climb = complete(irp, status, 512);
+    for driver in called {
+        let (reached, irp) = routine_of(rt, climb);
+        same_at(rt, &reached, driver, &status);
+        climb = resume(irp);
+    }
+    let done = done_of(rt, climb);
+    same(rt, &done.number, &7);
+    same(rt, &done.status, &status);
+    same(rt, &done.information, &512);
+    let bytes = bytes_of(rt, done.payload);
+    same(rt, &bytes.as_slice(), &[0xA5, 0x5A].as_slice());
+}
+
 #[test]
 fn packets_climb_to_the_routines_that_ask(rt: HostRuntime) -> Result<(), Fail> {
-    use Driver::{Class, Filter, Partition};
-    let all: [Driver; 3] = [Class, Filter, Partition];
-    // Partition, filter and class; whether the packet is cancelled; its status; whose routines are called.
-    let rows = [
-        (
-            ON_BOTH,
-            ON_BOTH,
-            ON_ERROR,
-            false,
-            NtStatus::Success,
-            &all[1..],
-        ),
-        (
-            ON_BOTH,
-            ON_BOTH,
-            ON_ERROR,
-            false,
-            NtStatus::IoDeviceError,
-            &all[..],
-        ),
-        (NEVER, NEVER, ON_CANCEL, true, NtStatus::Success, &all[..1]),
-        (NEVER, NEVER, ON_CANCEL, false, NtStatus::Success, &all[..0]),
-    ];
-    for (partition, filter, class, cancelled, status, called) in rows {
+    for (partition, filter, class, cancelled, status, called) in CLIMBS {
         let payload = Payload::Buffer(Bytes::new([0xA5, 0x5A].to_vec(rt.alloc())?));
         let mut irp = packet_at_port(payload, partition, filter, class);
         if cancelled {
             irp.mark_cancelled();
         }
-        let mut climb = complete(irp, status, 512);
-        for driver in called {
-            let (reached, irp) = routine_of(&rt, climb);
-            same_at(&rt, &reached, driver, &status);
-            climb = resume(irp);
-        }
-        let done = done_of(&rt, climb);
-        same(&rt, &done.number, &7);
-        same(&rt, &done.status, &status);
-        same(&rt, &done.information, &512);
-        let bytes = bytes_of(&rt, done.payload);
-        same(&rt, &bytes.as_slice(), &[0xA5, 0x5A].as_slice());
+        climbs(&rt, irp, status, called);
     }
     Ok(())
 }
@@ -171,42 +183,4 @@ fn a_packet_goes_down(rt: HostRuntime) {
     irp.set_cancel_routine(routine);
     same(&rt, &irp.take_cancel_routine(), &Some(routine));
     same(&rt, &irp.take_cancel_routine(), &None);
-}
-
-#[test]
-fn functions_and_flags_have_their_numbers(rt: HostRuntime) {
-    use MajorFunction::*;
-    use MinorFunction::*;
-    let majors = [
-        (Create, 0x00),
-        (Close, 0x02),
-        (Read, 0x03),
-        (Write, 0x04),
-        (FlushBuffers, 0x09),
-        (InternalDeviceControl, 0x0F),
-        (Cleanup, 0x12),
-        (Pnp, 0x1B),
-    ];
-    for (major, code) in majors {
-        same_at(&rt, &major.code(), &code, &major);
-    }
-    let minors = [
-        (QueryRemove, 0x01),
-        (Remove, 0x02),
-        (CancelRemove, 0x03),
-        (SurpriseRemoval, 0x17),
-    ];
-    for (minor, code) in minors {
-        same_at(&rt, &minor.code(), &code, &minor);
-    }
-    let control = [
-        (Control::PENDING_RETURNED, 0x01),
-        (Control::INVOKE_ON_CANCEL, 0x20),
-        (Control::INVOKE_ON_SUCCESS, 0x40),
-        (Control::INVOKE_ON_ERROR, 0x80),
-    ];
-    for (flag, bit) in control {
-        same_at(&rt, &flag.bits(), &bit, &flag);
-    }
-    same(&rt, &LocationFlags::WRITE_THROUGH.bits(), &0x04);
 }

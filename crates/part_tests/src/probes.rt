@@ -134,94 +134,88 @@ fn tells<A: Adapter>(
     Ok(())
 }
 
+/// The least number of sectors that READ CAPACITY(10) can't tell.
+const FAR: u64 = 0x1_0000_0000;
+
 // Disks with sectors of both sizes: as many as READ CAPACITY(10) can tell, and more.
 #[test]
 fn finds_the_sizes(rt: HostRuntime) -> Result<(), Fail> {
     let alloc = rt.alloc();
     for sectors in [1, 2, 4096, FAR - 1, FAR, FAR + 1, 1 << 40] {
         let medium = sparse(&rt, alloc, sectors, &one(UNUSED))?;
-        let mut adapter = adapter(&rt, alloc, medium)?;
-        let found = probe(alloc, &mut adapter).ok().ok_or("a fault")?;
-        same(&rt, &(found.sector_size, found.sectors), &(512, sectors));
+        has_size(&rt, alloc, adapter(&rt, alloc, medium)?, 512, sectors)?;
     }
-    let medium = VecDisk::starting_with(alloc, 4096, 8, &one(UNUSED).sector(), Vec::new(alloc))
-        .ok()
-        .ok_or("no memory")?;
-    let mut adapter = adapter(&rt, alloc, medium)?;
-    let found = probe(alloc, &mut adapter).ok().ok_or("a fault")?;
-    same(&rt, &(found.sector_size, found.sectors), &(4096, 8));
+    let table = one(UNUSED).sector();
+    let medium = VecDisk::starting_with(alloc, 4096, 8, &table, Vec::new(alloc))?;
+    has_size(&rt, alloc, adapter(&rt, alloc, medium)?, 4096, 8)?;
     Ok(())
 }
 
-/// The least number of sectors that READ CAPACITY(10) can't tell.
-const FAR: u64 = 0x1_0000_0000;
+fn has_size<A: Adapter>(
+    rt: &impl Abort,
+    alloc: Global,
+    mut adapter: A,
+    sector_size: u64,
+    sectors: u64,
+) -> Result<(), ProbeFault>
+    requires idle { IsIdle (A.view adapter) }
+    requires unasked { (A.view adapter).accepted ≡ 0 }
+{
+    let found = probe(alloc, &mut adapter)?;
+    same(rt, &found.sector_size, &sector_size);
+    same(rt, &found.sectors, &sectors);
+    Ok(())
+}
 
+// Partitions; then each fault, also where a later one fits too; and a right table in a sector that can't be read. All
+// bytes but the table are zeros.
 #[test]
-fn finds_the_partitions(rt: HostRuntime) -> Result<(), Fail> {
+fn tells_what_a_table_says(rt: HostRuntime) -> Result<(), Fail> {
     let alloc = rt.alloc();
     let (low, high) = ((7, 1, 2047), (0xEE, 3072, 1024));
-    let cases: [(PartitionTable, &[Extent]); 8] = [
-        (one(MIDDLE), &[extent(2048, 1024)]),
-        (one((7, 4095, 1)), &[extent(4095, 1)]),
-        (one((7, 1, 4095)), &[extent(1, 4095)]),
-        (one(UNUSED), &[]),
-        (one((0, 0xFFFF_FFFF, 1)), &[]),
+    let cases: [(PartitionTable, Result<&[Extent], MbrFault>); 21] = [
+        (one(MIDDLE), Ok(&[extent(2048, 1024)])),
+        (one((7, 4095, 1)), Ok(&[extent(4095, 1)])),
+        (one((7, 1, 4095)), Ok(&[extent(1, 4095)])),
+        (one(UNUSED), Ok(&[])),
+        (one((0, 0xFFFF_FFFF, 1)), Ok(&[])),
         (
             four([UNUSED, MIDDLE, UNUSED, UNUSED]),
-            &[extent(2048, 1024)],
+            Ok(&[extent(2048, 1024)]),
         ),
         (
             four([high, UNUSED, low, MIDDLE]),
-            &[extent(3072, 1024), extent(1, 2047), extent(2048, 1024)],
+            Ok(&[extent(3072, 1024), extent(1, 2047), extent(2048, 1024)]),
         ),
         (
             four([(1, 1, 1), (2, 2, 1), (3, 3, 1), (4, 4, 4092)]),
-            &[extent(1, 1), extent(2, 1), extent(3, 1), extent(4, 4092)],
+            Ok(&[extent(1, 1), extent(2, 1), extent(3, 1), extent(4, 4092)]),
+        ),
+        (signed([0, 0]), Err(MbrFault::NoSignature)),
+        (signed([0x55, 0]), Err(MbrFault::NoSignature)),
+        (signed([0xAA, 0x55]), Err(MbrFault::NoSignature)),
+        (one((0xEE, 0, 0)), Err(MbrFault::EmptyEntry)),
+        (one((7, 5000, 0)), Err(MbrFault::EmptyEntry)),
+        (one((7, 0, 1)), Err(MbrFault::CoversTable)),
+        (one((7, 0, 5000)), Err(MbrFault::CoversTable)),
+        (one((7, 4095, 2)), Err(MbrFault::PastEnd)),
+        (one((7, 4096, 1)), Err(MbrFault::PastEnd)),
+        (one((7, 0xFFFF_FFFF, 1)), Err(MbrFault::PastEnd)),
+        (one((7, 0xFFFF_FFFF, 0xFFFF_FFFF)), Err(MbrFault::PastEnd)),
+        (
+            four([MIDDLE, UNUSED, UNUSED, (7, 4096, 1)]),
+            Err(MbrFault::PastEnd),
+        ),
+        (
+            four([MIDDLE, UNUSED, UNUSED, (7, 3071, 1)]),
+            Err(MbrFault::Overlap),
         ),
     ];
     for (table, want) in cases {
         let medium = disk(alloc, &table, &[])?;
-        tells(&rt, alloc, adapter(&rt, alloc, medium)?, Ok(want), 0)?;
-    }
-    Ok(())
-}
-
-// Each fault, also where a later one fits too; all bytes but the table are zeros.
-#[test]
-fn tells_what_is_wrong_with_a_table(rt: HostRuntime) -> Result<(), Fail> {
-    let alloc = rt.alloc();
-    for (table, want) in [
-        (signed([0, 0]), MbrFault::NoSignature),
-        (signed([0x55, 0]), MbrFault::NoSignature),
-        (signed([0xAA, 0x55]), MbrFault::NoSignature),
-        (one((0xEE, 0, 0)), MbrFault::EmptyEntry),
-        (one((7, 5000, 0)), MbrFault::EmptyEntry),
-        (one((7, 0, 1)), MbrFault::CoversTable),
-        (one((7, 0, 5000)), MbrFault::CoversTable),
-        (one((7, 4095, 2)), MbrFault::PastEnd),
-        (one((7, 4096, 1)), MbrFault::PastEnd),
-        (one((7, 0xFFFF_FFFF, 1)), MbrFault::PastEnd),
-        (one((7, 0xFFFF_FFFF, 0xFFFF_FFFF)), MbrFault::PastEnd),
-        (
-            four([MIDDLE, UNUSED, UNUSED, (7, 4096, 1)]),
-            MbrFault::PastEnd,
-        ),
-        (
-            four([MIDDLE, UNUSED, UNUSED, (7, 3071, 1)]),
-            MbrFault::Overlap,
-        ),
-    ] {
-        let medium = disk(alloc, &table, &[])?;
-        let want = Err(ProbeFault::Mbr(want));
+        let want = want.map_err(ProbeFault::Mbr);
         tells(&rt, alloc, adapter(&rt, alloc, medium)?, want, 0)?;
     }
-    Ok(())
-}
-
-// A right table stands in a sector that can't be read.
-#[test]
-fn tells_that_sector_zero_is_bad(rt: HostRuntime) -> Result<(), Fail> {
-    let alloc = rt.alloc();
     let medium = disk(alloc, &one(MIDDLE), &[0])?;
     let want = Err(ProbeFault::Device(NtStatus::DeviceDataError));
     tells(&rt, alloc, adapter(&rt, alloc, medium)?, want, 1)?;
@@ -266,19 +260,5 @@ fn faults_are_told(rt: HostRuntime) -> Result<(), Fail> {
         let text = format!(in alloc; "{fault}")?;
         same(&rt, &text.as_str(), &want);
     }
-    Ok(())
-}
-
-/// A probe of a long disk.
-fn long(rt: &impl Abort, alloc: Global) -> Result<(), AllocError> {
-    let medium = sparse(rt, alloc, FAR, &one(MIDDLE))?;
-    let partitions = [extent(2048, 1024)];
-    tells(rt, alloc, adapter(rt, alloc, medium)?, Ok(&partitions), 0)
-}
-
-// The one test that passes with each allocation failing in turn: where one does, the probe ends with no other fault.
-#[test]
-fn probes_where_memory_is_refused(rt: HostRuntime) -> Result<(), Fail> {
-    let _ = long(&rt, rt.alloc());
     Ok(())
 }

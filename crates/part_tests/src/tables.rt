@@ -17,20 +17,14 @@ const fn extent(first: u64, count: u64) -> Extent {
 /// The largest number of an entry.
 const FAR: u64 = 0xFFFF_FFFF;
 
-/// Checks what a sector says on a disk of this many sectors: these partitions, or this fault.
-fn expect(
-    rt: &impl Abort,
-    sector: &[u8],
-    sectors: u64,
-    partitions: &[Extent],
-    fault: Option<MbrFault>,
-) {
+/// The partitions that a sector tells of, or what is wrong with it.
+type Told<'a> = Result<&'a [Extent], MbrFault>;
+
+/// Checks what a sector says on a disk of this many sectors.
+fn expect(rt: &impl Abort, sector: &[u8], sectors: u64, want: Told) {
     match parse(sector, sectors) {
-        Ok(found) => {
-            same(rt, &fault, &None);
-            same(rt, &found.as_slice(), &partitions);
-        }
-        Err(found) => same(rt, &fault, &Some(found)),
+        Ok(found) => same(rt, &Ok(found.as_slice()), &want),
+        Err(found) => same(rt, &Err(found), &want),
     }
 }
 
@@ -105,17 +99,17 @@ fn tells_what_one_byte_changes(rt: HostRuntime) {
             sector[byte] = value;
             let step = value as u64;
             match change_of(byte, value) {
-                Nothing => expect(&rt, &sector, 4096, &[extent(2048, 1024)], None),
-                Unused => expect(&rt, &sector, 4096, &[], None),
+                Nothing => expect(&rt, &sector, 4096, Ok(&[extent(2048, 1024)])),
+                Unused => expect(&rt, &sector, 4096, Ok(&[])),
                 First(least, by) => {
                     let first = least.saturating_add(by.saturating_mul(step));
-                    expect(&rt, &sector, 4096, &[extent(first, 1024)], None);
+                    expect(&rt, &sector, 4096, Ok(&[extent(first, 1024)]));
                 }
                 Count(least, by) => {
                     let count = least.saturating_add(by.saturating_mul(step));
-                    expect(&rt, &sector, 4096, &[extent(2048, count)], None);
+                    expect(&rt, &sector, 4096, Ok(&[extent(2048, count)]));
                 }
-                Fault(fault) => expect(&rt, &sector, 4096, &[], Some(fault)),
+                Fault(fault) => expect(&rt, &sector, 4096, Err(fault)),
             }
         }
     }
@@ -125,30 +119,19 @@ fn tells_what_one_byte_changes(rt: HostRuntime) {
 #[test]
 fn looks_at_512_bytes(rt: HostRuntime) {
     let sector = one_entry();
-    for length in [0, 1, 446, 462, 510, 511] {
-        is_short(&rt, &sector, length);
+    for length in [0, 1, 446, 462, 510, 511_usize] {
+        let first = sector.get(..length).unwrap_or(&[]);
+        expect(&rt, first, 4096, Err(MbrFault::ShortSector));
     }
     let mut unsigned = sector;
     unsigned[510] = 0;
     unsigned[511] = 0;
     for bytes in [unsigned, [0; 512], [0xFF; 512], [0x55; 512], [0xAA; 512]] {
-        expect(&rt, &bytes, 4096, &[], Some(MbrFault::NoSignature));
+        expect(&rt, &bytes, 4096, Err(MbrFault::NoSignature));
     }
     let mut long = [0xFF; 4096];
     long[..512].copy_from_slice(&sector);
-    expect(&rt, &long, 4096, &[extent(2048, 1024)], None);
-}
-
-/// Checks that the first bytes of a sector, this many, are too few.
-fn is_short(rt: &impl Abort, sector: &[u8], length: usize) {
-    assert!(rt; length <= sector.len());
-    expect(
-        rt,
-        &sector[..length],
-        4096,
-        &[],
-        Some(MbrFault::ShortSector),
-    );
+    expect(&rt, &long, 4096, Ok(&[extent(2048, 1024)]));
 }
 
 /// Whether the numbers of an entry have four bytes each.
@@ -165,88 +148,91 @@ fn table(rt: &impl Abort, entries: &[(u8, Extent)]) -> ArrayVec<u8, 512> {
     render(entries)
 }
 
-/// Checks what a table of these entries says on a disk of this many sectors: these partitions, or this fault.
-fn says(
-    rt: &impl Abort,
-    entries: &[(u8, Extent)],
-    sectors: u64,
-    partitions: &[Extent],
-    fault: Option<MbrFault>,
-) {
-    expect(
-        rt,
-        table(rt, entries).as_slice(),
-        sectors,
-        partitions,
-        fault,
-    );
-}
-
+// The used entries in table order, or the first fault.
 #[test]
-fn takes_the_used_entries_in_table_order(rt: HostRuntime) {
-    says(&rt, &[], 4096, &[], None);
+fn tells_what_a_table_says(rt: HostRuntime) {
     let (low, high) = (extent(2048, 1024), extent(3072, 1024));
-    says(&rt, &[(7, high), (7, low)], 4096, &[high, low], None);
-    says(
-        &rt,
-        &[(7, low), (0, extent(0, 0)), (7, high)],
-        4096,
-        &[low, high],
-        None,
-    );
-    says(
-        &rt,
-        &[(0, low), (0, low), (5, low), (0, low)],
-        4096,
-        &[low],
-        None,
-    );
     let four = [extent(1, 1), extent(2, 1), extent(3, 1), extent(4, 4092)];
-    let entries = [(5, four[0]), (0x0F, four[1]), (0xEE, four[2]), (1, four[3])];
-    says(&rt, &entries, 4096, &four, None);
-    says(&rt, &[(7, extent(4095, 1))], 4096, &[extent(4095, 1)], None);
     let far = extent(FAR, FAR);
-    says(&rt, &[(0xFF, far)], 2 * FAR, &[far], None);
-}
-
-#[test]
-fn tells_the_first_fault(rt: HostRuntime) {
-    let (low, high) = (extent(2048, 1024), extent(3072, 1024));
     let (empty, covering, long) = (extent(5000, 0), extent(0, 5000), extent(4095, 2));
-    let rows: [(&[(u8, Extent)], MbrFault); 16] = [
-        (&[(7, empty)], MbrFault::EmptyEntry),
-        (&[(7, extent(0, 0))], MbrFault::EmptyEntry),
-        (&[(7, extent(FAR, 0))], MbrFault::EmptyEntry),
-        (&[(7, covering)], MbrFault::CoversTable),
-        (&[(7, extent(0, 1))], MbrFault::CoversTable),
-        (&[(7, long)], MbrFault::PastEnd),
-        (&[(7, extent(4096, 1))], MbrFault::PastEnd),
-        (&[(7, extent(FAR, 1))], MbrFault::PastEnd),
-        (&[(7, extent(FAR, FAR))], MbrFault::PastEnd),
+    let rows: [(&[(u8, Extent)], u64, Told); 23] = [
+        (&[], 4096, Ok(&[])),
+        (&[(7, high), (7, low)], 4096, Ok(&[high, low])),
+        (
+            &[(7, low), (0, extent(0, 0)), (7, high)],
+            4096,
+            Ok(&[low, high]),
+        ),
+        (&[(0, low), (0, low), (5, low), (0, low)], 4096, Ok(&[low])),
+        (
+            &[(5, four[0]), (0x0F, four[1]), (0xEE, four[2]), (1, four[3])],
+            4096,
+            Ok(&four),
+        ),
+        (&[(7, extent(4095, 1))], 4096, Ok(&[extent(4095, 1)])),
+        (&[(0xFF, far)], 2 * FAR, Ok(&[far])),
+        (&[(7, empty)], 4096, Err(MbrFault::EmptyEntry)),
+        (&[(7, extent(0, 0))], 4096, Err(MbrFault::EmptyEntry)),
+        (&[(7, extent(FAR, 0))], 4096, Err(MbrFault::EmptyEntry)),
+        (&[(7, covering)], 4096, Err(MbrFault::CoversTable)),
+        (&[(7, extent(0, 1))], 4096, Err(MbrFault::CoversTable)),
+        (&[(7, long)], 4096, Err(MbrFault::PastEnd)),
+        (&[(7, extent(4096, 1))], 4096, Err(MbrFault::PastEnd)),
+        (&[(7, extent(FAR, 1))], 4096, Err(MbrFault::PastEnd)),
+        (&[(7, far)], 4096, Err(MbrFault::PastEnd)),
         (
             &[(7, low), (7, high), (0, low), (7, low)],
-            MbrFault::Overlap,
+            4096,
+            Err(MbrFault::Overlap),
         ),
-        (&[(7, low), (7, extent(3000, 10))], MbrFault::Overlap),
-        (&[(7, low), (7, extent(3071, 1))], MbrFault::Overlap),
+        (
+            &[(7, low), (7, extent(3000, 10))],
+            4096,
+            Err(MbrFault::Overlap),
+        ),
+        (
+            &[(7, low), (7, extent(3071, 1))],
+            4096,
+            Err(MbrFault::Overlap),
+        ),
         (
             &[(7, extent(1, 4095)), (0, empty), (7, high)],
-            MbrFault::Overlap,
+            4096,
+            Err(MbrFault::Overlap),
         ),
-        (&[(7, long), (7, covering), (7, empty)], MbrFault::PastEnd),
+        (
+            &[(7, long), (7, covering), (7, empty)],
+            4096,
+            Err(MbrFault::PastEnd),
+        ),
         (
             &[(7, low), (7, low), (0, empty), (7, covering)],
-            MbrFault::CoversTable,
+            4096,
+            Err(MbrFault::CoversTable),
         ),
-        (&[(7, empty), (7, low), (7, low)], MbrFault::EmptyEntry),
+        (
+            &[(7, empty), (7, low), (7, low)],
+            4096,
+            Err(MbrFault::EmptyEntry),
+        ),
     ];
-    for (entries, fault) in rows {
-        says(&rt, entries, 4096, &[], Some(fault));
+    for (entries, sectors, want) in rows {
+        expect(&rt, table(&rt, entries).as_slice(), sectors, want);
     }
 }
 
+/// A fault as it is printed.
+const FAULTS: [(MbrFault, &str); 6] = [
+    (MbrFault::ShortSector, "short sector"),
+    (MbrFault::NoSignature, "no signature"),
+    (MbrFault::EmptyEntry, "empty entry"),
+    (MbrFault::CoversTable, "covers table"),
+    (MbrFault::PastEnd, "past end"),
+    (MbrFault::Overlap, "overlap"),
+];
+
 #[test]
-fn writes_a_table(rt: HostRuntime) {
+fn writes_a_table_and_tells_faults(rt: HostRuntime) -> Result<(), Fail> {
     same(
         &rt,
         &table(&rt, &[(7, extent(2048, 1024))]).as_slice(),
@@ -263,18 +249,7 @@ fn writes_a_table(rt: HostRuntime) {
     ]);
     bytes[510..].copy_from_slice(&[0x55, 0xAA]);
     same(&rt, &sector.as_slice(), &bytes.as_slice());
-}
-
-#[test]
-fn faults_are_told(rt: HostRuntime) -> Result<(), Fail> {
-    for (fault, want) in [
-        (MbrFault::ShortSector, "short sector"),
-        (MbrFault::NoSignature, "no signature"),
-        (MbrFault::EmptyEntry, "empty entry"),
-        (MbrFault::CoversTable, "covers table"),
-        (MbrFault::PastEnd, "past end"),
-        (MbrFault::Overlap, "overlap"),
-    ] {
+    for (fault, want) in FAULTS {
         let text = format!(in rt.alloc(); "{fault}")?;
         same(&rt, &text.as_str(), &want);
     }

@@ -1,0 +1,107 @@
+//! A client of a filter: what a filter has beside the calls of a layer.
+
+ghost use Rattle.std.specs.Prelude.{◌≡◌, ◌≤◌, false};
+ghost use Rattle.linked.specs.Queue.{VisitsAtMost};
+ghost use Rattle.part_tests.specs.Known.{IsKnown, Keeps};
+
+use crate::session::Session;
+use crate::steps::Step;
+use device::{Device, Hold, Shown};
+use hold_filter::Filter;
+use irp::Driver;
+use sector::Extent;
+use std::alloc::{AllocError, Global};
+use std::process::Abort;
+
+/// Cancels what is at a spot, with at most three visits of the queue. Returns whether it was held there.
+fn cancel_held<D: Device>(filter: &mut Filter<D>, spot: usize, number: u64) -> bool
+    ensures keeps { Keeps (⟦<Filter<D> as Shown>⟧.view filter.old) (⟦<Filter<D> as Shown>⟧.view filter.new) }
+    ensures visits { VisitsAtMost 3 filter.old.queue_visits filter.new.queue_visits }
+{
+    let held = filter.held();
+    filter.cancel_at(spot, number as u128);
+    filter.held() < held
+}
+
+/// A layer that tells how many packets it holds, and finds one by its spot.
+pub(crate) trait Holds: Hold {
+    fn count_held(&self) -> usize;
+
+    /// Cancels what is at a spot, and returns whether it was held there.
+    fn cancel_at_spot(&mut self, spot: usize, number: u64) -> bool
+        ensures keeps { Keeps (Self.view self.old) (Self.view self.new) };
+}
+
+impl<D: Device> Holds for Filter<D> {
+    fn count_held(&self) -> usize {
+        self.held()
+    }
+
+    fn cancel_at_spot(&mut self, spot: usize, number: u64) -> bool {
+        cancel_held(self, spot, number)
+    }
+}
+
+impl<'a, D: Holds> Session<'a, D> {
+    fn pause(&mut self) -> bool {
+        if self.paused || self.removed {
+            return false;
+        }
+        self.device.pause();
+        self.paused = true;
+        true
+    }
+
+    /// Ends a pause, and checks that nothing that has ended waits then.
+    fn resume(&mut self, rt: &impl Abort) -> bool {
+        if !self.paused {
+            return false;
+        }
+        let None = self.device.take_done() else {
+            panic!(rt; "a packet that has ended waits");
+        };
+        self.device.resume();
+        self.paused = false;
+        true
+    }
+
+    fn cancel_held(&mut self, of: u64, number: u64) -> bool {
+        let spot = self.spots[(of % 65) as usize];
+        self.device.cancel_at_spot(spot, number)
+    }
+
+    /// Takes one step, and returns whether it answered what it must.
+    fn carry_out_held(
+        &mut self,
+        rt: &impl Abort,
+        alloc: Global,
+        step: &Step,
+    ) -> Result<bool, AllocError> {
+        match step {
+            Step::CancelHeld(of, number, want) => Ok(self.cancel_held(*of, *number) == *want),
+            Step::Holds(count) => Ok(self.device.count_held() == *count),
+            Step::Pause => Ok(self.pause()),
+            Step::Resume => Ok(self.resume(rt)),
+            step => self.carry_out(rt, alloc, step),
+        }
+    }
+}
+
+/// Takes all steps in turn, on a filter of which nothing was asked yet.
+pub(crate) fn try_all_held<D: Holds>(
+    rt: &impl Abort,
+    alloc: Global,
+    filter: D,
+    partitions: &[Extent],
+    steps: &[Step],
+) -> Result<(), AllocError>
+    requires locations { D.stack_size ≤ 4 }
+    requires known { IsKnown (D.view filter) partitions.now 1 false false }
+{
+    let mut session = Session::new(filter, Driver::Filter, partitions);
+    for (n, step) in steps.iter().enumerate() {
+        let as_wanted = session.carry_out_held(rt, alloc, step)?;
+        assert!(rt; as_wanted, "step {n}, counted from 0");
+    }
+    Ok(())
+}

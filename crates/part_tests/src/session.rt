@@ -1,0 +1,315 @@
+//! A client of one layer, each call by the contract of a layer.
+
+ghost use Rattle.std.specs.Prelude.{◌≡◌, ◌≤◌, false};
+ghost use Rattle.part_tests.specs.Known.{IsKnown};
+
+use crate::asked::{Form, assert_askable, packet_for};
+use crate::steps::{Step, Told, is_told, is_up, request_of};
+use device::{Device, Kind, Request, Shown};
+use irp::Driver;
+use ntstatus::NtStatus;
+use sector::Extent;
+use std::alloc::{AllocError, Global};
+use std::marker::Model;
+use std::process::Abort;
+
+/// A layer, and what its client knows of it.
+#[derive(Drop)]
+pub(crate) struct Session<'a, D: Shown> {
+    pub(crate) device: D,
+    form: Form,
+    partitions: &'a [Extent],
+    /// The next number to be given.
+    next: u64,
+    /// The spot of each packet's room, by the packet's number.
+    pub(crate) spots: [usize; 65],
+    pub(crate) paused: bool,
+    pub(crate) removed: bool,
+}
+
+impl<'a, D: Shown> Model for Session<'a, D> {
+    ghost use Rattle.std.specs.Prelude.{◌≡◌, ◌≤◌, ℕ};
+    ghost use Rattle.part_tests.specs.Known.{IsKnown};
+
+    ghost Value = { ℕ };
+
+    ghost view = { λ s. s.next };
+
+    ghost invariant = { λ s. record {
+      form : s.form.takes_srb ≡ D.takes_srb;
+      locations : D.stack_size ≤ 4;
+      known : IsKnown (D.view s.device) s.partitions.now s.next s.paused s.removed;
+    } };
+}
+
+impl<'a, D: Device> Session<'a, D> {
+    /// A client of a layer of which nothing was asked yet; its packets have the location of this driver.
+    pub(crate) fn new(device: D, driver: Driver, partitions: &'a [Extent]) -> Session<'a, D>
+        requires locations { D.stack_size ≤ 4 }
+        requires known { IsKnown (D.view device) partitions.now 1 false false }
+    {
+        Session {
+            device,
+            form: Form {
+                driver,
+                takes_srb: D::TAKES_SRB,
+            },
+            partitions,
+            next: 1,
+            spots: [0; 65],
+            paused: false,
+            removed: false,
+        }
+    }
+
+    /// Sends a request down under the next number. Where memory for it was refused, none goes.
+    fn submit(
+        &mut self,
+        rt: &impl Abort,
+        alloc: Global,
+        request: &Request,
+        byte: u8,
+    ) -> Result<(), AllocError> {
+        let number = self.next;
+        assert!(rt; !self.removed && number < 65);
+        let longest = self.device.longest();
+        assert_askable(rt, self.partitions, longest, request);
+        let irp = packet_for(
+            alloc,
+            self.form,
+            number,
+            self.partitions,
+            longest,
+            request,
+            byte,
+        )?;
+        let room = self.device.reserve(request)?;
+        self.spots[number as usize] = room.spot;
+        self.device.submit(irp, room);
+        self.next = number + 1;
+        Ok(())
+    }
+
+    /// Makes room for a request, and gives it back.
+    fn reserve(&mut self, rt: &impl Abort, request: &Request) -> Result<(), AllocError> {
+        let longest = self.device.longest();
+        assert_askable(rt, self.partitions, longest, request);
+        let room = self.device.reserve(request)?;
+        self.device.free(room);
+        Ok(())
+    }
+
+    /// Whether the earliest label is the one that is wanted.
+    fn tells_one(&mut self, want: &Told) -> bool {
+        is_told(self.device.take_label(), want)
+    }
+
+    fn tells_no_more(&mut self) -> bool {
+        self.device.take_label().is_none()
+    }
+
+    /// Whether just these labels are there.
+    fn tells(&mut self, want: &[Told]) -> bool {
+        for told in want {
+            if !self.tells_one(told) {
+                return false;
+            }
+        }
+        self.tells_no_more()
+    }
+
+    /// Acts on a tag. Returns whether no label was left from before and the tag had a piece that did nothing, as is
+    /// wanted.
+    fn act(&mut self, tag: u8, want: bool) -> bool {
+        self.device.take_label().is_none() && self.device.act(tag) == want
+    }
+
+    /// Takes the piece of a tag back. Returns whether no label was left from before and there was a piece, as is
+    /// wanted.
+    fn finish(&mut self, tag: u8, want: bool) -> bool {
+        self.device.take_label().is_none() && self.device.finish(tag) == want
+    }
+
+    /// Resets the adapter. Returns whether no label was left from before.
+    fn reset(&mut self) -> bool {
+        if self.device.take_label().is_some() {
+            return false;
+        }
+        self.device.reset();
+        true
+    }
+
+    fn forget(&mut self) -> bool {
+        self.device.forget_labels();
+        true
+    }
+
+    fn cancel(&mut self, number: u64) -> bool {
+        self.device.cancel(number as u128);
+        true
+    }
+
+    fn cancel_at(&mut self, of: u64, number: u64) -> bool {
+        let spot = self.spots[(of % 65) as usize];
+        self.device.cancel_at(spot, number as u128);
+        true
+    }
+
+    fn drain(&mut self) -> bool {
+        self.device.drain();
+        self.paused = false;
+        self.removed = true;
+        true
+    }
+
+    /// Takes what comes up, gives its room back, and returns whether it is as a step wants it.
+    fn comes_up(&mut self, step: &Step) -> bool {
+        let takes_srb = self.form.takes_srb;
+        let Some((climb, room)) = self.device.take_done() else {
+            return matches!(step, Step::NoneDone);
+        };
+        self.device.free(room);
+        is_up(climb, takes_srb, step)
+    }
+
+    fn has_sizes(&self, volumes: u8, sectors: &[u64; 3], longest: u64, most: u128) -> bool {
+        self.device.volumes() == volumes
+            && self.device.sectors(0) == sectors[0]
+            && self.device.sectors(1) == sectors[1]
+            && self.device.sectors(2) == sectors[2]
+            && self.device.longest() == longest
+            && self.device.most() == most
+    }
+
+    fn have_one_spot(&self, of: u64, other: u64) -> bool {
+        self.spots[(of % 65) as usize] == self.spots[(other % 65) as usize]
+    }
+
+    /// Has the piece on tag 0 come back busy this many times, and checks that it is sent again each time.
+    fn sends_again(&mut self, count: u8) -> bool {
+        for before in 0..count {
+            let piece = u128::from(before) + 1;
+            let labels = [Told::Busy(piece), Told::Starts(piece + 1, 0)];
+            if !(self.finish(0, true) && self.tells(&labels) && self.comes_up(&Step::NoneDone)) {
+                return false;
+            }
+        }
+        true
+    }
+
+    /// Checks that a read is started on tag 0, acts and comes up.
+    fn serves_one(&mut self, piece: u128, number: u128) -> bool {
+        self.tells(&[Told::Starts(piece, 0)])
+            && self.act(0, true)
+            && self.tells(&[Told::Acts(piece)])
+            && self.finish(0, true)
+            && self.tells(&[Told::Good(piece)])
+            && self.comes_up(&Step::Done(number, NtStatus::Success))
+    }
+
+    fn serves(&mut self, piece: u8, first: u8, count: u8) -> bool {
+        for n in 0..count {
+            let further = u128::from(n);
+            if !self.serves_one(u128::from(piece) + further, u128::from(first) + further) {
+                return false;
+            }
+        }
+        true
+    }
+
+    /// Sends four requests down, of which want of memory may turn one away.
+    fn submit_four(&mut self, rt: &impl Abort, alloc: Global, request: &Request, byte: u8) -> bool {
+        for _ in 0..4 {
+            let _ = self.submit(rt, alloc, request, byte);
+        }
+        self.next >= 4
+    }
+
+    fn submit_reads(
+        &mut self,
+        rt: &impl Abort,
+        alloc: Global,
+        count: u8,
+    ) -> Result<bool, AllocError> {
+        let read = request_of(0, Kind::Read, 0, 1);
+        for _ in 0..count {
+            self.submit(rt, alloc, &read, 0xA5)?;
+        }
+        Ok(true)
+    }
+
+    /// Takes a step that ends packets or looks at what there is, and returns whether it answered what it must.
+    fn ends(&mut self, step: &Step) -> bool {
+        match step {
+            Step::Cancel(number) => self.cancel(*number),
+            Step::CancelAt(of, number) => self.cancel_at(*of, *number),
+            Step::HaveOneSpot(of, other) => self.have_one_spot(*of, *other),
+            Step::Drain => self.drain(),
+            Step::FourthDone(_) => self.next < 5 || self.comes_up(step),
+            Step::Sizes(volumes, sectors, longest, most) => {
+                self.has_sizes(*volumes, sectors, *longest, *most)
+            }
+            step => self.comes_up(step),
+        }
+    }
+
+    /// Takes one step that takes no memory, and returns whether it answered what it must. A filter's own step does not.
+    fn follows(&mut self, step: &Step) -> bool {
+        match step {
+            Step::Act(tag, want) => self.act(*tag, !want.is_empty()) && self.tells(want),
+            Step::Finish(tag, want) => self.finish(*tag, !want.is_empty()) && self.tells(want),
+            Step::Reset(want) => self.reset() && self.tells(want),
+            Step::Tells(want) => self.tells(want),
+            Step::Forget => self.forget(),
+            Step::SendsAgain(count) => self.sends_again(*count),
+            Step::Serve(piece, first, count) => self.serves(*piece, *first, *count),
+            step => self.ends(step),
+        }
+    }
+
+    /// Takes one step, and returns whether it answered what it must.
+    pub(crate) fn carry_out(
+        &mut self,
+        rt: &impl Abort,
+        alloc: Global,
+        step: &Step,
+    ) -> Result<bool, AllocError> {
+        match step {
+            Step::Submit(volume, kind, first, count, byte) => {
+                let request = request_of(*volume, *kind, *first, *count);
+                self.submit(rt, alloc, &request, *byte)?;
+                Ok(true)
+            }
+            Step::SubmitFour(volume, kind, first, count, byte) => {
+                let request = request_of(*volume, *kind, *first, *count);
+                Ok(self.submit_four(rt, alloc, &request, *byte))
+            }
+            Step::SubmitReads(count) => self.submit_reads(rt, alloc, *count),
+            Step::Reserve(volume, kind, first, count) => {
+                self.reserve(rt, &request_of(*volume, *kind, *first, *count))?;
+                Ok(true)
+            }
+            step => Ok(self.follows(step)),
+        }
+    }
+}
+
+/// Takes all steps in turn, on a layer of which nothing was asked yet.
+pub(crate) fn try_all<D: Device>(
+    rt: &impl Abort,
+    alloc: Global,
+    device: D,
+    driver: Driver,
+    partitions: &[Extent],
+    steps: &[Step],
+) -> Result<(), AllocError>
+    requires locations { D.stack_size ≤ 4 }
+    requires known { IsKnown (D.view device) partitions.now 1 false false }
+{
+    let mut session = Session::new(device, driver, partitions);
+    for (n, step) in steps.iter().enumerate() {
+        let as_wanted = session.carry_out(rt, alloc, step)?;
+        assert!(rt; as_wanted, "step {n}, counted from 0");
+    }
+    Ok(())
+}
