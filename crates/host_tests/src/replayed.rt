@@ -29,6 +29,7 @@ fn run_and_replay<M: Medium + Send, R: Threads + Wait + Sync + Abort>(
         Ok(done) => {
             let Done {
                 tally,
+                trace: _,
                 entries,
                 medium,
             } = done;
