@@ -126,6 +126,29 @@ over(void)
 	saddlemug_stack_close(&stack);
 }
 
+/* What the calls that open and close find by themselves. */
+static void
+rooms(void)
+{
+	const uint8_t *text = (const uint8_t *) settings;
+	struct saddlemug volume = {0};
+	expect("no room", saddlemug_open(NULL, text, strlen(settings), 0), SADDLEMUG_INVALID_PARAMETER);
+	expect("no settings", saddlemug_open(&volume, NULL, 0, 0), SADDLEMUG_INVALID_PARAMETER);
+	saddlemug_close(&volume);
+	expect("a volume", saddlemug_open(&volume, text, strlen(settings), 0), SADDLEMUG_SUCCESS);
+	expect("a volume's room that is full", saddlemug_open(&volume, text, strlen(settings), 0), SADDLEMUG_INVALID_PARAMETER);
+	saddlemug_close(&volume);
+	saddlemug_close(&volume);
+	saddlemug_stack_close(&stack);
+	expect("a stack's room that is full", saddlemug_stack_open(&stack, text, strlen(settings)), SADDLEMUG_SUCCESS);
+	expect("a stack's room that is full", saddlemug_stack_open(&stack, text, strlen(settings)), SADDLEMUG_INVALID_PARAMETER);
+	struct saddlemug_event read = {.kind = SADDLEMUG_READ, .length = UINT64_C(1) << 40};
+	expect("a terabyte", saddlemug_stack_step(&stack, &read, bytes, 0, &reply), SADDLEMUG_SUCCESS);
+	expect("a terabyte", reply.status, SADDLEMUG_INVALID_HANDLE);
+	saddlemug_stack_close(&stack);
+	saddlemug_stack_close(NULL);
+}
+
 int
 main(void)
 {
@@ -197,6 +220,7 @@ main(void)
 	expect("a disk in memory", saddlemug_stack_armed(&stack, 0, &armed), SADDLEMUG_INVALID_DEVICE_REQUEST);
 	saddlemug_stack_close(&stack);
 	over();
+	rooms();
 	if (!failed && puts("the bench found what it expected") >= 0 && fflush(stdout) != 0) {
 		perror("bench: standard output");
 		return 1;

@@ -139,17 +139,17 @@ class _Booking(ctypes.Structure):
 
 _ROOM = POINTER(_Room)
 _CALLS = {
-    "saddlemug_open": (c_uint32, [_ROOM, c_void_p, c_size_t, c_uint8]),
+    "saddlemug_open_into": (c_uint32, [_ROOM, c_void_p, c_size_t, c_uint8]),
     "saddlemug_sizes": (_Sizes, [_ROOM]),
     "saddlemug_read": (c_uint32, [_ROOM, c_uint64, c_void_p, c_size_t]),
     "saddlemug_write": (c_uint32, [_ROOM, c_uint64, c_void_p, c_size_t, c_bool]),
     "saddlemug_flush": (c_uint32, [_ROOM]),
-    "saddlemug_close": (None, [_ROOM]),
-    "saddlemug_stack_open": (c_uint32, [_ROOM, c_void_p, c_size_t]),
+    "saddlemug_close_full": (None, [_ROOM]),
+    "saddlemug_stack_open_into": (c_uint32, [_ROOM, c_void_p, c_size_t]),
     "saddlemug_stack_step": (c_uint32, [_ROOM, POINTER(_Event), c_void_p, c_size_t, POINTER(_Reply)]),
     "saddlemug_stack_take_label": (c_bool, [_ROOM, POINTER(_Label), c_void_p, c_size_t]),
     "saddlemug_stack_take_answer": (c_bool, [_ROOM, POINTER(_Answer), c_void_p, c_size_t]),
-    "saddlemug_stack_close": (None, [_ROOM]),
+    "saddlemug_stack_close_full": (None, [_ROOM]),
     "saddlemug_over_open": (c_uint32, [_ROOM, POINTER(_Disk), c_void_p, c_size_t]),
     "saddlemug_over_armed": (c_uint32, [_ROOM, c_uint8, POINTER(_Armed)]),
     "saddlemug_over_book": (c_uint32, [_ROOM, POINTER(_Booking)]),
@@ -187,7 +187,7 @@ class Volume:
     def __init__(self, settings: Union[str, bytes], partition: int = 0):
         self._room = _Room(None)
         text = _settings(settings)
-        _check("open", _c.saddlemug_open(byref(self._room), text, len(text), partition))
+        _check("open", _c.saddlemug_open_into(byref(self._room), text, len(text), partition))
 
     @property
     def sector_size(self) -> int:
@@ -216,7 +216,7 @@ class Volume:
     def close(self) -> None:
         """Ends the volume and its disk. A second call does nothing."""
         if self._room.at:
-            _c.saddlemug_close(byref(self._room))
+            _c.saddlemug_close_full(byref(self._room))
 
     def _open(self):
         if not self._room.at:
@@ -459,7 +459,7 @@ class Stack:
             _check("open", _c.saddlemug_over_open(byref(self._room), byref(disk), first, len(first)))
         else:
             text = _settings(settings)
-            _check("open", _c.saddlemug_stack_open(byref(self._room), text, len(text)))
+            _check("open", _c.saddlemug_stack_open_into(byref(self._room), text, len(text)))
 
     def step(self, event: Event) -> Reply:
         """Carries one event out. Labels of the step before that were not taken are let go."""
@@ -512,7 +512,7 @@ class Stack:
     def close(self) -> None:
         """Ends the stack, and its disk in memory. A second call does nothing."""
         if self._room.at:
-            _c.saddlemug_stack_close(byref(self._room))
+            _c.saddlemug_stack_close_full(byref(self._room))
 
     def _book(self, armed: Armed, booking: _Booking) -> None:
         booking.tag = armed.tag

@@ -5,8 +5,12 @@
  * `free`. The library has no state of its own: what it keeps stands behind a room that the caller owns. One room is used by
  * one call at a time, on one thread; rooms do not share anything. No call may be made from a signal handler.
  *
- * What the library is not told it does not check: a room that a call takes has to hold what the call says, each pointer has to
- * point to as many bytes as its length says (it is not null, also for a length of 0), and no two of them may overlap.
+ * What is checked: the calls that open and close look at their pointers and at the room, and so do the two that tell and book
+ * commands (`saddlemug_stack_armed`, `saddlemug_stack_book`). Where a pointer is null, or the room to open into isn't empty, they
+ * answer INVALID_PARAMETER; to close an empty room, or none, does nothing. Nothing else is checked: a room that another call
+ * takes has to hold what the call says, each pointer has to point to as many bytes as its length says (it is not null, also for
+ * a length of 0), and no two of them may overlap. For the calls of the library themselves, by which these go, that holds too:
+ * saddlemug_open_into, saddlemug_close_full and the like check nothing.
  *
  * A status is an NTSTATUS as `ntstatus.h` has it: 0 for success, and else one of these.
  */
@@ -56,8 +60,16 @@ struct saddlemug_sizes {
  *
  * INVALID_PARAMETER where the text gives no settings, its partitions don't fit the disk, or there is no such partition;
  * INSUFFICIENT_RESOURCES; the status of a command that the disk failed (DEVICE_DATA_ERROR where sector 0 is bad). The room is
- * then still empty. */
-uint32_t saddlemug_open(struct saddlemug *room, const uint8_t *settings, size_t length, uint8_t partition);
+ * then still empty. INVALID_PARAMETER also where the room isn't empty, which is then as it was, or a pointer is null. */
+uint32_t saddlemug_open_into(struct saddlemug *room, const uint8_t *settings, size_t length, uint8_t partition);
+
+static inline uint32_t
+saddlemug_open(struct saddlemug *room, const uint8_t *settings, size_t length, uint8_t partition)
+{
+	if (room == NULL || room->at != NULL || settings == NULL)
+		return SADDLEMUG_INVALID_PARAMETER;
+	return saddlemug_open_into(room, settings, length, partition);
+}
 
 struct saddlemug_sizes saddlemug_sizes(struct saddlemug *volume);
 
@@ -77,8 +89,15 @@ uint32_t saddlemug_write(struct saddlemug *volume, uint64_t offset, const uint8_
 /* Flushes the disk's caches (SBC: SYNCHRONIZE CACHE). The statuses are those of a read, but never INVALID_PARAMETER. */
 uint32_t saddlemug_flush(struct saddlemug *volume);
 
-/* Ends the volume, and its disk with all bytes. The room is empty then. */
-void saddlemug_close(struct saddlemug *volume);
+/* Ends the volume, and its disk with all bytes. The room is empty then. With an empty room, or none, it does nothing. */
+void saddlemug_close_full(struct saddlemug *volume);
+
+static inline void
+saddlemug_close(struct saddlemug *volume)
+{
+	if (volume != NULL && volume->at != NULL)
+		saddlemug_close_full(volume);
+}
 
 /* STACKS, for test benches and for storage of one's own: calls, adapter steps, cancels, resets and removals one by one. The
  * disk's adapter does nothing by itself: a command acts when it is told to, and its request is answered once its commands
@@ -91,7 +110,15 @@ struct saddlemug_stack {
 };
 
 /* As `saddlemug_open`, but for the partition. */
-uint32_t saddlemug_stack_open(struct saddlemug_stack *room, const uint8_t *settings, size_t length);
+uint32_t saddlemug_stack_open_into(struct saddlemug_stack *room, const uint8_t *settings, size_t length);
+
+static inline uint32_t
+saddlemug_stack_open(struct saddlemug_stack *room, const uint8_t *settings, size_t length)
+{
+	if (room == NULL || room->at != NULL || settings == NULL)
+		return SADDLEMUG_INVALID_PARAMETER;
+	return saddlemug_stack_open_into(room, settings, length);
+}
 
 /* A handle or an open request. Numbers rise from 1, and none is given twice; a slot is. */
 struct saddlemug_id {
@@ -102,7 +129,7 @@ struct saddlemug_id {
 enum saddlemug_event_kind {
 	SADDLEMUG_OPEN,            /* a handle on `partition`, counted from 0 (IRP_MJ_CREATE) */
 	SADDLEMUG_CLOSE,           /* `handle` is closed, and its requests cancelled (IRP_MJ_CLEANUP) */
-	SADDLEMUG_READ,            /* of `length` bytes from byte `offset` of the partition of `handle` on; memory for them is taken */
+	SADDLEMUG_READ,            /* of `length` bytes from byte `offset` of the partition of `handle` on */
 	SADDLEMUG_WRITE,           /* of the bytes that come with the event, from `offset` on, past volatile caches if `through` */
 	SADDLEMUG_FLUSH,           /* of the disk's caches, through `handle` */
 	SADDLEMUG_CANCEL_IO_EX,    /* all requests that are open on `handle`, or only `request` if `one` */
@@ -146,6 +173,10 @@ struct saddlemug_reply {
 
 /* Carries one event out. `bytes` are those of a write, and are not read for others. Labels of the step before that were not
  * taken are let go.
+ *
+ * A read takes memory for its bytes, and a write for a copy of them, also where it is then refused: for those of 65,536 sectors
+ * at most. One of more is made as one of a single byte: it is refused as it would be, by the first that fits of INVALID_HANDLE,
+ * DELETE_PENDING and INVALID_PARAMETER, and its label says 1 for its length. No other event takes memory that depends on it.
  *
  * 0 where the event was carried out: `reply` has the reply. INVALID_PARAMETER where there is no such kind,
  * INSUFFICIENT_RESOURCES where memory for the bytes was refused; then nothing has happened, and `reply` is as it was. */
@@ -199,8 +230,15 @@ struct saddlemug_answer {
 /* Takes the waiting answer of the lowest number, in the same way. Answers wait from step to step. */
 bool saddlemug_stack_take_answer(struct saddlemug_stack *stack, struct saddlemug_answer *answer, uint8_t *buffer, size_t length);
 
-/* Ends the stack, and its disk in memory with all bytes. The room is empty then. */
-void saddlemug_stack_close(struct saddlemug_stack *stack);
+/* Ends the stack, and its disk in memory with all bytes. The room is empty then. With an empty room, or none, it does nothing. */
+void saddlemug_stack_close_full(struct saddlemug_stack *stack);
+
+static inline void
+saddlemug_stack_close(struct saddlemug_stack *stack)
+{
+	if (stack != NULL && stack->at != NULL)
+		saddlemug_stack_close_full(stack);
+}
 
 /* STACKS OVER STORAGE OF ONE'S OWN: the sectors stand where the program keeps them, and the library has none of them but a
  * copy of the first. For each command at the adapter the program asks what it is (`saddlemug_stack_armed`), moves the bytes
@@ -210,9 +248,7 @@ void saddlemug_stack_close(struct saddlemug_stack *stack);
  * The bytes may be moved in any order, and on any threads of the program's own, while no call on that stack runs. The calls
  * themselves are made as all others: one at a time on a room.
  *
- * The three calls that are only here look at their pointers: where one is null they answer INVALID_PARAMETER, and
- * the last two INVALID_HANDLE where the room is empty. Where they call the library, it is by `saddlemug_over_open`, `saddlemug_over_armed`
- * and `saddlemug_over_book`, for which the rules at the head of this file hold. */
+ * The last two answer INVALID_HANDLE where the room is empty. */
 
 struct saddlemug_disk {
 	uint64_t sectors;       /* of the disk, 1 to 2^40 */

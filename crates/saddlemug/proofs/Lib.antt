@@ -5,4 +5,5 @@ mod FirstOver
 mod Padding
 mod Standing
 mod Texts
+mod TooLong
 pub mod Values

@@ -9,3 +9,4 @@ pub mod Stacks
 pub mod Statuses
 pub mod Stepping
 pub mod Suiting
+pub mod TooLong

@@ -1,5 +1,5 @@
 -- Events, replies, labels and answers of a stack as C tells them and is told them.
-use Rattle.std.specs.Prelude.{◌≡◌, ℕ, ◌+◌, ◌%◌, ◌/◌, ◌^◌, List, [], ◌∷◌, drop, length, min, replicate, slice_get, take, if◌then◌else◌, Option, Some, None}
+use Rattle.std.specs.Prelude.{◌≡◌, ℕ, ◌+◌, ◌*◌, nat_lt, Bool, ◌%◌, ◌/◌, ◌^◌, List, [], ◌∷◌, drop, length, min, replicate, slice_get, take, if◌then◌else◌, Option, Some, None}
 use Rattle.std.specs.Option.{option_map}
 use Rattle.ntstatus.specs.Codes.{value_of}
 use Rattle.srb.specs.declared.Class.{Class}
@@ -54,25 +54,34 @@ kinds =
     ∷ which.Reset
     ∷ []
 
--- the event of a kind that is told, with the bytes of a write
-abbrev pub event_by : StackEvent → List ℕ → EventKind → Event
-event_by e bytes which.Open = Open e.partition
-event_by e bytes which.Close = Close (handle_of e.handle)
-event_by e bytes which.Read = Read (handle_of e.handle) e.offset (replicate e.length 0)
-event_by e bytes which.Write = Write (handle_of e.handle) e.offset bytes e.through
-event_by e bytes which.Flush = Flush (handle_of e.handle)
-event_by e bytes which.CancelIoEx = CancelIoEx (handle_of e.handle) (if e.one then Some (id_of e.request) else None)
-event_by e bytes which.Mark = Mark e.request.number
-event_by e bytes which.QueryRemove = QueryRemove
-event_by e bytes which.CancelRemove = CancelRemove
-event_by e bytes which.Remove = Remove
-event_by e bytes which.SurpriseRemove = SurpriseRemove
-event_by e bytes which.Act = Act e.tag
-event_by e bytes which.Finish = Finish e.tag
-event_by e bytes which.Reset = Reset
+-- more bytes than the longest request of the layers has: 65,536 sectors of this size
+abbrev pub is_too_long : ℕ → ℕ → Bool
+is_too_long size count = nat_lt (65536 * size) count
 
-abbrev pub asked_event : StackEvent → List ℕ → Option Event
-asked_event e bytes = option_map (event_by e bytes) (slice_get kinds e.kind)
+-- how many bytes a read or a write is called with, on sectors of this size: those that it asks for; in place of too many one
+-- alone, which is no whole sector, and is refused as they would be
+abbrev pub bytes_called : ℕ → ℕ → ℕ
+bytes_called size count = if is_too_long size count then 1 else count
+
+-- the event of a kind that is told, with the bytes of a write, on sectors of this size
+abbrev pub event_by : ℕ → StackEvent → List ℕ → EventKind → Event
+event_by size e bytes which.Open = Open e.partition
+event_by size e bytes which.Close = Close (handle_of e.handle)
+event_by size e bytes which.Read = Read (handle_of e.handle) e.offset (replicate (bytes_called size e.length) 0)
+event_by size e bytes which.Write = Write (handle_of e.handle) e.offset (take (bytes_called size (length bytes)) bytes) e.through
+event_by size e bytes which.Flush = Flush (handle_of e.handle)
+event_by size e bytes which.CancelIoEx = CancelIoEx (handle_of e.handle) (if e.one then Some (id_of e.request) else None)
+event_by size e bytes which.Mark = Mark e.request.number
+event_by size e bytes which.QueryRemove = QueryRemove
+event_by size e bytes which.CancelRemove = CancelRemove
+event_by size e bytes which.Remove = Remove
+event_by size e bytes which.SurpriseRemove = SurpriseRemove
+event_by size e bytes which.Act = Act e.tag
+event_by size e bytes which.Finish = Finish e.tag
+event_by size e bytes which.Reset = Reset
+
+abbrev pub asked_event : ℕ → StackEvent → List ℕ → Option Event
+asked_event size e bytes = option_map (event_by size e bytes) (slice_get kinds e.kind)
 
 -- REPLIES
 

@@ -21,10 +21,11 @@ use Rattle.saddlemug.specs.Stacks.{AreToldIn, asked_event, kinds, label_bytes, s
 abbrev pub quiet : ManagerView → ManagerView
 quiet v = record v { labels = [] }
 
--- the event that C told was carried out, and its reply was told
+-- the event that C told was carried out, and its reply was told; a read or a write of more than 65,536 sectors as one of a
+-- byte, which is refused as it would be
 pub record Steps (old : ManagerView) (e : StackEvent) (bytes : List ℕ) (told : StackReply) (new : ManagerView) : Type 0 where
   pub event : Event
-  pub asked : asked_event e bytes ≡ Some event
+  pub asked : asked_event old.rules.sector_size e bytes ≡ Some event
   pub reply : Reply
   pub right : IsRight (quiet old) event reply new
   pub is_told : told ≡ shown_reply reply
@@ -33,13 +34,13 @@ pub record Steps (old : ManagerView) (e : StackEvent) (bytes : List ℕ) (told :
 abbrev pub IsNotStepped : ManagerView → ManagerView → Type 0
 IsNotStepped old new = new ≡ old
 
--- the event is a read or a write, for whose bytes memory is taken
+-- the event is a read or a write, for whose bytes memory is taken: for no more than those of 65,536 sectors
 abbrev pub HasBytes : StackEvent → Type 0
 HasBytes e = (slice_get kinds e.kind ≡ Some which.Read) ⊎ (slice_get kinds e.kind ≡ Some which.Write)
 
 -- why nothing was carried out: there is no such event, or memory for its bytes was refused
 abbrev pub IsStepStatus : StackEvent → List ℕ → NtStatus → Type 0
-IsStepStatus e bytes status = ((status ≡ InvalidParameter) × (asked_event e bytes ≡ None)) ⊎ ((status ≡ InsufficientResources) × HasBytes e)
+IsStepStatus e bytes status = ((status ≡ InvalidParameter) × (slice_get kinds e.kind ≡ None)) ⊎ ((status ≡ InsufficientResources) × HasBytes e)
 
 -- what C was told, if it was told anything
 abbrev pub told_if : {A : Type 0} → Bool → A → Option A

@@ -1,10 +1,11 @@
 //! The events of a stack as C tells them, and the replies as C is told them.
 
-ghost use Rattle.std.specs.Prelude.{◌≡◌, ◌≢◌, [], Some, IfErr, IfOk, slice_get};
+ghost use Rattle.std.specs.Prelude.{◌≡◌, ◌≢◌, ◌≤◌, ◌+◌, ◌*◌, [], Some, IfErr, IfOk, slice_get};
 ghost use Rattle.ntstatus.specs.declared.NtStatus.TheVariants.{InsufficientResources, Success};
 ghost use Rattle.saddlemug.specs.Stepping.{IsStepStatus};
 ghost use Rattle.saddlemug.specs.declared.events.EventKind.TheVariants.{Read, Write};
-ghost use Rattle.saddlemug.specs.Stacks.{asked_event, event_by, kinds, replied, shown_reply};
+ghost use Rattle.saddlemug.specs.Stacks.{asked_event, bytes_called, event_by, kinds, replied, shown_reply};
+ghost use Rattle.saddlemug.specs.TooLong.{IsRefusedAlike};
 
 use crate::bytes::{copied, zeros};
 use crate::status::refusal_status;
@@ -99,14 +100,38 @@ pub struct StackReply {
     pub id: StackId,
 }
 
-/// The event that C tells, with the bytes of a write.
+/// The sectors of the longest request of the layers.
+const LONGEST: u64 = 65_536;
+
+/// How many bytes a read or a write of `count` bytes is called with, on sectors of `size` bytes: as many, or one alone
+/// in place of more than 65,536 sectors have. One byte is no whole sector: it is refused as they would be
+/// (`refused_alike`), and takes no memory to speak of.
+fn bytes_called(size: u64, count: u64) -> u64
+    ensures called { result ≡ bytes_called size count }
+    ensures few { result ≤ 65536 * size + 1 }
+    ensures among { result ≤ count }
+    ensures refused_alike { IsRefusedAlike size count result }
+{
+    if u128::from(count) > u128::from(LONGEST) * u128::from(size) {
+        1
+    } else {
+        count
+    }
+}
+
+/// The event that C tells, with the bytes of a write, on sectors of `size` bytes.
 ///
 /// # Errors
 ///
 /// [`NtStatus::InvalidParameter`] where there is no such kind; [`NtStatus::InsufficientResources`] where memory was
 /// refused.
-pub(crate) fn event_of(alloc: Global, event: &StackEvent, bytes: &[u8]) -> Result<Event, NtStatus>
-    ensures event { IfOk result (λ e. asked_event event.now bytes.now ≡ Some e) }
+pub(crate) fn event_of(
+    alloc: Global,
+    event: &StackEvent,
+    bytes: &[u8],
+    size: u64,
+) -> Result<Event, NtStatus>
+    ensures event { IfOk result (λ e. asked_event size event.now bytes.now ≡ Some e) }
     ensures fault { IfErr result (λ status. status ≢ Success) }
     ensures why { IfErr result (IsStepStatus event.now bytes.now) }
 {
@@ -120,8 +145,8 @@ pub(crate) fn event_of(alloc: Global, event: &StackEvent, bytes: &[u8]) -> Resul
             partition: event.partition,
         }),
         EventKind::Close => Ok(Event::Close { handle }),
-        EventKind::Read => read_of(alloc, event),
-        EventKind::Write => write_of(alloc, event, bytes),
+        EventKind::Read => read_of(alloc, event, size),
+        EventKind::Write => write_of(alloc, event, bytes, size),
         EventKind::Flush => Ok(Event::Flush { handle }),
         EventKind::CancelIoEx => Ok(Event::CancelIoEx {
             handle,
@@ -141,11 +166,11 @@ pub(crate) fn event_of(alloc: Global, event: &StackEvent, bytes: &[u8]) -> Resul
 }
 
 /// The read that C tells.
-fn read_of(alloc: Global, event: &StackEvent) -> Result<Event, NtStatus>
-    ensures event { IfOk result (λ e. e ≡ event_by event.now [] Read) }
+fn read_of(alloc: Global, event: &StackEvent, size: u64) -> Result<Event, NtStatus>
+    ensures event { IfOk result (λ e. e ≡ event_by size event.now [] Read) }
     ensures fault { IfErr result (λ status. status ≡ InsufficientResources) }
 {
-    match zeros(alloc, event.length) {
+    match zeros(alloc, bytes_called(size, event.length)) {
         Ok(buffer) => Ok(Event::Read {
             handle: handle_of(event.handle),
             offset: event.offset,
@@ -156,11 +181,12 @@ fn read_of(alloc: Global, event: &StackEvent) -> Result<Event, NtStatus>
 }
 
 /// The write that C tells, with its bytes.
-fn write_of(alloc: Global, event: &StackEvent, bytes: &[u8]) -> Result<Event, NtStatus>
-    ensures event { IfOk result (λ e. e ≡ event_by event.now bytes.now Write) }
+fn write_of(alloc: Global, event: &StackEvent, bytes: &[u8], size: u64) -> Result<Event, NtStatus>
+    ensures event { IfOk result (λ e. e ≡ event_by size event.now bytes.now Write) }
     ensures fault { IfErr result (λ status. status ≡ InsufficientResources) }
 {
-    match copied(alloc, bytes) {
+    let called = bytes_called(size, bytes.len() as u64);
+    match copied(alloc, &bytes[..called as usize]) {
         Ok(bytes) => Ok(Event::Write {
             handle: handle_of(event.handle),
             offset: event.offset,

@@ -5,7 +5,7 @@
 //!
 //! The contracts of the functions that it exports promise to C:
 //!
-//! - [`saddlemug_open`]: a volume that was opened is the partition of the disk of the text's settings.
+//! - [`saddlemug_open_into`]: a volume that was opened is the partition of the disk of the text's settings.
 //! - [`saddlemug_read`] (`reads`, `as_it_was`): a read that succeeds has put just the bytes of the partition into the
 //!   buffer, and one that fails leaves the buffer as it was.
 //! - [`saddlemug_write`] (`writes`): a write that succeeds has replaced just its bytes.
@@ -15,6 +15,8 @@
 //! - [`saddlemug_stack_step`], [`saddlemug_stack_take_label`], [`saddlemug_stack_take_answer`] and
 //!   [`saddlemug_over_armed`] (`as_it_was`): where nothing is told, what would hold it is as it was. So is a buffer
 //!   behind the bytes that were put into it.
+//! - A step calls for no more bytes than 65,536 sectors have (`bytes_called`): a read or a write of more is made as one
+//!   of a byte, which is answered at once by the same status (`refused_alike`).
 //! - Each number that is not 0 is the number of the status that says why a call did not succeed.
 //!
 //! Nothing checks that C keeps what a call requires: the cell holds what the call is for, and no two arguments share

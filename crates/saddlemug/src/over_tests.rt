@@ -11,7 +11,8 @@ use crate::labels::StackAnswer;
 use crate::opening_over::StackDisk;
 use crate::over_calls::{saddlemug_over_armed, saddlemug_over_book, saddlemug_over_open};
 use crate::stack_calls::{
-    saddlemug_stack_close, saddlemug_stack_open, saddlemug_stack_step, saddlemug_stack_take_answer,
+    saddlemug_stack_close_full, saddlemug_stack_open_into, saddlemug_stack_step,
+    saddlemug_stack_take_answer,
 };
 use crate::tests::{SETTINGS, event, same};
 use std::alloc::Global;
@@ -161,7 +162,7 @@ fn books_what_c_moved(rt: HostRuntime) {
     let twice = saddlemug_over_book(alloc, &mut cell, &moved(&piece));
     let answer = answered(alloc, &mut cell);
     let late = saddlemug_over_book(alloc, &mut cell, &moved(&piece));
-    saddlemug_stack_close(alloc, &mut cell);
+    saddlemug_stack_close_full(alloc, &mut cell);
     // WRITE(10), of ten bytes, of sector 3 of the disk.
     same(&rt, &piece.block[0], &0x2A);
     same(&rt, &piece.block_length, &10);
@@ -202,7 +203,7 @@ fn refuses_what_is_not_of_the_piece(rt: HostRuntime) {
     let no_failure = saddlemug_over_book(alloc, &mut cell, &no_failure);
     let mut none = no_piece();
     let free = saddlemug_over_armed(alloc, &mut cell, 1, &mut none);
-    saddlemug_stack_close(alloc, &mut cell);
+    saddlemug_stack_close_full(alloc, &mut cell);
     same(
         &rt,
         &[short, no_failure],
@@ -230,7 +231,7 @@ fn read_failed(rt: &impl Abort, alloc: Global, failure: Option<StackCompletion>)
         same(rt, &booked, &0);
     }
     let (status, _) = answered(alloc, &mut cell);
-    saddlemug_stack_close(alloc, &mut cell);
+    saddlemug_stack_close_full(alloc, &mut cell);
     status
 }
 
@@ -275,13 +276,13 @@ fn refuses_what_is_no_disk(rt: HostRuntime) {
 fn a_disk_in_memory_moves_by_itself(rt: HostRuntime) {
     let alloc = rt.alloc();
     let mut cell = Cell::empty(alloc);
-    if saddlemug_stack_open(alloc, &mut cell, SETTINGS) != 0 {
+    if saddlemug_stack_open_into(alloc, &mut cell, SETTINGS) != 0 {
         panic!(rt; "no stack");
     }
     let mut armed = no_piece();
     let told = saddlemug_over_armed(alloc, &mut cell, 0, &mut armed);
     let booked = saddlemug_over_book(alloc, &mut cell, &moved(&armed));
-    saddlemug_stack_close(alloc, &mut cell);
+    saddlemug_stack_close_full(alloc, &mut cell);
     same(
         &rt,
         &[told, booked],

@@ -17,7 +17,7 @@ use std::alloc::Global;
 /// Starts a stack into an empty cell, over a disk of zeros with the partition table of a text's settings. Answers 0, or
 /// the status that says why there is none; the cell is then still empty.
 #[unsafe(no_mangle)]
-pub extern "C" fn saddlemug_stack_open(alloc: Global, cell: &mut Cell, settings: &[u8]) -> u32
+pub extern "C" fn saddlemug_stack_open_into(alloc: Global, cell: &mut Cell, settings: &[u8]) -> u32
     requires { cell.old.held ≡ None }
     ensures held { MatchBool (nat_eq result 0) (HoldsStack (IsNewStack settings.now) cell.new.held) (cell.new.held ≡ None) }
     ensures status { (result ≡ 0) ⊎ IsNumberOfStatus (IsStackStatus settings.now) result }
@@ -114,7 +114,7 @@ pub extern "C" fn saddlemug_stack_take_answer(
 
 /// Ends the stack, and its disk with it. Its cell is empty then.
 #[unsafe(no_mangle)]
-pub extern "C" fn saddlemug_stack_close(alloc: Global, cell: &mut Cell)
+pub extern "C" fn saddlemug_stack_close_full(alloc: Global, cell: &mut Cell)
     requires { HoldsAnyStack cell.old.held }
     ensures { cell.new.held ≡ None }
 {

@@ -26,7 +26,8 @@ pub(crate) fn step_as_told<A: Adapter>(
     ensures fault { IfErr result (λ status. status ≢ Success) }
     ensures why { IfErr result (IsStepStatus event.now bytes.now) }
 {
-    match event_of(alloc, event, bytes) {
+    let size = stack.sector_size();
+    match event_of(alloc, event, bytes, size) {
         Ok(event) => {
             drop_labels(stack);
             let reply = stack.step(alloc, event);

@@ -4,11 +4,11 @@ use crate::cell::Cell;
 use crate::events::{StackEvent, StackId, StackReply};
 use crate::labels::{StackAnswer, StackLabel};
 use crate::stack_calls::{
-    saddlemug_stack_close, saddlemug_stack_open, saddlemug_stack_step, saddlemug_stack_take_answer,
-    saddlemug_stack_take_label,
+    saddlemug_stack_close_full, saddlemug_stack_open_into, saddlemug_stack_step,
+    saddlemug_stack_take_answer, saddlemug_stack_take_label,
 };
 use crate::volume_calls::{
-    saddlemug_close, saddlemug_flush, saddlemug_open, saddlemug_read, saddlemug_sizes,
+    saddlemug_close_full, saddlemug_flush, saddlemug_open_into, saddlemug_read, saddlemug_sizes,
     saddlemug_write,
 };
 use std::fmt::Debug;
@@ -27,7 +27,7 @@ pub(crate) fn same<T: PartialEq + Debug>(rt: &impl Abort, got: &T, wanted: &T) {
 fn writes_and_reads(rt: HostRuntime) {
     let alloc = rt.alloc();
     let mut cell = Cell::empty(alloc);
-    if saddlemug_open(alloc, &mut cell, SETTINGS, 0) != 0 {
+    if saddlemug_open_into(alloc, &mut cell, SETTINGS, 0) != 0 {
         panic!(rt; "no volume");
     }
     let sizes = saddlemug_sizes(alloc, &mut cell);
@@ -41,7 +41,7 @@ fn writes_and_reads(rt: HostRuntime) {
     let odd = saddlemug_read(alloc, &mut cell, 100, &mut buffer);
     // A bad sector: STATUS_DEVICE_DATA_ERROR.
     let bad = saddlemug_read(alloc, &mut cell, 2048, &mut buffer);
-    saddlemug_close(alloc, &mut cell);
+    saddlemug_close_full(alloc, &mut cell);
     assert!(rt; sizes.sector_size == 512 && sizes.sectors == 8);
     same(&rt, &[wrote, flushed, was_read], &[0, 0, 0]);
     same(&rt, &first, &[0, 0xA5, 0xA5, 0]);
@@ -59,7 +59,7 @@ fn refuses_what_it_cannot_open(rt: HostRuntime) {
     let rows: [(&[u8], u8); 4] = [(b"\xFF", 0), (b"sectors = 9", 0), (b"[", 0), (SETTINGS, 1)];
     for (text, partition) in rows {
         let mut cell = Cell::empty(alloc);
-        let status = saddlemug_open(alloc, &mut cell, text, partition);
+        let status = saddlemug_open_into(alloc, &mut cell, text, partition);
         same(&rt, &status, &0xC000_000D);
     }
 }
@@ -92,7 +92,7 @@ fn no_reply() -> StackReply {
 fn steps_a_stack(rt: HostRuntime) {
     let alloc = rt.alloc();
     let mut cell = Cell::empty(alloc);
-    if saddlemug_stack_open(alloc, &mut cell, SETTINGS) != 0 {
+    if saddlemug_stack_open_into(alloc, &mut cell, SETTINGS) != 0 {
         panic!(rt; "no stack");
     }
     let id = StackId { number: 0, slot: 0 };
@@ -114,7 +114,7 @@ fn steps_a_stack(rt: HostRuntime) {
     let finished = saddlemug_stack_step(alloc, &mut cell, &event(12, id), &[], &mut reply);
     let answered = saddlemug_stack_take_answer(alloc, &mut cell, &mut answer, &mut bytes);
     let unknown = saddlemug_stack_step(alloc, &mut cell, &event(14, id), &[], &mut reply);
-    saddlemug_stack_close(alloc, &mut cell);
+    saddlemug_stack_close_full(alloc, &mut cell);
     same(
         &rt,
         &[opened, wrote, acted, finished, unknown],

@@ -27,7 +27,7 @@ pub struct DiskSizes {
 /// Opens a volume into an empty cell: a partition, counted from 0, of a disk of zeros with the partition table of a
 /// text's settings. Answers 0, or the status that says why there is none; the cell is then still empty.
 #[unsafe(no_mangle)]
-pub extern "C" fn saddlemug_open(
+pub extern "C" fn saddlemug_open_into(
     alloc: Global,
     cell: &mut Cell,
     settings: &[u8],
@@ -121,7 +121,7 @@ pub extern "C" fn saddlemug_flush(alloc: Global, cell: &mut Cell) -> u32
 
 /// Ends the volume, and its disk with it. Its cell is empty then.
 #[unsafe(no_mangle)]
-pub extern "C" fn saddlemug_close(alloc: Global, cell: &mut Cell)
+pub extern "C" fn saddlemug_close_full(alloc: Global, cell: &mut Cell)
     requires { HoldsAnyVolume cell.old.held }
     ensures { cell.new.held ≡ None }
 {

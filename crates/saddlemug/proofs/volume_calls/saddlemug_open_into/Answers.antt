@@ -1,7 +1,7 @@
 use Rattle.std.proofs.Common.{refl, inl}
 use Rattle.saddlemug.specs.Opened.{IsNewVolume, IsVolumeStatus}
 use Rattle.saddlemug.proofs.Filling.{filled_status, holds_volume}
-use Rattle.saddlemug.proofs.volume_calls.saddlemug_open.Goals as goal
+use Rattle.saddlemug.proofs.volume_calls.saddlemug_open_into.Goals as goal
 
 pub returns-in-Ok-clause-held : goal.returns-in-Ok-clause-held
 returns-in-Ok-clause-held c = holds_volume (IsNewVolume c.args.settings.now c.args.partition) _ _ _ c.in-Ok.ensures.volume c.fill.ensures.held
