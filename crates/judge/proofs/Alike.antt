@@ -15,6 +15,9 @@ module _ {X : Type 0} (a b : List X) where
   pub all_alike : (n : ℕ) → length a ≡ length b → n ≡ length a → take n a ≡ take n b → a ≡ b
   all_alike n same is e = sym (take_all n a (omega arith)) ∙ e ∙ take_all n b (omega arith)
 
+pub alike_self : (states : List State) → AreAlike states states
+alike_self states = record { kept = λ s c. c; given = λ s c. c }
+
 module _ (ys once : List State) (m : State) where
   pub added : (after : List State) → AddsOnce once m after → AreAlike ys once → AreAlike (ys ++ m ∷ []) after
   added after (inl e) h = subst (λ xs. AreAlike (ys ++ m ∷ []) xs) (sym e) (record {

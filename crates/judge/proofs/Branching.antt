@@ -9,7 +9,7 @@ use Rattle.cdb.specs.declared.Cdb.{Cdb}
 use Rattle.machine.specs.Rules.{Rules}
 use Rattle.machine.specs.State.{OpenRequest, State}
 use Rattle.judge.specs.Picking.{choices}
-use Rattle.judge.specs.Deciding.{startable}
+use Rattle.judge.specs.StartRuling.{startable}
 use Rattle.judge.specs.Next.{started_by, started_of, started_each}
 use Rattle.judge.specs.Starting.{choice_at, started_as, pending_states}
 use Rattle.judge.specs.declared.starts.Pending.{Pending}
@@ -48,39 +48,39 @@ module _ (s : State) (tag : ℕ) where
       → flat_map (started_as s tag places) (choice_at s k) ≡ started_by s tag o (remove s.requests k) places ∷ []
   start_is k o places low is = ap (flat_map (started_as s tag places)) (one_choice s.requests k o low is)
 
-  module _ (rules : Rules) (command : Option Cdb) where
-    pub none_starts : (k : ℕ) (o : OpenRequest) → k < length s.requests → o ≡ get_or s.requests k o → None ≡ startable rules s command o
-        → flat_map (started_each rules s tag command) (choice_at s k) ≡ []
-    none_starts k o low is e = ap (flat_map (started_each rules s tag command)) (one_choice s.requests k o low is) ∙ append-nil _ ∙ ap (started_of s tag o (remove s.requests k)) (sym e)
+  module _ (rules : Rules) (owner : Option ℕ) (command : Cdb) where
+    pub none_starts : (k : ℕ) (o : OpenRequest) → k < length s.requests → o ≡ get_or s.requests k o → None ≡ startable rules s owner command o
+        → flat_map (started_each rules s tag owner command) (choice_at s k) ≡ []
+    none_starts k o low is e = ap (flat_map (started_each rules s tag owner command)) (one_choice s.requests k o low is) ∙ append-nil _ ∙ ap (started_of s tag o (remove s.requests k)) (sym e)
 
-    pub one_starts : (k : ℕ) (o : OpenRequest) (places : Extent) → k < length s.requests → o ≡ get_or s.requests k o → Some places ≡ startable rules s command o
-        → flat_map (started_each rules s tag command) (choice_at s k) ≡ flat_map (started_as s tag places) (choice_at s k)
+    pub one_starts : (k : ℕ) (o : OpenRequest) (places : Extent) → k < length s.requests → o ≡ get_or s.requests k o → Some places ≡ startable rules s owner command o
+        → flat_map (started_each rules s tag owner command) (choice_at s k) ≡ flat_map (started_as s tag places) (choice_at s k)
     one_starts k o places low is e =
-        ap (flat_map (started_each rules s tag command)) (one_choice s.requests k o low is) ∙ append-nil _ ∙ ap (started_of s tag o (remove s.requests k)) (sym e)
+        ap (flat_map (started_each rules s tag owner command)) (one_choice s.requests k o low is) ∙ append-nil _ ∙ ap (started_of s tag o (remove s.requests k)) (sym e)
         ∙ sym (start_is k o places low is)
 
     -- no start by the request at a place
     pub none_at : (k : ℕ) (o : OpenRequest) (next : Option Pending)
-        → k < length s.requests → o ≡ get_or s.requests k o → None ≡ startable rules s command o → next ≡ None
-        → pending_states s tag next ≡ flat_map (started_each rules s tag command) (choice_at s k)
+        → k < length s.requests → o ≡ get_or s.requests k o → None ≡ startable rules s owner command o → next ≡ None
+        → pending_states s tag next ≡ flat_map (started_each rules s tag owner command) (choice_at s k)
     none_at k o next low is e none = ap (pending_states s tag) none ∙ sym (none_starts k o low is e)
 
     -- the start at a place is pending from now on, and the one before was added
     pub one_found : (before found : List State) (k : ℕ) (pending next after : Option Pending)
-        → pending_states s tag next ≡ flat_map (started_each rules s tag command) (choice_at s k)
+        → pending_states s tag next ≡ flat_map (started_each rules s tag owner command) (choice_at s k)
         → found ≡ before ++ pending_states s tag pending → after ≡ next
         → found ++ pending_states s tag after
-        ≡ (before ++ pending_states s tag pending) ++ flat_map (started_each rules s tag command) (choice_at s k)
+        ≡ (before ++ pending_states s tag pending) ++ flat_map (started_each rules s tag owner command) (choice_at s k)
     one_found before found k pending next after starts added same =
         ap (λ ys. ys ++ pending_states s tag after) added
         ∙ ap (λ ys. (before ++ pending_states s tag pending) ++ ys) (ap (pending_states s tag) same ∙ starts)
 
     -- there is no start at a place
     pub none_found : (before found : List State) (k : ℕ) (pending next after : Option Pending)
-        → pending_states s tag next ≡ flat_map (started_each rules s tag command) (choice_at s k)
+        → pending_states s tag next ≡ flat_map (started_each rules s tag owner command) (choice_at s k)
         → is_some next ≡ false → found ≡ before → after ≡ pending
         → found ++ pending_states s tag after
-        ≡ (before ++ pending_states s tag pending) ++ flat_map (started_each rules s tag command) (choice_at s k)
+        ≡ (before ++ pending_states s tag pending) ++ flat_map (started_each rules s tag owner command) (choice_at s k)
     none_found before found k pending next after starts none kept same =
         ap (λ ys. ys ++ pending_states s tag after) kept
         ∙ ap (λ (p : Option Pending). before ++ pending_states s tag p) same

@@ -9,13 +9,11 @@ use Rattle.std.proofs.lemmas.List.Folds.{Any-from_list_any, list_any-from_Any}
 use Rattle.ntstatus.specs.declared.NtStatus.{NtStatus}
 use Rattle.ntstatus.specs.declared.NtStatus.TheVariants.{Success, Pending, DeviceBusy, InvalidHandle, InvalidParameter, NoSuchDevice, InvalidDeviceRequest, NonexistentSector, MoreProcessingRequired, DeletePending, InsufficientResources, DeviceDataError, MediaWriteProtected, DeviceNotReady, Cancelled, IoDeviceError, NotFound}
 use Rattle.ntstatus.specs.Codes.{value_of}
-use Rattle.sector.specs.declared.Extent.{Extent}
 use Rattle.machine.specs.Rules.{Rules}
 use Rattle.machine.specs.State.{Mark, Untouched, Out, Done, Failed, Back, OpenRequest, Piece, State}
-use Rattle.machine.specs.Cutting.{mark_at, is_back, restarts_left}
-use Rattle.machine.specs.Sending.{is_unsent, IsUnsent, is_started, HasTag, HasOtherTag, IsLowestFreeTag, IsInTurn, MayStart, IsWholeRequest, IsSendable}
-use Rattle.machine.specs.Answering.{IsGivenUp, Cause, HasEnded, HasCause}
-use Rattle.judge.specs.Deciding.{same_truth, same_status, is_given_up, gives_up_as, is_worn_out, has_ended, is_cause, has_cause, has_tag, has_other_tag, all_used, is_lowest_free, is_in_turn, may_start, is_sendable}
+use Rattle.machine.specs.Sending.{is_started, HasTag, IsInTurn}
+use Rattle.machine.specs.Answering.{IsGivenUp, Cause, HasEnded}
+use Rattle.judge.specs.Deciding.{same_truth, same_status, is_given_up, gives_up_as, is_worn_out, has_ended, is_cause, has_tag, is_in_turn}
 
 -- TRUTHS AND STATUSES
 
@@ -135,23 +133,8 @@ module _ (rules : Rules) (s : State) (o : OpenRequest) where
       back (inl h) = cc (h)
       back (inr h) = why h.0 h.1
 
-  pub decides_lowest : (status : NtStatus) (marks : List Mark) → Decides (has_cause rules s o status marks) (HasCause rules s o marks status)
-  decides_lowest status [] = (λ h. tt, λ h. refl)
-  decides_lowest status (Done sector ∷ marks) = decides_lowest status marks
-  decides_lowest status (Untouched ∷ marks) = decides_cause status Untouched
-  decides_lowest status (Out ∷ marks) = decides_cause status Out
-  decides_lowest status (Failed failure ∷ marks) = decides_cause status (Failed failure)
-  decides_lowest status (Back ∷ marks) = decides_cause status Back
-
   pub decides_all_ended : (marks : List Mark) → Decides (list_all (has_ended rules s o) marks) (All (HasEnded rules s o) marks)
   decides_all_ended marks = Decides-by_and (has_ended rules s o) (HasEnded rules s o) (list_all (has_ended rules s o)) decides_ended refl (λ _ _. refl) marks
-
-pub decides_both_ways : (a b : Bool) (P : Type 0) → Decides a P → Decides (same_truth a b) (P ↔ IsTrue b)
-decides_both_ways true b P h = (λ e. (λ p. e, λ t. h.0 refl), λ e. e.0 (h.0 refl))
-decides_both_ways false b P h = (
-  λ e. (λ p. absurd (both_ways false refl (h.1 p)), λ t. absurd (both_ways b (not-true b e) t)),
-  λ e. not_from_false b (false_from_ne_true b (λ t. both_ways false refl (h.1 (e.1 t)))),
-)
 
 -- STARTS
 
@@ -163,14 +146,6 @@ decides_tag tag pieces = (
   λ h. any_weaker (λ (p : Piece). has_tag tag p ≡ true) (HasTag tag) (λ p e. (Decides-eqb p.tag tag).0 e) pieces (Any-from_list_any (has_tag tag) pieces h),
   λ h. list_any-from_Any (has_tag tag) pieces (any_weaker (HasTag tag) (λ (p : Piece). has_tag tag p ≡ true) (λ p e. (Decides-eqb p.tag tag).1 e) pieces h),
 )
-
-pub decides_lowest_free : (depth : ℕ) (pieces : List Piece) (tag : ℕ) → Decides (is_lowest_free depth pieces tag) (IsLowestFreeTag depth pieces tag)
-decides_lowest_free depth pieces tag = Decides-like (is_lowest_free depth pieces tag)
-    (λ h. record { within = h.0; free = h.1.0; lowest = h.1.1 })
-    (λ h. (h.within, (h.free, h.lowest)))
-    (Decides-and _ _ (Decides-ltb tag depth) (Decides-and _ _
-    (Decides-by_and (has_other_tag tag) (HasOtherTag tag) (list_all (has_other_tag tag)) (λ p. Decides-not (has_tag tag p) (Decides-eqb p.tag tag)) refl (λ _ _. refl) pieces)
-    (Decides-below_and (λ k. list_any (has_tag k) pieces) (λ k. Any (HasTag k) pieces) (λ k. all_used k pieces) (λ k. decides_tag k pieces) refl (λ _. refl) tag)))
 
 pub decides_turn : (o other : OpenRequest) → Decides (is_in_turn o.number other) (IsInTurn o other)
 decides_turn o other = (there, back)
@@ -193,37 +168,3 @@ decides_turn o other = (there, back)
         by (inr e) c = or_left _ (other.cancelled || is_started other) (not_from_false _ e)
         by (inl e) (inl c) = or_right (not (nat_lt other.number o.number)) _ (or_left other.cancelled (is_started other) c)
         by (inl e) (inr c) = or_right (not (nat_lt other.number o.number)) _ (or_right other.cancelled (is_started other) (h (ltb-true _ _ e) c))
-
-decides_held : (paused late : Bool) → Decides (not (paused && late)) (IsTrue paused → IsFalse late)
-decides_held true late = (λ h p. not-true late h, λ h. not_from_false late (h refl))
-decides_held false late = (λ h p. cc (p), λ h. refl)
-
-pub decides_may_start : (s : State) (o : OpenRequest) → Decides (may_start s o) (MayStart s o)
-decides_may_start s o = Decides-like (may_start s o)
-    (λ h. record { not_cancelled = h.0.0; not_removing = h.0.1; not_held = h.1.0; in_turn = h.1.1 })
-    (λ h. ((h.not_cancelled, h.not_removing), (h.not_held, h.in_turn)))
-    (Decides-and _ _ (Decides-and _ _ (decides_false o.cancelled) (decides_false s.removing)) (Decides-and _ _ (decides_held s.paused o.late)
-    (Decides-by_and (is_in_turn o.number) (IsInTurn o) (list_all (is_in_turn o.number)) (λ other. decides_turn o other) refl (λ _ _. refl) s.requests)))
-
-decides_if : (a b : Bool) (P : Type 0) → Decides b P → Decides (not a || b) (IsTrue a → P)
-decides_if true b P h = (λ e t. h.0 e, λ e. h.1 (e refl))
-decides_if false b P h = (λ e t. cc (t), λ e. refl)
-
-decides_unless : (a b : Bool) (P : Type 0) → Decides b P → Decides (a || b) (IsFalse a → P)
-decides_unless true b P h = (λ e t. cc (t), λ e. refl)
-decides_unless false b P h = (λ e t. h.0 e, λ e. h.1 (e refl))
-
-pub decides_sendable : (rules : Rules) (o : OpenRequest) (places : Extent) → Decides (is_sendable rules o places) (IsSendable rules o places)
-decides_sendable rules o places = Decides-like (is_sendable rules o places)
-    (λ h. record { some = h.0.0.0; short = h.0.0.1; inside = h.0.1.0; unsent = h.0.1.1.0; whole = h.0.1.1.1; begins = λ grid. (h.1 grid).0; spare = λ grid. (h.1 grid).1 })
-    (λ h. (((h.some, h.short), (h.inside, (h.unsent, h.whole))), λ grid. (h.begins grid, h.spare grid)))
-    (Decides-and _ _ (Decides-and _ _ (Decides-and _ _ (Decides-ltb 0 places.count) (decides_leb places.count rules.max_transfer))
-    (Decides-and _ _ (decides_leb (places.first + places.count) (length o.marks)) (Decides-and _ _
-    (Decides-by_and is_unsent IsUnsent (list_all is_unsent) (λ m. decides_true (is_unsent m)) refl (λ _ _. refl) (slice_range o.marks places.first (places.first + places.count)))
-    (decides_if rules.one_piece _ (IsWholeRequest o places) whole))))
-    (decides_unless rules.any_cut _ _ (Decides-and _ _ (Decides-eqb (places.first % rules.max_transfer) 0)
-    (decides_if (is_back (mark_at o places.first)) _ (0 < restarts_left rules o) (Decides-ltb 0 (restarts_left rules o))))))
-  where
-    whole : Decides ((places.count == length o.marks) && not (is_started o)) (IsWholeRequest o places)
-    whole = Decides-like _ (λ h. record { all_places = h.0; not_before = h.1 }) (λ h. (h.all_places, h.not_before))
-        (Decides-and _ _ (Decides-eqb places.count (length o.marks)) (decides_false (is_started o)))

@@ -1,6 +1,6 @@
 -- What is named is left undone; nothing is named exactly where the state is settled.
 use Rattle.std.proofs.Common.{◌≡◌, ◌<◌, ◌≤◌, ℕ, Bool, true, false, List, [], ◌∷◌, Option, Some, None, refl, sym, ◌∙◌, ap, subst, arith, length, get_or}
-use Rattle.std.specs.Prelude.{◌==◌, ◌↔◌, not, nat_lt, nat_le, IsTrue, IsFalse, IsNone, All, Any, Contains, IfSome, MatchOption, slice_get, if◌then◌else◌}
+use Rattle.std.specs.Prelude.{◌==◌, ◌↔◌, is_none, not, nat_lt, nat_le, IsTrue, IsFalse, IsNone, All, Any, Contains, IfSome, MatchOption, slice_get, if◌then◌else◌}
 use Rattle.std.specs.Bool.{Decides}
 use Rattle.std.specs.List.{find, list_any}
 use Rattle.std.proofs.lemmas.List.Folds.{Any-from_list_any}
@@ -12,14 +12,15 @@ use Rattle.machine.specs.Rules.{Rules}
 use Rattle.machine.specs.State.{OpenRequest, Owed, State}
 use Rattle.machine.specs.Calling.{is_full}
 use Rattle.machine.specs.Settled.{has_out, started_count, IsWithin, IsHeld, WaitsIfCancelled, Waits, IsAllSent, IsHeldBack, HasMore, IsAtWork, Settled}
-use Rattle.judge.specs.Settling.{is_held, waits_if_cancelled, is_all_sent, is_held_back, has_more, is_at_work, is_settled}
+use Rattle.judge.specs.Settling.{is_held, waits_if_cancelled, is_all_sent, is_held_back, has_more, is_at_work}
 use Rattle.judge.specs.declared.undone_rules.Undone.{Undone}
 use Rattle.judge.specs.declared.undone_rules.Undone.TheVariants as what
 use Rattle.judge.specs.LeftUndone.{LeftBy, IsHeldIn, IsUndone, IsSettled, Leaves}
-use Rattle.judge.specs.Undoing.{failing, named, first_failing, owed_undone, window_undone, removing_undone, waiting_undone, unpaused_undone, idle_undone, sending_undone, served_undone, undone, undone_at_all}
+use Rattle.judge.specs.Undoing.{failing, named, first_failing, owed_undone, window_undone, removing_undone, waiting_undone, unpaused_undone, idle_undone, sending_undone, served_undone, undone, is_settled, undone_at_all}
 use Rattle.judge.proofs.Deciding.{decides_true}
-use Rattle.judge.proofs.Named.{found_pass, found_fail, none_any, either}
-use Rattle.judge.proofs.Settled.{held, waits, more, works, all_sent, held_back, decides_settled}
+use Rattle.judge.proofs.Picking.{found_pass, found_fail, none_any}
+use Rattle.judge.proofs.Named.{either}
+use Rattle.judge.proofs.Settled.{held, waits, more, works, all_sent, held_back}
 
 -- MATCHES OF ONE RULE
 
@@ -213,16 +214,26 @@ module _ (rules : Rules) (s : State) where
       by None h = tt
       by (Some u) h = h
 
+  pub settled_exactly : (x : Option Undone) → x ≡ undone rules s → IsTrue (is_none x) ↔ Settled rules s
+  settled_exactly None e = (λ t. exactly.0 (sym e), λ h. refl)
+  settled_exactly (Some u) e = (λ t. cc (t), λ h. cc (e, exactly.1 h))
+
+  pub settled_none : None ≡ undone rules s → IsTrue true ↔ Settled rules s
+  settled_none e = settled_exactly None e
+
+  pub settled_some : (u : Undone) → Some u ≡ undone rules s → IsTrue false ↔ Settled rules s
+  settled_some u e = settled_exactly (Some u) e
+
 -- OF ALL STATES
 
 module _ (rules : Rules) where
   none_settled : (states : List State) → list_any (is_settled rules) states ≡ false → Any (IsSettled rules) states → ⊥
-  none_settled states e any = both_ways _ (none_any (is_settled rules) states e any.1 (any.0, any.2, any.3)) ((decides_settled rules any.1).1 any.4)
+  none_settled states e any = both_ways _ (none_any (is_settled rules) states e any.1 (any.0, any.2, any.3)) ((settled_exactly rules any.1 (undone rules any.1) refl).1 any.4)
 
   some_settled : (states : List State) → list_any (is_settled rules) states ≡ true → Any (IsSettled rules) states
   some_settled states e =
       let any : Any (λ s. is_settled rules s ≡ true) states = Any-from_list_any (is_settled rules) states e in
-      (any.0, any.1, any.2, any.3, (decides_settled rules any.1).0 any.4)
+      (any.0, any.1, any.2, any.3, (settled_exactly rules any.1 (undone rules any.1) refl).0 any.4)
 
   pub exactly_all : (states : List State) → 0 < length states → (undone_at_all rules states ≡ None) ↔ Any (IsSettled rules) states
   exactly_all [] some = absurd (omega arith)

@@ -4,14 +4,15 @@ pub mod Deciding
 pub mod Asking
 pub mod Moving
 pub mod AllPlaces
-pub mod Sound
 pub mod Complete
+pub mod Lines
 pub mod Reaching
 pub mod Division
 pub mod Taking
 pub mod Stepping
 pub mod Lateness
 pub mod Branching
+pub mod Plain
 pub mod Judged
 pub mod Settled
 pub mod RefutingPieces

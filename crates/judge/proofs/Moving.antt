@@ -1,13 +1,9 @@
 -- The sectors of an act are determined by its bytes.
-use Rattle.std.proofs.Common.{◌≡◌, ℕ, zero, suc, ◌+◌, ◌*◌, Bool, true, false, List, [], ◌∷◌, ◌++◌, refl, sym, ◌∙◌, ap, arith, length, take, drop, take-append-drop, length-append, length-take-le, length-drop}
-use Rattle.std.specs.Prelude.{◌||◌, not, IsTrue, All}
-use Rattle.std.specs.Bool.{Decides}
+use Rattle.std.proofs.Common.{◌≡◌, ℕ, zero, suc, ◌+◌, ◌*◌, List, [], ◌∷◌, ◌++◌, refl, sym, ◌∙◌, ap, arith, length, take, drop, take-append-drop, length-append, length-take-le, length-drop}
+use Rattle.std.specs.Prelude.{IsTrue, All, slice_range}
 use Rattle.std.specs.List.{concat}
-use Rattle.std.specs.Str.{bytes_eq}
-use Rattle.std.proofs.lemmas.Bool.{and_parts, and_from, eqb-true, eq-eqb}
 use Rattle.std.proofs.lemmas.List.{take_at, drop_at, nil_from_length}
 use Rattle.std.proofs.lemmas.List.Elements.{All-nil, All-cons, All-head, All-tail}
-use Rattle.std.proofs.lemmas.Slice.Eq.{bytes_eq-Decides}
 use Rattle.sector.specs.declared.Extent.{Extent}
 use Rattle.sector.specs.Extents.{IsSector}
 use Rattle.srb.specs.declared.Kind.{Kind}
@@ -15,18 +11,9 @@ use Rattle.srb.specs.declared.Kind.TheVariants.{Read, Write, Flush}
 use Rattle.machine.specs.declared.ClientRequest.{ClientRequest}
 use Rattle.machine.specs.Rules.{Rules}
 use Rattle.machine.specs.State.{State}
-use Rattle.machine.specs.Sending.{Transfers}
-use Rattle.judge.specs.Deciding.{chunked, sectors_eq, sectors_moved, may_move}
+use Rattle.machine.specs.Sending.{Transfers, sectors_at}
+use Rattle.judge.specs.Deciding.{chunked, sectors_moved}
 use Rattle.judge.specs.Next.{arrays_after}
-
-pub decides_sectors : (xs ys : List (List ℕ)) → Decides (sectors_eq xs ys) (xs ≡ ys)
-decides_sectors [] [] = (λ h. refl, λ h. refl)
-decides_sectors [] (y ∷ ys) = (λ h. cc (h), λ h. cc (h))
-decides_sectors (x ∷ xs) [] = (λ h. cc (h), λ h. cc (h))
-decides_sectors (x ∷ xs) (y ∷ ys) = (
-  λ h. let both : (bytes_eq x y ≡ true) × (sectors_eq xs ys ≡ true) = and_parts _ _ h in cc ((bytes_eq-Decides x y).0 both.0, (decides_sectors xs ys).0 both.1),
-  λ h. and_from _ _ ((bytes_eq-Decides x y).1 (cc (h))) ((decides_sectors xs ys).1 (cc (h))),
-)
 
 -- whole sectors
 record AreChunks (count size : ℕ) (bytes : List ℕ) (sectors : List (List ℕ)) : Type 0 where
@@ -72,50 +59,35 @@ pub record Moves (rules : Rules) (s : State) (q : ClientRequest) (places : Exten
   pub moves : Transfers rules s q places kind sectors arrays'
   pub hands_over : bytes ≡ concat sectors
 
-decides_faithful : (faithful : Bool) (xs ys : List (List ℕ)) → Decides (not faithful || sectors_eq xs ys) (IsTrue faithful → xs ≡ ys)
-decides_faithful true xs ys = (λ h t. (decides_sectors xs ys).0 h, λ h. (decides_sectors xs ys).1 (h refl))
-decides_faithful false xs ys = (λ h t. cc (t), λ h. refl)
+-- what the machine asks of an act's bytes
+abbrev pub MayMove : Rules → State → ClientRequest → Extent → Kind → List ℕ → Type 0
+MayMove rules s q places Read bytes =
+    (length bytes ≡ places.count * rules.sector_size) × (IsTrue rules.faithful → chunked places.count rules.sector_size bytes ≡ sectors_at rules s q places)
+MayMove rules s q places Write bytes =
+    (length bytes ≡ places.count * rules.sector_size)
+    × (bytes ≡ slice_range q.bytes (places.first * rules.sector_size) ((places.first + places.count) * rules.sector_size))
+MayMove rules s q places Flush bytes = (places.count ≡ 1) × (length bytes ≡ 0)
 
 module _ (rules : Rules) (s : State) (q : ClientRequest) (places : Extent) where
-  pub moves_so : (kind : Kind) (bytes : List ℕ) → may_move rules s q places kind bytes ≡ true
-      → Moves rules s q places kind bytes (sectors_moved rules places.count kind bytes) (arrays_after rules s q places kind (sectors_moved rules places.count kind bytes))
+  pub moves_so : (kind : Kind) (bytes : List ℕ) → MayMove rules s q places kind bytes
+      → Moves rules s q places kind bytes (sectors_moved rules places.count kind bytes) (arrays_after rules s.arrays q places kind (sectors_moved rules places.count kind bytes))
   moves_so Read bytes h =
-      let both : _ × _ = and_parts _ _ h in
-      let chunks : AreChunks places.count rules.sector_size bytes (chunked places.count rules.sector_size bytes) = chunks_are places.count rules.sector_size bytes (eqb-true _ _ both.0) in
-      record {
-        covers = chunks.many;
-        moves = ((decides_faithful rules.faithful _ _).0 both.1, chunks.sized, refl);
-        hands_over = chunks.join;
-      }
+      let chunks : AreChunks places.count rules.sector_size bytes (chunked places.count rules.sector_size bytes) = chunks_are places.count rules.sector_size bytes h.0 in
+      record { covers = chunks.many; moves = (h.1, chunks.sized, refl); hands_over = chunks.join }
   moves_so Write bytes h =
-      let both : _ × _ = and_parts _ _ h in
-      let chunks : AreChunks places.count rules.sector_size bytes (chunked places.count rules.sector_size bytes) = chunks_are places.count rules.sector_size bytes (eqb-true _ _ both.0) in
-      record {
-        covers = chunks.many;
-        moves = (sym chunks.join ∙ (bytes_eq-Decides _ _).0 both.1, chunks.sized, refl);
-        hands_over = chunks.join;
-      }
-  moves_so Flush bytes h =
-      let both : _ × _ = and_parts _ _ h in
-      record {
-        covers = sym (eqb-true places.count 1 both.0);
-        moves = (refl, refl);
-        hands_over = nil_from_length bytes (eqb-true _ _ both.1);
-      }
+      let chunks : AreChunks places.count rules.sector_size bytes (chunked places.count rules.sector_size bytes) = chunks_are places.count rules.sector_size bytes h.0 in
+      record { covers = chunks.many; moves = (sym chunks.join ∙ h.1, chunks.sized, refl); hands_over = chunks.join }
+  moves_so Flush bytes h = record { covers = sym h.0; moves = (refl, refl); hands_over = nil_from_length bytes h.1 }
 
-  -- and those sectors are the only ones
+  -- the sectors are the only ones
   pub moves_only : (kind : Kind) (bytes : List ℕ) (sectors : List (List ℕ)) (arrays' : List (List (List ℕ))) → Moves rules s q places kind bytes sectors arrays'
-      → (may_move rules s q places kind bytes ≡ true) × (sectors ≡ sectors_moved rules places.count kind bytes) × (arrays' ≡ arrays_after rules s q places kind (sectors_moved rules places.count kind bytes))
+      → (sectors ≡ sectors_moved rules places.count kind bytes) × (arrays' ≡ arrays_after rules s.arrays q places kind (sectors_moved rules places.count kind bytes))
   moves_only Read bytes sectors arrays' h =
       let only : _ × _ = chunks_only rules.sector_size sectors h.moves.1 in
       let same : chunked places.count rules.sector_size bytes ≡ sectors = cc (h.covers, h.hands_over, only.0) in
-      let long : length bytes ≡ places.count * rules.sector_size = cc (h.covers, h.hands_over, only.1) in
-      (and_from _ _ (eq-eqb _ _ long) ((decides_faithful rules.faithful _ _).1 (λ t. same ∙ h.moves.0 t)), sym same, h.moves.2)
+      (sym same, h.moves.2)
   moves_only Write bytes sectors arrays' h =
       let only : _ × _ = chunks_only rules.sector_size sectors h.moves.1 in
       let same : chunked places.count rules.sector_size bytes ≡ sectors = cc (h.covers, h.hands_over, only.0) in
-      let long : length bytes ≡ places.count * rules.sector_size = cc (h.covers, h.hands_over, only.1) in
-      (and_from _ _ (eq-eqb _ _ long) ((bytes_eq-Decides _ _).1 (h.hands_over ∙ h.moves.0)), sym same, rw same h.moves.2)
-  moves_only Flush bytes sectors arrays' h =
-      let none : bytes ≡ [] = h.hands_over ∙ ap concat h.moves.0 in
-      (and_from _ _ (eq-eqb _ _ (sym h.covers ∙ ap length h.moves.0)) (eq-eqb _ _ (ap length none)), h.moves.0, h.moves.1)
+      (sym same, rw same h.moves.2)
+  moves_only Flush bytes sectors arrays' h = (h.moves.0, h.moves.1)

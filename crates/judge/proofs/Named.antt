@@ -1,15 +1,13 @@
 -- The rule that is named is one that the label breaks; where none is named some step goes by the label.
 use Rattle.std.proofs.Common.{◌≡◌, ◌≢◌, ◌<◌, ◌≤◌, ◌⊎◌, inl, inr, ℕ, zero, suc, ◌+◌, Bool, true, false, List, [], ◌∷◌, Option, Some, None, refl, sym, ◌∙◌, ap, subst, arith, map, length, get_or, take, cond, ltb, eqb, eq-eqb}
-use Rattle.std.specs.Prelude.{◌==◌, ◌&&◌, ◌||◌, not, nat_lt, IsPermutation, Contains, IsTrue, IsFalse, MatchOption, slice_get, option_map, if◌then◌else◌}
+use Rattle.std.specs.Prelude.{◌==◌, ◌&&◌, ◌||◌, not, nat_lt, ◌↔◌, IsPermutation, All, Contains, IsTrue, IsFalse, MatchOption, slice_get, option_map, if◌then◌else◌}
 use Rattle.std.specs.List.{IsDistinct, find, list_all, list_any, position, position_or_len}
 use Rattle.std.specs.Option.{option_or}
-use Rattle.std.specs.Str.{bytes_eq}
 use Rattle.std.proofs.lemmas.Bool.{both_ways, eqb-true, eqb-false, ltb-true, ltb-false, and_from, or_cases, or_parts, not-true, not_from_false, cases_Bool}
 use Rattle.std.proofs.lemmas.List.{nil_from_length}
 use Rattle.std.proofs.lemmas.List.Elements.{All-contains, Contains-get_or}
 use Rattle.std.proofs.lemmas.List.Folds.{list_all_at}
 use Rattle.std.proofs.lemmas.List.Quantifiers.{position-Some}
-use Rattle.std.proofs.lemmas.Slice.Eq.{bytes_eq-Decides}
 use Rattle.ntstatus.specs.declared.NtStatus.{NtStatus}
 use Rattle.ntstatus.specs.declared.NtStatus.TheVariants.{Success, Cancelled, DeviceBusy, NoSuchDevice, DeletePending}
 use Rattle.machine.specs.declared.ClientRequest.{ClientRequest}
@@ -20,13 +18,13 @@ use Rattle.machine.specs.State.{Mark, Untouched, Out, Done, Failed, Back, OpenRe
 use Rattle.machine.specs.Calling.{refusal, bytes_carried, new_request, Admits, Calls, AnswersRefused}
 use Rattle.machine.specs.Cutting.{mark_at}
 use Rattle.machine.specs.Settled.{is_out}
-use Rattle.machine.specs.Answering.{is_done, IsGivenUp, Cause, HasEnded, AnswersWith, answer_bytes, information}
+use Rattle.machine.specs.Answering.{is_done, IsGivenUp, Cause, HasCause, HasEnded, AnswersWith, answer_bytes, information}
 use Rattle.machine.specs.Holding.{Cancels, Pauses, Resumes, Removes, Surprises, Ends, as_cancelled, as_timely, held_back}
 use Rattle.machine.specs.Numbers.{AreDistinct, request_number}
 use Rattle.machine.specs.Step.{OwingStep}
 use Rattle.machine.proofs.Permuting.{first_unique}
 use Rattle.machine.proofs.Same.{IsSame-refl}
-use Rattle.judge.specs.Deciding.{has_number, same_status, same_truth, is_given_up, is_worn_out, has_ended, is_cause, has_cause, lowest_by, may_answer}
+use Rattle.judge.specs.Deciding.{has_number, same_status, is_given_up, is_worn_out, has_ended, is_cause}
 use Rattle.judge.specs.declared.label_rules.Difference.{Difference}
 use Rattle.judge.specs.declared.label_rules.OwedRule.{OwedRule}
 use Rattle.judge.specs.declared.label_rules.OwedRule.TheVariants as owed_rule
@@ -40,34 +38,9 @@ use Rattle.judge.specs.declared.label_rules.RemovalRule.{RemovalRule}
 use Rattle.judge.specs.declared.label_rules.RemovalRule.TheVariants as removal_rule
 use Rattle.judge.specs.Breaking.{IsOpen, IsNotOpen, Differs, Owes, IsLowest, EndsWrong, BreaksOwed, BreaksOwedAnswer, BreaksCallOf, BreaksAnswerOf, BreaksCancelOf, IsSoNow, BreaksRemoval}
 use Rattle.judge.specs.Ruling.{difference, unpaid_rule, owing_rule, carried_rule, calling_rule, is_unended, is_undone, unended_rule, failure_of, status_due_of, status_due, status_rule, information_rule, bytes_rule, ending_rule, answering_rule_of, answering_rule, cancelling_rule_of, cancelling_rule, pausing_rule, paused_rule, surprising_rule, none_open_rule, removed_rule}
-use Rattle.judge.proofs.Deciding.{decides_status, decides_ended, decides_cause}
-use Rattle.judge.proofs.Complete.{first_of}
-use Rattle.judge.proofs.Sound.{answers_by}
-
--- WHAT IS FOUND BY A TEST
-
-module _ {X : Type 0} (test : X → Bool) where
-  pub found_pass : (xs : List X) (x : X) → find test xs ≡ Some x → Contains xs x × (test x ≡ true)
-  found_pass [] x e = cc (e)
-  found_pass (y ∷ ys) x e = by (test y) refl e (found_pass ys x)
-    where
-      by : (b : Bool) → test y ≡ b → cond b (Some y) (find test ys) ≡ Some x → (find test ys ≡ Some x → Contains ys x × (test x ≡ true)) → Contains (y ∷ ys) x × (test x ≡ true)
-      by true t e again = let same : y ≡ x = cc (e) in ((0, omega arith, same), ap test (sym same) ∙ t)
-      by false t e again = let more : Contains ys x × (test x ≡ true) = again e in ((suc more.0.0, omega (arith, more.0.1), more.0.2), more.1)
-
-  pub found_fail : (xs : List X) → find test xs ≡ None → (x : X) → Contains xs x → test x ≡ false
-  found_fail [] e x (k, low, is) = absurd (omega arith)
-  found_fail (y ∷ ys) e x c = by (test y) refl e c (λ f. found_fail ys f x)
-    where
-      by : (b : Bool) → test y ≡ b → cond b (Some y) (find test ys) ≡ None → Contains (y ∷ ys) x → (find test ys ≡ None → Contains ys x → test x ≡ false) → test x ≡ false
-      by true t e c again = cc (e)
-      by false t e (zero, low, is) again = ap test (sym is) ∙ t
-      by false t e (suc k, low, is) again = again e (k, omega arith, is)
-
-  pub none_any : (xs : List X) → list_any test xs ≡ false → (x : X) → Contains xs x → test x ≡ false
-  none_any [] e x (k, low, is) = absurd (omega arith)
-  none_any (y ∷ ys) e x (zero, low, is) = ap test (sym is) ∙ (or_parts (test y) (list_any test ys) e).0
-  none_any (y ∷ ys) e x (suc k, low, is) = none_any ys (or_parts (test y) (list_any test ys) e).1 x (k, omega arith, is)
+use Rattle.judge.proofs.Deciding.{decides_status, decides_ended, decides_cause, decides_all_ended}
+use Rattle.judge.proofs.Picking.{first_of, found_pass, found_fail, none_any}
+use Rattle.judge.proofs.Refuting.{EndsSo}
 
 -- THE ONE OF A NUMBER
 
@@ -284,7 +257,7 @@ module _ (rules : Rules) (s : State) where
     out_is (Failed failure) e = cc (e)
     out_is Back e = cc (e)
 
-    unended_named : MatchOption (unended_rule o (position (is_unended (is_given_up s o) (is_worn_out rules o)) o.marks)) (list_all (has_ended rules s o) o.marks ≡ true) Wrong
+    unended_named : MatchOption (unended_rule o (position (is_unended (is_given_up s o) (is_worn_out rules o)) o.marks)) (All (HasEnded rules s o) o.marks) Wrong
     unended_named = by (position (is_unended (is_given_up s o) (is_worn_out rules o)) o.marks) refl
       where
         waits : (k : ℕ) → k < length o.marks → not (has_ended rules s o (mark_at o k)) ≡ true → (b : Bool) → is_out (mark_at o k) ≡ b
@@ -292,8 +265,8 @@ module _ (rules : Rules) (s : State) where
         waits k low isopen true e = (low, out_is (mark_at o k) e)
         waits k low isopen false e = (low, λ ended. both_ways _ (not-true _ isopen) ((decides_ended rules s o (mark_at o k)).1 ended))
 
-        by : (p : Option ℕ) → position (is_unended (is_given_up s o) (is_worn_out rules o)) o.marks ≡ p → MatchOption (unended_rule o p) (list_all (has_ended rules s o) o.marks ≡ true) Wrong
-        by None e = all_passed (has_ended rules s o) o.marks e
+        by : (p : Option ℕ) → position (is_unended (is_given_up s o) (is_worn_out rules o)) o.marks ≡ p → MatchOption (unended_rule o p) (All (HasEnded rules s o) o.marks) Wrong
+        by None e = (decides_all_ended rules s o o.marks).0 (all_passed (has_ended rules s o) o.marks e)
         by (Some k) e =
             let at : _ × _ × _ = position-Some (is_unended (is_given_up s o) (is_worn_out rules o)) o.marks k Untouched e in
             waits k at.0 at.1 (is_out (mark_at o k)) refl
@@ -334,48 +307,49 @@ module _ (rules : Rules) (s : State) where
     due_given Out e (inr h) = absurd h.1
     due_given (Done sector) e h = cc (e)
 
-    all_lowest : (marks : List Mark) → list_all is_done marks ≡ true → has_cause rules s o status marks ≡ true
-    all_lowest [] h = refl
-    all_lowest (mark ∷ marks) h = by (is_done mark) refl h (all_lowest marks)
-      where
-        by : (b : Bool) → is_done mark ≡ b → (b && list_all is_done marks) ≡ true → (list_all is_done marks ≡ true → has_cause rules s o status marks ≡ true)
-            → (if b then has_cause rules s o status marks else is_cause rules s o status mark) ≡ true
-        by true e h again = again h
-        by false e h again = cc (h)
+    all_lowest : (marks : List Mark) → list_all is_done marks ≡ true → HasCause rules s o marks status
+    all_lowest [] h = tt
+    all_lowest (Done sector ∷ marks) h = all_lowest marks h
+    all_lowest (Untouched ∷ marks) h = cc (h)
+    all_lowest (Out ∷ marks) h = cc (h)
+    all_lowest (Failed failure ∷ marks) h = cc (h)
+    all_lowest (Back ∷ marks) h = cc (h)
 
     lowest_at : (marks : List Mark) (k : ℕ) → k < length marks → is_done (get_or marks k Untouched) ≡ false → ((lower : ℕ) → lower < k → is_done (get_or marks lower Untouched) ≡ true)
-        → has_cause rules s o status marks ≡ is_cause rules s o status (get_or marks k Untouched)
-    lowest_at [] k low isopen below = absurd (omega arith)
-    lowest_at (mark ∷ marks) zero low isopen below = rw isopen refl
-    lowest_at (mark ∷ marks) (suc k) low isopen below =
-        let first : is_done mark ≡ true = below 0 (omega arith) in
-        rw first (lowest_at marks k (omega arith) isopen (λ lower less. below (suc lower) (omega arith)))
+        → Cause rules s o (get_or marks k Untouched) status → HasCause rules s o marks status
+    lowest_at [] k low isopen below h = absurd (omega arith)
+    lowest_at (Done sector ∷ marks) zero low isopen below h = cc (isopen)
+    lowest_at (Done sector ∷ marks) (suc k) low isopen below h = lowest_at marks k (omega arith) isopen (λ lower less. below (suc lower) (omega arith)) h
+    lowest_at (Untouched ∷ marks) zero low isopen below h = h
+    lowest_at (Untouched ∷ marks) (suc k) low isopen below h = let e : is_done Untouched ≡ true = below 0 (omega arith) in cc (e)
+    lowest_at (Out ∷ marks) zero low isopen below h = h
+    lowest_at (Out ∷ marks) (suc k) low isopen below h = let e : is_done Out ≡ true = below 0 (omega arith) in cc (e)
+    lowest_at (Failed failure ∷ marks) zero low isopen below h = h
+    lowest_at (Failed failure ∷ marks) (suc k) low isopen below h = let e : is_done (Failed failure) ≡ true = below 0 (omega arith) in cc (e)
+    lowest_at (Back ∷ marks) zero low isopen below h = h
+    lowest_at (Back ∷ marks) (suc k) low isopen below h = let e : is_done Back ≡ true = below 0 (omega arith) in cc (e)
 
     abbrev EndsAs : Type 0
-    EndsAs = (same_truth (same_status status Success) (list_all is_done o.marks) && has_cause rules s o status o.marks) ≡ true
+    EndsAs = ((status ≡ Success) ↔ IsTrue (list_all is_done o.marks)) × HasCause rules s o o.marks status
 
-    status_named : list_all (has_ended rules s o) o.marks ≡ true → MatchOption (status_rule rules s o status (position is_undone o.marks)) EndsAs Wrong
+    status_named : All (HasEnded rules s o) o.marks → MatchOption (status_rule rules s o status (position is_undone o.marks)) EndsAs Wrong
     status_named ended = by (position is_undone o.marks) refl
       where
-        ended_there : (k : ℕ) → k < length o.marks → has_ended rules s o (mark_at o k) ≡ true
-        ended_there k low = by (cases_Bool (has_ended rules s o (mark_at o k)))
-          where
-            by : (has_ended rules s o (mark_at o k) ≡ true) ⊎ (has_ended rules s o (mark_at o k) ≡ false) → has_ended rules s o (mark_at o k) ≡ true
-            by (inl e) = e
-            by (inr e) = absurd (both_ways _ (list_all_at (has_ended rules s o) o.marks k Untouched low e) ended)
-
         all_done : list_all is_done o.marks ≡ true → (b : Bool) → same_status status Success ≡ b → MatchOption (if b then None else Some (answer_rule.AllDone status)) EndsAs Wrong
-        all_done all true e = rw (e, all) (all_lowest o.marks all)
+        all_done all true e = ((λ p. all, λ t. (decides_status status Success).0 e), all_lowest o.marks all)
         all_done all false e = (all, refl, λ same. both_ways _ e ((decides_status status Success).1 same))
 
         undone : (k : ℕ) → IsLowest o k → list_all is_done o.marks ≡ false → (b : Bool) → same_status status Success ≡ b → (c : Bool) → is_cause rules s o status (mark_at o k) ≡ c
             → MatchOption (if b then Some (answer_rule.NotDone k) else (if c then None else Some (answer_rule.Status k (status_due s o (mark_at o k)) status))) EndsAs Wrong
         undone k lowest some true e c f = (lowest, (decides_status status Success).0 e)
-        undone k lowest some false e true f = rw (e, some) (lowest_at o.marks k lowest.within lowest.not_done lowest.below ∙ f)
+        undone k lowest some false e true f = (
+          (λ same. absurd (both_ways _ e ((decides_status status Success).1 same)), λ t. absurd (both_ways _ some t)),
+          lowest_at o.marks k lowest.within lowest.not_done lowest.below ((decides_cause rules s o status (mark_at o k)).0 f),
+        )
         undone k lowest some false e false f = (
           lowest,
           refl,
-          due_given (mark_at o k) lowest.not_done ((decides_ended rules s o (mark_at o k)).0 (ended_there k lowest.within)),
+          due_given (mark_at o k) lowest.not_done (All-contains (HasEnded rules s o) o.marks (mark_at o k) ended (Contains-get_or o.marks k Untouched lowest.within)),
           λ cause. both_ways _ f ((decides_cause rules s o status (mark_at o k)).1 cause),
         )
 
@@ -391,30 +365,30 @@ module _ (rules : Rules) (s : State) where
             done_below true h = refl
             done_below false h = cc (h)
 
-    information_named : MatchOption (information_rule o.request status informed) ((informed == information o.request status) ≡ true) Wrong
+    abbrev Informs : Type 0
+    Informs = informed ≡ information o.request status
+
+    information_named : MatchOption (information_rule o.request status informed) Informs Wrong
     information_named = by (informed == information o.request status) refl
       where
         by : (b : Bool) → (informed == information o.request status) ≡ b
-            → MatchOption (if b then None else Some (answer_rule.Information (information o.request status) informed)) ((informed == information o.request status) ≡ true) Wrong
-        by true e = e
+            → MatchOption (if b then None else Some (answer_rule.Information (information o.request status) informed)) Informs Wrong
+        by true e = eqb-true _ _ e
         by false e = (refl, refl, λ same. eqb-false _ _ e same)
 
-    bytes_named : MatchOption (bytes_rule o bytes) (bytes_eq bytes (answer_bytes o.request.kind o.marks) ≡ true) Wrong
+    abbrev HandsBack : Type 0
+    HandsBack = bytes ≡ answer_bytes o.request.kind o.marks
+
+    bytes_named : MatchOption (bytes_rule o bytes) HandsBack Wrong
     bytes_named = by (difference 0 (answer_bytes o.request.kind o.marks) bytes) (differs (answer_bytes o.request.kind o.marks) bytes)
       where
         by : (p : Option Difference) → MatchOption p (answer_bytes o.request.kind o.marks ≡ bytes) (Differs (answer_bytes o.request.kind o.marks) bytes)
-            → MatchOption (option_map answer_rule.Bytes p) (bytes_eq bytes (answer_bytes o.request.kind o.marks) ≡ true) Wrong
-        by None h = (bytes_eq-Decides bytes (answer_bytes o.request.kind o.marks)).1 (sym h)
+            → MatchOption (option_map answer_rule.Bytes p) HandsBack Wrong
+        by None h = sym h
         by (Some d) h = h
 
     abbrev HaveEnded : Type 0
-    HaveEnded = list_all (has_ended rules s o) o.marks ≡ true
-
-    abbrev Informs : Type 0
-    Informs = (informed == information o.request status) ≡ true
-
-    abbrev HandsBack : Type 0
-    HandsBack = bytes_eq bytes (answer_bytes o.request.kind o.marks) ≡ true
+    HaveEnded = All (HasEnded rules s o) o.marks
 
     abbrev after_status : Option AnswerRule
     after_status = option_or (information_rule o.request status informed) (bytes_rule o bytes)
@@ -422,14 +396,14 @@ module _ (rules : Rules) (s : State) where
     abbrev after_ended : Option AnswerRule
     after_ended = option_or (status_rule rules s o status (position is_undone o.marks)) after_status
 
-    ending_named : MatchOption (ending_rule rules s o status informed bytes) (may_answer rules s o status informed bytes ≡ true) Wrong
+    ending_named : MatchOption (ending_rule rules s o status informed bytes) (EndsSo rules s o status informed bytes) Wrong
     ending_named = by (ending_rule rules s o status informed bytes)
         (either HaveEnded (EndsAs × (Informs × HandsBack)) Wrong (unended_rule o (position (is_unended (is_given_up s o) (is_worn_out rules o)) o.marks)) after_ended unended_named (λ ended.
         either EndsAs (Informs × HandsBack) Wrong (status_rule rules s o status (position is_undone o.marks)) after_status (status_named ended) (λ so.
         either Informs HandsBack Wrong (information_rule o.request status informed) (bytes_rule o bytes) information_named (λ told. bytes_named))))
       where
-        by : (p : Option AnswerRule) → MatchOption p (HaveEnded × (EndsAs × (Informs × HandsBack))) Wrong → MatchOption p (may_answer rules s o status informed bytes ≡ true) Wrong
-        by None h = and_from _ _ (and_from _ _ h.0 h.1.0) (and_from _ _ h.1.1.0 h.1.1.1)
+        by : (p : Option AnswerRule) → MatchOption p (HaveEnded × (EndsAs × (Informs × HandsBack))) Wrong → MatchOption p (EndsSo rules s o status informed bytes) Wrong
+        by None h = record { ended = h.0; success = h.1.0.0; cause = h.1.0.1; informs = h.1.1.0; hands_back = h.1.1.1 }
         by (Some r) h = h
 
     breaks_open : (number : ℕ) → IsOpen s number o → (r : AnswerRule) → Wrong r → BreaksAnswerOf rules s number status informed bytes r
@@ -446,11 +420,26 @@ module _ (rules : Rules) (s : State) where
     pub answers_named : MatchOption (answering_rule rules s number status informed bytes) ((s' : State) × AnswersWith rules s number status informed bytes s') (BreaksAnswerOf rules s number status informed bytes)
     answers_named = by (find (has_number number) s.requests) refl
       where
-        ends : (o : OpenRequest) → IsOpen s number o → (p : Option AnswerRule) → MatchOption p (may_answer rules s o status informed bytes ≡ true) (EndsWrong rules s o status informed bytes)
+        ends : (o : OpenRequest) → IsOpen s number o → (p : Option AnswerRule) → MatchOption p (EndsSo rules s o status informed bytes) (EndsWrong rules s o status informed bytes)
             → MatchOption p ((s' : State) × AnswersWith rules s number status informed bytes s') (BreaksAnswerOf rules s number status informed bytes)
         ends o isopen None h =
-            let p : (others : List OpenRequest) × IsPermutation s.requests (o ∷ others) = first_of s.requests o isopen.is_there in
-            (record s { requests = p.0 }, answers_by rules s number status informed bytes o p.0 p.1 (eq-eqb _ _ isopen.is_number) h)
+            let p : (others : List OpenRequest) × IsPermutation s.requests (o ∷ others) = first_of s.requests o isopen.is_there in (
+              record s { requests = p.0 },
+              record {
+                answers = record {
+                  request = o;
+                  others = p.0;
+                  is_open = p.1;
+                  is_number = isopen.is_number;
+                  ended = h.ended;
+                  success = h.success;
+                  cause = h.cause;
+                  hands_back = h.hands_back;
+                  after = IsSame-refl _;
+                };
+                informs = h.informs;
+              },
+            )
         ends o isopen (Some r) h = breaks_open o status informed bytes number isopen r h
 
         by : (p : Option OpenRequest) → find (has_number number) s.requests ≡ p

@@ -1,6 +1,6 @@
 -- The rule that is named of an act, a fault or a return is one that the label breaks; where none is named some step goes by the label.
 use Rattle.std.proofs.Common.{◌≡◌, ◌≢◌, ◌<◌, ◌≤◌, ℕ, ◌+◌, ◌*◌, Bool, true, false, List, [], ◌∷◌, Option, Some, None, refl, sym, ◌∙◌, ap, subst, arith, length, replicate, map, eqb, eq-eqb}
-use Rattle.std.specs.Prelude.{◌==◌, ◌&&◌, ◌||◌, not, IsPermutation, Contains, All, IsTrue, MatchOption, slice_range, option_map, if◌then◌else◌}
+use Rattle.std.specs.Prelude.{◌==◌, ◌&&◌, ◌||◌, not, IsPermutation, Contains, All, IsTrue, MatchOption, bit_and, slice_range, option_map, if◌then◌else◌}
 use Rattle.std.specs.List.{concat, find, list_all}
 use Rattle.std.proofs.lemmas.Bool.{both_ways, eqb-true, eqb-false, and_parts, and_from}
 use Rattle.std.proofs.lemmas.Bool.Decides.{Decides-eqb, Decides-by_and}
@@ -21,7 +21,7 @@ use Rattle.machine.specs.Numbers.{AreDistinct, request_number, piece_number}
 use Rattle.machine.specs.Pieces.{ArePlaced, IsPlaced, IsCovered}
 use Rattle.machine.proofs.Same.{IsSame-refl}
 use Rattle.machine.proofs.Placed.{is_inside}
-use Rattle.judge.specs.Deciding.{has_number, is_piece, may_move, sectors_moved, is_bad}
+use Rattle.judge.specs.Deciding.{has_number, is_piece, sectors_moved, is_bad}
 use Rattle.judge.specs.Next.{arrays_after}
 use Rattle.judge.specs.declared.label_rules.Difference.{Difference}
 use Rattle.judge.specs.declared.piece_rules.ActRule.{ActRule}
@@ -32,15 +32,27 @@ use Rattle.judge.specs.Breaking.{IsOpen, Differs, IsAtAdapter, IsOwned, bytes_se
 use Rattle.judge.specs.Ruling.{difference}
 use Rattle.judge.specs.PieceRuling.{has_size, are_whole, length_moved, disk_rule, sent_rule, moving_rule, owned_rule, fresh_rule, acting_rule_of, acting_rule, faulting_rule_of, faulting_rule, has_acted, bad_rule, returning_rule_of, returned_rule, returning_rule}
 use Rattle.judge.proofs.AllPlaces.{HasAllPlaces, HaveAllPlaces}
-use Rattle.judge.proofs.Moving.{Moves, moves_so}
-use Rattle.judge.proofs.Complete.{first_of}
-use Rattle.judge.proofs.Sound.{fresh_fate, bad_class}
+use Rattle.judge.proofs.Moving.{Moves, MayMove, moves_so}
+use Rattle.judge.proofs.Picking.{first_of}
 use Rattle.judge.proofs.Named.{found_there, found_nowhere, only_one, differs, is_open}
 
 pub flush_places : (rules : Rules) (o : OpenRequest) (kind : Kind) → kind ≡ Flush → place_count rules (record o.request { kind = kind }) ≡ 1
 flush_places rules o Flush e = refl
 flush_places rules o Read e = cc (e)
 flush_places rules o Write e = cc (e)
+
+fresh_fate : (fate : Fate) → is_fresh fate ≡ true → fate ≡ Fresh
+fresh_fate Fresh e = refl
+fresh_fate (Acted sectors) e = cc (e)
+fresh_fate Faulted e = cc (e)
+
+bad_class : (completion : Completion) → is_bad (class_of completion) ≡ true → class_of completion ≡ Bad completion
+bad_class completion = by (bit_and completion.srb_status 63 == 1) (bit_and completion.srb_status 63 == 5)
+  where
+    by : (a b : Bool) → is_bad (if a then Good else (if b then Busy else Bad completion)) ≡ true → (if a then Good else (if b then Busy else Bad completion)) ≡ Bad completion
+    by true b e = cc (e)
+    by false true e = cc (e)
+    by false false e = refl
 
 decides_whole : (size : ℕ) (sectors : List (List ℕ)) → Decides (list_all (has_size size) sectors) (All (IsSector size) sectors)
 decides_whole size sectors = Decides-by_and (has_size size) (IsSector size) (list_all (has_size size)) (λ x. Decides-eqb (length x) size) refl (λ _ _. refl) sectors
@@ -85,12 +97,12 @@ module _ (rules : Rules) (s : State) (d : AreDistinct s) (whole : HaveAllPlaces 
             },
           )
 
-      act_so : (kind : Kind) → o.request.kind ≡ kind → may_move rules s o.request piece.places kind bytes ≡ true → CanAct
+      act_so : (kind : Kind) → o.request.kind ≡ kind → MayMove rules s o.request piece.places kind bytes → CanAct
       act_so kind e h =
           let sectors : List (List ℕ) = sectors_moved rules piece.places.count kind bytes in
-          let m : Moves rules s o.request piece.places kind bytes sectors (arrays_after rules s o.request piece.places kind sectors) = moves_so rules s o.request piece.places kind bytes h in
-          act_by sectors (arrays_after rules s o.request piece.places kind sectors) m.covers
-          (subst (λ k. Transfers rules s o.request piece.places k sectors (arrays_after rules s o.request piece.places kind sectors)) (sym e) m.moves) m.hands_over
+          let m : Moves rules s o.request piece.places kind bytes sectors (arrays_after rules s.arrays o.request piece.places kind sectors) = moves_so rules s o.request piece.places kind bytes h in
+          act_by sectors (arrays_after rules s.arrays o.request piece.places kind sectors) m.covers
+          (subst (λ k. Transfers rules s o.request piece.places k sectors (arrays_after rules s.arrays o.request piece.places kind sectors)) (sym e) m.moves) m.hands_over
 
       one_place : o.request.kind ≡ Flush → piece.places.count ≡ 1
       one_place e =
@@ -108,7 +120,7 @@ module _ (rules : Rules) (s : State) (d : AreDistinct s) (whole : HaveAllPlaces 
 
       write_named : o.request.kind ≡ Write → (length bytes == piece.places.count * rules.sector_size) ≡ true → (found : Option Difference) → MatchOption found (sent ≡ bytes) (Differs sent bytes)
           → MatchOption (option_map act_rule.Write found) CanAct (BreaksAct rules s number bytes)
-      write_named e long None h = act_so Write e (and_from _ _ long ((bytes_eq-Decides bytes sent).1 (sym h)))
+      write_named e long None h = act_so Write e (eqb-true _ _ long, sym h)
       write_named e long (Some x) h = (piece, o, owned, (e, h))
 
       abbrev stand : List (List ℕ)
@@ -138,13 +150,13 @@ module _ (rules : Rules) (s : State) (d : AreDistinct s) (whole : HaveAllPlaces 
       read_named : o.request.kind ≡ Read → (length bytes == piece.places.count * rules.sector_size) ≡ true → (f : Bool) → rules.faithful ≡ f
           → MatchOption (if f then disk_rule piece.number piece.places.count rules.sector_size stand bytes else None) CanAct (BreaksAct rules s number bytes)
       read_named e long true f = disk_named e f (difference 0 (concat stand) bytes) (differs (concat stand) bytes) (are_whole piece.places.count rules.sector_size stand) refl
-      read_named e long false f = act_so Read e (and_from _ _ long (rw f refl))
+      read_named e long false f = act_so Read e (eqb-true _ _ long, λ t. absurd (both_ways _ f t))
 
       moving_named : (kind : Kind) → o.request.kind ≡ kind → (length bytes == length_moved kind piece.places.count rules.sector_size) ≡ true
           → MatchOption (moving_rule rules s piece.number o.request piece.places kind bytes) CanAct (BreaksAct rules s number bytes)
       moving_named Read e long = read_named e long rules.faithful refl
       moving_named Write e long = write_named e long (difference 0 sent bytes) (differs sent bytes)
-      moving_named Flush e long = act_so Flush e (and_from _ _ (eq-eqb _ _ (one_place e)) long)
+      moving_named Flush e long = act_so Flush e (one_place e, eqb-true _ _ long)
 
       length_named : (b : Bool) → (length bytes == length_moved o.request.kind piece.places.count rules.sector_size) ≡ b
           → MatchOption (if not b then Some (act_rule.Length (length_moved o.request.kind piece.places.count rules.sector_size) (length bytes))
@@ -159,7 +171,7 @@ module _ (rules : Rules) (s : State) (d : AreDistinct s) (whole : HaveAllPlaces 
 
     fresh_named : (piece : Piece) → IsAtAdapter s number piece → (b : Bool) → is_fresh piece.fate ≡ b
         → MatchOption (if not b then Some (act_rule.Before number) else fresh_rule rules s piece bytes) CanAct (BreaksAct rules s number bytes)
-    fresh_named piece out true t = owner_named piece out (fresh_fate rules s piece.fate t) (find (has_number piece.owner) s.requests) refl
+    fresh_named piece out true t = owner_named piece out (fresh_fate piece.fate t) (find (has_number piece.owner) s.requests) refl
     fresh_named piece out false t = (refl, piece, out, λ e. both_ways _ t (ap is_fresh e))
 
     pub acts_named : MatchOption (acting_rule rules s number bytes) ((s' : State) × Acts rules s number bytes s') (BreaksAct rules s number bytes)
@@ -180,7 +192,7 @@ module _ (rules : Rules) (s : State) (d : AreDistinct s) (whole : HaveAllPlaces 
           record {
             piece = piece;
             other_pieces = p.0;
-            fresh = record { is_out = p.1; is_number = out.is_number; is_fresh = fresh_fate rules s piece.fate t };
+            fresh = record { is_out = p.1; is_number = out.is_number; is_fresh = fresh_fate piece.fate t };
             after = IsSame-refl _;
           },
         )
@@ -232,13 +244,13 @@ module _ (rules : Rules) (s : State) (d : AreDistinct s) (whole : HaveAllPlaces 
     returns_as piece out Busy = by (is_fresh piece.fate) refl
       where
         by : (b : Bool) → is_fresh piece.fate ≡ b → MatchOption (if b then None else Some (return_rule.BusyAfterAct number)) (CanReturn Busy) (BreaksReturnOf s number Busy)
-        by true t = return_by Busy piece out (replicate piece.places.count Back) (fresh_fate rules s piece.fate t, refl)
+        by true t = return_by Busy piece out (replicate piece.places.count Back) (fresh_fate piece.fate t, refl)
         by false t = (piece, out, (sym out.is_number, refl, λ e. both_ways _ t (ap is_fresh e)))
     returns_as piece out (Bad completion) = by (is_bad (class_of completion)) refl
       where
         by : (b : Bool) → is_bad (class_of completion) ≡ b
             → MatchOption (if b then None else Some (return_rule.GoodCode number completion.srb_status)) (CanReturn (Bad completion)) (BreaksReturnOf s number (Bad completion))
-        by true t = return_by (Bad completion) piece out (replicate piece.places.count (Failed (status_of_completion completion))) (bad_class rules s completion t, refl)
+        by true t = return_by (Bad completion) piece out (replicate piece.places.count (Failed (status_of_completion completion))) (bad_class completion t, refl)
         by false t = (piece, out, (sym out.is_number, completion, refl, refl, λ e. both_ways _ t (ap is_bad e)))
 
     pub returns_named : (class : Class) → MatchOption (returning_rule s number class) ((s' : State) × Returns s number class s') (BreaksReturnOf s number class)

@@ -1,11 +1,12 @@
 -- The rule that is named of a start is one that the label breaks; where none is named some step goes by the label.
 use Rattle.std.proofs.Common.{◌≡◌, ◌≢◌, ◌<◌, ◌≤◌, ◌⊎◌, inl, inr, ℕ, zero, suc, ◌+◌, ◌-◌, ◌%◌, Bool, true, false, List, [], ◌∷◌, Option, Some, None, refl, sym, ◌∙◌, ap, subst, arith, length, get_or, eqb, eq-eqb}
 use Rattle.std.specs.Prelude.{◌==◌, ◌&&◌, ◌||◌, not, nat_lt, nat_le, ◌↔◌, Result, Ok, Err, IsPermutation, Contains, All, Any, IsTrue, IsFalse, IfSome, MatchOption, slice_range, is_some, option_map, if◌then◌else◌}
-use Rattle.std.specs.List.{find, list_all, list_any, position}
+use Rattle.std.specs.List.{AllByRecursion, find, list_all, list_any, position}
 use Rattle.std.specs.Option.{option_or}
 use Rattle.std.proofs.lemmas.Bool.{both_ways, eqb-true, eqb-false, ltb-true, ltb-false, leb-true, le-leb, lt-ltb, and_parts, and_from, and_cases, or_parts, not-true, not-false, not_from_false}
 use Rattle.std.proofs.lemmas.Bool.Decides.{Decides-by_and}
 use Rattle.std.proofs.lemmas.List.Edits.{get_or-between, length-between}
+use Rattle.std.proofs.lemmas.List.Sorted.{IsPermutation-sym, Contains-permutation}
 use Rattle.std.proofs.lemmas.List.Elements.{All-contains, Contains-get_or}
 use Rattle.std.proofs.lemmas.List.Folds.{Any-from_list_any}
 use Rattle.std.proofs.lemmas.List.Quantifiers.{position-Some}
@@ -18,24 +19,26 @@ use Rattle.machine.specs.Rules.{Rules}
 use Rattle.machine.specs.State.{Mark, Untouched, Out, Done, Failed, Back, OpenRequest, Piece, State}
 use Rattle.machine.specs.Cutting.{mark_at, is_back, restarts_left}
 use Rattle.machine.specs.Sending.{HasTag, HasOtherTag, IsLowestFreeTag, is_unsent, IsUnsent, is_started, IsInTurn, MayStart, IsWholeRequest, IsSendable, Starts, command_for, new_piece, sent}
-use Rattle.machine.proofs.Same.{IsSame-refl}
-use Rattle.judge.specs.Picking.{only}
-use Rattle.judge.specs.Deciding.{has_tag, is_in_turn, may_start, is_sendable, places_for, startable_at, startable}
+use Rattle.machine.proofs.Same.{IsSame-reordered}
+use Rattle.judge.specs.Picking.{choices}
+use Rattle.judge.specs.Next.{started_by, started_of, started_each, started}
+use Rattle.trace_line.specs.Lines.{StartIsOf, HasPieceOf}
+use Rattle.judge.specs.Deciding.{has_number, has_tag, is_in_turn, places_for}
 use Rattle.judge.specs.declared.start_rules.StartRule.{StartRule}
 use Rattle.judge.specs.declared.start_rules.StartRule.TheVariants as start_rule
 use Rattle.judge.specs.declared.start_rules.Misfit.{Misfit}
 use Rattle.judge.specs.declared.start_rules.Misfit.TheVariants as misfit
 use Rattle.judge.specs.declared.start_rules.Hindrance.{Hindrance}
 use Rattle.judge.specs.declared.start_rules.Hindrance.TheVariants as hindrance
-use Rattle.judge.specs.Breaking.{Asks, NoneAsks, IsMisfit, IsAmong, Hinders, AllHeld, HoldsOne, BreaksBlock, BreaksStartOf}
-use Rattle.judge.specs.StartRuling.{lowest_free, used_rule, lower_rule, tag_rule, is_inside, asked_inside, asked, flag_hindrance, is_before, turn_hindrance, is_sent, sent_as, sent_hindrance, grid_hindrance, whole_hindrance, cut_hindrance, places_hindrance, hindrance_of, same_kind, has_kind, kind_of, is_in_form, span_of, is_in_range, has_blocks, blocks_misfit, kind_misfit, misfit_of, may_go, is_asked, held_by_one, held_rule, asked_rule, command_rule, block_rule, starting_rule}
-use Rattle.judge.specs.LabelRuling.{IsReadAs}
+use Rattle.judge.specs.Breaking.{IsTold, Asks, NoneAsks, IsMisfit, IsAmong, Hinders, AllHeld, HoldsOne, BreaksBlock, BreaksStartOf}
+use Rattle.judge.specs.StartRuling.{lowest_free, used_rule, lower_rule, tag_rule, is_inside, asked_inside, is_told, asked, flag_hindrance, is_before, turn_hindrance, is_sent, sent_as, sent_hindrance, grid_hindrance, whole_hindrance, cut_hindrance, places_hindrance, hindrance_of, same_kind, has_kind, kind_of, is_in_form, span_of, is_in_range, has_blocks, blocks_misfit, kind_misfit, misfit_of, free_places, startable, may_go, is_asked, held_by_one, held_rule, owner_rule, asked_rule, command_rule, block_rule, starting_rule}
+use Rattle.judge.specs.LabelRuling.{IsBlockOf, IsReadAs}
 use Rattle.judge.proofs.AllPlaces.{HasAllPlaces, HaveAllPlaces}
-use Rattle.judge.proofs.Deciding.{decides_tag, decides_turn, decides_true, decides_may_start, decides_sendable}
+use Rattle.judge.proofs.Deciding.{decides_tag, decides_turn, decides_true}
 use Rattle.judge.proofs.Asking.{places_ask, places_found}
-use Rattle.judge.proofs.Complete.{first_of}
-use Rattle.judge.proofs.Sound.{StartsSo, starts_so}
-use Rattle.judge.proofs.Named.{found_pass, found_fail, none_any, found_there, found_nowhere, all_passed, either}
+use Rattle.judge.proofs.Picking.{first_of, unplaced, to_front, all_flat_map, choices_are, found_pass, found_fail, none_any}
+use Rattle.judge.proofs.RefutingPieces.{hinders}
+use Rattle.judge.proofs.Named.{found_there, found_nowhere, all_passed, either}
 use Rattle.judge.proofs.NamedPieces.{flush_places}
 
 -- TAGS
@@ -90,6 +93,15 @@ kind_itself Flush = refl
 some_is : {X : Type 0} (o : Option X) → is_some o ≡ true → (x : X) × (o ≡ Some x)
 some_is None e = cc (e)
 some_is (Some x) e = (x, refl)
+
+-- the request that is told
+told_so : (owner : Option ℕ) (o : OpenRequest) → IsTold owner o → is_told owner o ≡ true
+told_so None o h = refl
+told_so (Some r) o h = eq-eqb _ _ h
+
+is_so : (owner : Option ℕ) (o : OpenRequest) → is_told owner o ≡ true → IsTold owner o
+is_so None o h = tt
+is_so (Some r) o h = eqb-true _ _ h
 
 module _ (rules : Rules) (s : State) where
   module _ (o : OpenRequest) (places : Extent) (inside : is_inside o places ≡ true) where
@@ -228,49 +240,51 @@ module _ (rules : Rules) (s : State) where
 
   -- WHICH REQUEST
 
-  module _ (whole : HaveAllPlaces rules s) (number tag : ℕ) (block : List ℕ) where
-    abbrev CanStart : Type 0
-    CanStart = (s' : State) × Starts rules s number tag block s'
+  module _ (whole : HaveAllPlaces rules s) (owner : Option ℕ) (number tag : ℕ) (block : List ℕ) where
+    -- a start, of the request that is told
+    abbrev pub StartsTo : State → Type 0
+    StartsTo s' = Starts rules s number tag block s' × StartIsOf s s' owner
+
+    abbrev pub CanStart : Type 0
+    CanStart = (s' : State) × StartsTo s'
 
     abbrev Broken : StartRule → Type 0
-    Broken r = BreaksStartOf rules s number tag block r
+    Broken r = BreaksStartOf rules s owner number tag block r
 
     module _ (next : number ≡ s.next_piece) (free : IsLowestFreeTag rules.depth s.pieces tag) (command : Cdb) (means : Means block command) (own : IsPlain block command) (only_it : (c : Cdb) → Means block c → command ≡ c) where
-      start_by : (o : OpenRequest) (places : Extent) → Contains s.requests o → command ≡ command_for rules o.request places o.request.kind → MayStart s o → IsSendable rules o places → CanStart
-      start_by o places there is may send =
-          let p : (others : List OpenRequest) × IsPermutation s.requests (o ∷ others) = first_of s.requests o there in (
-            record s { next_piece = s.next_piece + 1; requests = sent places o ∷ p.0; pieces = new_piece s tag o places ∷ s.pieces },
-            record {
-              owner = o;
-              others = p.0;
-              places = places;
-              next_number = next;
-              on_tag = free;
-              is_open = p.1;
-              may_start = may;
-              sendable = send;
-              asks = subst (λ c. Means block c) is means;
-              plain = subst (λ c. IsPlain block c) is own;
-              after = IsSame-refl _;
-            },
-          )
-
-      start_so : (o : OpenRequest) → Contains s.requests o → (found : Option Extent) → IfSome found (StartsSo rules s (Some command) o) → is_some found ≡ true → CanStart
-      start_so o there None h e = cc (e)
-      start_so o there (Some places) h e = let is : command ≡ command_for rules o.request places o.request.kind = cc (h.asked) in start_by o places there is h.may h.sendable
-
-      some_goes : list_any (may_go rules s command) s.requests ≡ true → CanStart
-      some_goes e =
-          let any : _ × _ × _ × _ × _ = Any-from_list_any (may_go rules s command) s.requests e in
-          start_so any.1 (any.0, any.2, any.3) (startable rules s (Some command) any.1) (starts_so rules s (Some command) any.1) any.4
+      start_to : (o : OpenRequest) (others : List OpenRequest) (places : Extent) → IsPermutation s.requests (o ∷ others) → Asks rules s owner block o places → MayStart s o → IsSendable rules o places
+          → StartsTo (started_by s tag o others places)
+      start_to o others places p asks may send = (
+        record {
+          owner = o;
+          others = others;
+          places = places;
+          next_number = next;
+          on_tag = free;
+          is_open = p;
+          may_start = may;
+          sendable = send;
+          asks = asks.means;
+          plain = subst (λ c. IsPlain block c) (only_it _ asks.means) own;
+          after = IsSame-reordered (record s { next_piece = s.next_piece + 1 }) _ _ _ _ (unplaced (sent places o) others) (to_front s.pieces (new_piece s tag o places));
+        },
+        is_of owner asks.is_told,
+      )
+        where
+          is_of : (told : Option ℕ) → IsTold told o → StartIsOf s (started_by s tag o others places) told
+          is_of None t = tt
+          is_of (Some r) t = record { piece = new_piece s tag o places; is_new = to_front s.pieces (new_piece s tag o places); is_owner = t }
 
       -- the places that are asked for are found
-      found_asked : (o : OpenRequest) (places : Extent) → Asks rules s block o places → (asked rules command o ≡ Some places) × (is_inside o places ≡ true)
+      pub found_asked : (o : OpenRequest) (places : Extent) → Asks rules s owner block o places → (asked rules owner command o ≡ Some places) × (is_inside o places ≡ true)
       found_asked o places h =
           let is : command ≡ command_for rules o.request places o.request.kind = only_it _ h.means in
           let inside : is_inside o places ≡ true = and_from _ _ (lt-ltb _ _ h.some) (le-leb _ _ h.inside) in
-          let found : places_for rules o.request o.request.kind (command_for rules o.request places o.request.kind) ≡ Some places = places_found rules o.request o.request.kind places one_place in
-          (ap (λ c. asked_inside o (places_for rules o.request o.request.kind c)) is ∙ ap (asked_inside o) found ∙ ap (λ b. if b then Some places else None) inside, inside)
+          let found : places_for rules o.request o.request.kind (command_for rules o.request places o.request.kind) ≡ Some places = places_found rules o.request o.request.kind places one_place in (
+            ap (λ b. if b then asked_inside o (places_for rules o.request o.request.kind command) else None) (told_so owner o h.is_told)
+                ∙ ap (λ c. asked_inside o (places_for rules o.request o.request.kind c)) is ∙ ap (asked_inside o) found ∙ ap (λ b. if b then Some places else None) inside,
+            inside,
+          )
         where
           one_place : o.request.kind ≡ Flush → (places.first ≡ 0) × (places.count ≡ 1)
           one_place e =
@@ -279,99 +293,163 @@ module _ (rules : Rules) (s : State) where
               (omega (arith, h.some, h.inside, one), omega (arith, h.some, h.inside, one))
 
       -- and what is found is asked for
-      asks_found : (o : OpenRequest) (places : Extent) → Contains s.requests o → asked rules command o ≡ Some places
-          → Asks rules s block o places × (places_for rules o.request o.request.kind command ≡ Some places) × (is_inside o places ≡ true)
-      asks_found o places there e = by (places_for rules o.request o.request.kind command) refl (places_ask rules o.request o.request.kind command) e
+      asks_found : (o : OpenRequest) (places : Extent) → Contains s.requests o → asked rules owner command o ≡ Some places → Asks rules s owner block o places × (is_inside o places ≡ true)
+      asks_found o places there e = told (is_told owner o) refl e
         where
-          inside_by : (p : Extent) → command_for rules o.request p o.request.kind ≡ command → places_for rules o.request o.request.kind command ≡ Some p → (b : Bool) → is_inside o p ≡ b → (if b then Some p else None) ≡ Some places
-              → Asks rules s block o places × (places_for rules o.request o.request.kind command ≡ Some places) × (is_inside o places ≡ true)
-          inside_by p asks f false i e = cc (e)
-          inside_by p asks f true i e =
+          inside_by : is_told owner o ≡ true → (p : Extent) → command_for rules o.request p o.request.kind ≡ command → (b : Bool) → is_inside o p ≡ b → (if b then Some p else None) ≡ Some places
+              → Asks rules s owner block o places × (is_inside o places ≡ true)
+          inside_by t p asks false i e = cc (e)
+          inside_by t p asks true i e =
               let same : p ≡ places = cc (e) in
-              subst (λ (x : Extent). Asks rules s block o x × (places_for rules o.request o.request.kind command ≡ Some x) × (is_inside o x ≡ true)) same
-              (record { is_there = there; some = some o p i; inside = within o p i; means = subst (λ c. Means block c) (sym asks) means }, f, i)
+              subst (λ (x : Extent). Asks rules s owner block o x × (is_inside o x ≡ true)) same
+              (record { is_there = there; is_told = is_so owner o t; some = some o p i; inside = within o p i; means = subst (λ c. Means block c) (sym asks) means }, i)
 
-          by : (found : Option Extent) → places_for rules o.request o.request.kind command ≡ found → IfSome found (λ p. command_for rules o.request p o.request.kind ≡ command)
-              → asked_inside o found ≡ Some places → Asks rules s block o places × (places_for rules o.request o.request.kind command ≡ Some places) × (is_inside o places ≡ true)
-          by None f h e = cc (e)
-          by (Some p) f h e = inside_by p h f (is_inside o p) refl e
+          by : is_told owner o ≡ true → (found : Option Extent) → IfSome found (λ p. command_for rules o.request p o.request.kind ≡ command)
+              → asked_inside o found ≡ Some places → Asks rules s owner block o places × (is_inside o places ≡ true)
+          by t None h e = cc (e)
+          by t (Some p) h e = inside_by t p h (is_inside o p) refl e
 
-      none_goes : list_any (may_go rules s command) s.requests ≡ false → (o : OpenRequest) (places : Extent) → Contains s.requests o → places_for rules o.request o.request.kind command ≡ Some places
-          → MayStart s o → IsSendable rules o places → ⊥
-      none_goes none o places there found may send =
-          let goes : startable rules s (Some command) o ≡ Some places =
-          ap (startable_at rules s o) found ∙ ap (λ b. only b places) (and_from (may_start s o) _ ((decides_may_start s o).1 may) ((decides_sendable rules o places).1 send)) in
-          both_ways _ (none_any (may_go rules s command) s.requests none o there) (ap is_some goes)
+          told : (b : Bool) → is_told owner o ≡ b → (if b then asked_inside o (places_for rules o.request o.request.kind command) else None) ≡ Some places
+              → Asks rules s owner block o places × (is_inside o places ≡ true)
+          told false t e = cc (e)
+          told true t e = by t (places_for rules o.request o.request.kind command) (places_ask rules o.request o.request.kind command) e
 
-      held_so : list_any (may_go rules s command) s.requests ≡ false → (o : OpenRequest) (places : Extent) → Asks rules s block o places → places_for rules o.request o.request.kind command ≡ Some places
-          → (inside : is_inside o places ≡ true) → (h : Hindrance) × (hindrance_of rules s o places ≡ Some h) × Hinders rules s o places h
-      held_so none o places asks found inside = by (hindrance_of rules s o places) refl (hindrance_named o places inside)
+      -- what nothing holds back may start
+      free_if : (o : OpenRequest) (places : Extent) → is_inside o places ≡ true → hindrance_of rules s o places ≡ None → MayStart s o × IsSendable rules o places
+      free_if o places inside e = subst (λ x. MatchOption x (MayStart s o × IsSendable rules o places) (Hinders rules s o places)) e (hindrance_named o places inside)
+
+      startable_if : (o : OpenRequest) (places : Extent) → asked rules owner command o ≡ Some places → hindrance_of rules s o places ≡ None → startable rules s owner command o ≡ Some places
+      startable_if o places a e = ap (free_places rules s o) a ∙ ap (λ (x : Option Hindrance). if is_some x then None else Some places) e
+
+      free_so : (o : OpenRequest) (places : Extent) → Contains s.requests o → startable rules s owner command o ≡ Some places → Asks rules s owner block o places × MayStart s o × IsSendable rules o places
+      free_so o places there e = by (asked rules owner command o) refl e
+        where
+          held : (p : Extent) → asked rules owner command o ≡ Some p → (x : Option Hindrance) → hindrance_of rules s o p ≡ x → (if is_some x then None else Some p) ≡ Some places
+              → Asks rules s owner block o places × MayStart s o × IsSendable rules o places
+          held p a (Some h) f e = cc (e)
+          held p a None f e =
+              let same : p ≡ places = cc (e) in
+              let asks : Asks rules s owner block o p × (is_inside o p ≡ true) = asks_found o p there a in
+              let goes : MayStart s o × IsSendable rules o p = free_if o p asks.1 f in
+              subst (λ (x : Extent). Asks rules s owner block o x × MayStart s o × IsSendable rules o x) same (asks.0, goes.0, goes.1)
+
+          by : (found : Option Extent) → asked rules owner command o ≡ found → free_places rules s o found ≡ Some places → Asks rules s owner block o places × MayStart s o × IsSendable rules o places
+          by None a e = cc (e)
+          by (Some p) a e = held p a (hindrance_of rules s o p) refl e
+
+      -- each start that is found is one
+      pub all_started : AllByRecursion StartsTo (started rules s tag owner (Ok command))
+      all_started = all_flat_map (started_each rules s tag owner command) (λ (c : OpenRequest × List OpenRequest). IsPermutation s.requests (c.0 ∷ c.1)) StartsTo each (choices s.requests) (choices_are s.requests)
+        where
+          one : (o : OpenRequest) (others : List OpenRequest) → IsPermutation s.requests (o ∷ others) → (found : Option Extent) → startable rules s owner command o ≡ found → AllByRecursion StartsTo (started_of s tag o others found)
+          one o others p None e = tt
+          one o others p (Some places) e =
+              let goes : Asks rules s owner block o places × MayStart s o × IsSendable rules o places =
+              free_so o places (Contains-permutation _ _ o (IsPermutation-sym _ _ p) (0, omega arith, refl)) e in
+              (start_to o others places p goes.0 goes.1 goes.2, tt)
+
+          each : (c : OpenRequest × List OpenRequest) → IsPermutation s.requests (c.0 ∷ c.1) → AllByRecursion StartsTo (started_each rules s tag owner command c)
+          each (o, others) p = one o others p (startable rules s owner command o) refl
+
+      -- a request that asks, and may start, is found
+      pub startable_so : (o : OpenRequest) (places : Extent) → Asks rules s owner block o places → MayStart s o → IsSendable rules o places → startable rules s owner command o ≡ Some places
+      startable_so o places asks may send =
+          let f : (asked rules owner command o ≡ Some places) × (is_inside o places ≡ true) = found_asked o places asks in
+          startable_if o places f.0 (by (hindrance_of rules s o places) refl (hindrance_named o places f.1))
+        where
+          by : (x : Option Hindrance) → hindrance_of rules s o places ≡ x → MatchOption x (MayStart s o × IsSendable rules o places) (Hinders rules s o places) → hindrance_of rules s o places ≡ None
+          by None e h = e
+          by (Some h) e held = absurd (hinders rules s o places h held may send)
+
+      some_goes : list_any (may_go rules s owner command) s.requests ≡ true → CanStart
+      some_goes e =
+          let any : _ × _ × _ × _ × _ = Any-from_list_any (may_go rules s owner command) s.requests e in
+          let found : (places : Extent) × (startable rules s owner command any.1 ≡ Some places) = some_is (startable rules s owner command any.1) any.4 in
+          let goes : Asks rules s owner block any.1 found.0 × MayStart s any.1 × IsSendable rules any.1 found.0 = free_so any.1 found.0 (any.0, any.2, any.3) found.1 in
+          let p : (others : List OpenRequest) × IsPermutation s.requests (any.1 ∷ others) = first_of s.requests any.1 (any.0, any.2, any.3) in
+          (started_by s tag any.1 p.0 found.0, start_to any.1 p.0 found.0 p.1 goes.0 goes.1 goes.2)
+
+      held_so : list_any (may_go rules s owner command) s.requests ≡ false → (o : OpenRequest) (places : Extent) → Contains s.requests o → asked rules owner command o ≡ Some places → is_inside o places ≡ true
+          → (h : Hindrance) × (hindrance_of rules s o places ≡ Some h) × Hinders rules s o places h
+      held_so none o places there a inside = by (hindrance_of rules s o places) refl (hindrance_named o places inside)
         where
           by : (x : Option Hindrance) → hindrance_of rules s o places ≡ x → MatchOption x (MayStart s o × IsSendable rules o places) (Hinders rules s o places)
               → (h : Hindrance) × (hindrance_of rules s o places ≡ Some h) × Hinders rules s o places h
-          by None e h = absurd (none_goes none o places asks.is_there found h.0 h.1)
+          by None e h = absurd (both_ways _ (none_any (may_go rules s owner command) s.requests none o there) (ap is_some (startable_if o places a e)))
           by (Some x) e h = (x, e, h)
 
-      all_held : list_any (may_go rules s command) s.requests ≡ false → AllHeld rules s block
+      all_held : list_any (may_go rules s owner command) s.requests ≡ false → AllHeld rules s owner block
       all_held none o places asks =
-          let f : (asked rules command o ≡ Some places) × (is_inside o places ≡ true) = found_asked o places asks in
-          let g : Asks rules s block o places × (places_for rules o.request o.request.kind command ≡ Some places) × (is_inside o places ≡ true) = asks_found o places asks.is_there f.0 in
-          let held : (h : Hindrance) × (hindrance_of rules s o places ≡ Some h) × Hinders rules s o places h = held_so none o places asks g.1 g.2 in
+          let f : (asked rules owner command o ≡ Some places) × (is_inside o places ≡ true) = found_asked o places asks in
+          let held : (h : Hindrance) × (hindrance_of rules s o places ≡ Some h) × Hinders rules s o places h = held_so none o places asks.is_there f.0 f.1 in
           (held.0, held.2)
 
-      kind_fits : (kind : Kind) → list_any (has_kind kind) s.requests ≡ false → (o : OpenRequest) → Contains s.requests o → o.request.kind ≢ kind
-      kind_fits kind none o there same =
-          both_ways _ (none_any (has_kind kind) s.requests none o there) (ap (same_kind kind) same ∙ kind_itself kind)
+      kind_fits : (kind : Kind) → list_any (has_kind owner kind) s.requests ≡ false → (o : OpenRequest) → Contains s.requests o → IsTold owner o → o.request.kind ≢ kind
+      kind_fits kind none o there told same =
+          both_ways _ (none_any (has_kind owner kind) s.requests none o there) (and_from _ _ (told_so owner o told) (ap (same_kind kind) same ∙ kind_itself kind))
 
-      misfit_is : IsMisfit s (misfit_of rules s.requests command)
+      misfit_is : IsMisfit s owner (misfit_of rules owner s.requests command)
       misfit_is = by_form (is_in_form rules command)
         where
-          blocks : (kind : Kind) (found : Option OpenRequest) → find (has_blocks rules kind (span_of command)) s.requests ≡ found → IsMisfit s (blocks_misfit (span_of command) found)
+          blocks : (kind : Kind) (found : Option OpenRequest) → find (has_blocks rules owner kind (span_of command)) s.requests ≡ found → IsMisfit s owner (blocks_misfit (span_of command) found)
           blocks kind None e = tt
-          blocks kind (Some o) e = (o, (found_pass (has_blocks rules kind (span_of command)) s.requests o e).0, refl, refl)
+          blocks kind (Some o) e =
+              let h : Contains s.requests o × (has_blocks rules owner kind (span_of command) o ≡ true) = found_pass (has_blocks rules owner kind (span_of command)) s.requests o e in
+              (o, h.0, is_so owner o (and_parts _ _ (and_parts _ _ h.1).0).0, refl, refl)
 
-          by_kind : (kind : Kind) (r : Bool) (k : Bool) → list_any (has_kind kind) s.requests ≡ k
-              → IsMisfit s (if not r then misfit.Range else (if not k then misfit.Kind kind else blocks_misfit (span_of command) (find (has_blocks rules kind (span_of command)) s.requests)))
+          by_kind : (kind : Kind) (r : Bool) (k : Bool) → list_any (has_kind owner kind) s.requests ≡ k
+              → IsMisfit s owner (if not r then misfit.Range else (if not k then misfit.Kind kind else blocks_misfit (span_of command) (find (has_blocks rules owner kind (span_of command)) s.requests)))
           by_kind kind false k e = tt
           by_kind kind true false e = kind_fits kind e
-          by_kind kind true true e = blocks kind (find (has_blocks rules kind (span_of command)) s.requests) refl
+          by_kind kind true true e = blocks kind (find (has_blocks rules owner kind (span_of command)) s.requests) refl
 
-          by_command : (kind : Option Kind) → IsMisfit s (kind_misfit rules s.requests (span_of command) kind)
+          by_command : (kind : Option Kind) → IsMisfit s owner (kind_misfit rules owner s.requests (span_of command) kind)
           by_command None = tt
-          by_command (Some kind) = by_kind kind (is_in_range kind (span_of command)) (list_any (has_kind kind) s.requests) refl
+          by_command (Some kind) = by_kind kind (is_in_range kind (span_of command)) (list_any (has_kind owner kind) s.requests) refl
 
-          by_form : (b : Bool) → IsMisfit s (if not b then misfit.Form else kind_misfit rules s.requests (span_of command) (kind_of command))
+          by_form : (b : Bool) → IsMisfit s owner (if not b then misfit.Form else kind_misfit rules owner s.requests (span_of command) (kind_of command))
           by_form false = tt
           by_form true = by_command (kind_of command)
 
-      none_asks : find (is_asked rules command) s.requests ≡ None → NoneAsks rules s block
+      none_asks : find (is_asked rules owner command) s.requests ≡ None → NoneAsks rules s owner block
       none_asks e o places asks =
-          both_ways _ (found_fail (is_asked rules command) s.requests e o asks.is_there) (ap is_some (found_asked o places asks).0)
+          both_ways _ (found_fail (is_asked rules owner command) s.requests e o asks.is_there) (ap is_some (found_asked o places asks).0)
 
-      held_named : list_any (may_go rules s command) s.requests ≡ false → (o : OpenRequest) → Contains s.requests o → is_asked rules command o ≡ true → MatchOption (held_rule rules s o (asked rules command o)) CanStart Broken
-      held_named none o there is = by (asked rules command o) refl is
+      held_named : list_any (may_go rules s owner command) s.requests ≡ false → (o : OpenRequest) → Contains s.requests o → is_asked rules owner command o ≡ true → MatchOption (held_rule rules s o (asked rules owner command o)) CanStart Broken
+      held_named none o there is = by (asked rules owner command o) refl is
         where
-          one : (places : Extent) → asked rules command o ≡ Some places → (x : Option Hindrance) → hindrance_of rules s o places ≡ x → MatchOption (held_by_one o x) CanStart Broken
+          one : (places : Extent) → asked rules owner command o ≡ Some places → (x : Option Hindrance) → hindrance_of rules s o places ≡ x → MatchOption (held_by_one o x) CanStart Broken
           one places e x f =
-              let g : Asks rules s block o places × (places_for rules o.request o.request.kind command ≡ Some places) × (is_inside o places ≡ true) = asks_found o places there e in
-              let held : (h : Hindrance) × (hindrance_of rules s o places ≡ Some h) × Hinders rules s o places h = held_so none o places g.0 g.1 g.2 in
+              let g : Asks rules s owner block o places × (is_inside o places ≡ true) = asks_found o places there e in
+              let held : (h : Hindrance) × (hindrance_of rules s o places ≡ Some h) × Hinders rules s o places h = held_so none o places there e g.1 in
               subst (λ y. MatchOption (held_by_one o y) CanStart Broken) (sym held.1 ∙ f) (all_held none, (o, places, g.0, refl, held.2))
 
-          by : (found : Option Extent) → asked rules command o ≡ found → is_some found ≡ true → MatchOption (held_rule rules s o found) CanStart Broken
+          by : (found : Option Extent) → asked rules owner command o ≡ found → is_some found ≡ true → MatchOption (held_rule rules s o found) CanStart Broken
           by None e t = cc (t)
           by (Some places) e t = one places e (hindrance_of rules s o places) refl
 
-      asked_named : list_any (may_go rules s command) s.requests ≡ false → (found : Option OpenRequest) → find (is_asked rules command) s.requests ≡ found → MatchOption (asked_rule rules s command found) CanStart Broken
-      asked_named none None e = (none_asks e, misfit_is)
-      asked_named none (Some o) e = let h : Contains s.requests o × (is_asked rules command o ≡ true) = found_pass (is_asked rules command) s.requests o e in held_named none o h.0 h.1
-
-      command_named : MatchOption (command_rule rules s command) CanStart Broken
-      command_named = by (list_any (may_go rules s command) s.requests) refl
+      -- no open request has a number that none was found by
+      unasked_named : NoneAsks rules s owner block → (told : Option ℕ) → owner ≡ told
+          → MatchOption (option_or (owner_rule s.requests told) (Some (start_rule.NotAsked (misfit_of rules owner s.requests command)))) CanStart Broken
+      unasked_named none None e = (none, misfit_is)
+      unasked_named none (Some r) e = by (list_any (has_number r) s.requests) refl
         where
-          by : (b : Bool) → list_any (may_go rules s command) s.requests ≡ b
-              → MatchOption (if b then None else asked_rule rules s command (find (is_asked rules command) s.requests)) CanStart Broken
+          by : (b : Bool) → list_any (has_number r) s.requests ≡ b
+              → MatchOption (option_or (if b then None else Some (start_rule.NotOpen r)) (Some (start_rule.NotAsked (misfit_of rules owner s.requests command)))) CanStart Broken
+          by true f = (none, misfit_is)
+          by false f = (e, λ o there same. both_ways _ (none_any (has_number r) s.requests f o there) (eq-eqb _ _ same))
+
+      asked_named : list_any (may_go rules s owner command) s.requests ≡ false → (found : Option OpenRequest) → find (is_asked rules owner command) s.requests ≡ found → MatchOption (asked_rule rules s owner command found) CanStart Broken
+      asked_named none None e = unasked_named (none_asks e) owner refl
+      asked_named none (Some o) e = let h : Contains s.requests o × (is_asked rules owner command o ≡ true) = found_pass (is_asked rules owner command) s.requests o e in held_named none o h.0 h.1
+
+      command_named : MatchOption (command_rule rules s owner command) CanStart Broken
+      command_named = by (list_any (may_go rules s owner command) s.requests) refl
+        where
+          by : (b : Bool) → list_any (may_go rules s owner command) s.requests ≡ b
+              → MatchOption (if b then None else asked_rule rules s owner command (find (is_asked rules owner command) s.requests)) CanStart Broken
           by true e = some_goes e
-          by false e = asked_named e (find (is_asked rules command) s.requests) refl
+          by false e = asked_named e (find (is_asked rules owner command) s.requests) refl
 
     -- THE TAG AND THE BLOCK
 
@@ -403,21 +481,32 @@ module _ (rules : Rules) (s : State) where
     by_block _ h = absurd h
 
     module _ (read : Result Cdb StartRule) (is : IsReadAs block read) where
-      block_named : number ≡ s.next_piece → IsLowestFreeTag rules.depth s.pieces tag → MatchOption (block_rule rules s read) CanStart Broken
+      -- some start goes, and each that is found is one
+      abbrev pub AllStart : Type 0
+      AllStart = CanStart × AllByRecursion StartsTo (started rules s tag owner read)
+
+      with_all : (x : Option StartRule) → MatchOption x CanStart Broken → AllByRecursion StartsTo (started rules s tag owner read) → MatchOption x AllStart Broken
+      with_all None h all = (h, all)
+      with_all (Some r) h all = h
+
+      block_named : number ≡ s.next_piece → IsLowestFreeTag rules.depth s.pieces tag → MatchOption (block_rule rules s owner read) AllStart Broken
       block_named next free = by read refl
         where
-          by : (r : Result Cdb StartRule) → read ≡ r → MatchOption (block_rule rules s r) CanStart Broken
-          by (Ok command) e = command_named next free command ((is.command command).0 e).asks ((is.command command).0 e).plain (λ c m. is.only command c e m)
+          by : (r : Result Cdb StartRule) → read ≡ r → MatchOption (block_rule rules s owner r) AllStart Broken
+          by (Ok command) e =
+              let own : IsBlockOf block command = (is.command command).0 e in
+              with_all (command_rule rules s owner command) (command_named next free command own.asks own.plain (λ c m. is.only command c e m))
+              (subst (λ x. AllByRecursion StartsTo (started rules s tag owner x)) (sym e) (all_started next free command own.asks own.plain (λ c m. is.only command c e m)))
           by (Err r) e = by_block r (is.broken r e)
 
-      pub starts_named : MatchOption (starting_rule rules s number tag read) ((s' : State) × Starts rules s number tag block s') (BreaksStartOf rules s number tag block)
+      pub starts_named : MatchOption (starting_rule rules s number tag owner read) AllStart (BreaksStartOf rules s owner number tag block)
       starts_named = by (number == s.next_piece) refl
         where
-          last : (x : Option StartRule) → MatchOption x (IsLowestFreeTag rules.depth s.pieces tag × CanStart) Broken → MatchOption x CanStart Broken
+          last : (x : Option StartRule) → MatchOption x (IsLowestFreeTag rules.depth s.pieces tag × AllStart) Broken → MatchOption x AllStart Broken
           last None h = h.1
           last (Some r) h = h
 
           by : (b : Bool) → (number == s.next_piece) ≡ b
-              → MatchOption (if not b then Some (start_rule.Number s.next_piece number) else option_or (tag_rule rules.depth s.pieces tag) (block_rule rules s read)) CanStart Broken
-          by true e = last _ (either (IsLowestFreeTag rules.depth s.pieces tag) CanStart Broken (tag_rule rules.depth s.pieces tag) (block_rule rules s read) tag_named (λ free. block_named (eqb-true _ _ e) free))
+              → MatchOption (if not b then Some (start_rule.Number s.next_piece number) else option_or (tag_rule rules.depth s.pieces tag) (block_rule rules s owner read)) AllStart Broken
+          by true e = last _ (either (IsLowestFreeTag rules.depth s.pieces tag) AllStart Broken (tag_rule rules.depth s.pieces tag) (block_rule rules s owner read) tag_named (λ free. block_named (eqb-true _ _ e) free))
           by false e = (refl, refl, λ same. eqb-false _ _ e same)

@@ -1,28 +1,56 @@
 -- Taking one item out of a list, by its number or by choice.
-use Rattle.std.proofs.Common.{◌≡◌, ◌<◌, ◌⊎◌, inl, inr, ℕ, zero, suc, Bool, true, false, List, [], ◌∷◌, ◌++◌, Option, Some, None, refl, sym, ◌∙◌, ap, subst, arith, map, length, get_or, eqb, eq-eqb}
-use Rattle.std.specs.Prelude.{IsPermutation, All, Contains, IfSome, option_to_list, if◌then◌else◌}
-use Rattle.std.specs.List.{IsDistinct, AllByRecursion, remove, flat_map}
-use Rattle.std.proofs.lemmas.Bool.{both_ways, eqb-true}
+use Rattle.std.proofs.Common.{◌≡◌, ◌<◌, ◌≤◌, ◌⊎◌, inl, inr, ℕ, zero, suc, Bool, true, false, List, [], ◌∷◌, ◌++◌, Option, Some, None, refl, sym, ◌∙◌, ap, subst, arith, map, length, get_or, cond, eqb, eq-eqb}
+use Rattle.std.specs.Prelude.{◌||◌, IsPermutation, All, Contains, IfSome, option_to_list, if◌then◌else◌}
+use Rattle.std.specs.List.{IsDistinct, AllByRecursion, find, list_any, position_or_len, remove, flat_map}
+use Rattle.std.proofs.lemmas.Bool.{both_ways, eqb-true, or_parts}
 use Rattle.std.proofs.lemmas.List.{length-map, get_or-map}
-use Rattle.std.proofs.lemmas.List.Sorted.{IsPermutation-refl, IsPermutation-sym, IsPermutation-trans, IsPermutation-cons, IsPermutation-middle, All-permutation, Contains-permutation}
+use Rattle.std.proofs.lemmas.List.Sorted.{IsPermutation-refl, IsPermutation-sym, IsPermutation-trans, IsPermutation-cons, IsPermutation-middle, IsPermutation-to_front, IsPermutation-insert, IsPermutation-remove, All-permutation, Contains-permutation}
 use Rattle.std.proofs.lemmas.List.Elements.{All-nil, All-cons, All-head}
 use Rattle.machine.proofs.Permuting.{IsPermutation-uncons, first_unique}
-use Rattle.judge.specs.Picking.{only, behind, take_out, past, choices}
-
--- A VALUE IF THE TEST HOLDS
-
-pub if_only : {X : Type 0} (P : X → Type 0) (test : Bool) (x : X) → (test ≡ true → P x) → IfSome (only test x) P
-if_only P true x h = h refl
-if_only P false x h = tt
+use Rattle.machine.specs.State.{OpenRequest}
+use Rattle.judge.specs.Next.{comes_after, placed}
+use Rattle.judge.specs.Picking.{behind, take_out, past, choices}
 
 -- the value that is there passes; none is there never
 abbrev pub Gives : {X : Type 0} → (X → Type 0) → Option X → Type 0
 Gives P None = ⊥
 Gives P (Some x) = P x
 
-pub gives_only : {X : Type 0} (P : X → Type 0) (test : Bool) (x : X) → test ≡ true → P x → Gives P (only test x)
-gives_only P true x e h = h
-gives_only P false x e h = cc (e)
+-- an item that is there, before the others in some order
+pub first_of : {X : Type 0} (xs : List X) (x : X) → Contains xs x → (others : List X) × IsPermutation xs (x ∷ others)
+first_of xs x (k, low, is) = (remove xs k, IsPermutation-remove xs k x low (sym is))
+
+-- an item at the end of others, and in its place among them
+pub to_front : {X : Type 0} (xs : List X) (x : X) → IsPermutation (xs ++ x ∷ []) (x ∷ xs)
+to_front xs x = IsPermutation-to_front xs x
+
+pub unplaced : (o : OpenRequest) (others : List OpenRequest) → IsPermutation (placed o others) (o ∷ others)
+unplaced o others = IsPermutation-sym _ _ (IsPermutation-insert others (position_or_len (comes_after o.number) others) o)
+
+-- WHAT IS FOUND BY A TEST
+
+module _ {X : Type 0} (test : X → Bool) where
+  pub found_pass : (xs : List X) (x : X) → find test xs ≡ Some x → Contains xs x × (test x ≡ true)
+  found_pass [] x e = cc (e)
+  found_pass (y ∷ ys) x e = by (test y) refl e (found_pass ys x)
+    where
+      by : (b : Bool) → test y ≡ b → cond b (Some y) (find test ys) ≡ Some x → (find test ys ≡ Some x → Contains ys x × (test x ≡ true)) → Contains (y ∷ ys) x × (test x ≡ true)
+      by true t e again = let same : y ≡ x = cc (e) in ((0, omega arith, same), ap test (sym same) ∙ t)
+      by false t e again = let more : Contains ys x × (test x ≡ true) = again e in ((suc more.0.0, omega (arith, more.0.1), more.0.2), more.1)
+
+  pub found_fail : (xs : List X) → find test xs ≡ None → (x : X) → Contains xs x → test x ≡ false
+  found_fail [] e x (k, low, is) = absurd (omega arith)
+  found_fail (y ∷ ys) e x c = by (test y) refl e c (λ f. found_fail ys f x)
+    where
+      by : (b : Bool) → test y ≡ b → cond b (Some y) (find test ys) ≡ None → Contains (y ∷ ys) x → (find test ys ≡ None → Contains ys x → test x ≡ false) → test x ≡ false
+      by true t e c again = cc (e)
+      by false t e (zero, low, is) again = ap test (sym is) ∙ t
+      by false t e (suc k, low, is) again = again e (k, omega arith, is)
+
+  pub none_any : (xs : List X) → list_any test xs ≡ false → (x : X) → Contains xs x → test x ≡ false
+  none_any [] e x (k, low, is) = absurd (omega arith)
+  none_any (y ∷ ys) e x (zero, low, is) = ap test (sym is) ∙ (or_parts (test y) (list_any test ys) e).0
+  none_any (y ∷ ys) e x (suc k, low, is) = none_any ys (or_parts (test y) (list_any test ys) e).1 x (k, omega arith, is)
 
 -- THE FIRST ITEM THAT PASSES
 
@@ -40,14 +68,6 @@ module _ {X : Type 0} (test : X → Bool) where
       first false e None h = All-cons (λ x. test x ≡ false) x xs e h
       first false e (Some (y, ys)) h = (IsPermutation-trans _ _ _ (IsPermutation-cons x _ _ h.0) (IsPermutation-middle (x ∷ []) y ys), h.1)
 
-  -- what holds of none, and of each item that passes with its others
-  pub at_found : (P : Option (X × List X) → Type 0) (xs : List X) → P None → ((x : X) (others : List X) → IsPermutation xs (x ∷ others) → test x ≡ true → P (Some (x, others))) → P (take_out test xs)
-  at_found P xs none some = by (take_out test xs) (takes_out xs)
-    where
-      by : (o : Option (X × List X)) → TakesOut test xs o → P o
-      by None h = none
-      by (Some (x, others)) h = some x others h.0 h.1
-
 module _ {X : Type 0} (key : X → ℕ) (n : ℕ) where
   -- the one item of this number is taken out, whatever the others' order
   pub at_taken : (P : Option (X × List X) → Type 0) (xs : List X) (x : X) (others : List X) → IsDistinct eqb (map key xs) → IsPermutation xs (x ∷ others) → key x ≡ n
@@ -62,6 +82,19 @@ module _ {X : Type 0} (key : X → ℕ) (n : ℕ) where
           let same_number : key y ≡ key x = eqb-true (key y) n some.1 ∙ sym e in
           let same : (x ≡ y) × IsPermutation others rest = first_unique key xs x y others rest distinct p some.0 same_number in
           subst (λ z. P (Some (z, rest))) same.0 (h rest same.1)
+
+  -- the one item of this number is found
+  pub at_one : (P : Option X → Type 0) (xs : List X) (x : X) → IsDistinct eqb (map key xs) → Contains xs x → key x ≡ n → P (Some x) → P (find (λ y. eqb (key y) n) xs)
+  at_one P xs x distinct there e h = by (find (λ y. eqb (key y) n) xs) refl
+    where
+      by : (o : Option X) → find (λ y. eqb (key y) n) xs ≡ o → P o
+      by None none = absurd (both_ways _ (found_fail (λ y. eqb (key y) n) xs none x there) (eq-eqb (key x) n e))
+      by (Some y) found =
+          let c : Contains xs y × (eqb (key y) n ≡ true) = found_pass (λ y. eqb (key y) n) xs y found in
+          let same_number : key y ≡ key x = eqb-true (key y) n c.1 ∙ sym e in
+          let p : (others : List X) × IsPermutation xs (x ∷ others) = first_of xs x there in
+          let q : (others : List X) × IsPermutation xs (y ∷ others) = first_of xs y c.0 in
+          subst (λ z. P (Some z)) (first_unique key xs x y p.0 q.0 distinct p.1 q.1 same_number).0 h
 
 -- EACH ITEM WITH THE OTHERS
 

@@ -1,24 +1,22 @@
 -- The states that are reached, label by label.
-use Rattle.std.proofs.Common.{◌≡◌, ◌<◌, inl, inr, ℕ, zero, suc, List, [], ◌∷◌, ◌++◌, Option, refl, sym, subst, arith, length, take, drop}
+use Rattle.std.proofs.Common.{◌≡◌, ◌<◌, inl, inr, ℕ, zero, suc, List, [], ◌∷◌, ◌++◌, refl, map, sym, subst, arith, length, take, drop}
 use Rattle.std.specs.Prelude.{Any}
 use Rattle.std.specs.List.{AllByRecursion, flat_map}
 use Rattle.std.proofs.lemmas.List.{take-append-drop}
 use Rattle.std.proofs.lemmas.List.Elements.{All-nil, All-cons, All-from_recursion, recursion_from_All}
-use Rattle.cdb.specs.declared.Cdb.{Cdb}
-use Rattle.machine.specs.declared.Label.{Label}
 use Rattle.machine.specs.Rules.{Rules}
 use Rattle.machine.specs.State.{State, IsSame, opening}
-use Rattle.machine.specs.Numbers.{AreDistinct}
-use Rattle.machine.specs.Step.{Step, Run}
-use Rattle.machine.proofs.Same.{IsSame-refl, IsSame-sym, Step-same, Run-append}
-use Rattle.machine.proofs.Numbers.{AreDistinct-opening, AreDistinct-Run}
-use Rattle.machine.proofs.Placed.{ArePlaced-opening}
-use Rattle.judge.specs.Next.{next, IsCommandOf}
-use Rattle.judge.specs.Judging.{AreReached, IsRun}
+use Rattle.machine.proofs.Same.{IsSame-refl, IsSame-sym}
+use Rattle.trace_line.specs.declared.Line.{Line}
+use Rattle.trace_line.specs.Lines.{LineStep, LineRun}
+use Rattle.judge.specs.declared.reading.Told.{Told}
+use Rattle.judge.specs.Breaking.{IsReached}
+use Rattle.judge.specs.LabelRuling.{IsToldBy}
+use Rattle.judge.specs.Next.{next}
+use Rattle.judge.specs.Judging.{AreLinesReached}
 use Rattle.judge.proofs.Picking.{Among, among_both, all_flat_map, among_flat_map}
-use Rattle.judge.proofs.AllPlaces.{HaveAllPlaces, HaveAllPlaces-opening, HaveAllPlaces-Run}
-use Rattle.judge.proofs.Sound.{steps}
-use Rattle.judge.proofs.Complete.{steps_found}
+use Rattle.judge.proofs.Lines.{labels_run, run_append, run_split, step_same}
+use Rattle.judge.proofs.Broken.{all_next, all_found}
 
 module _ {X : Type 0} (P : X → Type 0) where
   pub among_from_any : (xs : List X) → Any P xs → Among P xs
@@ -31,73 +29,48 @@ module _ {X : Type 0} (P : X → Type 0) where
   any_from_among (y ∷ ys) (inl h) = (0, y, omega arith, refl, h)
   any_from_among (y ∷ ys) (inr h) = let more : Any P ys = any_from_among ys h in (suc more.0, more.1, omega arith, more.3, more.4)
 
--- a run of joined labels passes through a state between them
-pub Run-split : (rules : Rules) (s : State) (xs ys : List Label) (s' : State) → Run rules s (xs ++ ys) s' → (mid : State) × Run rules s xs mid × Run rules mid ys s'
-Run-split rules s [] ys s' run = (s, IsSame-refl s, run)
-Run-split rules s (x ∷ xs) ys s' run =
-    let rest : (mid : State) × Run rules run.0 xs mid × Run rules mid ys s' = Run-split rules run.0 xs ys s' run.2 in
-    (rest.0, (run.0, run.1, rest.1), rest.2)
-
 module _ (rules : Rules) (arrays : List (List (List ℕ))) where
-  pub reached_none : AreReached rules (opening arrays) [] (opening arrays ∷ [])
+  pub reached_none : AreLinesReached rules (opening arrays) [] (opening arrays ∷ [])
   reached_none = record {
-    each = All-cons (Run rules (opening arrays) []) (opening arrays) [] (IsSame-refl (opening arrays)) (All-nil (Run rules (opening arrays) []));
+    each = All-cons (LineRun rules (opening arrays) []) (opening arrays) [] (IsSame-refl (opening arrays)) (All-nil (LineRun rules (opening arrays) []));
     all = λ s' same. (0, opening arrays, omega arith, refl, IsSame-sym (opening arrays) s' same);
   }
 
-  module _ (labels : List Label) (label : Label) (command : Option Cdb) (means : IsCommandOf label command) where
-    one_more : (s t : State) → Run rules (opening arrays) labels s → Step rules s label t → Run rules (opening arrays) (labels ++ label ∷ []) t
-    one_more s t run step = Run-append rules (opening arrays) labels s (label ∷ []) t run (t, step, IsSame-refl t)
+  module _ (lines : List Line) (line : Line) (told : Told) (means : IsToldBy line told) where
+    reaches : (s : State) → LineRun rules (opening arrays) lines s → IsReached rules s
+    reaches s run = (arrays, map (λ (l : Line). l.label) lines, labels_run rules (opening arrays) lines s run)
 
-    each_leads : (s : State) → Run rules (opening arrays) labels s → AllByRecursion (Run rules (opening arrays) (labels ++ label ∷ [])) (next rules command label s)
-    each_leads s run = more (next rules command label s) (steps rules s command label means)
+    one_more : (s t : State) → LineRun rules (opening arrays) lines s → LineStep rules s line t → LineRun rules (opening arrays) (lines ++ line ∷ []) t
+    one_more s t run step = run_append rules (opening arrays) lines s (line ∷ []) t run (t, step, IsSame-refl t)
+
+    each_leads : (s : State) → LineRun rules (opening arrays) lines s → AllByRecursion (LineRun rules (opening arrays) (lines ++ line ∷ [])) (next rules told line.label s)
+    each_leads s run = more (next rules told line.label s) (all_next rules s line told means (reaches s run))
       where
-        more : (ts : List State) → AllByRecursion (Step rules s label) ts → AllByRecursion (Run rules (opening arrays) (labels ++ label ∷ [])) ts
+        more : (ts : List State) → AllByRecursion (LineStep rules s line) ts → AllByRecursion (LineRun rules (opening arrays) (lines ++ line ∷ [])) ts
         more [] h = tt
         more (t ∷ ts) h = (one_more s t run h.0, more ts h.1)
 
     record Between (mid s' x : State) : Type 0 where
-      run : Run rules (opening arrays) labels x
-      step : Step rules x label s'
+      run : LineRun rules (opening arrays) lines x
+      step : LineStep rules x line s'
 
-    leads : (s' x : State) → Between x s' x → Among (IsSame s') (next rules command label x)
-    leads s' x h =
-        let distinct : AreDistinct x = AreDistinct-Run rules (opening arrays) labels x (AreDistinct-opening arrays) h.run in
-        let whole : HaveAllPlaces rules x =
-        HaveAllPlaces-Run rules (opening arrays) labels x (AreDistinct-opening arrays) (ArePlaced-opening arrays) (HaveAllPlaces-opening rules arrays) h.run in
-        steps_found rules x distinct whole s' command label means h.step
+    leads : (s' x : State) → Between x s' x → Among (IsSame s') (next rules told line.label x)
+    leads s' x h = all_found rules x line told means (reaches x h.run) s' h.step
 
-    pub reached_more : (states : List State) → AreReached rules (opening arrays) labels states → AreReached rules (opening arrays) (labels ++ label ∷ []) (flat_map (next rules command label) states)
+    pub reached_more : (states : List State) → AreLinesReached rules (opening arrays) lines states → AreLinesReached rules (opening arrays) (lines ++ line ∷ []) (flat_map (next rules told line.label) states)
     reached_more states h = record {
-      each = All-from_recursion (Run rules (opening arrays) (labels ++ label ∷ [])) _
-          (all_flat_map (next rules command label) (Run rules (opening arrays) labels) (Run rules (opening arrays) (labels ++ label ∷ [])) each_leads states runs);
-      all = λ s' run. found s' (Run-split rules (opening arrays) labels (label ∷ []) s' run);
+      each = All-from_recursion (LineRun rules (opening arrays) (lines ++ line ∷ [])) _
+          (all_flat_map (next rules told line.label) (LineRun rules (opening arrays) lines) (LineRun rules (opening arrays) (lines ++ line ∷ [])) each_leads states runs);
+      all = λ s' run. found s' (run_split rules (opening arrays) lines (line ∷ []) s' run);
     }
       where
-        runs : AllByRecursion (Run rules (opening arrays) labels) states
-        runs = recursion_from_All (Run rules (opening arrays) labels) states h.each
+        runs : AllByRecursion (LineRun rules (opening arrays) lines) states
+        runs = recursion_from_All (LineRun rules (opening arrays) lines) states h.each
 
-        found : (s' : State) → (mid : State) × Run rules (opening arrays) labels mid × Run rules mid (label ∷ []) s' → Any (IsSame s') (flat_map (next rules command label) states)
+        found : (s' : State) → (mid : State) × LineRun rules (opening arrays) lines mid × LineRun rules mid (line ∷ []) s' → Any (IsSame s') (flat_map (next rules told line.label) states)
         found s' (mid, before, (after, step, same)) =
-            any_from_among (IsSame s') (flat_map (next rules command label) states)
-            (among_flat_map (next rules command label) (λ x. Between x s' x) (IsSame s') (leads s') states
-            (among_both (Run rules (opening arrays) labels) (IsSame mid) (λ x. Between x s' x)
-            (λ x run alike. record { run = run; step = Step-same rules label mid x after s' alike same step }) states runs
+            any_from_among (IsSame s') (flat_map (next rules told line.label) states)
+            (among_flat_map (next rules told line.label) (λ x. Between x s' x) (IsSame s') (leads s') states
+            (among_both (LineRun rules (opening arrays) lines) (IsSame mid) (λ x. Between x s' x)
+            (λ x run alike. record { run = run; step = step_same mid x after s' alike same rules line step }) states runs
             (among_from_any (IsSame mid) states (h.all mid before))))
-
-  -- WHERE NOTHING IS REACHED
-
-  pub reached_some : (labels : List Label) (states : List State) → AreReached rules (opening arrays) labels states → 0 < length states → IsRun rules (opening arrays) labels
-  reached_some labels [] h some = absurd (omega arith)
-  reached_some labels (s ∷ states) h some = (s, (recursion_from_All (Run rules (opening arrays) labels) (s ∷ states) h.each).0)
-
-  pub reached_nothing : (labels : List Label) (states : List State) → AreReached rules (opening arrays) labels states → length states ≡ 0 → ¬ (IsRun rules (opening arrays) labels)
-  reached_nothing labels [] h none (s', run) = absurd (among_from_any (IsSame s') [] (h.all s' run))
-  reached_nothing labels (s ∷ states) h none run = absurd (omega arith)
-
-  -- what isn't a run is none whatever follows
-  pub stays_none : (labels : List Label) (n : ℕ) → ¬ (IsRun rules (opening arrays) (take n labels)) → ¬ (IsRun rules (opening arrays) labels)
-  stays_none labels n h (s', run) =
-      let split : (mid : State) × Run rules (opening arrays) (take n labels) mid × Run rules mid (drop n labels) s' =
-      Run-split rules (opening arrays) (take n labels) (drop n labels) s' (subst (λ ls. Run rules (opening arrays) ls s') (sym (take-append-drop n labels)) run) in
-      h (split.0, split.1)

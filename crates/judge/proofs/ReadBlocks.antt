@@ -5,16 +5,12 @@ use Rattle.cdb.specs.declared.Cdb.{Cdb}
 use Rattle.cdb.specs.declared.CdbFault.{CdbFault}
 use Rattle.cdb.specs.Meaning.{IsPlain, Means}
 use Rattle.cdb.specs.Faults.{HasFault}
-use Rattle.srb.specs.declared.DeviceLabel.TheVariants as device
-use Rattle.machine.specs.declared.Label.{Label}
-use Rattle.machine.specs.declared.Label.TheVariants as label
 use Rattle.judge.specs.declared.label_rules.Difference.{Difference}
 use Rattle.judge.specs.declared.start_rules.StartRule.{StartRule}
 use Rattle.judge.specs.declared.start_rules.StartRule.TheVariants as start_rule
 use Rattle.judge.specs.Breaking.{BreaksBlock, Differs}
-use Rattle.judge.specs.Next.{IsBlockOf, IsCommandOf}
 use Rattle.judge.specs.Ruling.{difference}
-use Rattle.judge.specs.LabelRuling.{IsReadAs, IsReadOf}
+use Rattle.judge.specs.LabelRuling.{IsBlockOf, IsReadAs}
 use Rattle.judge.proofs.Named.{differs}
 
 -- no block asks for two commands
@@ -61,24 +57,3 @@ read_none block fault none has = record {
   only = λ c k e m. absurd (cc (e));
   broken = λ r e. let is : start_rule.Block fault ≡ r = cc (e) in subst (λ x. BreaksBlock block x) is (has, none);
 }
-
--- the command that a label is read as is that of its start
-pub some_of : (l : Label) (command : Cdb) → IsReadOf l (Ok command) → IsCommandOf l (Some command)
-some_of (label.Device (device.Start number tag block)) command read = λ c. (λ e. let is : command ≡ c = cc (e) in (read.command c).0 (ap Ok is), λ h. by c ((read.command c).1 h))
-  where
-    by : (c : Cdb) → ◌≡◌ {A = Result Cdb StartRule} (Ok command) (Ok c) → ◌≡◌ {A = Option Cdb} (Some command) (Some c)
-    by c e = cc (e)
-some_of (label.Device (device.Act number bytes)) command read = tt
-some_of (label.Device (device.Fault number)) command read = tt
-some_of (label.Device (device.Return number class)) command read = tt
-some_of _ command read = tt
-
-pub none_of : (l : Label) (r : StartRule) → IsReadOf l (Err r) → IsCommandOf l None
-none_of (label.Device (device.Start number tag block)) r read = λ c. (λ e. absurd (cc (e)), λ h. by c ((read.command c).1 h))
-  where
-    by : (c : Cdb) → ◌≡◌ {A = Result Cdb StartRule} (Err r) (Ok c) → ◌≡◌ {A = Option Cdb} None (Some c)
-    by c e = absurd (cc (e))
-none_of (label.Device (device.Act number bytes)) r read = tt
-none_of (label.Device (device.Fault number)) r read = tt
-none_of (label.Device (device.Return number class)) r read = tt
-none_of _ r read = tt

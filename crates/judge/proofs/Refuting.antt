@@ -34,7 +34,11 @@ use Rattle.judge.specs.declared.label_rules.CancelRule.{CancelRule}
 use Rattle.judge.specs.declared.label_rules.CancelRule.TheVariants as cancel_rule
 use Rattle.judge.specs.declared.label_rules.RemovalRule.{RemovalRule}
 use Rattle.judge.specs.declared.label_rules.RemovalRule.TheVariants as removal_rule
-use Rattle.judge.specs.Breaking.{IsOpen, EndsWrong, BreaksOwedAnswer, BreaksOwed, IsOwedFirst, BreaksCallOf, BreaksCall, BreaksAnswerOf, BreaksAnswer, BreaksCancelOf, BreaksCancel, IsSoNow, IsOfPause, IsOfEnd, BreaksRemoval, BreaksStart, BreaksActing, BreaksReturn, Breaks, BreakingRefutes}
+use Rattle.judge.specs.Breaking.{IsOpen, EndsWrong, BreaksOwedAnswer, BreaksOwed, IsOwedFirst, BreaksCallOf, BreaksCall, BreaksAnswerOf, BreaksAnswer, BreaksCancelOf, BreaksCancel, IsSoNow, IsOfPause, IsOfEnd, BreaksRemoval, BreaksStart, BreaksActing, BreaksReturn, Breaks, LineBreaks, BreakingRefutes, LineBreakingRefutes}
+use Rattle.trace_line.specs.declared.Line.{Line}
+use Rattle.trace_line.specs.Lines.{LabelIsOf, LineStep}
+use Rattle.judge.specs.Judging.{plain}
+use Rattle.judge.proofs.Lines.{none_told}
 use Rattle.judge.proofs.RefutingPieces.{there, refutes_start, refutes_act, refutes_fault, refutes_return}
 
 same_owed : (a b : Owed) → Some a ≡ Some b → a ≡ b
@@ -55,12 +59,12 @@ module _ (rules : Rules) (s : State) where
   -- ANSWERS
 
   -- how an isopen request ends
-  record EndsSo (o : OpenRequest) (status : NtStatus) (informed : ℕ) (bytes : List ℕ) : Type 0 where
-    ended : All (HasEnded rules s o) o.marks
-    success : (status ≡ Success) ↔ IsTrue (list_all is_done o.marks)
-    cause : HasCause rules s o o.marks status
-    hands_back : bytes ≡ answer_bytes o.request.kind o.marks
-    informs : informed ≡ information o.request status
+  pub record EndsSo (o : OpenRequest) (status : NtStatus) (informed : ℕ) (bytes : List ℕ) : Type 0 where
+    pub ended : All (HasEnded rules s o) o.marks
+    pub success : (status ≡ Success) ↔ IsTrue (list_all is_done o.marks)
+    pub cause : HasCause rules s o o.marks status
+    pub hands_back : bytes ≡ answer_bytes o.request.kind o.marks
+    pub informs : informed ≡ information o.request status
 
   not_out : (o : OpenRequest) → HasEnded rules s o Out → ⊥
   not_out o (inl e) = cc (e)
@@ -202,10 +206,10 @@ module _ (rules : Rules) (s : State) where
   refutes_removal_label label.Removed r h s' (inr step) = step
   refutes_removal_label _ r h s' step = absurd h
 
-  refutes_start_label : (l : Label) (r : StartRule) → BreaksStart rules s l r → (s' : State) → Step rules s l s' → ⊥
-  refutes_start_label (label.Device (device.Start number tag block)) r h s' (inl step) = refutes_start rules s number tag block r h s' step.1
-  refutes_start_label (label.Device (device.Start number tag block)) r h s' (inr step) = step
-  refutes_start_label _ r h s' step = absurd h
+  refutes_start_label : (owner : Option ℕ) (l : Label) (r : StartRule) → BreaksStart rules s owner l r → (s' : State) → Step rules s l s' → LabelIsOf s s' l owner → ⊥
+  refutes_start_label owner (label.Device (device.Start number tag block)) r h s' (inl step) is = refutes_start rules s owner number tag block r h s' step.1 is
+  refutes_start_label owner (label.Device (device.Start number tag block)) r h s' (inr step) is = step
+  refutes_start_label owner _ r h s' step is = absurd h
 
   refutes_act_label : (l : Label) (r : ActRule) → BreaksActing rules s l r → (s' : State) → Step rules s l s' → ⊥
   refutes_act_label (label.Device (device.Act number bytes)) r h s' (inl step) = refutes_act rules s number bytes r h s' step.1
@@ -219,15 +223,18 @@ module _ (rules : Rules) (s : State) where
   refutes_return_label (label.Device (device.Return number class)) r h s' (inr step) = step
   refutes_return_label _ r h s' step = absurd h
 
-  pub refutes : (l : Label) (r : Rule) → Breaks rules s l r → (s' : State) → Step rules s l s' → ⊥
-  refutes l (rule.Owed r) h s' step = refutes_owed l r h s' step
-  refutes l (rule.Call r) h s' step = refutes_call_label l r h s' step
-  refutes l (rule.Start r) h s' step = refutes_start_label l r h s' step
-  refutes l (rule.Act r) h s' step = refutes_act_label l r h s' step
-  refutes l (rule.Return r) h s' step = refutes_return_label l r h s' step
-  refutes l (rule.Answer r) h s' step = refutes_answer_label l r h s' step
-  refutes l (rule.Cancel r) h s' step = refutes_cancel_label l r h s' step
-  refutes l (rule.Removal r) h s' step = refutes_removal_label l r h s' step
+  pub refutes : (line : Line) (r : Rule) → LineBreaks rules s line r → (s' : State) → LineStep rules s line s' → ⊥
+  refutes line (rule.Owed r) h s' step = refutes_owed line.label r h s' step.step
+  refutes line (rule.Call r) h s' step = refutes_call_label line.label r h s' step.step
+  refutes line (rule.Start r) h s' step = refutes_start_label line.owner line.label r h s' step.step step.is_of
+  refutes line (rule.Act r) h s' step = refutes_act_label line.label r h s' step.step
+  refutes line (rule.Return r) h s' step = refutes_return_label line.label r h s' step.step
+  refutes line (rule.Answer r) h s' step = refutes_answer_label line.label r h s' step.step
+  refutes line (rule.Cancel r) h s' step = refutes_cancel_label line.label r h s' step.step
+  refutes line (rule.Removal r) h s' step = refutes_removal_label line.label r h s' step.step
+
+pub refutes_lines : LineBreakingRefutes
+refutes_lines rules s line r h step = refutes rules s line r h step.0 step.1
 
 pub refutes_all : BreakingRefutes
-refutes_all rules s l r h step = refutes rules s l r h step.0 step.1
+refutes_all rules s l r h step = refutes rules s (plain l) r h step.0 (record { step = step.1; is_of = none_told s step.0 l })

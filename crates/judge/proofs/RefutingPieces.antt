@@ -1,10 +1,10 @@
 -- A rule that a label of the adapter breaks refutes each step by it.
-use Rattle.std.proofs.Common.{◌≡◌, ◌≢◌, ◌<◌, ◌≤◌, ℕ, ◌+◌, ◌-◌, ◌*◌, ◌%◌, List, [], ◌∷◌, Option, Some, None, refl, sym, ◌∙◌, ap, subst, arith, length, get_or, cond, Bool, true, false}
+use Rattle.std.proofs.Common.{◌≡◌, ◌≢◌, ◌<◌, ◌≤◌, ℕ, ◌+◌, ◌-◌, ◌*◌, ◌%◌, List, [], ◌∷◌, Option, Some, None, refl, sym, ◌∙◌, ap, subst, arith, length, get_or, cond, Bool, true, false, zero, suc, ◌++◌}
 use Rattle.std.specs.Prelude.{IsPermutation, Contains, All, IsTrue, IsFalse, slice_get, slice_range, if◌then◌else◌}
 use Rattle.std.specs.List.{concat}
 use Rattle.std.proofs.lemmas.Bool.{both_ways}
 use Rattle.std.proofs.lemmas.List.Edits.{get_or-between, length-between}
-use Rattle.std.proofs.lemmas.List.Sorted.{IsPermutation-sym, Contains-permutation}
+use Rattle.std.proofs.lemmas.List.Sorted.{IsPermutation-sym, IsPermutation-trans, IsPermutation-cons, IsPermutation-middle, length_permutation, Contains-permutation}
 use Rattle.std.proofs.lemmas.List.Elements.{All-contains}
 use Rattle.sector.specs.declared.Extent.{Extent}
 use Rattle.sector.specs.Extents.{IsSector}
@@ -20,7 +20,7 @@ use Rattle.machine.specs.declared.ClientRequest.{ClientRequest}
 use Rattle.machine.specs.Rules.{Rules, is_transfer}
 use Rattle.machine.specs.State.{Mark, Untouched, Out, Done, Failed, Back, OpenRequest, Piece, State}
 use Rattle.machine.specs.Cutting.{mark_at, is_back, restarts_left}
-use Rattle.machine.specs.Sending.{HasTag, HasOtherTag, is_unsent, IsUnsent, is_started, IsInTurn, MayStart, IsSendable, Starts, sectors_at, Transfers, IsFreshPiece, Acts, Faults, LeavesMarks, Returns}
+use Rattle.machine.specs.Sending.{HasTag, HasOtherTag, is_unsent, IsUnsent, is_started, IsInTurn, MayStart, IsSendable, Starts, new_piece, sectors_at, Transfers, IsFreshPiece, Acts, Faults, LeavesMarks, Returns}
 use Rattle.machine.specs.Answering.{is_done}
 use Rattle.judge.specs.declared.start_rules.StartRule.{StartRule}
 use Rattle.judge.specs.declared.start_rules.StartRule.TheVariants as start_rule
@@ -30,7 +30,10 @@ use Rattle.judge.specs.declared.piece_rules.ActRule.{ActRule}
 use Rattle.judge.specs.declared.piece_rules.ActRule.TheVariants as act_rule
 use Rattle.judge.specs.declared.piece_rules.ReturnRule.{ReturnRule}
 use Rattle.judge.specs.declared.piece_rules.ReturnRule.TheVariants as return_rule
-use Rattle.judge.specs.Breaking.{IsOpen, Asks, Hinders, BreaksStartOf, IsAtAdapter, IsOwned, length_due, bytes_sent, AreWhole, IsFaithfulRead, ActsWrong, BreaksAct, BreaksFault, ReturnsWrong, BreaksReturnOf}
+use Rattle.judge.specs.Breaking.{IsOpen, IsTold, Asks, Hinders, BreaksStartOf, IsAtAdapter, IsOwned, length_due, bytes_sent, AreWhole, IsFaithfulRead, ActsWrong, BreaksAct, BreaksFault, ReturnsWrong, BreaksReturnOf}
+use Rattle.trace_line.specs.Lines.{StartIsOf, HasPieceOf}
+use Rattle.machine.proofs.Permuting.{IsPermutation-uncons}
+use Rattle.judge.proofs.Picking.{first_of}
 use Rattle.judge.proofs.Moving.{chunks_only}
 
 -- a place that is among those of a piece waits to be sent
@@ -41,6 +44,24 @@ unsent_at marks first count place inside unsent low high =
     let n : length (slice_range marks first (first + count)) ≡ first + count - first = length-between marks first (first + count) inside in
     let at : IsUnsent (get_or (slice_range marks first (first + count)) (place - first) Untouched) = unsent (place - first) Untouched (omega arith) in
     subst IsUnsent (get_or-between marks first (first + count) (place - first) Untouched (omega arith) ∙ ap (λ m. get_or marks m Untouched) e) at
+
+-- two lists that differ by one item alone have the same
+same_in : (n : ℕ) (xs : List Piece) (x y : Piece) → n ≡ length xs → IsPermutation (x ∷ xs) (y ∷ xs) → x ≡ y
+same_in zero xs x y e p = by (Contains-permutation _ _ x p (0, omega arith, refl))
+  where
+    by : Contains (y ∷ xs) x → x ≡ y
+    by (zero, low, is) = sym is
+    by (suc k, low, is) = absurd (omega (arith, e, low))
+same_in (suc n) xs x y e p = by (Contains-permutation _ _ x p (0, omega arith, refl)) (λ rest same q. same_in n rest x y same q)
+  where
+    by : Contains (y ∷ xs) x → ((rest : List Piece) → n ≡ length rest → IsPermutation (x ∷ rest) (y ∷ rest) → x ≡ y) → x ≡ y
+    by (zero, low, is) again = sym is
+    by (suc k, low, is) again =
+        let rest : (others : List Piece) × IsPermutation xs (x ∷ others) = first_of xs x (k, omega arith, is) in
+        let both : IsPermutation (x ∷ x ∷ rest.0) (y ∷ x ∷ rest.0) =
+        IsPermutation-trans _ _ _ (IsPermutation-cons x _ _ (IsPermutation-sym _ _ rest.1)) (IsPermutation-trans _ _ _ p (IsPermutation-cons y _ _ rest.1)) in
+        let fewer : IsPermutation (x ∷ rest.0) (y ∷ rest.0) = IsPermutation-uncons x _ _ (IsPermutation-trans _ _ _ both (IsPermutation-middle (y ∷ []) x rest.0)) in
+        again rest.0 (omega (arith, e, length_permutation xs (x ∷ rest.0) rest.1)) fewer
 
 done_unsent : (m : Mark) → IsTrue (is_done m) → IsUnsent m → ⊥
 done_unsent (Done sector) h k = cc (k)
@@ -58,7 +79,7 @@ module _ (rules : Rules) (s : State) where
 
   -- STARTS
 
-  hinders : (o : OpenRequest) (places : Extent) (h : Hindrance) → Hinders rules s o places h → MayStart s o → IsSendable rules o places → ⊥
+  pub hinders : (o : OpenRequest) (places : Extent) (h : Hindrance) → Hinders rules s o places h → MayStart s o → IsSendable rules o places → ⊥
   hinders o places hindrance.Cancelled h may send = both_ways o.cancelled may.not_cancelled h
   hinders o places hindrance.Removing h may send = both_ways s.removing may.not_removing h
   hinders o places hindrance.Late h may send = both_ways o.late (may.not_held h.0) h.1
@@ -84,21 +105,39 @@ module _ (rules : Rules) (s : State) where
   hinders o places (hindrance.NotWhole due count) h may send = let whole = send.whole h.0 in h.3 (h.2 ∙ whole.all_places ∙ sym h.1)
   hinders o places hindrance.Again h may send = let whole = send.whole h.0 in both_ways (is_started o) whole.not_before h.1
 
-  pub refutes_start : (number tag : ℕ) (block : List ℕ) (r : StartRule) → BreaksStartOf rules s number tag block r → (s' : State) → Starts rules s number tag block s' → ⊥
-  refutes_start number tag block (start_rule.Number due told) h s' step = h.2 (h.1 ∙ step.next_number ∙ sym h.0)
-  refutes_start number tag block (start_rule.Depth t depth) h s' step = omega (arith, h.0, h.1, h.2, step.on_tag.within)
-  refutes_start number tag block (start_rule.TagInUse t n) h s' step = All-contains (HasOtherTag tag) s.pieces h.1 step.on_tag.free h.2 (h.3 ∙ h.0)
-  refutes_start number tag block (start_rule.Tag lowest told) h s' step =
+  -- the piece that started is of the request that made the start
+  owner_is : (number tag : ℕ) (block : List ℕ) (s' : State) (step : Starts rules s number tag block s') (owner : Option ℕ) → StartIsOf s s' owner → IsTold owner step.owner
+  owner_is number tag block s' step None is = tt
+  owner_is number tag block s' step (Some r) is =
+      let same : new_piece s tag step.owner step.places ≡ is.piece =
+      same_in (length s.pieces) s.pieces _ _ refl (IsPermutation-trans _ _ _ (IsPermutation-sym _ _ step.after.pieces) is.is_new) in
+      ap (λ (p : Piece). p.owner) same ∙ is.is_owner
+
+  pub asks_so : (number tag : ℕ) (block : List ℕ) (s' : State) (step : Starts rules s number tag block s') (owner : Option ℕ) → StartIsOf s s' owner → Asks rules s owner block step.owner step.places
+  asks_so number tag block s' step owner is = record {
+    is_there = there step.owner step.others step.is_open;
+    is_told = owner_is number tag block s' step owner is;
+    some = step.sendable.some;
+    inside = step.sendable.inside;
+    means = step.asks;
+  }
+
+  pub refutes_start : (owner : Option ℕ) (number tag : ℕ) (block : List ℕ) (r : StartRule) → BreaksStartOf rules s owner number tag block r → (s' : State) → Starts rules s number tag block s' → StartIsOf s s' owner → ⊥
+  refutes_start owner number tag block (start_rule.Number due told) h s' step is = h.2 (h.1 ∙ step.next_number ∙ sym h.0)
+  refutes_start owner number tag block (start_rule.Depth t depth) h s' step is = omega (arith, h.0, h.1, h.2, step.on_tag.within)
+  refutes_start owner number tag block (start_rule.TagInUse t n) h s' step is = All-contains (HasOtherTag tag) s.pieces h.1 step.on_tag.free h.2 (h.3 ∙ h.0)
+  refutes_start owner number tag block (start_rule.Tag lowest told) h s' step is =
       let low : lowest < tag = subst (λ n. lowest < n) h.0 h.2 in
       let any = step.on_tag.lowest lowest low in
       All-contains (HasOtherTag lowest) s.pieces any.1 h.1.free (any.0, any.2, any.3) any.4
-  refutes_start number tag block (start_rule.Block fault) h s' step = h.1 _ step.asks
-  refutes_start number tag block (start_rule.NotPlain d) h s' step = h.1 _ step.asks step.plain
-  refutes_start number tag block (start_rule.NotAsked misfit) h s' step =
-      h.0 step.owner step.places (record { is_there = there step.owner step.others step.is_open; some = step.sendable.some; inside = step.sendable.inside; means = step.asks })
-  refutes_start number tag block (start_rule.Held n hindrance) h s' step =
-      let held : (k : Hindrance) × Hinders rules s step.owner step.places k =
-      h.0 step.owner step.places (record { is_there = there step.owner step.others step.is_open; some = step.sendable.some; inside = step.sendable.inside; means = step.asks }) in
+  refutes_start owner number tag block (start_rule.Block fault) h s' step is = h.1 _ step.asks
+  refutes_start owner number tag block (start_rule.NotPlain d) h s' step is = h.1 _ step.asks step.plain
+  refutes_start owner number tag block (start_rule.NotOpen n) h s' step is =
+      let told : IsTold (Some n) step.owner = subst (λ x. IsTold x step.owner) h.0 (owner_is number tag block s' step owner is) in
+      h.1 step.owner (there step.owner step.others step.is_open) told
+  refutes_start owner number tag block (start_rule.NotAsked misfit) h s' step is = h.0 step.owner step.places (asks_so number tag block s' step owner is)
+  refutes_start owner number tag block (start_rule.Held n hindrance) h s' step is =
+      let held : (k : Hindrance) × Hinders rules s step.owner step.places k = h.0 step.owner step.places (asks_so number tag block s' step owner is) in
       hinders step.owner step.places held.0 held.1 step.may_start step.sendable
 
   -- ACTS AND FAULTS

@@ -40,3 +40,29 @@ module _ {X : Type 0} (test : X → Bool) where
       by : (b : Bool) → ltb (position_or_len test xs) (length xs) ≡ b → None ≡ cond b (Some (position_or_len test xs)) None → take_out test xs ≡ None
       by true low e = cc (e)
       by false low e = nowhere xs (ltb-false _ _ low)
+
+  -- the first place that passes, or the place behind all
+  short : (xs : List X) → position_or_len test xs ≤ length xs
+  short [] = omega arith
+  short (y ∷ ys) = by (test y) (short ys)
+    where
+      by : (b : Bool) → position_or_len test ys ≤ length ys → cond (not b) (1 + position_or_len test ys) 0 ≤ suc (length ys)
+      by true h = omega arith
+      by false h = omega arith
+
+  pub found_place : (xs : List X) (i : ℕ) → Some i ≡ position test xs → i ≡ position_or_len test xs
+  found_place xs i e = by (ltb (position_or_len test xs) (length xs)) e
+    where
+      by : (b : Bool) → Some i ≡ cond b (Some (position_or_len test xs)) None → i ≡ position_or_len test xs
+      by true e = cc (e)
+      by false e = cc (e)
+
+  pub found_within : (xs : List X) (i : ℕ) → Some i ≡ position test xs → i ≤ length xs
+  found_within xs i e = omega (arith, found_place xs i e, short xs)
+
+  pub last_place : (xs : List X) → None ≡ position test xs → length xs ≡ position_or_len test xs
+  last_place xs e = by (ltb (position_or_len test xs) (length xs)) refl e
+    where
+      by : (b : Bool) → ltb (position_or_len test xs) (length xs) ≡ b → None ≡ cond b (Some (position_or_len test xs)) None → length xs ≡ position_or_len test xs
+      by true low e = cc (e)
+      by false low e = omega (arith, ltb-false _ _ low, short xs)

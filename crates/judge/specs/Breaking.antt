@@ -24,6 +24,8 @@ use Rattle.machine.specs.Cutting.{mark_at, is_back, restarts_left}
 use Rattle.machine.specs.Sending.{IsLowestFreeTag, is_started, command_for, sectors_at}
 use Rattle.machine.specs.Answering.{is_done, Cause, HasEnded, answer_bytes, information}
 use Rattle.machine.specs.Step.{Step, Run}
+use Rattle.trace_line.specs.declared.Line.{Line}
+use Rattle.trace_line.specs.Lines.{LineStep}
 use Rattle.judge.specs.declared.label_rules.Difference.{Difference}
 use Rattle.judge.specs.declared.label_rules.Rule.{Rule}
 use Rattle.judge.specs.declared.label_rules.Rule.TheVariants as rule
@@ -51,6 +53,10 @@ use Rattle.judge.specs.declared.label_rules.RemovalRule.TheVariants as removal_r
 -- some step goes by the label
 abbrev pub HasStep : Rules → State → Label → Type 0
 HasStep rules s label = (s' : State) × Step rules s label s'
+
+-- some step goes by the line
+abbrev pub HasLineStep : Rules → State → Line → Type 0
+HasLineStep rules s line = (s' : State) × LineStep rules s line s'
 
 -- the state is one that labels lead to
 abbrev pub IsReached : Rules → State → Type 0
@@ -177,22 +183,28 @@ BreaksRemoval s _ rule = ⊥
 
 -- STARTS
 
+-- the request is the one that is told, if one is
+abbrev pub IsTold : Option ℕ → OpenRequest → Type 0
+IsTold None o = Unit {0}
+IsTold (Some owner) o = o.number ≡ owner
+
 -- the open request asks for the block, for these of its places
-pub record Asks (rules : Rules) (s : State) (block : List ℕ) (o : OpenRequest) (places : Extent) : Type 0 where
+pub record Asks (rules : Rules) (s : State) (owner : Option ℕ) (block : List ℕ) (o : OpenRequest) (places : Extent) : Type 0 where
   pub is_there : Contains s.requests o
+  pub is_told : IsTold owner o
   pub some : 0 < places.count
   pub inside : places.first + places.count ≤ length o.marks
   pub means : Means block (command_for rules o.request places o.request.kind)
 
 -- no open request asks for the block
-abbrev pub NoneAsks : Rules → State → List ℕ → Type 0
-NoneAsks rules s block = (o : OpenRequest) (places : Extent) → ¬ (Asks rules s block o places)
+abbrev pub NoneAsks : Rules → State → Option ℕ → List ℕ → Type 0
+NoneAsks rules s owner block = (o : OpenRequest) (places : Extent) → ¬ (Asks rules s owner block o places)
 
 -- what else is said of a block that no request asks for
-abbrev pub IsMisfit : State → Misfit → Type 0
-IsMisfit s (misfit.Kind kind) = (o : OpenRequest) → Contains s.requests o → o.request.kind ≢ kind
-IsMisfit s (misfit.Fua number due) = (o : OpenRequest) × Contains s.requests o × (o.number ≡ number) × (o.request.through ≡ due)
-IsMisfit s _ = Unit {0}
+abbrev pub IsMisfit : State → Option ℕ → Misfit → Type 0
+IsMisfit s owner (misfit.Kind kind) = (o : OpenRequest) → Contains s.requests o → IsTold owner o → o.request.kind ≢ kind
+IsMisfit s owner (misfit.Fua number due) = (o : OpenRequest) × Contains s.requests o × IsTold owner o × (o.number ≡ number) × (o.request.through ≡ due)
+IsMisfit s owner _ = Unit {0}
 
 -- the place is one of these
 abbrev pub IsAmong : Extent → ℕ → Type 0
@@ -216,12 +228,13 @@ Hinders rules s o places (hindrance.NotWhole due count) = IsTrue rules.one_piece
 Hinders rules s o places hindrance.Again = IsTrue rules.one_piece × IsTrue (is_started o)
 
 -- each open request that asks for the block is held back
-abbrev pub AllHeld : Rules → State → List ℕ → Type 0
-AllHeld rules s block = (o : OpenRequest) (places : Extent) → Asks rules s block o places → (h : Hindrance) × Hinders rules s o places h
+abbrev pub AllHeld : Rules → State → Option ℕ → List ℕ → Type 0
+AllHeld rules s owner block = (o : OpenRequest) (places : Extent) → Asks rules s owner block o places → (h : Hindrance) × Hinders rules s o places h
 
 -- the request of this number asks for the block, and this holds it back
-abbrev pub HoldsOne : Rules → State → List ℕ → ℕ → Hindrance → Type 0
-HoldsOne rules s block number h = (o : OpenRequest) × (places : Extent) × Asks rules s block o places × (o.number ≡ number) × Hinders rules s o places h
+abbrev pub HoldsOne : Rules → State → Option ℕ → List ℕ → ℕ → Hindrance → Type 0
+HoldsOne rules s owner block number h =
+    (o : OpenRequest) × (places : Extent) × Asks rules s owner block o places × (o.number ≡ number) × Hinders rules s o places h
 
 -- the block asks for a command, and this is the first byte in which it isn't the command's plain block
 pub record IsNotPlainAt (block : List ℕ) (d : Difference) : Type 0 where
@@ -238,19 +251,20 @@ BreaksBlock block (start_rule.Block fault) = HasFault block fault × ((c : Cdb) 
 BreaksBlock block (start_rule.NotPlain d) = IsNotPlainAt block d × ((c : Cdb) → Means block c → ¬ (IsPlain block c))
 BreaksBlock block _ = ⊥
 
-abbrev pub BreaksStartOf : Rules → State → ℕ → ℕ → List ℕ → StartRule → Type 0
-BreaksStartOf rules s number tag block (start_rule.Number due told) = (due ≡ s.next_piece) × (told ≡ number) × (told ≢ due)
-BreaksStartOf rules s number tag block (start_rule.Depth t depth) = (t ≡ tag) × (depth ≡ rules.depth) × (depth ≤ t)
-BreaksStartOf rules s number tag block (start_rule.TagInUse t n) = (t ≡ tag) × (piece : Piece) × Contains s.pieces piece × (piece.tag ≡ t) × (piece.number ≡ n)
-BreaksStartOf rules s number tag block (start_rule.Tag lowest told) = (told ≡ tag) × IsLowestFreeTag rules.depth s.pieces lowest × (lowest < told)
-BreaksStartOf rules s number tag block (start_rule.Block fault) = BreaksBlock block (start_rule.Block fault)
-BreaksStartOf rules s number tag block (start_rule.NotPlain d) = BreaksBlock block (start_rule.NotPlain d)
-BreaksStartOf rules s number tag block (start_rule.NotAsked misfit) = NoneAsks rules s block × IsMisfit s misfit
-BreaksStartOf rules s number tag block (start_rule.Held n h) = AllHeld rules s block × HoldsOne rules s block n h
+abbrev pub BreaksStartOf : Rules → State → Option ℕ → ℕ → ℕ → List ℕ → StartRule → Type 0
+BreaksStartOf rules s owner number tag block (start_rule.Number due told) = (due ≡ s.next_piece) × (told ≡ number) × (told ≢ due)
+BreaksStartOf rules s owner number tag block (start_rule.Depth t depth) = (t ≡ tag) × (depth ≡ rules.depth) × (depth ≤ t)
+BreaksStartOf rules s owner number tag block (start_rule.TagInUse t n) = (t ≡ tag) × (piece : Piece) × Contains s.pieces piece × (piece.tag ≡ t) × (piece.number ≡ n)
+BreaksStartOf rules s owner number tag block (start_rule.Tag lowest told) = (told ≡ tag) × IsLowestFreeTag rules.depth s.pieces lowest × (lowest < told)
+BreaksStartOf rules s owner number tag block (start_rule.Block fault) = BreaksBlock block (start_rule.Block fault)
+BreaksStartOf rules s owner number tag block (start_rule.NotPlain d) = BreaksBlock block (start_rule.NotPlain d)
+BreaksStartOf rules s owner number tag block (start_rule.NotOpen n) = (owner ≡ Some n) × IsNotOpen s n
+BreaksStartOf rules s owner number tag block (start_rule.NotAsked misfit) = NoneAsks rules s owner block × IsMisfit s owner misfit
+BreaksStartOf rules s owner number tag block (start_rule.Held n h) = AllHeld rules s owner block × HoldsOne rules s owner block n h
 
-abbrev pub BreaksStart : Rules → State → Label → StartRule → Type 0
-BreaksStart rules s (label.Device (device.Start number tag block)) rule = BreaksStartOf rules s number tag block rule
-BreaksStart rules s _ rule = ⊥
+abbrev pub BreaksStart : Rules → State → Option ℕ → Label → StartRule → Type 0
+BreaksStart rules s owner (label.Device (device.Start number tag block)) rule = BreaksStartOf rules s owner number tag block rule
+BreaksStart rules s owner _ rule = ⊥
 
 -- ACTS AND FAULTS
 
@@ -329,16 +343,28 @@ BreaksReturn s _ rule = ⊥
 
 -- EACH RULE
 
+abbrev pub BreaksLabel : Rules → State → Label → Option ℕ → Rule → Type 0
+BreaksLabel rules s label owner (rule.Owed r) = BreaksOwed s label r
+BreaksLabel rules s label owner (rule.Call r) = BreaksCall rules s label r
+BreaksLabel rules s label owner (rule.Start r) = BreaksStart rules s owner label r
+BreaksLabel rules s label owner (rule.Act r) = BreaksActing rules s label r
+BreaksLabel rules s label owner (rule.Return r) = BreaksReturn s label r
+BreaksLabel rules s label owner (rule.Answer r) = BreaksAnswer rules s label r
+BreaksLabel rules s label owner (rule.Cancel r) = BreaksCancel s label r
+BreaksLabel rules s label owner (rule.Removal r) = BreaksRemoval s label r
+
+-- the label breaks the rule
 abbrev pub Breaks : Rules → State → Label → Rule → Type 0
-Breaks rules s label (rule.Owed r) = BreaksOwed s label r
-Breaks rules s label (rule.Call r) = BreaksCall rules s label r
-Breaks rules s label (rule.Start r) = BreaksStart rules s label r
-Breaks rules s label (rule.Act r) = BreaksActing rules s label r
-Breaks rules s label (rule.Return r) = BreaksReturn s label r
-Breaks rules s label (rule.Answer r) = BreaksAnswer rules s label r
-Breaks rules s label (rule.Cancel r) = BreaksCancel s label r
-Breaks rules s label (rule.Removal r) = BreaksRemoval s label r
+Breaks rules s label rule = BreaksLabel rules s label None rule
+
+-- the line breaks the rule: its label does, of the request that it tells
+abbrev pub LineBreaks : Rules → State → Line → Rule → Type 0
+LineBreaks rules s line rule = BreaksLabel rules s line.label line.owner rule
 
 -- a rule that a label breaks refutes each step by it
 abbrev pub BreakingRefutes : Type 0
 BreakingRefutes = (rules : Rules) (s : State) (label : Label) (rule : Rule) → Breaks rules s label rule → ¬ (HasStep rules s label)
+
+-- a rule that a line breaks refutes each step by it
+abbrev pub LineBreakingRefutes : Type 0
+LineBreakingRefutes = (rules : Rules) (s : State) (line : Line) (rule : Rule) → LineBreaks rules s line rule → ¬ (HasLineStep rules s line)

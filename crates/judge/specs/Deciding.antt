@@ -73,66 +73,14 @@ cause_by given_up worn_out status Back = given_up || (worn_out && same_status st
 abbrev pub is_cause : Rules → State → OpenRequest → NtStatus → Mark → Bool
 is_cause rules s o status = cause_by (gives_up_as s o status) (is_worn_out rules o) status
 
--- a cause of the lowest place that isn't done, if there is one
-abbrev pub lowest_by : (Mark → Bool) → List Mark → Bool
-lowest_by causes [] = true
-lowest_by causes (mark ∷ marks) = if is_done mark then lowest_by causes marks else causes mark
-
-abbrev pub has_cause : Rules → State → OpenRequest → NtStatus → List Mark → Bool
-has_cause rules s o status = lowest_by (is_cause rules s o status)
-
--- the status may be the request's
-abbrev pub may_end_as : Rules → State → OpenRequest → NtStatus → Bool
-may_end_as rules s o status =
-    list_all (has_ended rules s o) o.marks
-    && (same_truth (same_status status Success) (list_all is_done o.marks) && has_cause rules s o status o.marks)
-
--- an answer of this status, number of bytes and bytes may be the request's
-abbrev pub may_answer : Rules → State → OpenRequest → NtStatus → ℕ → List ℕ → Bool
-may_answer rules s o status informed bytes =
-    may_end_as rules s o status
-    && ((informed == information o.request status) && bytes_eq bytes (answer_bytes o.request.kind o.marks))
-
 -- STARTS
 
 abbrev pub has_tag : ℕ → Piece → Bool
 has_tag tag piece = piece.tag == tag
 
-abbrev pub has_other_tag : ℕ → Piece → Bool
-has_other_tag tag piece = not (has_tag tag piece)
-
--- a piece is on each tag below this one
-abbrev pub all_used : ℕ → List Piece → Bool
-all_used zero pieces = true
-all_used (suc tag) pieces = list_any (has_tag tag) pieces && all_used tag pieces
-
-abbrev pub is_lowest_free : ℕ → List Piece → ℕ → Bool
-is_lowest_free depth pieces tag = nat_lt tag depth && (list_all (has_other_tag tag) pieces && all_used tag pieces)
-
 -- the other request was started, if it came before this number and isn't cancelled
 abbrev pub is_in_turn : ℕ → OpenRequest → Bool
 is_in_turn number other = not (nat_lt other.number number) || (other.cancelled || is_started other)
-
-abbrev pub may_start : State → OpenRequest → Bool
-may_start s o =
-    (not o.cancelled && not s.removing)
-    && (not (s.paused && o.late) && list_all (is_in_turn o.number) s.requests)
-
--- requests may go in several pieces, or these are all places of the request and it was not started before
-abbrev pub is_whole : Rules → OpenRequest → Extent → Bool
-is_whole rules o places = not rules.one_piece || ((places.count == length o.marks) && not (is_started o))
-
--- a piece may begin at the place, and a restart is left if the place came back; or any cut will do
-abbrev pub begins_piece : Rules → OpenRequest → ℕ → Bool
-begins_piece rules o place =
-    rules.any_cut || ((place % rules.max_transfer == 0) && (not (is_back (mark_at o place)) || nat_lt 0 (restarts_left rules o)))
-
-abbrev pub is_sendable : Rules → OpenRequest → Extent → Bool
-is_sendable rules o places =
-    ((nat_lt 0 places.count && nat_le places.count rules.max_transfer)
-    && (nat_le (places.first + places.count) (length o.marks)
-    && (list_all is_unsent (slice_range o.marks places.first (places.first + places.count)) && is_whole rules o places)))
-    && begins_piece rules o places.first
 
 -- the places of the request whose sectors begin at this address
 abbrev pub places_at : Rules → ClientRequest → ℕ → ℕ → Option Extent
@@ -158,16 +106,6 @@ places_for rules q Flush (Sync10 lba blocks) = flush_place (nat_le rules.disk_se
 places_for rules q Flush (Sync16 lba blocks) = flush_place (not (nat_le rules.disk_sectors (2 ^ 32)) && ((lba == 0) && (blocks == 0)))
 places_for rules q kind command = None
 
--- these places, if they may start now
-abbrev pub startable_at : Rules → State → OpenRequest → Option Extent → Option Extent
-startable_at rules s o None = None
-startable_at rules s o (Some places) = only (may_start s o && is_sendable rules o places) places
-
--- the places of the request that may start now by this command
-abbrev pub startable : Rules → State → Option Cdb → OpenRequest → Option Extent
-startable rules s None o = None
-startable rules s (Some command) o = startable_at rules s o (places_for rules o.request o.request.kind command)
-
 -- ACTS
 
 -- bytes cut into this many sectors of a size
@@ -175,28 +113,11 @@ abbrev pub chunked : ℕ → ℕ → List ℕ → List (List ℕ)
 chunked zero size bytes = []
 chunked (suc n) size bytes = take size bytes ∷ chunked n size (drop size bytes)
 
--- two lists have the same sectors
-abbrev pub sectors_eq : List (List ℕ) → List (List ℕ) → Bool
-sectors_eq [] [] = true
-sectors_eq [] (y ∷ ys) = false
-sectors_eq (x ∷ xs) [] = false
-sectors_eq (x ∷ xs) (y ∷ ys) = bytes_eq x y && sectors_eq xs ys
-
 -- the sectors that an act of this many places hands over as these bytes
 abbrev pub sectors_moved : Rules → ℕ → Kind → List ℕ → List (List ℕ)
 sectors_moved rules count Read bytes = chunked count rules.sector_size bytes
 sectors_moved rules count Write bytes = chunked count rules.sector_size bytes
 sectors_moved rules count Flush bytes = [] ∷ []
-
--- the bytes may be those of an act of this request on these places
-abbrev pub may_move : Rules → State → ClientRequest → Extent → Kind → List ℕ → Bool
-may_move rules s q places Read bytes =
-    (length bytes == places.count * rules.sector_size)
-    && (not rules.faithful || sectors_eq (chunked places.count rules.sector_size bytes) (sectors_at rules s q places))
-may_move rules s q places Write bytes =
-    (length bytes == places.count * rules.sector_size)
-    && bytes_eq bytes (slice_range q.bytes (places.first * rules.sector_size) ((places.first + places.count) * rules.sector_size))
-may_move rules s q places Flush bytes = (places.count == 1) && (length bytes == 0)
 
 -- RETURNS
 

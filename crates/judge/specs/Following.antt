@@ -4,10 +4,12 @@ use Rattle.machine.specs.declared.Label.{Label}
 use Rattle.machine.specs.Rules.{Rules}
 use Rattle.machine.specs.State.{State, opening}
 use Rattle.machine.specs.Step.{Run}
-use Rattle.judge.specs.Judging.{AreReached, IsRun}
+use Rattle.trace_line.specs.declared.Line.{Line}
+use Rattle.trace_line.specs.Lines.{LineRun}
+use Rattle.judge.specs.Judging.{AreReached, IsRun, AreLinesReached, IsLineRun}
 use Rattle.judge.specs.Next.{AreNext}
 use Rattle.judge.specs.declared.label_rules.Rule.{Rule}
-use Rattle.judge.specs.Breaking.{HasStep, IsReached, Breaks}
+use Rattle.judge.specs.Breaking.{HasLineStep, IsReached, Breaks, LineBreaks}
 
 -- what a judge holds: its rules, and the states that the labels lead to
 pub record JudgeView : Type 0 where
@@ -29,12 +31,12 @@ pub record AreAlike (states once : List State) : Type 0 where
 abbrev pub AddsOnce : List State → State → List State → Type 0
 AddsOnce old s new = (new ≡ old ++ s ∷ []) ⊎ (Contains old s × (new ≡ old))
 
--- the states that the label leads to, each at least once
-abbrev pub GoesOnceTo : Rules → Label → List State → List State → Type 0
-GoesOnceTo rules label states once = (all : List State) × AreNext rules label states all × AreAlike all once
+-- the states that the line leads to, each at least once
+abbrev pub GoesOnceTo : Rules → Line → List State → List State → Type 0
+GoesOnceTo rules line states once = (all : List State) × AreNext rules line states all × AreAlike all once
 
-abbrev pub GoesTo : JudgeView → Label → JudgeView → Type 0
-GoesTo old label new = GoesOnceTo old.rules label old.states new.states
+abbrev pub GoesTo : JudgeView → Line → JudgeView → Type 0
+GoesTo old line new = GoesOnceTo old.rules line old.states new.states
 
 -- one label more is taken
 abbrev pub Takes : JudgeView → Label → JudgeView → Type 0
@@ -50,27 +52,49 @@ pub record IsRefused (rules : Rules) (arrays : List (List (List ℕ))) (labels :
 abbrev pub Refuses : JudgeView → Label → Rule → Type 0
 Refuses j label rule = (arrays : List (List (List ℕ))) (labels : List Label) → HasTaken j arrays labels → IsRefused j.rules arrays labels label rule
 
+-- OF LINES
+
+-- the judge has taken these lines
+pub record HasTakenLines (j : JudgeView) (arrays : List (List (List ℕ))) (lines : List Line) : Type 0 where
+  pub reached : AreLinesReached j.rules (opening arrays) lines j.states
+  pub some : 0 < length j.states
+
+-- one line more is taken
+abbrev pub TakesLine : JudgeView → Line → JudgeView → Type 0
+TakesLine old line new =
+    (arrays : List (List (List ℕ))) (lines : List Line) → HasTakenLines old arrays lines → HasTakenLines new arrays (lines ++ line ∷ [])
+
+-- no run has the lines before and this one; at a state that the lines before lead to, this one breaks the rule
+pub record IsLineRefused (rules : Rules) (arrays : List (List (List ℕ))) (lines : List Line) (line : Line) (rule : Rule) : Type 0 where
+  pub no_run : ¬ (IsLineRun rules (opening arrays) (lines ++ line ∷ []))
+  pub broken : (s : State) × LineRun rules (opening arrays) lines s × LineBreaks rules s line rule
+
+-- the line breaks the rule whatever was taken
+abbrev pub RefusesLine : JudgeView → Line → Rule → Type 0
+RefusesLine j line rule =
+    (arrays : List (List (List ℕ))) (lines : List Line) → HasTakenLines j arrays lines → IsLineRefused j.rules arrays lines line rule
+
 -- each state is one that labels lead to
 abbrev pub AllReached : Rules → List State → Type 0
 AllReached rules states = All (IsReached rules) states
 
--- no step goes by the label from the state
-abbrev pub HasNoStep : Rules → Label → State → Type 0
-HasNoStep rules label s = ¬ (HasStep rules s label)
+-- no step goes by the line from the state
+abbrev pub HasNoStep : Rules → Line → State → Type 0
+HasNoStep rules line s = ¬ (HasLineStep rules s line)
 
--- the label breaks the rule at the state
-abbrev pub BreaksThere : Rules → Label → Rule → State → Type 0
-BreaksThere rules label rule s = Breaks rules s label rule
+-- the line breaks the rule at the state
+abbrev pub BreaksThere : Rules → Line → Rule → State → Type 0
+BreaksThere rules line rule s = LineBreaks rules s line rule
 
--- the label goes from none of the states, and breaks the rule at one of them
-pub record StopsAll (rules : Rules) (states : List State) (label : Label) (rule : Rule) : Type 0 where
-  pub none : All (HasNoStep rules label) states
-  pub there : Any (BreaksThere rules label rule) states
+-- the line goes from none of the states, and breaks the rule at one of them
+pub record StopsAll (rules : Rules) (states : List State) (line : Line) (rule : Rule) : Type 0 where
+  pub none : All (HasNoStep rules line) states
+  pub there : Any (BreaksThere rules line rule) states
 
--- some step goes by the label from the state
-abbrev pub Goes : Rules → Label → State → Type 0
-Goes rules label s = HasStep rules s label
+-- some step goes by the line from the state
+abbrev pub Goes : Rules → Line → State → Type 0
+Goes rules line s = HasLineStep rules s line
 
--- the label goes from some of the states
-abbrev pub SomeGoes : Rules → List State → Label → Type 0
-SomeGoes rules states label = Any (Goes rules label) states
+-- the line goes from some of the states
+abbrev pub SomeGoes : Rules → List State → Line → Type 0
+SomeGoes rules states line = Any (Goes rules line) states

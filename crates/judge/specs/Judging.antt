@@ -1,9 +1,11 @@
 -- What a verdict says of a list of labels.
-use Rattle.std.specs.Prelude.{◌<◌, ◌+◌, ℕ, List, All, Any, length, take}
+use Rattle.std.specs.Prelude.{◌<◌, ◌+◌, ℕ, List, Option, None, All, Any, length, map, take}
 use Rattle.machine.specs.declared.Label.{Label}
 use Rattle.machine.specs.Rules.{Rules}
 use Rattle.machine.specs.State.{State, IsSame}
 use Rattle.machine.specs.Step.{Run}
+use Rattle.trace_line.specs.declared.Line.{Line}
+use Rattle.trace_line.specs.Lines.{LineRun}
 
 -- the states that the labels lead to, each in one order of its requests and pieces
 pub record AreReached (rules : Rules) (s : State) (labels : List Label) (states : List State) : Type 0 where
@@ -19,3 +21,25 @@ pub record StopsAt (rules : Rules) (s : State) (labels : List Label) (at : ℕ) 
   pub within : at < length labels
   pub before : IsRun rules s (take at labels)
   pub none : ¬ (IsRun rules s (take (at + 1) labels))
+
+-- OF LINES
+
+-- the line of a label and of the request that it names
+abbrev pub line_of : Label → Option ℕ → Line
+line_of label owner = record { label = label; owner = owner }
+
+-- the line of a label that names no request
+abbrev pub plain : Label → Line
+plain label = line_of label None
+
+abbrev pub all_plain : List Label → List Line
+all_plain labels = map plain labels
+
+-- the states that the lines lead to, each in one order of its requests and pieces
+pub record AreLinesReached (rules : Rules) (s : State) (lines : List Line) (states : List State) : Type 0 where
+  pub each : All (LineRun rules s lines) states
+  pub all : (s' : State) → LineRun rules s lines s' → Any (IsSame s') states
+
+-- the lines lead to some state
+abbrev pub IsLineRun : Rules → State → List Line → Type 0
+IsLineRun rules s lines = (s' : State) × LineRun rules s lines s'

@@ -38,30 +38,3 @@ has_more o = holds_if (is_started o) (has_out o || has_unsent o)
 
 abbrev pub is_at_work : OpenRequest → Bool
 is_at_work o = holds_if (is_started o) (has_out o)
-
--- there are no more started requests than the window has, where there is one
-abbrev pub is_within : Option ℕ → ℕ → Bool
-is_within None count = true
-is_within (Some window) count = nat_le count window
-
--- what holds of the requests alone
-abbrev pub are_waiting : State → Bool
-are_waiting s =
-    list_all waits_if_cancelled s.requests
-    && (holds_if s.removing (list_all has_out s.requests) && list_all has_more s.requests)
-
--- what holds while nothing is at the adapter
-abbrev pub is_idle_well : State → Bool
-is_idle_well s = list_all is_held s.requests && holds_if (not s.paused) (length s.requests == 0)
-
--- what holds while a tag is free
-abbrev pub is_served : Rules → State → Bool
-is_served rules s =
-    list_all is_at_work s.requests
-    && holds_if (not s.removing)
-    (list_all (is_all_sent rules.busy_limit) s.requests && list_all (is_held_back (is_full rules.window (started_count s))) s.requests)
-
-abbrev pub is_settled : Rules → State → Bool
-is_settled rules s =
-    (is_none s.owed && is_within rules.window (started_count s))
-    && (are_waiting s && (holds_if (length s.pieces == 0) (is_idle_well s) && holds_if (nat_lt (length s.pieces) rules.depth) (is_served rules s)))

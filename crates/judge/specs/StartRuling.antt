@@ -11,7 +11,7 @@ use Rattle.machine.specs.Rules.{Rules}
 use Rattle.machine.specs.State.{Mark, Untouched, Out, Done, Failed, Back, OpenRequest, Piece, State}
 use Rattle.machine.specs.Cutting.{mark_at, is_back, restarts_left}
 use Rattle.machine.specs.Sending.{is_unsent, is_started, fits_ten}
-use Rattle.judge.specs.Deciding.{has_tag, all_used, is_in_turn, places_at, places_for, startable}
+use Rattle.judge.specs.Deciding.{has_number, has_tag, is_in_turn, places_at, places_for}
 use Rattle.judge.specs.declared.start_rules.StartRule.{StartRule}
 use Rattle.judge.specs.declared.start_rules.StartRule.TheVariants as start_rule
 use Rattle.judge.specs.declared.start_rules.Misfit.{Misfit}
@@ -49,9 +49,14 @@ abbrev pub asked_inside : OpenRequest → Option Extent → Option Extent
 asked_inside o None = None
 asked_inside o (Some places) = if is_inside o places then Some places else None
 
--- the places of the request that a command asks for
-abbrev pub asked : Rules → Cdb → OpenRequest → Option Extent
-asked rules command o = asked_inside o (places_for rules o.request o.request.kind command)
+-- the request is the one that is told, if one is
+abbrev pub is_told : Option ℕ → OpenRequest → Bool
+is_told None o = true
+is_told (Some owner) o = has_number owner o
+
+-- the places of the request that a command asks for, where it may be the one that is told
+abbrev pub asked : Rules → Option ℕ → Cdb → OpenRequest → Option Extent
+asked rules owner command o = if is_told owner o then asked_inside o (places_for rules o.request o.request.kind command) else None
 
 abbrev pub flag_hindrance : State → OpenRequest → Option Hindrance
 flag_hindrance s o =
@@ -120,8 +125,9 @@ same_kind Flush Read = false
 same_kind Flush Write = false
 same_kind Flush Flush = true
 
-abbrev pub has_kind : Kind → OpenRequest → Bool
-has_kind kind o = same_kind kind o.request.kind
+-- a request of the kind, which may be the one that is told
+abbrev pub has_kind : Option ℕ → Kind → OpenRequest → Bool
+has_kind owner kind o = is_told owner o && same_kind kind o.request.kind
 
 -- the kind of request that has such a command
 abbrev pub kind_of : Cdb → Option Kind
@@ -162,30 +168,40 @@ is_in_range Read span = true
 is_in_range Write span = true
 
 -- a request of the kind that has these blocks
-abbrev pub has_blocks : Rules → Kind → Extent → OpenRequest → Bool
-has_blocks rules kind span o = has_kind kind o && is_some (asked_inside o (places_at rules o.request span.first span.count))
+abbrev pub has_blocks : Rules → Option ℕ → Kind → Extent → OpenRequest → Bool
+has_blocks rules owner kind span o = has_kind owner kind o && is_some (asked_inside o (places_at rules o.request span.first span.count))
 
 abbrev pub blocks_misfit : Extent → Option OpenRequest → Misfit
 blocks_misfit span None = misfit.Sectors span.first span.count
 blocks_misfit span (Some o) = misfit.Fua o.number o.request.through
 
-abbrev pub kind_misfit : Rules → List OpenRequest → Extent → Option Kind → Misfit
-kind_misfit rules requests span None = misfit.Command
-kind_misfit rules requests span (Some kind) =
+abbrev pub kind_misfit : Rules → Option ℕ → List OpenRequest → Extent → Option Kind → Misfit
+kind_misfit rules owner requests span None = misfit.Command
+kind_misfit rules owner requests span (Some kind) =
     if not (is_in_range kind span) then misfit.Range
-    else (if not (list_any (has_kind kind) requests) then misfit.Kind kind
-    else blocks_misfit span (find (has_blocks rules kind span) requests))
+    else (if not (list_any (has_kind owner kind) requests) then misfit.Kind kind
+    else blocks_misfit span (find (has_blocks rules owner kind span) requests))
 
-abbrev pub misfit_of : Rules → List OpenRequest → Cdb → Misfit
-misfit_of rules requests command = if not (is_in_form rules command) then misfit.Form else kind_misfit rules requests (span_of command) (kind_of command)
+abbrev pub misfit_of : Rules → Option ℕ → List OpenRequest → Cdb → Misfit
+misfit_of rules owner requests command =
+    if not (is_in_form rules command) then misfit.Form else kind_misfit rules owner requests (span_of command) (kind_of command)
 
 -- WHICH REQUEST
 
-abbrev pub may_go : Rules → State → Cdb → OpenRequest → Bool
-may_go rules s command o = is_some (startable rules s (Some command) o)
+-- the places, if nothing holds them back
+abbrev pub free_places : Rules → State → OpenRequest → Option Extent → Option Extent
+free_places rules s o None = None
+free_places rules s o (Some places) = if is_some (hindrance_of rules s o places) then None else Some places
 
-abbrev pub is_asked : Rules → Cdb → OpenRequest → Bool
-is_asked rules command o = is_some (asked rules command o)
+-- the places of the request that may start now by this command
+abbrev pub startable : Rules → State → Option ℕ → Cdb → OpenRequest → Option Extent
+startable rules s owner command o = free_places rules s o (asked rules owner command o)
+
+abbrev pub may_go : Rules → State → Option ℕ → Cdb → OpenRequest → Bool
+may_go rules s owner command o = is_some (startable rules s owner command o)
+
+abbrev pub is_asked : Rules → Option ℕ → Cdb → OpenRequest → Bool
+is_asked rules owner command o = is_some (asked rules owner command o)
 
 abbrev pub held_by_one : OpenRequest → Option Hindrance → Option StartRule
 held_by_one o found = option_map (start_rule.Held o.number) found
@@ -194,20 +210,26 @@ abbrev pub held_rule : Rules → State → OpenRequest → Option Extent → Opt
 held_rule rules s o None = None
 held_rule rules s o (Some places) = held_by_one o (hindrance_of rules s o places)
 
-abbrev pub asked_rule : Rules → State → Cdb → Option OpenRequest → Option StartRule
-asked_rule rules s command None = Some (start_rule.NotAsked (misfit_of rules s.requests command))
-asked_rule rules s command (Some o) = held_rule rules s o (asked rules command o)
+-- the request that is told isn't open
+abbrev pub owner_rule : List OpenRequest → Option ℕ → Option StartRule
+owner_rule requests None = None
+owner_rule requests (Some owner) = if list_any (has_number owner) requests then None else Some (start_rule.NotOpen owner)
 
-abbrev pub command_rule : Rules → State → Cdb → Option StartRule
-command_rule rules s command =
-    if list_any (may_go rules s command) s.requests then None else asked_rule rules s command (find (is_asked rules command) s.requests)
+abbrev pub asked_rule : Rules → State → Option ℕ → Cdb → Option OpenRequest → Option StartRule
+asked_rule rules s owner command None = option_or (owner_rule s.requests owner) (Some (start_rule.NotAsked (misfit_of rules owner s.requests command)))
+asked_rule rules s owner command (Some o) = held_rule rules s o (asked rules owner command o)
+
+abbrev pub command_rule : Rules → State → Option ℕ → Cdb → Option StartRule
+command_rule rules s owner command =
+    if list_any (may_go rules s owner command) s.requests then None
+    else asked_rule rules s owner command (find (is_asked rules owner command) s.requests)
 
 -- the rule that is named by the command that was read, or the rule that the block breaks
-abbrev pub block_rule : Rules → State → Result Cdb StartRule → Option StartRule
-block_rule rules s (Ok command) = command_rule rules s command
-block_rule rules s (Err rule) = Some rule
+abbrev pub block_rule : Rules → State → Option ℕ → Result Cdb StartRule → Option StartRule
+block_rule rules s owner (Ok command) = command_rule rules s owner command
+block_rule rules s owner (Err rule) = Some rule
 
-abbrev pub starting_rule : Rules → State → ℕ → ℕ → Result Cdb StartRule → Option StartRule
-starting_rule rules s number tag block =
+abbrev pub starting_rule : Rules → State → ℕ → ℕ → Option ℕ → Result Cdb StartRule → Option StartRule
+starting_rule rules s number tag owner block =
     if not (number == s.next_piece) then Some (start_rule.Number s.next_piece number)
-    else option_or (tag_rule rules.depth s.pieces tag) (block_rule rules s block)
+    else option_or (tag_rule rules.depth s.pieces tag) (block_rule rules s owner block)

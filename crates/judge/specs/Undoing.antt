@@ -1,12 +1,12 @@
 -- What is named as left undone, as a function of the state.
-use Rattle.std.specs.Prelude.{ℕ, ◌==◌, nat_lt, nat_le, not, Bool, List, Option, Some, None, length, slice_get, if◌then◌else◌}
+use Rattle.std.specs.Prelude.{ℕ, ◌==◌, is_none, nat_lt, nat_le, not, Bool, List, Option, Some, None, length, slice_get, if◌then◌else◌}
 use Rattle.std.specs.List.{find, list_any}
 use Rattle.std.specs.Option.{option_or}
 use Rattle.machine.specs.Rules.{Rules}
 use Rattle.machine.specs.State.{OpenRequest, Owed, State}
 use Rattle.machine.specs.Calling.{is_full}
 use Rattle.machine.specs.Settled.{has_out, started_count}
-use Rattle.judge.specs.Settling.{is_held, waits_if_cancelled, is_all_sent, is_held_back, has_more, is_at_work, is_settled}
+use Rattle.judge.specs.Settling.{is_held, waits_if_cancelled, is_all_sent, is_held_back, has_more, is_at_work}
 use Rattle.judge.specs.declared.undone_rules.Undone.{Undone}
 use Rattle.judge.specs.declared.undone_rules.Undone.TheVariants as what
 
@@ -56,6 +56,10 @@ abbrev pub undone : Rules → State → Option Undone
 undone rules s =
     option_or (option_or (owed_undone s.owed) (window_undone rules.window (started_count s)))
     (option_or (waiting_undone s) (option_or (idle_undone s) (served_undone rules s)))
+
+-- nothing is left undone
+abbrev pub is_settled : Rules → State → Bool
+is_settled rules s = is_none (undone rules s)
 
 abbrev pub undone_at_first : Rules → Option State → Option Undone
 undone_at_first rules None = None

@@ -73,10 +73,6 @@ fresh_piece number tag owner places = record { number = number; tag = tag; owner
 abbrev pub owed_of : Debt → Owed
 owed_of a = record { number = a.number; status = a.status }
 
--- the state with other arrays
-abbrev pub with_arrays : List (List (List ℕ)) → State → State
-with_arrays arrays s = record s { arrays = arrays }
-
 -- the number is below this one
 abbrev pub is_less : ℕ → ℕ → Bool
 is_less number other = nat_lt other number

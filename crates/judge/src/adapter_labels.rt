@@ -1,27 +1,29 @@
 //! What an adapter records: acts, faults and returns.
 
-ghost use Rattle.std.specs.Prelude.{◌≡◌, ◌+◌, IfOk, Some};
+ghost use Rattle.std.specs.Prelude.{◌≡◌, ◌+◌, IfOk};
+ghost use Rattle.std.specs.List.{find};
 ghost use Rattle.machine.specs.State.{with_marks};
 ghost use Rattle.machine.specs.Sending.{partition_number, one_if_busy};
-ghost use Rattle.judge.specs.Deciding.{has_number, may_move, sectors_moved};
+ghost use Rattle.judge.specs.Deciding.{has_number, sectors_moved};
 ghost use Rattle.judge.specs.Picking.{take_out};
 ghost use Rattle.judge.specs.Next.{acted_by, acted, arrays_after, faulted_of, faulted, returned_by, returned};
-ghost use Rattle.judge.specs.Views.{rules_of, with_arrays, with_busy_returns};
+ghost use Rattle.judge.specs.Views.{rules_of, with_busy_returns};
 
 use crate::NoVerdict;
-use crate::arrays::part_of;
+use crate::arrays::Sectors;
 use crate::copies::all_copied;
-use crate::lists::part;
+use crate::finding::request_of;
 use crate::machine_state::Machine;
 use crate::open::Open;
 use crate::pieces::Started;
 use crate::places::Place;
 use crate::rules::MachineRules;
-use crate::sectors::{are_same_sectors, sectors_moved, with_written};
+use crate::sectors::{sectors_moved, with_written};
 use machine::{ClientRequest, Kind};
 use sector::{Bytes, Extent};
 use srb::Class;
 use std::alloc::{AllocError, Global};
+use std::mem;
 
 /// The number of a request's partition.
 pub(crate) fn partition_of(q: &ClientRequest) -> usize
@@ -30,100 +32,52 @@ pub(crate) fn partition_of(q: &ClientRequest) -> usize
     q.partition.unwrap_or(0) as usize
 }
 
+/// The arrays after an act on these places of the request. They change by a write, where the machine is faithful.
+fn arrays_after(
+    alloc: Global,
+    rules: &MachineRules,
+    arrays: Vec<Sectors>,
+    q: &ClientRequest,
+    places: Extent,
+    sectors: &[Bytes],
+) -> Result<Vec<Sectors>, AllocError>
+    ensures { IfOk result (λ after. after.items
+        ≡ arrays_after (rules_of rules.now) arrays.items q.now places q.now.kind sectors.now) }
+{
+    match q.kind {
+        Kind::Write if rules.faithful => {
+            let first = rules.first_sector(q) as u128 + places.first as u128;
+            let copy = all_copied(alloc, sectors)?;
+            let after = with_written(arrays, partition_of(q), first, copy)?;
+            Ok(after)
+        }
+        Kind::Read | Kind::Write | Kind::Flush => Ok(arrays),
+    }
+}
+
 impl Machine {
-    /// Whether an act of these places of the request may hand these bytes over, as these sectors.
-    fn may_move(
-        &self,
-        rules: &MachineRules,
-        q: &ClientRequest,
-        places: Extent,
-        bytes: &[u8],
-        sectors: &[Bytes],
-    ) -> bool
-        requires { sectors.now ≡ sectors_moved (rules_of rules.now) places.count q.now.kind bytes.now }
-        ensures { result ≡ may_move (rules_of rules.now) self.now q.now places q.now.kind bytes.now }
-    {
-        let size = rules.sector_size as u128;
-        let first = places.first as u128;
-        let count = places.count as u128;
-        match q.kind {
-            Kind::Read => {
-                let start = rules.first_sector(q) as u128 + first;
-                let arrays = self.arrays.as_slice();
-                let there = part_of(arrays, partition_of(q), start, start + count);
-                bytes.len() as u128 == count * size
-                    && (!rules.faithful || are_same_sectors(sectors, &there))
-            }
-            Kind::Write => {
-                let sent = part(q.bytes.as_slice(), first * size, (first + count) * size);
-                bytes.len() as u128 == count * size && bytes == sent
-            }
-            Kind::Flush => places.count == 1 && bytes.is_empty(),
-        }
-    }
-
-    /// The machine with an act's sectors in its array, where the act is a write and the machine faithful.
-    fn with_sectors(
-        mut self,
-        alloc: Global,
-        rules: &MachineRules,
-        q: &ClientRequest,
-        places: Extent,
-        sectors: &[Bytes],
-    ) -> Result<Machine, AllocError>
-        ensures { IfOk result (λ m. m ≡ with_arrays (arrays_after (rules_of rules.now) self q.now places q.now.kind sectors.now) self) }
-    {
-        match q.kind {
-            Kind::Write if rules.faithful => {
-                let first = rules.first_sector(q) as u128 + places.first as u128;
-                let copy = all_copied(alloc, sectors)?;
-                self.arrays = with_written(self.arrays, partition_of(q), first, copy)?;
-                Ok(self)
-            }
-            Kind::Read | Kind::Write | Kind::Flush => Ok(self),
-        }
-    }
-
-    /// The machine after the act of a piece of a request, both taken out.
+    /// The machine after the act of a piece that was taken out, where its request is open.
     fn acted_with(
-        self,
-        alloc: Global,
-        rules: &MachineRules,
-        piece: Started,
-        entry: Open,
-        bytes: &[u8],
-    ) -> Result<Option<Machine>, NoVerdict>
-        ensures { IfOk result (λ next. next ≡ acted_by (rules_of rules.now) self bytes.now piece self.pieces (Some (entry, self.requests))) }
-    {
-        let q = entry.request();
-        let places = piece.places();
-        if !piece.is_fresh() {
-            return Ok(None);
-        }
-        let sectors = sectors_moved(alloc, rules, places.count, q.kind, bytes)?;
-        if !self.may_move(rules, q, places, bytes, sectors.as_slice()) {
-            return Ok(None);
-        }
-        let mut after = self.with_sectors(alloc, rules, q, places, sectors.as_slice())?;
-        after.put_open(entry)?;
-        after.put_started(piece.acted(sectors))?;
-        Ok(Some(after))
-    }
-
-    /// The machine after the act of a piece that was taken out.
-    fn acted_one(
         mut self,
         alloc: Global,
         rules: &MachineRules,
         piece: Started,
         bytes: &[u8],
     ) -> Result<Option<Machine>, NoVerdict>
-        ensures { IfOk result (λ next. next ≡ acted_by (rules_of rules.now) self bytes.now piece self.pieces (take_out (has_number piece.owner) self.requests)) }
+        ensures { IfOk result (λ next. next
+            ≡ acted_by (rules_of rules.now) self bytes.now piece self.pieces (find (has_number piece.owner) self.requests)) }
     {
-        let Some(entry) = self.take_open(piece.owner()) else {
+        let arrays = mem::replace(&mut self.arrays, Vec::new(alloc));
+        let Some(entry) = request_of(self.requests.as_slice(), piece.owner()) else {
             return Ok(None);
         };
-        self.acted_with(alloc, rules, piece, entry, bytes)
+        let q = entry.request();
+        let places = piece.places();
+        let sectors = sectors_moved(alloc, rules, places.count, q.kind, bytes)?;
+        let after = arrays_after(alloc, rules, arrays, q, places, sectors.as_slice())?;
+        self.arrays = after;
+        self.put_started(piece.acted(sectors))?;
+        Ok(Some(self))
     }
 
     /// The machine after the act of a piece.
@@ -139,18 +93,7 @@ impl Machine {
         let Some(piece) = self.take_started(number) else {
             return Ok(None);
         };
-        self.acted_one(alloc, rules, piece, bytes)
-    }
-
-    /// The machine after the fault of a piece that was taken out.
-    fn faulted_one(mut self, piece: Started) -> Result<Option<Machine>, NoVerdict>
-        ensures { IfOk result (λ next. next ≡ faulted_of self (Some (piece, self.pieces))) }
-    {
-        if !piece.is_fresh() {
-            return Ok(None);
-        }
-        self.put_started(piece.faulted())?;
-        Ok(Some(self))
+        self.acted_with(alloc, rules, piece, bytes)
     }
 
     /// The machine after the fault of a piece.
@@ -160,30 +103,12 @@ impl Machine {
         let Some(piece) = self.take_started(number) else {
             return Ok(None);
         };
-        self.faulted_one(piece)
-    }
-
-    /// The machine after the return of a piece of a request, both taken out.
-    fn returned_with(
-        mut self,
-        alloc: Global,
-        piece: Started,
-        entry: Open,
-        class: &Class,
-    ) -> Result<Option<Machine>, NoVerdict>
-        ensures { IfOk result (λ next. next ≡ returned_by self class.now piece self.pieces (Some (entry, self.requests))) }
-    {
-        let first = piece.places().first;
-        let Some(marks) = piece.marks(alloc, class)? else {
-            return Ok(None);
-        };
-        let entry = given_back(entry, first, marks, class)?;
-        self.put_open(entry)?;
+        self.put_started(piece.faulted())?;
         Ok(Some(self))
     }
 
     /// The machine after the return of a piece that was taken out.
-    fn returned_one(
+    fn returned_with(
         mut self,
         alloc: Global,
         piece: Started,
@@ -194,7 +119,10 @@ impl Machine {
         let Some(entry) = self.take_open(piece.owner()) else {
             return Ok(None);
         };
-        self.returned_with(alloc, piece, entry, class)
+        let first = piece.places().first;
+        let marks = piece.marks(alloc, class)?;
+        self.put_open(given_back(entry, first, marks, class)?)?;
+        Ok(Some(self))
     }
 
     /// The machine after the return of a piece.
@@ -209,7 +137,7 @@ impl Machine {
         let Some(piece) = self.take_started(number) else {
             return Ok(None);
         };
-        self.returned_one(alloc, piece, class)
+        self.returned_with(alloc, piece, class)
     }
 }
 

@@ -5,7 +5,7 @@ ghost use Rattle.std.specs.Option.{option_copied};
 ghost use Rattle.std.specs.List.{position};
 ghost use Rattle.machine.specs.State.{Mark};
 ghost use Rattle.machine.specs.Cutting.{mark_at};
-ghost use Rattle.judge.specs.Deciding.{is_given_up, is_worn_out};
+ghost use Rattle.judge.specs.Deciding.{is_given_up, gives_up_as, is_worn_out};
 ghost use Rattle.judge.specs.Ruling.{difference, is_byte, too_many, is_unended, is_undone, unended_rule, status_due, status_rule, information_rule, bytes_rule, ending_rule, answering_rule_of, answering_rule};
 ghost use Rattle.judge.specs.Views.{rules_of, joined_marks};
 
@@ -199,6 +199,19 @@ impl Machine {
                 told: status,
             })
         }
+    }
+
+    /// Whether this is the status by which a place of the request is given up.
+    fn gives_up_as(&self, entry: &Open, status: NtStatus) -> bool
+        ensures { result ≡ gives_up_as self.now entry.now status }
+    {
+        let removed_as = if entry.is_late() {
+            NtStatus::DeletePending
+        } else {
+            NtStatus::NoSuchDevice
+        };
+        (entry.is_cancelled() && are_same(status, NtStatus::Cancelled))
+            || (self.removing && are_same(status, removed_as))
     }
 
     /// Whether a place of the request that waits will never be sent.

@@ -9,6 +9,7 @@ ghost use Rattle.judge.specs.Views.{rules_of, owed_of};
 
 use crate::answers::Answer;
 use crate::call_rules::bytes_carried;
+use crate::finding::request_of;
 use crate::label_rules::{CallRule, CancelRule, OwedRule, RemovalRule};
 use crate::machine_state::{Debt, Machine};
 use crate::open::Open;
@@ -118,7 +119,7 @@ impl Machine {
     pub(crate) fn open(&self, number: u64) -> Option<&Open>
         ensures { option_copied result ≡ find (has_number number) self.now.requests }
     {
-        self.requests.iter().find(|entry| entry.has_number(number))
+        request_of(self.requests.as_slice(), number)
     }
 
     /// Returns what is wrong with a call.

@@ -16,7 +16,7 @@ use crate::label_rules::Difference;
 use crate::lists::part;
 use crate::machine_state::Machine;
 use crate::piece_rules::{ActRule, ReturnRule};
-use crate::pieces::{Started, bad_status};
+use crate::pieces::{Started, is_bad};
 use crate::rules::{MachineRules, moves_bytes};
 use machine::{ClientRequest, Kind};
 use srb::{Class, Completion};
@@ -193,12 +193,13 @@ impl Machine {
 fn broken_completion(number: u128, completion: &Completion) -> Option<ReturnRule>
     ensures { result ≡ bad_rule number completion.now }
 {
-    match bad_status(completion) {
-        Some(_) => None,
-        None => Some(ReturnRule::GoodCode {
+    if is_bad(completion) {
+        None
+    } else {
+        Some(ReturnRule::GoodCode {
             piece: number,
             srb_status: completion.srb_status,
-        }),
+        })
     }
 }
 

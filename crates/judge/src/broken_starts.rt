@@ -1,19 +1,20 @@
 //! The rules that starts break.
 
-ghost use Rattle.std.specs.Prelude.{◌≡◌, ◌==◌, ◌&&◌, List, Result, IfSome, IsTrue, is_some};
+ghost use Rattle.std.specs.Prelude.{◌≡◌, ◌==◌, ◌&&◌, List, IfSome, IsTrue, is_some};
 ghost use Rattle.std.specs.Option.{option_copied};
 ghost use Rattle.std.specs.List.{find, list_any};
 ghost use Rattle.machine.specs.Rules.{Rules};
 ghost use Rattle.machine.specs.State.{OpenRequest};
 ghost use Rattle.judge.specs.Deciding.{has_tag};
-ghost use Rattle.judge.specs.StartRuling.{lowest_free, used_rule, lower_rule, tag_rule, is_inside, is_before, flag_hindrance, hindrance_of, same_kind, has_kind, kind_of, is_in_form, span_of, is_in_range, has_blocks, kind_misfit, misfit_of, may_go, is_asked, held_rule, command_rule, block_rule, starting_rule};
+ghost use Rattle.judge.specs.StartRuling.{lowest_free, used_rule, lower_rule, tag_rule, is_inside, is_before, flag_hindrance, hindrance_of, same_kind, has_kind, kind_of, is_in_form, span_of, is_in_range, has_blocks, kind_misfit, misfit_of, may_go, is_asked, held_rule, owner_rule, command_rule, block_rule, starting_rule};
 ghost use Rattle.judge.specs.Views.{rules_of};
 
 use crate::commands::{is_short, places_at};
-use crate::finding::is_used;
+use crate::finding::{is_open, is_used};
 use crate::machine_state::Machine;
 use crate::open::Open;
 use crate::pieces::Started;
+use crate::reading::Told;
 use crate::rules::MachineRules;
 use crate::start_rules::{Hindrance, Misfit, StartRule};
 use cdb::Cdb;
@@ -141,41 +142,71 @@ fn is_in_range(kind: Kind, span: Extent) -> bool
     }
 }
 
-/// Whether the request is of the kind and has these blocks.
-fn has_blocks(rules: &MachineRules, kind: Kind, span: Extent, entry: &Open) -> bool
-    ensures { result ≡ has_blocks (rules_of rules.now) kind span entry.now }
+/// Whether the request is of the kind, and may be the one that is told.
+fn has_kind(owner: Option<u64>, kind: Kind, entry: &Open) -> bool
+    ensures { result ≡ has_kind owner kind entry.now }
+{
+    entry.is_told(owner) && same_kind(kind, entry.request().kind)
+}
+
+/// Whether the request is of the kind and has these blocks, and may be the one that is told.
+fn has_blocks(
+    rules: &MachineRules,
+    owner: Option<u64>,
+    kind: Kind,
+    span: Extent,
+    entry: &Open,
+) -> bool
+    ensures { result ≡ has_blocks (rules_of rules.now) owner kind span entry.now }
 {
     let q = entry.request();
     let places = entry.inside(places_at(rules, q, span.first, span.count));
-    same_kind(kind, q.kind) && places.is_some()
+    has_kind(owner, kind, entry) && places.is_some()
 }
 
 /// The first request of the kind that has these blocks.
 fn first_with<'m>(
     rules: &MachineRules,
+    owner: Option<u64>,
     kind: Kind,
     span: Extent,
     requests: &'m [Open],
 ) -> Option<&'m Open>
-    ensures { option_copied result ≡ find (has_blocks (rules_of rules.now) kind span) requests.now }
+    ensures { option_copied result ≡ find (has_blocks (rules_of rules.now) owner kind span) requests.now }
 {
     requests
         .iter()
-        .find(|entry| has_blocks(rules, kind, span, entry))
+        .find(|entry| has_blocks(rules, owner, kind, span, entry))
 }
 
-/// Whether a request of this kind is open.
-fn is_any(kind: Kind, requests: &[Open]) -> bool
-    ensures { result ≡ list_any (has_kind kind) requests.now }
+/// Whether a request of this kind is open, which may be the one that is told.
+fn is_any(owner: Option<u64>, kind: Kind, requests: &[Open]) -> bool
+    ensures { result ≡ list_any (has_kind owner kind) requests.now }
 {
-    requests
-        .iter()
-        .any(|entry| same_kind(kind, entry.request().kind))
+    requests.iter().any(|entry| has_kind(owner, kind, entry))
+}
+
+/// Returns what is wrong with the request that is told, if one is.
+fn broken_owner(requests: &[Open], owner: Option<u64>) -> Option<StartRule>
+    ensures { result ≡ owner_rule requests.now owner }
+{
+    let number = owner?;
+    if is_open(requests, number) {
+        None
+    } else {
+        Some(StartRule::NotOpen { number })
+    }
 }
 
 /// Why none of the requests asks for these blocks.
-fn kind_misfit(rules: &MachineRules, requests: &[Open], span: Extent, kind: Option<Kind>) -> Misfit
-    ensures { result ≡ kind_misfit (rules_of rules.now) requests.now span kind }
+fn kind_misfit(
+    rules: &MachineRules,
+    owner: Option<u64>,
+    requests: &[Open],
+    span: Extent,
+    kind: Option<Kind>,
+) -> Misfit
+    ensures { result ≡ kind_misfit (rules_of rules.now) owner requests.now span kind }
 {
     let Some(kind) = kind else {
         return Misfit::Command;
@@ -183,10 +214,10 @@ fn kind_misfit(rules: &MachineRules, requests: &[Open], span: Extent, kind: Opti
     if !is_in_range(kind, span) {
         return Misfit::Range;
     }
-    if !is_any(kind, requests) {
+    if !is_any(owner, kind, requests) {
         return Misfit::Kind(kind);
     }
-    match first_with(rules, kind, span, requests) {
+    match first_with(rules, owner, kind, span, requests) {
         Some(entry) => Misfit::Fua {
             number: entry.number(),
             due: entry.request().through,
@@ -199,22 +230,27 @@ fn kind_misfit(rules: &MachineRules, requests: &[Open], span: Extent, kind: Opti
 }
 
 /// Why none of the requests asks for a command.
-fn misfit_of(rules: &MachineRules, requests: &[Open], command: Cdb) -> Misfit
-    ensures { result ≡ misfit_of (rules_of rules.now) requests.now command }
+fn misfit_of(rules: &MachineRules, owner: Option<u64>, requests: &[Open], command: Cdb) -> Misfit
+    ensures { result ≡ misfit_of (rules_of rules.now) owner requests.now command }
 {
     if !is_in_form(rules, command) {
         return Misfit::Form;
     }
-    kind_misfit(rules, requests, span_of(command), kind_of(command))
+    kind_misfit(rules, owner, requests, span_of(command), kind_of(command))
 }
 
 /// The first of the requests that asks for a command.
-fn first_asked<'m>(rules: &MachineRules, command: Cdb, requests: &'m [Open]) -> Option<&'m Open>
-    ensures { option_copied result ≡ find (is_asked (rules_of rules.now) command) requests.now }
+fn first_asked<'m>(
+    rules: &MachineRules,
+    owner: Option<u64>,
+    command: Cdb,
+    requests: &'m [Open],
+) -> Option<&'m Open>
+    ensures { option_copied result ≡ find (is_asked (rules_of rules.now) owner command) requests.now }
 {
     requests
         .iter()
-        .find(|entry| entry.asked(rules, command).is_some())
+        .find(|entry| entry.asked(rules, owner, command).is_some())
 }
 
 /// The first of the requests that is to be started before the request of this number.
@@ -241,7 +277,12 @@ impl Machine {
     }
 
     /// Returns what holds these places of the request back.
-    fn hindrance_of(&self, rules: &MachineRules, entry: &Open, places: Extent) -> Option<Hindrance>
+    pub(crate) fn hindrance_of(
+        &self,
+        rules: &MachineRules,
+        entry: &Open,
+        places: Extent,
+    ) -> Option<Hindrance>
         requires { IsTrue (is_inside entry.now places) }
         ensures { result ≡ hindrance_of (rules_of rules.now) self.now entry.now places }
     {
@@ -270,45 +311,53 @@ impl Machine {
     }
 
     /// Whether some request may make a start with this command.
-    fn may_any_go(&self, rules: &MachineRules, command: Cdb) -> bool
-        ensures { result ≡ list_any (may_go (rules_of rules.now) self.now command) self.now.requests }
+    fn may_any_go(&self, rules: &MachineRules, owner: Option<u64>, command: Cdb) -> bool
+        ensures { result ≡ list_any (may_go (rules_of rules.now) self.now owner command) self.now.requests }
     {
-        self.requests.iter().any(|entry| self.startable(rules, Some(command), entry).is_some())
+        self.requests.iter().any(|entry| self.startable(rules, owner, command, entry).is_some())
     }
 
     /// Returns what is wrong with a start with this command.
-    fn broken_command(&self, rules: &MachineRules, command: Cdb) -> Option<StartRule>
-        ensures { result ≡ command_rule (rules_of rules.now) self.now command }
+    fn broken_command(
+        &self,
+        rules: &MachineRules,
+        owner: Option<u64>,
+        command: Cdb,
+    ) -> Option<StartRule>
+        ensures { result ≡ command_rule (rules_of rules.now) self.now owner command }
     {
-        if self.may_any_go(rules, command) {
+        if self.may_any_go(rules, owner, command) {
             return None;
         }
         let requests = self.requests.as_slice();
-        match first_asked(rules, command, requests) {
-            Some(entry) => self.held(rules, entry, entry.asked(rules, command)),
-            None => Some(StartRule::NotAsked(misfit_of(rules, requests, command))),
+        match first_asked(rules, owner, command, requests) {
+            Some(entry) => self.held(rules, entry, entry.asked(rules, owner, command)),
+            None => {
+                let misfit = misfit_of(rules, owner, requests, command);
+                broken_owner(requests, owner).or(Some(StartRule::NotAsked(misfit)))
+            }
         }
     }
 
     /// Returns what is wrong with a start with a block that was read so.
-    fn broken_block(&self, rules: &MachineRules, block: Result<Cdb, StartRule>) -> Option<StartRule>
-        ensures { result ≡ block_rule (rules_of rules.now) self.now block }
+    fn broken_block(&self, rules: &MachineRules, told: Told) -> Option<StartRule>
+        ensures { result ≡ block_rule (rules_of rules.now) self.now told.owner told.read }
     {
-        match block {
-            Ok(command) => self.broken_command(rules, command),
+        match told.read {
+            Ok(command) => self.broken_command(rules, told.owner, command),
             Err(rule) => Some(rule),
         }
     }
 
-    /// Returns what is wrong with a start, whose block was read so.
+    /// Returns what is wrong with a start, of which the line tells this.
     pub(crate) fn broken_start(
         &self,
         rules: &MachineRules,
         number: u128,
         tag: u8,
-        block: Result<Cdb, StartRule>,
+        told: Told,
     ) -> Option<StartRule>
-        ensures { result ≡ starting_rule (rules_of rules.now) self.now number tag block }
+        ensures { result ≡ starting_rule (rules_of rules.now) self.now number tag told.owner told.read }
     {
         let due = self.next_piece;
         if number != due {
@@ -318,6 +367,6 @@ impl Machine {
         if tagged.is_some() {
             return tagged;
         }
-        self.broken_block(rules, block)
+        self.broken_block(rules, told)
     }
 }

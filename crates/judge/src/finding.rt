@@ -1,9 +1,11 @@
 //! Requests and pieces by their numbers.
 
-ghost use Rattle.std.specs.Prelude.{◌≡◌, None, MatchOption, List};
-ghost use Rattle.std.specs.List.{list_any, list_all, position};
+ghost use Rattle.std.specs.Prelude.{◌≡◌, ◌≤◌, None, MatchOption, List, length};
+ghost use Rattle.std.specs.Option.{option_copied};
+ghost use Rattle.std.specs.List.{find, list_any, position, position_or_len};
 ghost use Rattle.judge.specs.Picking.{take_out};
-ghost use Rattle.judge.specs.Deciding.{has_number, is_piece, has_tag, has_other_tag, all_used, is_lowest_free};
+ghost use Rattle.judge.specs.Deciding.{has_number, is_piece, has_tag};
+ghost use Rattle.judge.specs.Next.{comes_after};
 
 use crate::open::Open;
 use crate::pieces::Started;
@@ -52,29 +54,34 @@ pub(crate) fn is_used(pieces: &[Started], tag: u8) -> bool
     pieces.iter().any(|piece| piece.has_tag(tag))
 }
 
-/// Whether a piece is on each tag below this one.
-#[tactic(auto, using(crate::proofs::Stepping::not_all_used))]
-fn are_used(pieces: &[Started], tag: u8) -> bool
-    ensures { result ≡ all_used tag pieces.now }
+/// The request of this number, if it is among these.
+pub(crate) fn request_of(requests: &[Open], number: u64) -> Option<&Open>
+    ensures { option_copied result ≡ find (has_number number) requests.now }
 {
-    for lower in 0..tag {
-        if !is_used(pieces, lower) {
-            return false;
-        }
+    requests.iter().find(|open| open.has_number(number))
+}
+
+/// Whether a request of this number is open.
+pub(crate) fn is_open(requests: &[Open], number: u64) -> bool
+    ensures { result ≡ list_any (has_number number) requests.now }
+{
+    requests.iter().any(|open| open.has_number(number))
+}
+
+/// The place of the first request that came after the one of this number.
+fn first_after(requests: &[Open], number: u64) -> Option<usize>
+    ensures { result ≡ position (comes_after number) requests.now }
+{
+    requests.iter().position(|open| number < open.number())
+}
+
+/// The place of a request of this number among others: before the first that came after it.
+pub(crate) fn place_for(requests: &[Open], number: u64) -> usize
+    ensures is { result ≡ position_or_len (comes_after number) requests.now }
+    ensures within { result ≤ length requests.now }
+{
+    match first_after(requests, number) {
+        Some(at) => at,
+        None => requests.len(),
     }
-    true
-}
-
-/// Whether no piece is on the tag.
-fn is_free(pieces: &[Started], tag: u8) -> bool
-    ensures { result ≡ list_all (has_other_tag tag) pieces.now }
-{
-    pieces.iter().all(|piece| !piece.has_tag(tag))
-}
-
-/// Whether the tag is the lowest that is free.
-pub(crate) fn is_lowest_free(depth: u32, pieces: &[Started], tag: u8) -> bool
-    ensures { result ≡ is_lowest_free depth pieces.now tag }
-{
-    (tag as u32) < depth && is_free(pieces, tag) && are_used(pieces, tag)
 }

@@ -4,7 +4,7 @@ ghost use Rattle.std.specs.Prelude.{◌≡◌, ◌<◌, ◌+◌, List, length, I
 ghost use Rattle.std.specs.List.{position};
 ghost use Rattle.machine.specs.State.{Mark};
 ghost use Rattle.machine.specs.Cutting.{mark_at};
-ghost use Rattle.judge.specs.StartRuling.{is_inside, asked_inside, asked, is_sent, sent_as, sent_hindrance, grid_hindrance, whole_hindrance, cut_hindrance, places_hindrance};
+ghost use Rattle.judge.specs.StartRuling.{is_inside, asked_inside, is_told, asked, is_sent, sent_as, sent_hindrance, grid_hindrance, whole_hindrance, cut_hindrance, places_hindrance};
 ghost use Rattle.judge.specs.Views.{rules_of};
 
 use crate::commands::places_for;
@@ -45,11 +45,29 @@ impl Open {
         }
     }
 
-    /// The places that a command asks for, if they are some of its own.
-    pub(crate) fn asked(&self, rules: &MachineRules, command: Cdb) -> Option<Extent>
-        ensures is { result ≡ asked (rules_of rules.now) command self.now }
+    /// Whether it is the request that is told, if one is.
+    pub(crate) fn is_told(&self, owner: Option<u64>) -> bool
+        ensures { result ≡ is_told owner self.now }
+    {
+        match owner {
+            Some(number) => self.has_number(number),
+            None => true,
+        }
+    }
+
+    /// The places that a command asks for, if they are some of its own, and it may be the request that is told.
+    pub(crate) fn asked(
+        &self,
+        rules: &MachineRules,
+        owner: Option<u64>,
+        command: Cdb,
+    ) -> Option<Extent>
+        ensures is { result ≡ asked (rules_of rules.now) owner command self.now }
         ensures inside { IfSome result (λ found. IsTrue (is_inside self.now found)) }
     {
+        if !self.is_told(owner) {
+            return None;
+        }
         self.inside(places_for(rules, self.request(), command))
     }
 

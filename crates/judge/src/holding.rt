@@ -1,9 +1,9 @@
 //! Cancellation, the hold and removal.
 
-ghost use Rattle.std.specs.Prelude.{◌≡◌, ◌||◌, nat_le, IfOk, List, Some, map, count_by, nat_lt};
+ghost use Rattle.std.specs.Prelude.{◌≡◌, ◌||◌, nat_le, IfOk, List, map, count_by, nat_lt};
 ghost use Rattle.machine.specs.Numbers.{request_number};
 ghost use Rattle.machine.specs.Holding.{held_back, as_timely};
-ghost use Rattle.judge.specs.Next.{by_cancel_of, by_cancel, by_pause, by_resume, by_removal, by_surprise, by_end};
+ghost use Rattle.judge.specs.Next.{cancelled, paused, resumed, drained, surprised, ended};
 ghost use Rattle.judge.specs.Views.{rules_of, held_by, is_less};
 
 use crate::NoVerdict;
@@ -90,25 +90,15 @@ fn all_timely(alloc: Global, requests: Vec<Open>) -> Result<Vec<Open>, AllocErro
 }
 
 impl Machine {
-    /// The machine after the cancel of a request that was taken out.
-    fn cancelled_one(mut self, entry: Open) -> Result<Option<Machine>, NoVerdict>
-        ensures { IfOk result (λ next. next ≡ by_cancel_of self (Some (entry, self.requests))) }
-    {
-        if entry.is_cancelled() {
-            return Ok(None);
-        }
-        self.put_open(entry.cancelled())?;
-        Ok(Some(self))
-    }
-
     /// The machine after a cancel.
     pub(crate) fn cancelled(mut self, number: u64) -> Result<Option<Machine>, NoVerdict>
-        ensures { IfOk result (λ next. next ≡ by_cancel self number) }
+        ensures { IfOk result (λ next. next ≡ cancelled self number) }
     {
         let Some(entry) = self.take_open(number) else {
             return Ok(None);
         };
-        self.cancelled_one(entry)
+        self.put_open(entry.cancelled())?;
+        Ok(Some(self))
     }
 
     /// The machine after a pause.
@@ -116,39 +106,30 @@ impl Machine {
         mut self,
         alloc: Global,
         rules: &MachineRules,
-    ) -> Result<Option<Machine>, NoVerdict>
-        ensures { IfOk result (λ next. next ≡ by_pause (rules_of rules.now) self) }
+    ) -> Result<Machine, NoVerdict>
+        ensures { IfOk result (λ m. m ≡ paused (rules_of rules.now) self) }
     {
-        if self.paused || self.removing {
-            return Ok(None);
-        }
         self.requests = held_back(alloc, self.requests, rules.window)?;
         self.paused = true;
-        Ok(Some(self))
+        Ok(self)
     }
 
     /// The machine after the end of a pause.
-    pub(crate) fn resumed(mut self, alloc: Global) -> Result<Option<Machine>, NoVerdict>
-        ensures { IfOk result (λ next. next ≡ by_resume self) }
+    pub(crate) fn resumed(mut self, alloc: Global) -> Result<Machine, NoVerdict>
+        ensures { IfOk result (λ m. m ≡ resumed self) }
     {
-        if !self.paused {
-            return Ok(None);
-        }
         self.requests = all_timely(alloc, self.requests)?;
         self.paused = false;
-        Ok(Some(self))
+        Ok(self)
     }
 
     /// The machine after a removal.
-    pub(crate) fn drained(mut self) -> Option<Machine>
-        ensures { result ≡ by_removal self }
+    pub(crate) fn drained(mut self) -> Machine
+        ensures { result ≡ drained self }
     {
-        if !self.paused {
-            return None;
-        }
         self.paused = false;
         self.removing = true;
-        Some(self)
+        self
     }
 
     /// The machine after a surprise removal.
@@ -156,28 +137,22 @@ impl Machine {
         mut self,
         alloc: Global,
         rules: &MachineRules,
-    ) -> Result<Option<Machine>, NoVerdict>
-        ensures { IfOk result (λ next. next ≡ by_surprise (rules_of rules.now) self) }
+    ) -> Result<Machine, NoVerdict>
+        ensures { IfOk result (λ m. m ≡ surprised (rules_of rules.now) self) }
     {
-        if self.removing {
-            return Ok(None);
-        }
         if !self.paused {
             self.requests = held_back(alloc, self.requests, rules.window)?;
         }
         self.paused = false;
         self.removing = true;
-        Ok(Some(self))
+        Ok(self)
     }
 
     /// The machine after the end of a removal.
-    pub(crate) fn ended(mut self) -> Option<Machine>
-        ensures { result ≡ by_end self }
+    pub(crate) fn ended(mut self) -> Machine
+        ensures { result ≡ ended self }
     {
-        if !self.removing || self.removed || !self.requests.is_empty() {
-            return None;
-        }
         self.removed = true;
-        Some(self)
+        self
     }
 }

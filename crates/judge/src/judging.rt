@@ -47,7 +47,7 @@ fn judged(
     let mut machines = Vec::new(alloc);
     machines.push(Machine::new(alloc, arrays))?;
     for (at, label) in labels.iter().enumerate() {
-        machines = all_next(alloc, rules, label, machines)?;
+        machines = all_next(alloc, rules, label, None, machines)?;
         if machines.is_empty() {
             return Ok(Verdict::Stops(at));
         }

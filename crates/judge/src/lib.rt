@@ -9,16 +9,21 @@
 //! these states. A block has to be the plain one of its command (`IsBlockOf`). Of a block that holds more,
 //! [`StartRule::NotPlain`] tells the first such byte.
 //!
-//! `Machine::broken` names a rule that a label breaks, and none exactly where some step goes by the label (`exact`).
-//! The label breaks that rule in that state (`breaks`), which refutes each step (`breaking_refutes`).
-//! [`stepwise::Judge`] takes labels one by one (`taken`, `refused`). `Machine::undone` names what a state that isn't
+//! `Machine::broken` names a rule that a line breaks, and none exactly where some step goes by the line (`exact`).
+//! The line breaks that rule in that state (`breaks`), which refutes each step (`breaking_refutes`).
+//! [`stepwise::Judge`] takes labels one by one (`take`), or lines (`take_line`: `taken`, `refused`). A line may name
+//! the request of its start, and leads to one state at most from each. `Machine::undone` names what a state that isn't
 //! settled leaves undone (`exact`, `left`).
+//!
+//! A label is judged once: the rule that it breaks is looked for, and where there is none the machine changes with no
+//! further look.
 //!
 //! Requests are cut as this stack cuts them: pieces begin at multiples of the longest transfer, and what came back busy
 //! restarts as often as the busy limit allows. A stack that cuts elsewhere is refused for it, unless the rules say that
 //! any cut will do (`any_cut`): a piece then begins at any place that waits to be sent, and restarts are not counted.
 //!
-//! It doesn't promise to be fast, and `NoVerdict` meets any contract: tests show verdicts.
+//! It doesn't promise to be fast, and `NoVerdict` meets any contract but that of `Judge::take` where it is for too many
+//! readings (`IsRefusal`): tests show verdicts.
 #![tactic(auto)]
 
 mod adapter_labels;
@@ -47,7 +52,6 @@ mod reading;
 mod rules;
 mod sameness;
 mod sectors;
-mod settling;
 mod start_rules;
 mod starts;
 mod steps;
@@ -69,20 +73,29 @@ use std::alloc::{AllocError, AllocFailed};
 use thiserror::Error;
 pub use undone_rules::Undone;
 
-/// There is no verdict: memory was refused, or the number of calls, of pieces or of a request's busy returns is the
-/// largest of its type, which takes as many labels.
+/// The most readings of a trace's starts that a [`stepwise::Judge`] follows.
+pub const MOST_READINGS: u64 = 1024;
+
+/// Why there is no verdict.
 #[derive(Debug, Clone, Copy, PartialEq, Eq, Error)]
-#[error("no memory for a verdict")]
-pub struct NoVerdict;
+pub enum NoVerdict {
+    /// Memory was refused, or the number of calls, of pieces or of a request's busy returns is the largest of its type,
+    /// which takes as many labels.
+    #[error("no memory for a verdict")]
+    NoMemory,
+    /// More requests might have made the starts than are followed.
+    #[error("the starts have {readings} readings, and 1024 are the most: name the request of each")]
+    Readings { readings: u64 },
+}
 
 impl From<AllocError> for NoVerdict {
     fn from(_refused: AllocError) -> NoVerdict {
-        NoVerdict
+        NoVerdict::NoMemory
     }
 }
 
 impl<T: Drop> From<AllocFailed<T>> for NoVerdict {
     fn from(_refused: AllocFailed<T>) -> NoVerdict {
-        NoVerdict
+        NoVerdict::NoMemory
     }
 }

@@ -7,7 +7,7 @@ ghost use Rattle.judge.specs.Taking.{TakesOpen, TakesStarted, with_open, with_st
 
 use crate::arrays::{Sectors, array_of};
 use crate::copies::{Copied, all_copied};
-use crate::finding::{take_piece, take_request};
+use crate::finding::{place_for, take_piece, take_request};
 use crate::open::Open;
 use crate::pieces::Started;
 use ntstatus::NtStatus;
@@ -137,11 +137,12 @@ impl Machine {
         array_of(self.arrays.as_slice(), partition as usize)
     }
 
-    /// Puts a request behind the others.
+    /// Puts a request in its place among the others.
     pub(crate) fn put_open(&mut self, entry: Open) -> Result<(), AllocError>
         ensures { OnOk result (self.new ≡ with_open entry self.old) }
     {
-        self.requests.push(entry)?;
+        let at = place_for(self.requests.as_slice(), entry.number());
+        self.requests.insert(at, entry)?;
         Ok(())
     }
 

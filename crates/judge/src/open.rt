@@ -1,26 +1,25 @@
 //! Open requests.
 
-ghost use Rattle.std.specs.Prelude.{◌≡◌, ◌<◌, ◌^◌, ◌+◌, ◌==◌, false, List, IfOk, MatchOption, get_or, length, replicate};
+ghost use Rattle.std.specs.Prelude.{◌≡◌, ◌<◌, ◌^◌, ◌+◌, false, List, IfOk, MatchOption, get_or, length, replicate};
 ghost use Rattle.std.specs.List.{list_all, list_any};
-ghost use Rattle.std.specs.Str.{bytes_eq};
 ghost use Rattle.machine.specs.State.{OpenRequest, Untouched, with_marks};
 ghost use Rattle.machine.specs.Cutting.{mark_at, is_back, pieces_with, restarts_left};
 ghost use Rattle.machine.specs.Sending.{is_started, is_untouched, is_unsent, sent};
-ghost use Rattle.machine.specs.Answering.{is_done, answer_bytes};
+ghost use Rattle.machine.specs.Answering.{is_done};
 ghost use Rattle.machine.specs.Holding.{as_cancelled};
 ghost use Rattle.machine.specs.Settled.{is_out, has_out, has_unsent};
-ghost use Rattle.judge.specs.Deciding.{has_number, ended_by, cause_by, lowest_by, is_in_turn, is_sendable, begins_piece};
+ghost use Rattle.judge.specs.Deciding.{has_number, cause_by, is_in_turn};
 ghost use Rattle.judge.specs.Settling.{has_gone, is_all_sent};
 ghost use Rattle.judge.specs.Ruling.{failure_of};
-ghost use Rattle.judge.specs.Views.{rules_of, opened, joined_marks, with_late, with_busy_returns};
+ghost use Rattle.judge.specs.Views.{rules_of, opened, with_late, with_busy_returns};
 
 use crate::NoVerdict;
 use crate::copies::{Copied, all_copied, request_copied};
-use crate::lists::{part, spliced};
+use crate::lists::spliced;
 use crate::places::Place;
 use crate::rules::MachineRules;
 use crate::sameness::{Compared, all_same, are_same_requests};
-use machine::{ClientRequest, Kind};
+use machine::ClientRequest;
 use ntstatus::NtStatus;
 use sector::Extent;
 use std::alloc::{AllocError, Global};
@@ -63,40 +62,11 @@ pub(crate) fn alike(alloc: Global, count: u64, place: &Place) -> Result<Vec<Plac
     Ok(places)
 }
 
-/// The bytes of all places, end to end.
-fn joined(alloc: Global, marks: &[Place]) -> Result<Vec<u8>, AllocError>
-    ensures { IfOk result (λ bytes. bytes.items ≡ joined_marks marks.now) }
-{
-    let mut bytes = Vec::new(alloc);
-    for place in marks {
-        bytes.extend_from_slice(place.bytes())?;
-    }
-    Ok(bytes)
-}
-
-/// Whether the lowest place that isn't done gives its request this status, if there is one.
-fn lowest_causes(marks: &[Place], given_up: bool, worn_out: bool, status: NtStatus) -> bool
-    ensures { result ≡ lowest_by (cause_by given_up worn_out status) marks.now }
-{
-    for place in marks {
-        if !place.is_done() {
-            return place.causes(given_up, worn_out, status);
-        }
-    }
-    true
-}
-
 /// Whether no place of them was ever sent.
 fn are_untouched(marks: &[Place]) -> bool
     ensures { result ≡ list_all is_untouched marks.now }
 {
     marks.iter().all(|place| place.is_untouched())
-}
-
-fn are_unsent(marks: &[Place]) -> bool
-    ensures { result ≡ list_all is_unsent marks.now }
-{
-    marks.iter().all(|place| place.is_unsent())
 }
 
 /// Whether some place of them is out.
@@ -123,14 +93,6 @@ fn are_done(marks: &[Place]) -> bool
     ensures { result ≡ list_all is_done marks.now }
 {
     marks.iter().all(|place| place.is_done())
-}
-
-fn have_ended(marks: &[Place], given_up: bool, worn_out: bool) -> bool
-    ensures { result ≡ list_all (ended_by given_up worn_out) marks.now }
-{
-    marks
-        .iter()
-        .all(|place| place.has_ended(given_up, worn_out))
 }
 
 /// The place of this number; past the last, none.
@@ -267,6 +229,15 @@ impl Open {
         }
     }
 
+    /// A number that requests of one number share, where they are the same.
+    pub(crate) fn digest(&self) -> u64 {
+        let mut sum = self.busy_returns;
+        for place in &self.marks {
+            sum = sum.wrapping_mul(5).wrapping_add(place.digest());
+        }
+        sum
+    }
+
     /// Whether some place is out.
     pub(crate) fn has_out(&self) -> bool
         ensures { result ≡ has_out self.now }
@@ -295,62 +266,6 @@ impl Open {
         ensures { result ≡ list_all is_done self.now.marks }
     {
         are_done(self.marks.as_slice())
-    }
-
-    /// Whether each place is done or never will be.
-    pub(crate) fn has_ended(&self, given_up: bool, worn_out: bool) -> bool
-        ensures { result ≡ list_all (ended_by given_up worn_out) self.now.marks }
-    {
-        have_ended(self.marks.as_slice(), given_up, worn_out)
-    }
-
-    /// Whether the lowest place that isn't done gives it this status.
-    pub(crate) fn ends_as(&self, given_up: bool, worn_out: bool, status: NtStatus) -> bool
-        ensures { result ≡ lowest_by (cause_by given_up worn_out status) self.now.marks }
-    {
-        lowest_causes(self.marks.as_slice(), given_up, worn_out, status)
-    }
-
-    /// Whether its answer hands these bytes back.
-    pub(crate) fn hands_back(&self, alloc: Global, bytes: &[u8]) -> Result<bool, AllocError>
-        ensures { IfOk result (λ same. same ≡ bytes_eq bytes.now (answer_bytes self.now.request.kind self.now.marks)) }
-    {
-        match self.request.kind {
-            Kind::Read if self.is_done() => {
-                let all = joined(alloc, self.marks.as_slice())?;
-                Ok(bytes == all.as_slice())
-            }
-            Kind::Read | Kind::Write | Kind::Flush => Ok(bytes.is_empty()),
-        }
-    }
-
-    /// Whether a piece may have these places.
-    pub(crate) fn can_send(&self, rules: &MachineRules, places: Extent) -> bool
-        ensures { result ≡ is_sendable (rules_of rules.now) self.now places }
-    {
-        let count = self.marks.len() as u64;
-        0 < places.count
-            && places.count <= rules.max_transfer
-            && places.first <= count
-            && places.count <= count - places.first
-            && are_unsent(part(
-                self.marks.as_slice(),
-                places.first as u128,
-                places.first as u128 + places.count as u128,
-            ))
-            && (!rules.one_piece || (places.count == count && !self.is_started()))
-            && self.begins_piece(rules, places.first)
-    }
-
-    /// Whether a piece begins at this place, and a restart is left if the place came back, or any cut will do.
-    fn begins_piece(&self, rules: &MachineRules, place: u64) -> bool
-        requires some { 0 < rules.now.max_transfer }
-        requires there { place < length self.now.marks }
-        ensures { result ≡ begins_piece (rules_of rules.now) self.now place }
-    {
-        rules.any_cut
-            || (place % rules.max_transfer == 0
-                && (!self.marks[place as usize].is_back() || self.restarts_left(rules) > 0))
     }
 
     /// Returns how many pieces begin with a place that came back.
@@ -418,7 +333,7 @@ impl Open {
         ensures { IfOk result (λ o. o ≡ with_busy_returns (self.busy_returns + 1) self) }
     {
         let Some(more) = self.busy_returns.checked_add(1) else {
-            return Err(NoVerdict);
+            return Err(NoVerdict::NoMemory);
         };
         self.busy_returns = more;
         Ok(self)

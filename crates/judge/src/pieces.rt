@@ -1,11 +1,10 @@
 //! Pieces at the adapter.
 
-ghost use Rattle.std.specs.Prelude.{◌≡◌, IfOk, map, option_map};
+ghost use Rattle.std.specs.Prelude.{◌≡◌, IfOk, map};
 ghost use Rattle.std.specs.Bool.{OnTrue};
 ghost use Rattle.machine.specs.State.{Done};
 ghost use Rattle.srb.specs.Fate.{Acted, Faulted, is_fresh, class_of};
-ghost use Rattle.machine.specs.Sending.{with_fate, status_of_completion};
-ghost use Rattle.judge.specs.Picking.{only};
+ghost use Rattle.machine.specs.Sending.{with_fate};
 ghost use Rattle.judge.specs.Deciding.{is_piece, has_tag, is_bad};
 ghost use Rattle.judge.specs.Next.{marks_left, marks_of_fate};
 ghost use Rattle.judge.specs.PieceRuling.{has_acted};
@@ -15,7 +14,6 @@ use crate::copies::{Copied, all_copied};
 use crate::open::alike;
 use crate::places::Place;
 use crate::sameness::{Compared, all_same};
-use ntstatus::NtStatus;
 use sector::{Bytes, Extent};
 use srb::{Class, Completion};
 use std::alloc::{AllocError, Global};
@@ -69,26 +67,23 @@ fn done_marks(alloc: Global, sectors: Vec<Bytes>) -> Result<Vec<Place>, AllocErr
     Ok(places)
 }
 
-/// The marks that a piece leaves by a good return, if it acted.
-fn marks_of(alloc: Global, deed: Deed) -> Result<Option<Vec<Place>>, AllocError>
-    ensures { IfOk result (λ marks. option_map (λ v. v.items) marks ≡ marks_of_fate (fate_of deed)) }
+/// The marks that a piece leaves by a good return, where it acted.
+fn marks_of(alloc: Global, deed: Deed) -> Result<Vec<Place>, AllocError>
+    ensures { IfOk result (λ marks. marks.items ≡ marks_of_fate (fate_of deed)) }
 {
     match deed {
-        Deed::Acted(sectors) => {
-            let marks = done_marks(alloc, sectors)?;
-            Ok(Some(marks))
-        }
-        Deed::Fresh | Deed::Faulted => Ok(None),
+        Deed::Acted(sectors) => done_marks(alloc, sectors),
+        Deed::Fresh | Deed::Faulted => Ok(Vec::new(alloc)),
     }
 }
 
-/// The completion's status, if it is a bad one.
-pub(crate) fn bad_status(completion: &Completion) -> Option<NtStatus>
-    ensures { result ≡ only (is_bad (class_of completion.now)) (status_of_completion completion.now) }
+/// Whether the completion is a bad one.
+pub(crate) fn is_bad(completion: &Completion) -> bool
+    ensures { result ≡ is_bad (class_of completion.now) }
 {
     match completion.class() {
-        Class::Bad(_) => Some(completion.status()),
-        Class::Good | Class::Busy => None,
+        Class::Bad(_) => true,
+        Class::Good | Class::Busy => false,
     }
 }
 
@@ -182,31 +177,15 @@ impl Started {
         self
     }
 
-    /// The marks that it leaves by such a return, if it may come back so.
-    pub(crate) fn marks(
-        self,
-        alloc: Global,
-        class: &Class,
-    ) -> Result<Option<Vec<Place>>, AllocError>
-        ensures { IfOk result (λ marks. option_map (λ v. v.items) marks ≡ marks_left self class.now) }
+    /// The marks that it leaves by such a return.
+    pub(crate) fn marks(self, alloc: Global, class: &Class) -> Result<Vec<Place>, AllocError>
+        ensures { IfOk result (λ marks. marks.items ≡ marks_left self class.now) }
     {
         let count = self.places.count;
         match class {
             Class::Good => marks_of(alloc, self.deed),
-            Class::Busy => {
-                if !self.is_fresh() {
-                    return Ok(None);
-                }
-                let marks = alike(alloc, count, &Place::back())?;
-                Ok(Some(marks))
-            }
-            Class::Bad(completion) => {
-                let Some(status) = bad_status(completion) else {
-                    return Ok(None);
-                };
-                let marks = alike(alloc, count, &Place::failed(status))?;
-                Ok(Some(marks))
-            }
+            Class::Busy => alike(alloc, count, &Place::back()),
+            Class::Bad(completion) => alike(alloc, count, &Place::failed(completion.status())),
         }
     }
 }

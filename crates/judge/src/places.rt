@@ -180,6 +180,17 @@ impl Place {
         }
     }
 
+    /// A number of its own for each thing that may have become of it.
+    pub(crate) fn digest(&self) -> u64 {
+        match self.marked {
+            Marked::Untouched => 0,
+            Marked::Out => 1,
+            Marked::Done(_) => 2,
+            Marked::Failed(_) => 3,
+            Marked::Back => 4,
+        }
+    }
+
     /// The status by which it failed, if it did.
     pub(crate) fn failure(&self) -> Option<NtStatus>
         ensures { result ≡ failure_of self.now }

@@ -12,6 +12,7 @@ use crate::places::are_same;
 use machine::ClientRequest;
 use sector::Bytes;
 use std::alloc::{AllocError, Global};
+use std::collections::BTreeMap;
 
 /// A value that can be compared: what is found the same is the same.
 pub(crate) trait Compared: Sized {
@@ -84,36 +85,78 @@ impl Compared for Machine {
     }
 }
 
-/// Whether the machine is among these.
-fn is_among(machines: &[Machine], machine: &Machine) -> bool
-    ensures { OnTrue result (Contains machines.now machine.now) }
-{
-    for other in machines {
-        if machine.is_same(other) {
-            return true;
-        }
-    }
-    false
+/// A number with one more mixed into it.
+fn mixed(sum: u64, more: u64) -> u64 {
+    sum.wrapping_add(more).wrapping_mul(0x0000_0100_0000_01b3)
 }
 
-/// Adds a machine that isn't there yet.
-fn add_new(machine: Machine, once: &mut Vec<Machine>) -> Result<(), AllocError>
+/// A number that machines which are the same share. It looks at what readings of a start differ in: the pieces'
+/// requests, and what has become of the requests.
+fn digest(machine: &Machine) -> u64 {
+    let mut sum = 0;
+    for piece in &machine.pieces {
+        sum = mixed(mixed(sum, piece.owner()), piece.places().first);
+    }
+    for entry in &machine.requests {
+        sum = mixed(mixed(sum, entry.number()), entry.digest());
+    }
+    sum
+}
+
+/// Whether the machine is the one at this place.
+fn is_there(machines: &[Machine], at: usize, machine: &Machine) -> bool
+    ensures { OnTrue result (Contains machines.now machine.now) }
+{
+    match machines.get(at) {
+        Some(other) => machine.is_same(other),
+        None => false,
+    }
+}
+
+/// Whether the machine is the last that was kept with its digest.
+fn is_kept(
+    machines: &[Machine],
+    places: &BTreeMap<u64, usize>,
+    digest: u64,
+    machine: &Machine,
+) -> bool
+    ensures { OnTrue result (Contains machines.now machine.now) }
+{
+    match places.get(&digest) {
+        Some(at) => is_there(machines, *at, machine),
+        None => false,
+    }
+}
+
+/// Adds a machine that isn't seen to be there yet, and keeps its place by its digest.
+fn add_new(
+    machine: Machine,
+    places: &mut BTreeMap<u64, usize>,
+    once: &mut Vec<Machine>,
+) -> Result<(), AllocError>
     ensures { OnOk result (AddsOnce once.old.items machine once.new.items) }
 {
-    if is_among(once.as_slice(), &machine) {
+    let digest = digest(&machine);
+    if is_kept(once.as_slice(), places, digest, &machine) {
         return Ok(());
     }
+    places.insert(digest, once.len())?;
     once.push(machine)?;
     Ok(())
 }
 
-/// Each of the machines once.
+/// Each of the machines once, as far as this is seen.
+#[tactic(auto, using(crate::proofs::Alike::alike_self))]
 pub(crate) fn distinct(alloc: Global, machines: Vec<Machine>) -> Result<Vec<Machine>, AllocError>
     ensures { IfOk result (λ once. AreAlike machines.items once.items) }
 {
+    if machines.len() <= 1 {
+        return Ok(machines);
+    }
+    let mut places = BTreeMap::new(alloc);
     let mut once = Vec::new(alloc);
     for machine in machines {
-        add_new(machine, &mut once)?;
+        add_new(machine, &mut places, &mut once)?;
     }
     Ok(once)
 }

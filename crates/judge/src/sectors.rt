@@ -2,10 +2,10 @@
 
 ghost use Rattle.std.specs.Prelude.{◌≡◌, ◌+◌, ◌*◌, [], IfOk, List, get_or, slice_set};
 ghost use Rattle.sector.specs.Splice.{splice};
-ghost use Rattle.judge.specs.Deciding.{chunked, sectors_eq, sectors_moved};
+ghost use Rattle.judge.specs.Deciding.{chunked, sectors_moved};
 ghost use Rattle.judge.specs.Views.{rules_of};
 
-use crate::arrays::{Part, Sectors};
+use crate::arrays::Sectors;
 use crate::rules::MachineRules;
 use machine::Kind;
 use sector::Bytes;
@@ -43,22 +43,6 @@ pub(crate) fn sectors_moved(
             Ok(sectors)
         }
     }
-}
-
-/// Whether these are the sectors of the part.
-#[tactic(auto, using(crate::proofs::Stepping::other_length))]
-pub(crate) fn are_same_sectors(sectors: &[Bytes], there: &Part<'_>) -> bool
-    ensures { result ≡ sectors_eq sectors.now there.now }
-{
-    if sectors.len() as u64 != there.len() {
-        return false;
-    }
-    for i in 0..sectors.len() {
-        if sectors[i].as_slice() != there.at(i as u64) {
-            return false;
-        }
-    }
-    true
 }
 
 /// The arrays, with these sectors in place of as many of one array.

@@ -26,7 +26,10 @@ pub enum StartRule {
     /// NUMBER and CONTROL (SBC, SAM), and no byte behind it.
     #[error("the block holds more than its command: {0}")]
     NotPlain(Difference),
-    /// No open request asks for the block.
+    /// The line names a request that isn't open.
+    #[error("request {number} is not open")]
+    NotOpen { number: u64 },
+    /// No open request asks for the block, or not the one that the line names.
     #[error("{0}")]
     NotAsked(Misfit),
     /// The request asks for it, and may not start it now.

@@ -1,49 +1,40 @@
 //! Starts, which several requests may make.
 
 ghost use Rattle.std.specs.Prelude.{◌≡◌, ◌<◌, ◌++◌, IfOk, OnOk, length, slice_index_or};
-ghost use Rattle.std.specs.List.{flat_map, list_all, remove};
+ghost use Rattle.std.specs.List.{flat_map, remove};
 ghost use Rattle.machine.specs.State.{OpenRequest};
 ghost use Rattle.judge.specs.Picking.{choices};
-ghost use Rattle.judge.specs.Deciding.{is_in_turn, may_start, startable};
+ghost use Rattle.judge.specs.StartRuling.{startable};
 ghost use Rattle.judge.specs.Next.{started_by, started_of, started_each, started};
 ghost use Rattle.judge.specs.Starting.{IsPending, pending_states, choice_at};
 ghost use Rattle.judge.specs.Views.{rules_of};
 
 use crate::NoVerdict;
-use crate::commands::places_for;
 use crate::copies::Copied;
-use crate::finding::is_lowest_free;
 use crate::machine_state::Machine;
 use crate::open::Open;
 use crate::pieces::Started;
+use crate::reading::Told;
 use crate::rules::MachineRules;
 use cdb::Cdb;
 use sector::Extent;
 use std::alloc::Global;
 
-/// What a label tells of a start.
+/// A start on a tag.
 #[derive(Clone, Copy)]
-pub(crate) struct Start {
-    /// The number of its piece.
-    pub(crate) piece: u128,
-    pub(crate) tag: u8,
-    /// The command whose plain block it has, if there is one.
-    pub(crate) command: Option<Cdb>,
+struct Start {
+    tag: u8,
+    /// The number of the request that its line names.
+    owner: Option<u64>,
+    command: Cdb,
 }
 
 /// A start that is found and not made yet.
-#[derive(Debug, Clone, Copy)]
+#[derive(Clone, Copy)]
 struct Pending {
     /// The place of its request among those that are open.
     at: usize,
     places: Extent,
-}
-
-/// Whether none of the requests is to be started before the request of this number.
-fn let_start(requests: &[Open], number: u64) -> bool
-    ensures { result ≡ list_all (is_in_turn number) requests.now }
-{
-    requests.iter().all(|other| other.lets_start(number))
 }
 
 impl Machine {
@@ -54,35 +45,21 @@ impl Machine {
         self.requests.len()
     }
 
-    /// Whether a piece of the request may be started now.
-    fn may_start(&self, entry: &Open) -> bool
-        ensures { result ≡ may_start self.now entry.now }
-    {
-        !entry.is_cancelled()
-            && !self.removing
-            && !(self.paused && entry.is_late())
-            && let_start(self.requests.as_slice(), entry.number())
-    }
-
-    /// The places of the request that may be started now by this command.
+    /// The places of the request that may be started now by this command, where it may be the request that is told.
     pub(crate) fn startable(
         &self,
         rules: &MachineRules,
-        command: Option<Cdb>,
+        owner: Option<u64>,
+        command: Cdb,
         entry: &Open,
     ) -> Option<Extent>
-        ensures { result ≡ startable (rules_of rules.now) self.now command entry.now }
+        ensures { result ≡ startable (rules_of rules.now) self.now owner command entry.now }
     {
-        let Some(command) = command else {
-            return None;
-        };
-        let Some(places) = places_for(rules, entry.request(), command) else {
-            return None;
-        };
-        if self.may_start(entry) && entry.can_send(rules, places) {
-            Some(places)
-        } else {
+        let places = entry.asked(rules, owner, command)?;
+        if self.hindrance_of(rules, entry, places).is_some() {
             None
+        } else {
+            Some(places)
         }
     }
 
@@ -98,7 +75,7 @@ impl Machine {
     {
         let number = self.next_piece;
         let Some(after) = number.checked_add(1) else {
-            return Err(NoVerdict);
+            return Err(NoVerdict::NoMemory);
         };
         self.next_piece = after;
         let piece = Started::new(number, tag, entry.number(), places);
@@ -164,9 +141,9 @@ impl Machine {
         requires { at < length self.now.requests }
         ensures pending { IsPending self.now result }
         ensures starts { pending_states self.now start.tag result
-            ≡ flat_map (started_each (rules_of rules.now) self.now start.tag start.command) (choice_at self.now at) }
+            ≡ flat_map (started_each (rules_of rules.now) self.now start.tag start.owner start.command) (choice_at self.now at) }
     {
-        let places = self.startable(rules, start.command, &self.requests[at])?;
+        let places = self.startable(rules, start.owner, start.command, &self.requests[at])?;
         Some(Pending { at, places })
     }
 
@@ -179,7 +156,7 @@ impl Machine {
         found: &mut Vec<Machine>,
     ) -> Result<(), NoVerdict>
         ensures { OnOk result (found.new.items ≡ found.old.items
-            ++ flat_map (started_each (rules_of rules.now) self start.tag start.command) (choices self.requests)) }
+            ++ flat_map (started_each (rules_of rules.now) self start.tag start.owner start.command) (choices self.requests)) }
     {
         let mut pending = None;
         for at in 0..self.open_count() {
@@ -193,23 +170,33 @@ impl Machine {
         Ok(())
     }
 
-    /// Adds each machine that the start leads to.
+    /// Adds each machine that a start on this tag leads to, where it breaks no rule.
     pub(crate) fn add_started(
         self,
         alloc: Global,
         rules: &MachineRules,
-        start: Start,
+        tag: u8,
+        told: Told,
         found: &mut Vec<Machine>,
     ) -> Result<(), NoVerdict>
         ensures { OnOk result (found.new.items
-            ≡ found.old.items ++ started (rules_of rules.now) self start.piece start.tag start.command) }
+            ≡ found.old.items ++ started (rules_of rules.now) self tag told.owner told.read) }
     {
-        if start.piece != self.next_piece
-            || !is_lowest_free(rules.depth, self.pieces.as_slice(), start.tag)
-        {
-            return Ok(());
+        match told.read {
+            Ok(command) => {
+                let owner = told.owner;
+                self.add_starts(
+                    alloc,
+                    rules,
+                    Start {
+                        tag,
+                        owner,
+                        command,
+                    },
+                    found,
+                )
+            }
+            Err(_) => Ok(()),
         }
-        self.add_starts(alloc, rules, start, found)?;
-        Ok(())
     }
 }

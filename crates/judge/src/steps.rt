@@ -1,30 +1,19 @@
-//! The machines that a label leads to.
+//! The machines that a line leads to. A label that breaks a rule leads to none; any other changes a machine, and need
+//! not be looked at again.
 
-ghost use Rattle.std.specs.Prelude.{◌≡◌, ◌++◌, IfOk, OnOk, option_to_list};
+ghost use Rattle.std.specs.Prelude.{◌≡◌, ◌++◌, [], ◌∷◌, IfOk, OnOk, option_to_list};
 ghost use Rattle.std.specs.List.{flat_map};
-ghost use Rattle.judge.specs.Next.{device_next, free_next, owing_next, next, IsCommandOf, AreNext};
+ghost use Rattle.judge.specs.Judging.{line_of};
+ghost use Rattle.judge.specs.Next.{device_after, free_after, after_of, next, AreNext};
 ghost use Rattle.judge.specs.Views.{rules_of, owed_of};
 
 use crate::NoVerdict;
-use crate::answers::Answer;
-use crate::breaking::read_of;
-use crate::machine_state::{Debt, Machine};
+use crate::machine_state::Machine;
+use crate::reading::{Told, told_by};
 use crate::rules::MachineRules;
-use crate::starts::Start;
-use cdb::Cdb;
 use machine::Label;
 use srb::DeviceLabel;
 use std::alloc::Global;
-
-/// The command whose plain block a start has.
-pub(crate) fn command_of(label: &Label) -> Option<Cdb>
-    ensures { IsCommandOf label.now result }
-{
-    match read_of(label) {
-        Ok(command) => Some(command),
-        Err(_) => None,
-    }
-}
 
 /// Adds a machine, if there is one.
 fn add(one: Option<Machine>, found: &mut Vec<Machine>) -> Result<(), NoVerdict>
@@ -36,27 +25,28 @@ fn add(one: Option<Machine>, found: &mut Vec<Machine>) -> Result<(), NoVerdict>
     Ok(())
 }
 
+/// Adds a machine.
+fn add_one(machine: Machine, found: &mut Vec<Machine>) -> Result<(), NoVerdict>
+    ensures { OnOk result (found.new.items ≡ found.old.items ++ machine ∷ []) }
+{
+    found.push(machine)?;
+    Ok(())
+}
+
 impl Machine {
-    /// Adds the machines after a label of the adapter.
-    fn add_device_next(
+    /// Adds the machines after a label of the adapter that breaks no rule.
+    fn add_device_after(
         self,
         alloc: Global,
         rules: &MachineRules,
-        command: Option<Cdb>,
+        told: Told,
         label: &DeviceLabel,
         found: &mut Vec<Machine>,
     ) -> Result<(), NoVerdict>
-        ensures { OnOk result (found.new.items ≡ found.old.items ++ device_next (rules_of rules.now) command self label.now) }
+        ensures { OnOk result (found.new.items ≡ found.old.items ++ device_after (rules_of rules.now) told self label.now) }
     {
         match label {
-            DeviceLabel::Start { piece, tag, .. } => {
-                let start = Start {
-                    piece: *piece,
-                    tag: *tag,
-                    command,
-                };
-                self.add_started(alloc, rules, start, found)
-            }
+            DeviceLabel::Start { tag, .. } => self.add_started(alloc, rules, *tag, told, found),
             DeviceLabel::Act { piece, bytes } => {
                 add(self.acted(alloc, rules, *piece, bytes.as_slice())?, found)
             }
@@ -68,71 +58,44 @@ impl Machine {
         }
     }
 
-    /// Adds the machines after a label where no answer is owed.
-    fn add_free_next(
+    /// Adds the machines after a label that breaks no rule, where no answer is owed.
+    fn add_free_after(
         self,
         alloc: Global,
         rules: &MachineRules,
-        command: Option<Cdb>,
+        told: Told,
         label: &Label,
         found: &mut Vec<Machine>,
     ) -> Result<(), NoVerdict>
-        ensures { OnOk result (found.new.items ≡ found.old.items ++ free_next (rules_of rules.now) command self label.now) }
+        ensures { OnOk result (found.new.items ≡ found.old.items ++ free_after (rules_of rules.now) told self label.now) }
     {
         match label {
-            Label::Call { number, request } => add(
-                self.called(alloc, rules, *number, request)?,
-                found,
-            ),
-            Label::Device(label) => self.add_device_next(alloc, rules, command, label, found),
-            Label::Answer {
-                number,
-                status,
-                information,
-                bytes,
-            } => {
-                let answer = Answer {
-                    number: *number,
-                    status: *status,
-                    information: *information,
-                    bytes: bytes.as_slice(),
-                };
-                add(self.answered(alloc, rules, answer)?, found)
-            }
+            Label::Call { request, .. } => add_one(self.called(alloc, rules, request)?, found),
+            Label::Device(label) => self.add_device_after(alloc, rules, told, label, found),
+            Label::Answer { number, .. } => add(self.answered(*number), found),
             Label::Cancel { number } => add(self.cancelled(*number)?, found),
-            Label::Pause => add(self.paused(alloc, rules)?, found),
-            Label::Resume => add(self.resumed(alloc)?, found),
-            Label::Remove => add(self.drained(), found),
-            Label::Surprise => add(self.surprised(alloc, rules)?, found),
-            Label::Removed => add(self.ended(), found),
+            Label::Pause => add_one(self.paused(alloc, rules)?, found),
+            Label::Resume => add_one(self.resumed(alloc)?, found),
+            Label::Remove => add_one(self.drained(), found),
+            Label::Surprise => add_one(self.surprised(alloc, rules)?, found),
+            Label::Removed => add_one(self.ended(), found),
         }
     }
 
-    /// Adds the machines after a label where an answer is owed.
-    fn add_owing_next(
+    /// Adds the machines after a label that breaks no rule.
+    fn add_after(
         self,
-        debt: Debt,
+        alloc: Global,
+        rules: &MachineRules,
+        told: Told,
         label: &Label,
         found: &mut Vec<Machine>,
     ) -> Result<(), NoVerdict>
-        ensures { OnOk result (found.new.items ≡ found.old.items ++ owing_next self (owed_of debt) label.now) }
+        ensures { OnOk result (found.new.items ≡ found.old.items ++ after_of (rules_of rules.now) told self label.now self.owed) }
     {
-        match label {
-            Label::Answer {
-                number,
-                status,
-                information,
-                bytes,
-            } => {
-                let answer = Answer {
-                    number: *number,
-                    status: *status,
-                    information: *information,
-                    bytes: bytes.as_slice(),
-                };
-                add(self.repaid(debt, answer), found)
-            }
-            _ => Ok(()),
+        match self.owed {
+            None => self.add_free_after(alloc, rules, told, label, found),
+            Some(_) => add_one(self.repaid(), found),
         }
     }
 
@@ -141,30 +104,31 @@ impl Machine {
         self,
         alloc: Global,
         rules: &MachineRules,
-        command: Option<Cdb>,
+        told: Told,
         label: &Label,
         found: &mut Vec<Machine>,
     ) -> Result<(), NoVerdict>
-        ensures { OnOk result (found.new.items ≡ found.old.items ++ next (rules_of rules.now) command label.now self) }
+        ensures { OnOk result (found.new.items ≡ found.old.items ++ next (rules_of rules.now) told label.now self) }
     {
-        match self.owed {
-            None => self.add_free_next(alloc, rules, command, label, found),
-            Some(debt) => self.add_owing_next(debt, label, found),
+        if self.goes(rules, told, label) {
+            self.add_after(alloc, rules, told, label, found)
+        } else {
+            Ok(())
         }
     }
 }
 
-/// The machines that the label leads to from all of these.
+/// The machines that a line with this label leads to from all of these, which names this request.
 pub(crate) fn all_next(
     alloc: Global,
     rules: &MachineRules,
     label: &Label,
+    owner: Option<u64>,
     machines: Vec<Machine>,
 ) -> Result<Vec<Machine>, NoVerdict>
-    ensures { IfOk result (λ after. AreNext (rules_of rules.now) label.now machines.items after.items) }
+    ensures { IfOk result (λ after. AreNext (rules_of rules.now) (line_of label.now owner) machines.items after.items) }
 {
-    let command = command_of(label);
-    let after = each_next(alloc, rules, command, label, machines)?;
+    let after = each_next(alloc, rules, told_by(label, owner), label, machines)?;
     Ok(after)
 }
 
@@ -172,15 +136,15 @@ pub(crate) fn all_next(
 fn each_next(
     alloc: Global,
     rules: &MachineRules,
-    command: Option<Cdb>,
+    told: Told,
     label: &Label,
     machines: Vec<Machine>,
 ) -> Result<Vec<Machine>, NoVerdict>
-    ensures { IfOk result (λ after. after.items ≡ flat_map (next (rules_of rules.now) command label.now) machines.items) }
+    ensures { IfOk result (λ after. after.items ≡ flat_map (next (rules_of rules.now) told label.now) machines.items) }
 {
     let mut found = Vec::new(alloc);
     for machine in machines {
-        machine.add_next(alloc, rules, command, label, &mut found)?;
+        machine.add_next(alloc, rules, told, label, &mut found)?;
     }
     Ok(found)
 }

@@ -1,9 +1,10 @@
 //! What a machine leaves undone that isn't settled.
 
-ghost use Rattle.std.specs.Prelude.{◌≡◌, ◌↔◌, None, List, IfSome, option_map};
+ghost use Rattle.std.specs.Prelude.{◌≡◌, ◌↔◌, None, List, IfSome, IsTrue, count_by, option_map};
 ghost use Rattle.std.specs.Option.{option_copied};
 ghost use Rattle.std.specs.List.{find};
 ghost use Rattle.machine.specs.Calling.{is_full};
+ghost use Rattle.machine.specs.Sending.{is_started};
 ghost use Rattle.machine.specs.Settled.{has_out, started_count, Settled};
 ghost use Rattle.judge.specs.Settling.{is_held, waits_if_cancelled, is_all_sent, is_held_back, has_more, is_at_work};
 ghost use Rattle.judge.specs.Undoing.{failing, owed_undone, window_undone, removing_undone, waiting_undone, unpaused_undone, idle_undone, sending_undone, served_undone, undone};
@@ -14,8 +15,20 @@ use crate::call_rules::is_full;
 use crate::machine_state::{Debt, Machine};
 use crate::open::Open;
 use crate::rules::MachineRules;
-use crate::settling::count_started;
 use crate::undone_rules::Undone;
+
+/// Returns how many of the requests are started.
+fn count_started(requests: &[Open]) -> usize
+    ensures { result ≡ count_by is_started requests.now }
+{
+    let mut count = 0;
+    for entry in requests {
+        if entry.is_started() {
+            count += 1;
+        }
+    }
+    count
+}
 
 impl Open {
     /// Whether the request waits for a piece, if it is cancelled.
@@ -240,5 +253,15 @@ impl Machine {
     {
         let left = self.left(rules);
         left
+    }
+
+    /// Whether the machine is settled: what no step of the stack leaves undone is done.
+    pub fn is_settled(&self, rules: &MachineRules) -> bool
+        ensures { IsTrue result ↔ Settled (rules_of rules.now) self.now }
+    {
+        match self.left(rules) {
+            None => true,
+            Some(_) => false,
+        }
     }
 }

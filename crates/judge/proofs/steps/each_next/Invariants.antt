@@ -6,4 +6,4 @@ use Rattle.judge.specs.Views.{rules_of}
 use Rattle.judge.proofs.steps.each_next.Given as goal
 
 abbrev pub invariant-loop-machine : goal.invariant-loop-machine
-invariant-loop-machine l = l.found.items ≡ flat_map (next (rules_of l.rules) l.command l.label) l.yielded
+invariant-loop-machine l = l.found.items ≡ flat_map (next (rules_of l.rules) l.told l.label) l.yielded

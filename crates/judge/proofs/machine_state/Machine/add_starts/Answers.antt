@@ -14,6 +14,7 @@ loop-at-preserved c =
     let items = λ (v : Vec Machine Global). v.items in
     let told = rules_of c.args.rules.now in
     let tag = c.args.start.tag in
+    let owner = c.args.start.owner in
     let command = c.args.start.command in
     record {
       pending =
@@ -22,15 +23,15 @@ loop-at-preserved c =
                 subst (IsPending c.args.self) (sym w.pending-is) c.start_at-next.ensures.pending
             | else-is_some w ↦ subst (IsPending c.args.self) (sym w.pending-is) c.loop-at.invariant.pending
           ];
-      adds = one_more c.args.self.requests (started_each told c.args.self tag command)
+      adds = one_more c.args.self.requests (started_each told c.args.self tag owner command)
           (c.loop-at.found.items ++ pending_states c.args.self tag c.loop-at.pending) _ _ c.loop-at.at low
           (elim c.if-is_some.branch [
             | then-is_some+in_ok-add_pending w ↦
-                one_found c.args.self tag told command c.loop-at.found.items c.if-is_some.found.items c.loop-at.at
+                one_found c.args.self tag told owner command c.loop-at.found.items c.if-is_some.found.items c.loop-at.at
                 c.loop-at.pending c.start_at-next.result c.if-is_some.pending c.start_at-next.ensures.starts
                 (ap items w.found-is ∙ w.in_ok-add_pending.ensures) w.pending-is
             | else-is_some w ↦
-                none_found c.args.self tag told command c.loop-at.found.items c.if-is_some.found.items c.loop-at.at
+                none_found c.args.self tag told owner command c.loop-at.found.items c.if-is_some.found.items c.loop-at.at
                 c.loop-at.pending c.start_at-next.result c.if-is_some.pending c.start_at-next.ensures.starts
                 (sym c.is_some.ensures ∙ w.if-is_some.false) (ap items w.found-is) w.pending-is
           ])
@@ -42,6 +43,6 @@ returns c =
     let past : length c.args.self.requests ≤ c.loop-at.at = omega arith in
     c.in_ok-add_last.ensures
     ∙ no_more c.args.self.requests
-    (started_each (rules_of c.args.rules.now) c.args.self c.args.start.tag c.args.start.command)
+    (started_each (rules_of c.args.rules.now) c.args.self c.args.start.tag c.args.start.owner c.args.start.command)
     (c.loop-at.found.items ++ pending_states c.args.self c.args.start.tag c.loop-at.pending) _ c.loop-at.at past
     c.loop-at.invariant.adds

@@ -11,9 +11,9 @@ abbrev pub invariant-loop-at : goal.invariant-loop-at
 invariant-loop-at l = record {
   pending : IsPending l.fn.self l.pending;
   adds : (l.found.items ++ pending_states l.fn.self l.start.tag l.pending)
-      ++ flat_map (started_each (rules_of l.rules) l.fn.self l.start.tag l.start.command)
+      ++ flat_map (started_each (rules_of l.rules) l.fn.self l.start.tag l.start.owner l.start.command)
       (drop l.at (choices l.fn.self.requests))
       ≡ l.initial.found.items
-      ++ flat_map (started_each (rules_of l.rules) l.fn.self l.start.tag l.start.command)
+      ++ flat_map (started_each (rules_of l.rules) l.fn.self l.start.tag l.start.owner l.start.command)
       (choices l.fn.self.requests);
 }

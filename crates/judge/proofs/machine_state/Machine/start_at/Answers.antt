@@ -9,7 +9,7 @@ returns-in_err-places-clause-starts c =
     let o = c.index.result.now in
     let there : o ≡ get_or c.args.self.now.requests c.args.at o =
     subst (λ (s : State). o ≡ get_or s.requests c.args.at o) c.self.view_is c.index.ensures in
-    none_at c.args.self.now c.args.start.tag (rules_of c.args.rules.now) c.args.start.command c.args.at o
+    none_at c.args.self.now c.args.start.tag (rules_of c.args.rules.now) c.args.start.owner c.args.start.command c.args.at o
     c.from_residual.result c.requires there (sym c.in_err-places.was ∙ c.startable.ensures) c.from_residual.ensures
 
 pub returns-clause-starts : goal.returns-clause-starts
@@ -17,5 +17,5 @@ returns-clause-starts c =
     let o = c.index.result.now in
     let there : o ≡ get_or c.args.self.now.requests c.args.at o =
     subst (λ (s : State). o ≡ get_or s.requests c.args.at o) c.self.view_is c.index.ensures in
-    sym (one_starts c.args.self.now c.args.start.tag (rules_of c.args.rules.now) c.args.start.command c.args.at o
+    sym (one_starts c.args.self.now c.args.start.tag (rules_of c.args.rules.now) c.args.start.owner c.args.start.command c.args.at o
     c.in_ok-places.places c.requires there (sym c.in_ok-places.was ∙ c.startable.ensures))

@@ -2,7 +2,7 @@
 use Rattle.std.proofs.Common.{◌≡◌, ◌≤◌, take}
 use Rattle.std.specs.Prelude.{count_by}
 use Rattle.machine.specs.Sending.{is_started}
-use Rattle.judge.proofs.settling.count_started.Given as goal
+use Rattle.judge.proofs.undone.count_started.Given as goal
 
 abbrev pub invariant-loop-entry : goal.invariant-loop-entry
 invariant-loop-entry l = record { counted : l.count ≡ count_by is_started (take l.entry-index l.requests); few : l.count ≤ l.entry-index }
