@@ -1,29 +1,31 @@
-//! Tests of the libraries beside the stack and over it, by their public calls: the judge, sessions of NBD, volumes,
-//! settings, what they start, scripts, and what the programs `stackrun` and `nbd_disk` can be asked for. Each compares
-//! what a call answers with values worked by hand.
+//! Tests of the libraries beside the stack and over it, by those of their public calls that no program makes, or only
+//! where something fails: the judge by other rules, labels that no run has, readers and writers that fail, a second
+//! thread, volumes, and what settings give. What the programs print and say is compared by the cases in `examples/`.
 #![tactic(auto)]
 
 #[cfg(test)]
-mod documents;
-#[cfg(test)]
 mod expect;
 #[cfg(test)]
-mod limits;
+mod failing;
 #[cfg(test)]
-mod machines;
+mod labels;
+#[cfg(test)]
+mod one_block;
 #[cfg(test)]
 mod parts;
 #[cfg(test)]
-mod runs;
+mod progress;
 #[cfg(test)]
-mod scripts;
+mod rules;
+#[cfg(test)]
+mod runs;
 #[cfg(test)]
 mod served;
 #[cfg(test)]
 mod sessions;
 #[cfg(test)]
-mod starts;
+mod settings;
 #[cfg(test)]
-mod verdicts;
+mod starts;
 #[cfg(test)]
 mod volumes;

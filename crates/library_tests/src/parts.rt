@@ -2,13 +2,17 @@
 
 use std::alloc::{AllocError, Global};
 
-/// Numbers of a stream, highest byte first, and runs of one byte.
+/// Numbers of a stream, highest byte first, runs of one byte, and whole headers.
 #[derive(Clone, Copy)]
 pub(crate) enum Part {
     Short(u16),
     Word(u32),
     Long(u64),
     Fill(u8, usize),
+    /// A request: its flags, its kind, its cookie, its offset and its length in bytes.
+    Request(u16, u16, u64, u64, u32),
+    /// A reply: its error and its cookie.
+    Reply(u32, u64),
 }
 
 /// What a client sends to come to its requests: NBD_OPT_GO for the export with the empty name.
@@ -19,13 +23,6 @@ pub(crate) const GO: [Part; 6] = [
     Part::Word(6),
     Part::Word(0),
     Part::Short(0),
-];
-
-/// The server's first bytes.
-pub(crate) const GREETING: [Part; 3] = [
-    Part::Long(0x4E42_444D_4147_4943),
-    Part::Long(0x4948_4156_454F_5054),
-    Part::Short(3),
 ];
 
 /// What the client of [`GO`] is answered: the greeting, an export of this many bytes, its blocks, and an end.
@@ -64,6 +61,19 @@ pub(crate) fn add(bytes: &mut Vec<u8>, parts: &[Part]) -> Result<(), AllocError>
             Part::Word(n) => bytes.extend_from_slice(&n.to_be_bytes())?,
             Part::Long(n) => bytes.extend_from_slice(&n.to_be_bytes())?,
             Part::Fill(byte, count) => fill(bytes, *byte, *count)?,
+            Part::Request(flags, kind, cookie, offset, length) => {
+                bytes.extend_from_slice(&0x2560_9513_u32.to_be_bytes())?;
+                bytes.extend_from_slice(&flags.to_be_bytes())?;
+                bytes.extend_from_slice(&kind.to_be_bytes())?;
+                bytes.extend_from_slice(&cookie.to_be_bytes())?;
+                bytes.extend_from_slice(&offset.to_be_bytes())?;
+                bytes.extend_from_slice(&length.to_be_bytes())?;
+            }
+            Part::Reply(error, cookie) => {
+                bytes.extend_from_slice(&0x6744_6698_u32.to_be_bytes())?;
+                bytes.extend_from_slice(&error.to_be_bytes())?;
+                bytes.extend_from_slice(&cookie.to_be_bytes())?;
+            }
         }
     }
     Ok(())

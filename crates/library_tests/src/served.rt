@@ -1,8 +1,6 @@
-//! What the program `nbd_disk` is asked for, serves and says.
+//! What `nbd_disk` reads ahead, passes on and says.
 
 mod ahead;
-mod command_lines;
 mod endings;
 mod over;
 mod second_thread;
-mod sessions;

@@ -1,9 +1,9 @@
 //! What no contract says: what is opened with ample memory, what failed reads and writes give, and who says nothing.
 
 use crate::expect::same;
-use compose::{Refusal, StartFault};
+use crate::failing::Torn;
+use compose::StartFault;
 use disk::Medium;
-use mbr::MbrFault;
 use ntstatus::NtStatus;
 use settings::ConfigFault;
 use startup::{
@@ -11,10 +11,9 @@ use startup::{
     start_apart,
 };
 use std::alloc::Global;
-use std::io::{ErrorKind, Read, Write};
+use std::fmt;
+use std::io::ErrorKind;
 use std::test::Fail;
-use std::{fmt, io};
-use volume::OpenFault;
 
 /// A disk of four sectors, of which the last two are the partition.
 const SETTINGS: &str =
@@ -36,13 +35,6 @@ fn sizes_of(alloc: Global, text: &str) -> Option<(u64, u64)> {
     Some((sizes.sectors, sizes.sector_size))
 }
 
-#[test]
-fn opens_a_stack_and_a_volume(rt: HostRuntime) -> Result<(), Fail> {
-    assert!(rt; starts(rt.alloc(), SETTINGS));
-    assert!(rt; sizes_of(rt.alloc(), SETTINGS) == Some((2, 512)));
-    Ok(())
-}
-
 /// The sectors of the disk beside a stack of a text's settings, or why there is none.
 fn sectors_beside(alloc: Global, text: &str) -> Result<u64, StartFault> {
     match settings_of(alloc, text.as_bytes()) {
@@ -55,8 +47,10 @@ fn sectors_beside(alloc: Global, text: &str) -> Result<u64, StartFault> {
 }
 
 #[test]
-fn starts_beside_a_disk(rt: HostRuntime) -> Result<(), Fail> {
+fn starts_and_opens(rt: HostRuntime) -> Result<(), Fail> {
     let alloc = rt.alloc();
+    assert!(rt; starts(alloc, SETTINGS));
+    assert!(rt; sizes_of(alloc, SETTINGS) == Some((2, 512)));
     same(&rt, &sectors_beside(alloc, SETTINGS), &Ok(4));
     let bad = format!(in alloc; "bad_sectors = [0]\n{SETTINGS}")?;
     let status = NtStatus::DeviceDataError;
@@ -66,51 +60,6 @@ fn starts_beside_a_disk(rt: HostRuntime) -> Result<(), Fail> {
         &Err(StartFault::Device(status)),
     );
     Ok(())
-}
-
-/// Why no volume of partition 1 is opened, of the disk of a text's settings.
-fn refusal(alloc: Global, text: &str) -> Option<OpenFault> {
-    match settings_of(alloc, text.as_bytes()) {
-        Ok(config) => open(alloc, config, 1).err(),
-        Err(_) => None,
-    }
-}
-
-#[test]
-fn says_why_there_is_no_volume(rt: HostRuntime) -> Result<(), Fail> {
-    let alloc = rt.alloc();
-    let none = refusal(alloc, SETTINGS);
-    assert!(rt; none == Some(OpenFault::Refused(Refusal::InvalidParameter)));
-    let twice = format!(in alloc; "{SETTINGS}[[partition]]\nfirst = 3\ncount = 1\n")?;
-    let overlap = refusal(alloc, twice.as_str());
-    assert!(rt; overlap == Some(OpenFault::Start(StartFault::Mbr(MbrFault::Overlap))));
-    Ok(())
-}
-
-/// A reader that gives some bytes, and then fails; and a writer that fails.
-#[derive(Drop)]
-struct Torn<'a> {
-    bytes: &'a [u8],
-    kind: ErrorKind,
-}
-
-impl Read for Torn<'_> {
-    fn read(&mut self, buf: &mut [u8]) -> io::Result<usize> {
-        match self.bytes.read(buf)? {
-            0 => Err(io::Error::from(self.kind)),
-            count => Ok(count),
-        }
-    }
-}
-
-impl Write for Torn<'_> {
-    fn write(&mut self, _buf: &[u8]) -> io::Result<usize> {
-        Err(io::Error::from(self.kind))
-    }
-
-    fn flush(&mut self) -> io::Result<()> {
-        Err(io::Error::from(self.kind))
-    }
 }
 
 /// Why settings that are cut off by this failure can't be read.

@@ -187,7 +187,10 @@ fn run<A: Adapter>(
 
 const OUT_OF_BOUNDS: Given = Given::Fault(Error::Refused(Refusal::InvalidParameter));
 
-const ROWS: [(Call, Given); 17] = [
+const UNREAD: Given = Given::Fault(Error::Failed(NtStatus::DeviceDataError));
+
+/// Sector 4 of the partition is bad.
+const ROWS: [(Call, Given); 23] = [
     (Call::Read(0, 512), Given::Bytes(0, 512)),
     (Call::Write(512, 512, 0xA5, false), Given::Done),
     (Call::Read(0, 1024), Given::Two(0, 512, 0xA5, 512)),
@@ -209,33 +212,19 @@ const ROWS: [(Call, Given); 17] = [
     // No bytes.
     (Call::Read(524_288, 0), Given::Bytes(0, 0)),
     (Call::Read(523_776, 512), Given::Bytes(0x33, 512)),
+    // The piece with the bad sector wrote nothing, the other did.
+    (Call::Write(1024, 2048, 0x55, false), UNREAD),
+    (Call::Read(2048, 512), UNREAD),
+    (Call::Read(1024, 1024), Given::Bytes(0x55, 1024)),
+    (Call::Read(2560, 512), Given::Bytes(0, 512)),
+    (Call::Flush, Given::Done),
+    (Call::Read(0, 512), Given::Bytes(0x11, 512)),
 ];
 
 #[test]
 fn reads_writes_and_flushes(rt: HostRuntime) -> Result<(), Fail> {
     let alloc = rt.alloc();
-    let adapter = disk_adapter(&rt, alloc, &[])?;
-    run(&rt, alloc, adapter, &ROWS)?;
-    Ok(())
-}
-
-const UNREAD: Given = Given::Fault(Error::Failed(NtStatus::DeviceDataError));
-
-/// Sector 4 of the partition is bad.
-const BAD: [(Call, Given); 6] = [
-    (Call::Write(1024, 2048, 0x55, false), UNREAD),
-    (Call::Read(2048, 512), UNREAD),
-    // The piece with the bad sector wrote nothing, the other did.
-    (Call::Read(1024, 1024), Given::Bytes(0x55, 1024)),
-    (Call::Read(2560, 512), Given::Bytes(0, 512)),
-    (Call::Flush, Given::Done),
-    (Call::Read(0, 512), Given::Bytes(0, 512)),
-];
-
-#[test]
-fn tells_a_bad_sector(rt: HostRuntime) -> Result<(), Fail> {
-    let alloc = rt.alloc();
     let adapter = disk_adapter(&rt, alloc, &[2052])?;
-    run(&rt, alloc, adapter, &BAD)?;
+    run(&rt, alloc, adapter, &ROWS)?;
     Ok(())
 }

@@ -3,7 +3,7 @@
 ghost use Rattle.std.specs.Prelude.{◌≡◌};
 
 use crate::expect::same;
-use crate::parts::Part::{Fill, Long, Short, Word};
+use crate::parts::Part::{Fill, Long, Request, Short, Word};
 use crate::parts::{Part, add};
 use nbd::{Ahead, take_in_two};
 use read_ahead::{Naming, ReadAhead};
@@ -17,23 +17,14 @@ use std::test::Fail;
 use std::thread::Threads;
 
 /// The header of a write of 36,864 bytes, and that of one of 40,000 behind it.
-const HEADERS: [[Part; 6]; 2] = [
-    [
-        Word(0x2560_9513),
-        Short(0),
-        Short(1),
-        Long(1),
-        Long(0),
-        Word(36_864),
-    ],
-    [
-        Word(0x2560_9513),
-        Short(0),
-        Short(1),
-        Long(2),
-        Long(36_864),
-        Word(40_000),
-    ],
+const FIRST: [Part; 1] = [Request(0, 1, 1, 0, 36_864)];
+
+const SECOND: [Part; 1] = [Request(0, 1, 2, 36_864, 40_000)];
+
+/// The second header in two pieces.
+const SECOND_CUT: [[Part; 3]; 2] = [
+    [Word(0x2560_9513), Short(0), Short(1)],
+    [Long(2), Long(36_864), Word(40_000)],
 ];
 
 /// The bytes of the second write, and three behind them.
@@ -69,9 +60,9 @@ fn bytes_of(alloc: Global, parts: &[Part]) -> Result<Vec<u8>, AllocError> {
 /// Both writes, the first with its bytes, and what comes behind the second's header.
 fn both_writes(alloc: Global, behind: &[Part]) -> Result<Sent, AllocError> {
     let mut bytes = Vec::new(alloc);
-    add(&mut bytes, &HEADERS[0])?;
+    add(&mut bytes, &FIRST)?;
     add(&mut bytes, &[Fill(0xA1, 36_864)])?;
-    add(&mut bytes, &HEADERS[1])?;
+    add(&mut bytes, &SECOND)?;
     add(&mut bytes, behind)?;
     Ok(Sent { bytes, given: 0 })
 }
@@ -92,7 +83,7 @@ fn take_same<R: Read>(
 
 /// Takes the first write, whose bytes nobody has fetched, and has the second thread fetch those of the second.
 fn take_first<I: Ahead>(rt: &impl Abort, alloc: Global, input: &mut I) -> Result<(), Fail> {
-    take_same(rt, alloc, input, &HEADERS[0])?;
+    take_same(rt, alloc, input, &FIRST)?;
     let Err(mut room) = input.take_whole(vec![in alloc; 0; 36_864]?, 36_864) else {
         return Err(Fail::from("the bytes were not fetched before"));
     };
@@ -100,7 +91,7 @@ fn take_first<I: Ahead>(rt: &impl Abort, alloc: Global, input: &mut I) -> Result
         return Err(Fail::from("the input ended"));
     }
     same(rt, &room, &bytes_of(alloc, &[Fill(0xA1, 36_864)])?);
-    let header = bytes_of(alloc, &HEADERS[1])?;
+    let header = bytes_of(alloc, &SECOND)?;
     same(rt, &input.ahead().get(..28), &Some(header.as_slice()));
     input.read_on();
     same(rt, &input.ahead(), &&b""[..]);
@@ -117,7 +108,7 @@ fn take_at_once<
 {
     let mut input: ReadAhead<J, H, I> = ReadAhead::new(alloc, rt, input);
     take_first(&rt, alloc, &mut input)?;
-    take_same(&rt, alloc, &mut input, &HEADERS[1])?;
+    take_same(&rt, alloc, &mut input, &SECOND)?;
     let Ok(bytes) = input.take_whole(Vec::new(alloc), 40_000) else {
         return Err(Fail::from("the bytes were fetched"));
     };
@@ -137,8 +128,8 @@ fn take_in_pieces<
 {
     let mut input: ReadAhead<J, H, I> = ReadAhead::new(alloc, rt, input);
     take_first(&rt, alloc, &mut input)?;
-    take_same(&rt, alloc, &mut input, &HEADERS[1][..3])?;
-    take_same(&rt, alloc, &mut input, &HEADERS[1][3..])?;
+    take_same(&rt, alloc, &mut input, &SECOND_CUT[0])?;
+    take_same(&rt, alloc, &mut input, &SECOND_CUT[1])?;
     let Err(_) = input.take_whole(Vec::new(alloc), 39_999) else {
         return Err(Fail::from("other bytes were fetched"));
     };
@@ -160,7 +151,7 @@ fn take_none<
 {
     let mut input: ReadAhead<J, H, I> = ReadAhead::new(alloc, rt, input);
     take_first(&rt, alloc, &mut input)?;
-    take_same(&rt, alloc, &mut input, &HEADERS[1])?;
+    take_same(&rt, alloc, &mut input, &SECOND)?;
     let Err(_) = input.take_whole(Vec::new(alloc), 40_000) else {
         return Err(Fail::from("the bytes didn't come"));
     };

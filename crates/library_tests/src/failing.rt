@@ -1,12 +1,9 @@
-//! Readers and writers that fail, and runs of a trace over readers and writers.
+//! Readers and writers that fail.
 
-use commands::trace::trace;
-use startup::{Verdict, ended};
-use std::alloc::Global;
 use std::io;
 use std::io::{ErrorKind, Read, Write};
 
-/// A reader that gives some bytes, and then fails.
+/// A reader that gives some bytes, and then fails; and a writer that fails.
 #[derive(Drop)]
 pub(crate) struct Torn<'a> {
     pub bytes: &'a [u8],
@@ -19,6 +16,16 @@ impl Read for Torn<'_> {
             0 => Err(io::Error::from(self.kind)),
             count => Ok(count),
         }
+    }
+}
+
+impl Write for Torn<'_> {
+    fn write(&mut self, _buf: &[u8]) -> io::Result<usize> {
+        Err(io::Error::from(self.kind))
+    }
+
+    fn flush(&mut self) -> io::Result<()> {
+        Err(io::Error::from(self.kind))
     }
 }
 
@@ -62,23 +69,4 @@ impl Write for Stuck<'_> {
     fn flush(&mut self) -> io::Result<()> {
         Err(io::Error::from(self.kind))
     }
-}
-
-/// What was said of a run, and its exit status.
-#[derive(Debug, Drop)]
-pub(crate) struct Outcome {
-    pub faults: Vec<u8>,
-    pub status: u8,
-}
-
-pub(crate) fn run<C: Read + Drop, S: Read + Drop, O: Write>(
-    alloc: Global,
-    config: C,
-    script: S,
-    out: &mut O,
-) -> Outcome {
-    let mut faults = Vec::new(alloc);
-    let outcome = trace(alloc, config, script, out).map(|()| Verdict::Passed);
-    let status = ended(outcome, &mut faults);
-    Outcome { faults, status }
 }
