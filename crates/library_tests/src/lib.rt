@@ -4,6 +4,8 @@
 #![tactic(auto)]
 
 #[cfg(test)]
+mod documents;
+#[cfg(test)]
 mod expect;
 #[cfg(test)]
 mod failing;
@@ -23,8 +25,6 @@ mod runs;
 mod served;
 #[cfg(test)]
 mod sessions;
-#[cfg(test)]
-mod settings;
 #[cfg(test)]
 mod starts;
 #[cfg(test)]
