@@ -7,10 +7,10 @@ use Rattle.std.specs.Str.Lines.{lines, strip_carriage_return}
 use Rattle.std.proofs.lemmas.List.Elements.{All-nil, All-cons, filter-append}
 use Rattle.std.proofs.lemmas.List.Sums.{count_by-le-length, sum_by-append, sum_by-cons}
 use Rattle.machine.specs.declared.Label.{Label}
-use Rattle.label_text.specs.Lines.{Spells, is_told}
+use Rattle.label_text.specs.Lines.{is_told}
 use Rattle.startup.specs.Reading.{IsAllOf}
 use Rattle.judging.specs.Checked.{arrays_of, is_call, is_start}
-use Rattle.judging.specs.Told.{AreTold, IsBad, IsFirstBad, numbers_from}
+use Rattle.judging.specs.Told.{AreTold, IsBad, IsFirstBad, numbers_from, SpellsLabel}
 use Rattle.judging.specs.declared.course.Course.{Course}
 use Rattle.judging.specs.declared.course.Course.TheVariants.{Legal, Broken, Bad, NotText}
 use Rattle.judging.specs.declared.course.Stop.{Stop}
@@ -45,48 +45,48 @@ numbers_more n (x ∷ texts) text t e =
 none_told : (texts : List (List ℕ)) (text : List ℕ) (labels : List Label) (numbers : List ℕ) → AreTold texts labels numbers → is_told text ≡ false
     → AreTold (texts ++ text ∷ []) labels numbers
 none_told texts text labels numbers h none = record {
-  spelled = subst (λ xs. AllZip Spells xs labels) (sym (kept_more texts text false none ∙ append-nil (filter is_told texts))) h.spelled;
+  spelled = subst (λ xs. AllZip SpellsLabel xs labels) (sym (kept_more texts text false none ∙ append-nil (filter is_told texts))) h.spelled;
   counted = h.counted ∙ sym (numbers_more 1 texts text false none ∙ append-nil (numbers_from 1 texts));
   as_many = h.as_many;
 }
 
-all_zip_append : (xs : List (List ℕ)) (ys : List Label) (x : List ℕ) (y : Label) → AllZip Spells xs ys → Spells x y → AllZip Spells (xs ++ x ∷ []) (ys ++ y ∷ [])
+all_zip_append : (xs : List (List ℕ)) (ys : List Label) (x : List ℕ) (y : Label) → AllZip SpellsLabel xs ys → SpellsLabel x y → AllZip SpellsLabel (xs ++ x ∷ []) (ys ++ y ∷ [])
 all_zip_append [] [] x y h is = (is, tt)
 all_zip_append [] (w ∷ ys) x y h is = absurd h
 all_zip_append (v ∷ xs) [] x y h is = absurd h
 all_zip_append (v ∷ xs) (w ∷ ys) x y h is = (h.0, all_zip_append xs ys x y h.1 is)
 
 one_told : (texts : List (List ℕ)) (text : List ℕ) (labels : List Label) (numbers : List ℕ) (label : Label) (n : ℕ) → AreTold texts labels numbers
-    → is_told text ≡ true → Spells text label → n ≡ length texts + 1 → AreTold (texts ++ text ∷ []) (labels ++ label ∷ []) (numbers ++ n ∷ [])
+    → is_told text ≡ true → SpellsLabel text label → n ≡ length texts + 1 → AreTold (texts ++ text ∷ []) (labels ++ label ∷ []) (numbers ++ n ∷ [])
 one_told texts text labels numbers label n h some is e =
     let here : n ≡ 1 + length texts = omega (arith, e) in
     record {
       spelled =
-          subst (λ xs. AllZip Spells xs (labels ++ label ∷ [])) (sym (kept_more texts text true some)) (all_zip_append (filter is_told texts) labels text label h.spelled is);
+          subst (λ xs. AllZip SpellsLabel xs (labels ++ label ∷ [])) (sym (kept_more texts text true some)) (all_zip_append (filter is_told texts) labels text label h.spelled is);
       counted = (λ i. h.counted i ++ here i ∷ []) ∙ sym (numbers_more 1 texts text true some);
       as_many = omega (arith, h.as_many, length-append labels (label ∷ []), length-append numbers (n ∷ []));
     }
 
 -- there are no more labels than lines
-few_by : (text : List ℕ) (texts : List (List ℕ)) (labels : List Label) (t : Bool) → AllZip Spells (cond t (text ∷ filter is_told texts) (filter is_told texts)) labels
-    → ((ls : List Label) → AllZip Spells (filter is_told texts) ls → length ls ≤ length texts) → length labels ≤ length (text ∷ texts)
+few_by : (text : List ℕ) (texts : List (List ℕ)) (labels : List Label) (t : Bool) → AllZip SpellsLabel (cond t (text ∷ filter is_told texts) (filter is_told texts)) labels
+    → ((ls : List Label) → AllZip SpellsLabel (filter is_told texts) ls → length ls ≤ length texts) → length labels ≤ length (text ∷ texts)
 few_by text texts labels false h rest = omega (arith, rest labels h)
 few_by text texts [] true h rest = omega arith
 few_by text texts (label ∷ labels) true h rest = omega (arith, rest labels h.1)
 
-few : (texts : List (List ℕ)) (labels : List Label) → AllZip Spells (filter is_told texts) labels → length labels ≤ length texts
+few : (texts : List (List ℕ)) (labels : List Label) → AllZip SpellsLabel (filter is_told texts) labels → length labels ≤ length texts
 few [] [] h = omega arith
 few [] (label ∷ labels) h = absurd h
 few (text ∷ texts) labels h = few_by text texts labels (is_told text) h (few texts)
 
 -- what was read so far has no bad line
-good_at : (text : List ℕ) (texts : List (List ℕ)) (labels : List Label) (t : Bool) → is_told text ≡ t → AllZip Spells (cond t (text ∷ filter is_told texts) (filter is_told texts)) labels
-    → ((ls : List Label) → AllZip Spells (filter is_told texts) ls → All (λ x. ¬ (IsBad x)) texts) → All (λ x. ¬ (IsBad x)) (text ∷ texts)
+good_at : (text : List ℕ) (texts : List (List ℕ)) (labels : List Label) (t : Bool) → is_told text ≡ t → AllZip SpellsLabel (cond t (text ∷ filter is_told texts) (filter is_told texts)) labels
+    → ((ls : List Label) → AllZip SpellsLabel (filter is_told texts) ls → All (λ x. ¬ (IsBad x)) texts) → All (λ x. ¬ (IsBad x)) (text ∷ texts)
 good_at text texts labels false e h rest = All-cons (λ x. ¬ (IsBad x)) text texts (λ bad. absurd (cc (bad.0, e))) (rest labels h)
 good_at text texts [] true e h rest = absurd h
 good_at text texts (label ∷ labels) true e h rest = All-cons (λ x. ¬ (IsBad x)) text texts (λ bad. bad.1 label h.0) (rest labels h.1)
 
-all_good : (texts : List (List ℕ)) (labels : List Label) → AllZip Spells (filter is_told texts) labels → All (λ text. ¬ (IsBad text)) texts
+all_good : (texts : List (List ℕ)) (labels : List Label) → AllZip SpellsLabel (filter is_told texts) labels → All (λ text. ¬ (IsBad text)) texts
 all_good [] labels h = All-nil (λ x. ¬ (IsBad x))
 all_good (text ∷ texts) labels h = good_at text texts labels (is_told text) refl h (λ ls. all_good texts ls)
 
@@ -155,7 +155,7 @@ module _ (c : Standard) (Never Then : Type 0) (texts : List (List ℕ)) (text : 
     bad_more (Bad line first) new column h bad e = subst (IsCourse c Then (texts ++ text ∷ [])) (sym e) (bad_still texts text line h)
     bad_more NotText new column h bad e = subst (IsCourse c Then (texts ++ text ∷ [])) (sym e) (still h)
 
-    module _ (short : n < 2 ^ 64) (label : Label) (some : is_told text ≡ true) (spells : Spells text label) where
+    module _ (short : n < 2 ^ 64) (label : Label) (some : is_told text ≡ true) (spells : SpellsLabel text label) where
       tried : (trial : Trial) (new : Course) → IsCourse c Never texts (Legal trial) → Tries trial label n new → IsCourse c Then (texts ++ text ∷ []) new
       tried trial (Legal next) h tries = record {
         labels = h.labels ++ label ∷ [];

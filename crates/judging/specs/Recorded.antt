@@ -1,5 +1,5 @@
 -- A script run through a stack, and the trace that is written of it.
-use Rattle.std.specs.Prelude.{ℕ, List, ◌++◌, Option, map}
+use Rattle.std.specs.Prelude.{ℕ, List, ◌++◌, Option, None, map}
 use Rattle.std.specs.List.{concat}
 use Rattle.machine.specs.declared.Label.{Label}
 use Rattle.script.specs.Trace.{LineText}
@@ -12,7 +12,7 @@ use Rattle.judging.specs.declared.faults.Error.TheVariants.{Usage, Startup, Trac
 
 -- a label as a line, with its end
 abbrev pub whole_line : Label → List ℕ
-whole_line label = line_of label ++ line_end
+whole_line label = line_of (record { label = label; owner = None }) ++ line_end
 
 -- the lines of labels, one after the other
 abbrev pub lines_text : List Label → List ℕ

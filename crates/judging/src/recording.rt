@@ -97,8 +97,9 @@ fn write_labels<A: Adapter, W: Write>(stack: &mut Stack<A>, out: &mut W) -> io::
     ensures text { OnOk result (Appends (W.contents out.old) (W.contents out.new) (lines_text stack.old.labels)) }
 {
     while let Some(label) = stack.take_label() {
-        write_line(out, &label)?;
-        take_answer_of(stack, label);
+        let line = trace_line::Line { label, owner: None };
+        write_line(out, &line)?;
+        take_answer_of(stack, line.label);
     }
     Ok(())
 }

@@ -46,7 +46,7 @@ fn told_by_text(alloc: Global, line: &str) -> Result<Told, Error>
         return Ok(Told::Nothing);
     }
     match read_line(alloc, line) {
-        Ok(label) => Ok(Told::Label(label)),
+        Ok(line) => Ok(Told::Label(line.label)),
         Err(LineFault::BadWord { column }) => Ok(Told::BadWord { column }),
         Err(LineFault::NoMemory) => Err(Error::NoMemory),
     }

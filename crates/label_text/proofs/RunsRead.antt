@@ -1,13 +1,13 @@
 -- Runs, as they are written and read.
-use Rattle.std.proofs.Common.{◌≡◌, ◌≤◌, ◌<◌, ◌^◌, ◌==◌, ◌+◌, ◌++◌, ◌∙◌, ℕ, Bool, true, false, List, [], ◌∷◌, Option, None, Some, All, ap, arith, cond, drop, length, map, refl, replicate, slice_get, subst, sym}
+use Rattle.std.proofs.Common.{◌≡◌, ◌≤◌, ◌<◌, ◌^◌, ◌==◌, ◌+◌, ◌++◌, ◌∙◌, ℕ, Bool, true, false, List, [], ◌∷◌, Option, None, Some, All, ap, arith, cond, drop, length, map, nat_le, refl, replicate, slice_get, subst, sym}
 use Rattle.std.specs.Fmt.{decimal}
 use Rattle.std.specs.List.{join_with_byte}
 use Rattle.std.specs.Option.{option_and_then, option_map}
 use Rattle.std.proofs.lemmas.Bool.Decides.{nat_tests}
 use Rattle.std.proofs.lemmas.List.Elements.{All-append, All-cons, All-nil, All-head, All-tail, All-weaker}
 use Rattle.std.proofs.lemmas.List.Splits.{join_with_byte-slice_split}
-use Rattle.label_text.specs.Runs.{AreBytes, IsShort, Run, expanded, hex_of, run_text, runs_of, runs_text}
-use Rattle.label_text.specs.inside.Reading.{at_end, byte_at, byte_in, bytes_after, may_follow, number_at, number_in, parted, run_at, run_in, runs_in}
+use Rattle.label_text.specs.Runs.{AreBytes, IsShort, Run, expanded, hex_of, most_bytes, run_text, runs_of, runs_text}
+use Rattle.label_text.specs.inside.Reading.{at_end, byte_at, byte_in, bytes_after, few_bytes, may_follow, number_at, number_in, parted, run_at, run_in, runs_in}
 use Rattle.label_text.proofs.Digits.{hex_above, hex_is, hex_some}
 use Rattle.label_text.proofs.Found.{end_some, first_is, if_some, map_some, then_some_of}
 use Rattle.label_text.proofs.Numbers.{IsAbove, decimal_above, number_is, number_some}
@@ -78,10 +78,21 @@ some_runs : (bytes : List ℕ) → 0 < length bytes → 0 < length (runs_of byte
 some_runs [] some = absurd (omega arith)
 some_runs (byte ∷ bytes) some = some_joined byte (runs_of bytes)
 
+few_is : (bytes : List ℕ) → length bytes ≤ most_bytes → few_bytes bytes ≡ Some bytes
+few_is bytes few = let fits : nat_le (length bytes) most_bytes ≡ true = grind (arith, nat_tests) in ap (λ b. cond b (Some bytes) None) fits
+
+few_some : (found bytes : List ℕ) → few_bytes found ≡ Some bytes → (found ≡ bytes) × (length bytes ≤ most_bytes)
+few_some found bytes h =
+    let is = if_some (nat_le (length found) most_bytes) (Some found) bytes h in
+    let same : found ≡ bytes = cc (is.1) in
+    let few : length found ≤ most_bytes = grind (arith, nat_tests, is.0) in
+    (same, subst (λ b. length b ≤ most_bytes) same few)
+
 pub runs_is : (bytes : List ℕ) → 0 < length bytes → AreBytes bytes → runs_in (runs_text (runs_of bytes)) ≡ Some bytes
 runs_is bytes some short =
-    ap (bytes_after None) (all_parts (runs_of bytes) (some_runs bytes some) short) ∙ bytes_is None (runs_of bytes) (runs_longest bytes) short
-    ∙ ap (λ l. Some l) (expanded_again bytes)
+    ap (λ parts. option_and_then few_bytes (bytes_after None parts)) (all_parts (runs_of bytes) (some_runs bytes some) short.each)
+    ∙ ap (option_and_then few_bytes) (bytes_is None (runs_of bytes) (runs_longest bytes) short.each)
+    ∙ ap few_bytes (expanded_again bytes) ∙ few_is bytes short.most
 
 -- WHAT IS READ IS WRITTEN SO
 
@@ -144,10 +155,12 @@ some_bytes (r ∷ runs) some h = some_expanded None r runs h
 
 pub runs_some : (word bytes : List ℕ) → runs_in word ≡ Some bytes → (word ≡ runs_text (runs_of bytes)) × AreBytes bytes × (0 < length bytes)
 runs_some word bytes h =
-    let all = bytes_some None (parted 44 word) bytes h in
+    let found = then_some_of few_bytes (bytes_after None (parted 44 word)) bytes h in
+    let few = few_some found.0 bytes found.2 in
+    let all = bytes_some None (parted 44 word) bytes (found.1 ∙ ap (λ l. Some l) few.0) in
     let same : runs_of bytes ≡ all.runs = ap runs_of all.expand ∙ runs_again None all.runs all.longest in
     let some : 0 < length (expanded all.runs) = some_bytes all.runs (subst (λ ps. 0 < length ps) all.texts (some_part 44 word)) all.longest in (
       sym (join_with_byte-slice_split 44 word) ∙ ap (join_with_byte 44) all.texts ∙ ap runs_text (sym same),
-      subst (All IsShort) (sym same) all.short,
+      record { most = few.1; each = subst (All IsShort) (sym same) all.short },
       subst (λ l. 0 < length l) (sym all.expand) some,
     )

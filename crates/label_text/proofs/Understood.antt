@@ -19,9 +19,10 @@ use Rattle.srb.specs.declared.Kind.{Kind}
 use Rattle.srb.specs.declared.Kind.TheVariants.{Read, Write, Flush}
 use Rattle.machine.specs.declared.Label.{Label}
 use Rattle.machine.specs.declared.Label.TheVariants.{Call, Device, Answer, Cancel, Pause, Resume, Remove, Surprise, Removed}
+use Rattle.trace_line.specs.declared.Line.{Line}
 use Rattle.label_text.specs.Runs.{AreBytes, hex_bytes, hex_of}
-use Rattle.label_text.specs.Lines.{BlockFits, ClassFits, Fits, PartitionFits, SenseFits, Spells, Words, block_words, class_words, extent_words, kind_word, partition_word, runs_words, sense_words, through_words, words_of}
-use Rattle.label_text.specs.inside.Reading.{act_at, answer_at, at_end, behind, behind_extent, behind_head, behind_placed, block_at, block_in, byte_at, byte_in, bytes_at, bytes_in, call_at, cancel_at, class_at, class_by, completion_at, extent_at, fault_at, flushed_at, head_at, in_partition_at, is_next, is_some_extent, kind_in, label_at, label_by, label_in, number_at, number_in, outcome_at, parted, partition_in, placed_at, return_at, runs_in, sense_at, sense_behind, sense_from, short_block, short_by, start_at, status_in, tag_at, two_at, with_bytes}
+use Rattle.label_text.specs.Lines.{BlockFits, ClassFits, Fits, OwnerFits, OwnerIsSmall, PartitionFits, SenseFits, Spells, Words, block_words, class_words, extent_words, kind_word, owner_words, partition_word, runs_words, sense_words, through_words, words_of}
+use Rattle.label_text.specs.inside.Reading.{act_at, answer_at, at_end, bare, behind, behind_block, behind_extent, behind_head, behind_placed, behind_start, block_at, block_in, byte_at, byte_in, bytes_at, bytes_in, call_at, cancel_at, class_at, class_by, completion_at, extent_at, fault_at, flushed_at, head_at, in_partition_at, is_next, is_no_block, is_some_extent, kind_in, label_by, line_at, line_by, line_in, number_at, number_in, outcome_at, owned_start_at, owner_at, parted, partition_in, placed_at, return_at, runs_in, sense_at, sense_behind, sense_from, short_block, short_by, start_at, status_in, tag_at, two_at, with_bytes}
 use Rattle.label_text.specs.declared.reading.Head.{Head}
 use Rattle.label_text.proofs.Digits.{hex_bytes_some, hex_some}
 use Rattle.label_text.proofs.Found.{end_some, first_is, if_none, if_some, map_some, then_some_of}
@@ -29,7 +30,7 @@ use Rattle.label_text.proofs.Names.{status_some}
 use Rattle.label_text.proofs.Numbers.{number_some}
 use Rattle.label_text.proofs.Parting.{parts_again}
 use Rattle.label_text.proofs.RunsRead.{byte_at_some, number_at_some, runs_some}
-use Rattle.label_text.proofs.Written.{all_free, label_is}
+use Rattle.label_text.proofs.Written.{all_free, line_is}
 
 -- two words are one
 same_words : (v w : List ℕ) → bytes_eq v w ≡ true → v ≡ w
@@ -55,7 +56,7 @@ next_is word words h = next_by word words (slice_get words 0) refl h
 
 bytes_by : (words : Words) (o : Option (List ℕ)) (bytes : List ℕ) → slice_get words 0 ≡ o
     → elim o [ Some word ↦ at_end (drop 1 words) (runs_in word) | None ↦ Some [] ] ≡ Some bytes → (words ≡ runs_words bytes) × AreBytes bytes
-bytes_by [] None bytes e h = let none : [] ≡ bytes = cc (h) in subst (λ bs. ([] ≡ runs_words bs) × AreBytes bs) none (refl, All-nil _)
+bytes_by [] None bytes e h = let none : [] ≡ bytes = cc (h) in subst (λ bs. ([] ≡ runs_words bs) × AreBytes bs) none (refl, record { most = omega arith; each = All-nil _ })
 bytes_by (w ∷ ws) None bytes e h = absurd (cc (e))
 bytes_by words (Some word) [] e h =
     let last = end_some (drop 1 words) (runs_in word) [] h in
@@ -86,22 +87,43 @@ block_some word block h =
     let is = hex_bytes_some word bytes.0 bytes.1 in
     (is.0 ∙ ap hex_bytes short.0, (short.1, subst (All (λ b. b < 2 ^ 8)) short.0 is.1), grind (arith, nat_tests, some.0))
 
-block_by : (words : Words) (o : Option (List ℕ)) (block : List ℕ) → slice_get words 0 ≡ o
-    → elim o [ Some word ↦ at_end (drop 1 words) (block_in word) | None ↦ Some [] ] ≡ Some block → (words ≡ block_words block) × BlockFits block
-block_by [] None block e h = let none : [] ≡ block = cc (h) in subst (λ bs. ([] ≡ block_words bs) × BlockFits bs) none (refl, (omega arith, All-nil _))
-block_by (w ∷ ws) None block e h = absurd (cc (e))
-block_by words (Some word) [] e h =
-    let last = end_some (drop 1 words) (block_in word) [] h in
-    let is = block_some word [] last.1 in
+block_word_some : (words : Words) (block : List ℕ) → option_and_then block_in (slice_get words 0) ≡ Some block → (words ≡ block_words block ++ drop 1 words) × BlockFits block
+block_word_some words [] h =
+    let w = then_some_of block_in (slice_get words 0) [] h in
+    let is = block_some w.0 [] w.2 in
     let none : 0 < length (hex_bytes []) = subst (λ w. 0 < length w) is.0 is.2 in
     absurd (omega arith)
-block_by words (Some word) (b ∷ bs) e h =
-    let last = end_some (drop 1 words) (block_in word) (b ∷ bs) h in
-    let is = block_some word (b ∷ bs) last.1 in
-    (first_is words word e ∙ (λ i. is.0 i ∷ last.0 i), is.1)
+block_word_some words (b ∷ bs) h =
+    let w = then_some_of block_in (slice_get words 0) (b ∷ bs) h in
+    let is = block_some w.0 (b ∷ bs) w.2 in
+    (first_is words w.0 w.1 ∙ ap (λ word. word ∷ drop 1 words) is.0, is.1)
 
-block_at_some : (words : Words) (block : List ℕ) → block_at words ≡ Some block → (words ≡ block_words block) × BlockFits block
-block_at_some words block h = block_by words (slice_get words 0) block refl h
+block_by : (words : Words) (t : Bool) (block : List ℕ) → cond t (Some []) (option_and_then block_in (slice_get words 0)) ≡ Some block
+    → (words ≡ block_words block ++ cond t words (drop 1 words)) × BlockFits block
+block_by words true block h =
+    let none : [] ≡ block = cc (h) in subst (λ bs. (words ≡ block_words bs ++ words) × BlockFits bs) none (refl, (omega arith, All-nil _))
+block_by words false block h = block_word_some words block h
+
+block_at_some : (words : Words) (block : List ℕ) → block_at words ≡ Some block → (words ≡ block_words block ++ behind_block words) × BlockFits block
+block_at_some words block h = block_by words (is_no_block words) block h
+
+owner_by : (words : Words) (t : Bool) (owner : Option ℕ) → is_next (codes "of") words ≡ t
+    → cond t (option_and_then (λ n. at_end (drop 1 (drop 1 words)) (Some (Some n))) (number_at 64 (drop 1 words))) (at_end words (Some None)) ≡ Some owner
+    → (words ≡ owner_words owner) × OwnerIsSmall owner
+owner_by words true owner e h =
+    let n = then_some_of (λ n. at_end (drop 1 (drop 1 words)) (Some (Some n))) (number_at 64 (drop 1 words)) owner h in
+    let last = end_some (drop 1 (drop 1 words)) (Some (Some n.0)) owner n.2 in
+    let number = number_at_some 64 (drop 1 words) n.0 n.1 in
+    let same : Some n.0 ≡ owner = cc (last.1) in
+    subst (λ o. (words ≡ owner_words o) × OwnerIsSmall o) same
+    (next_is (codes "of") words e ∙ ap (λ more. codes "of" ∷ more) (number.0 ∙ ap (λ more. decimal n.0 ∷ more) last.0), number.1)
+owner_by words false owner e h =
+    let last = end_some words (Some None) owner h in
+    let same : None ≡ owner = cc (last.1) in
+    subst (λ o. (words ≡ owner_words o) × OwnerIsSmall o) same (last.0, tt)
+
+owner_some : (words : Words) (owner : Option ℕ) → owner_at words ≡ Some owner → (words ≡ owner_words owner) × OwnerIsSmall owner
+owner_some words owner h = owner_by words (is_next (codes "of") words) owner refl h
 
 -- REQUESTS
 
@@ -217,10 +239,11 @@ head_some words h p =
 
 -- LABELS
 
--- words are what is written of a label behind its verb
+-- words are what is written of a label without an owner, behind its verb
 record Tells (verb : List ℕ) (words : Words) (l : Label) : Type 0 where
-  is : verb ∷ words ≡ words_of l
+  is : verb ∷ words ≡ words_of (bare l)
   fits : Fits l
+  has_none : OwnerFits l None
 
 call_some : (words : Words) (l : Label) → call_at words ≡ Some l → Tells (codes "call") words l
 call_some words l p =
@@ -236,6 +259,7 @@ call_some words l p =
           (number.0 ∙ ap (λ more. decimal n.0 ∷ more) (head.is
           ∙ ap (λ rest. kind_word h.0.kind ∷ (extent_words h.0.kind h.0.offset h.0.length ++ (through_words h.0.through ++ (codes "in" ∷ partition_word h.0.partition ∷ rest)))) bytes.0));
       fits = (number.1, record { offset = head.offset; bytes_long = head.bytes_long; partition = head.partition; bytes = bytes.1 });
+      has_none = refl;
     })
 
 act_some : (words : Words) (l : Label) → act_at words ≡ Some l → Tells (codes "act") words l
@@ -247,6 +271,7 @@ act_some words l p =
     subst (Tells (codes "act") words) b.2 (record {
       is = ap (λ more. codes "act" ∷ more) (piece.0 ∙ ap (λ more. decimal n.0 ∷ more) bytes.0);
       fits = (piece.1, bytes.1);
+      has_none = refl;
     })
 
 tag_some : (words : Words) (tag : ℕ) → tag_at words ≡ Some tag → (words ≡ codes "tag" ∷ decimal tag ∷ drop 1 (drop 1 words)) × (tag < 2 ^ 8)
@@ -255,18 +280,35 @@ tag_some words tag h =
     let number = number_at_some 8 (drop 1 words) tag next.1 in
     (next_is (codes "tag") words next.0 ∙ ap (λ more. codes "tag" ∷ more) number.0, number.1)
 
-start_some : (words : Words) (l : Label) → start_at words ≡ Some l → Tells (codes "start") words l
-start_some words l p =
+-- words are what is written of a line behind its verb
+record TellsLine (verb : List ℕ) (words : Words) (line : Line) : Type 0 where
+  is : verb ∷ words ≡ words_of line
+  fits : Fits line.label
+  owner_fits : OwnerFits line.label line.owner
+
+start_some : (words : Words) (l : Label) (owner : Option ℕ) → start_at words ≡ Some l → behind_start words ≡ owner_words owner → OwnerIsSmall owner
+    → TellsLine (codes "start") words (record { label = l; owner = owner })
+start_some words l owner p rest small =
     let n = then_some_of (λ piece. option_and_then (λ tag. option_map (λ block. Device (Start piece tag block)) (block_at (drop 1 (drop 1 (drop 1 words))))) (tag_at (drop 1 words))) (number_at 128 words) l p in
     let t = then_some_of (λ tag. option_map (λ block. Device (Start n.0 tag block)) (block_at (drop 1 (drop 1 (drop 1 words))))) (tag_at (drop 1 words)) l n.2 in
     let b = map_some (λ block. Device (Start n.0 t.0 block)) (block_at (drop 1 (drop 1 (drop 1 words)))) l t.2 in
     let piece = number_at_some 128 words n.0 n.1 in
     let tag = tag_some (drop 1 words) t.0 t.1 in
     let block = block_at_some (drop 1 (drop 1 (drop 1 words))) b.0 b.1 in
-    subst (Tells (codes "start") words) b.2 (record {
-      is = ap (λ more. codes "start" ∷ more) (piece.0 ∙ ap (λ more. decimal n.0 ∷ more) (tag.0 ∙ ap (λ more. codes "tag" ∷ decimal t.0 ∷ more) block.0));
+    subst (λ x. TellsLine (codes "start") words (record { label = x; owner = owner })) b.2 (record {
+      is =
+          ap (λ more. codes "start" ∷ more)
+          (piece.0 ∙ ap (λ more. decimal n.0 ∷ more) (tag.0 ∙ ap (λ more. codes "tag" ∷ decimal t.0 ∷ more) (block.0 ∙ ap (λ more. block_words b.0 ++ more) rest)));
       fits = (piece.1, tag.1, block.1);
+      owner_fits = small;
     })
+
+owned_start_some : (words : Words) (line : Line) → owned_start_at words ≡ Some line → TellsLine (codes "start") words line
+owned_start_some words line h =
+    let l = then_some_of (λ label. option_map (λ owner. record { label = label; owner = owner }) (owner_at (behind_start words))) (start_at words) line h in
+    let o = map_some (λ owner. record { label = l.0; owner = owner }) (owner_at (behind_start words)) line l.2 in
+    let owner = owner_some (behind_start words) o.0 o.1 in
+    subst (TellsLine (codes "start") words) o.2 (start_some words l.0 o.0 l.1 owner.0 owner.1)
 
 fault_some : (words : Words) (l : Label) → fault_at words ≡ Some l → Tells (codes "fault") words l
 fault_some words l p =
@@ -277,6 +319,7 @@ fault_some words l p =
     subst (Tells (codes "fault") words) same (record {
       is = ap (λ more. codes "fault" ∷ more) (piece.0 ∙ ap (λ more. decimal n.0 ∷ more) last.0);
       fits = piece.1;
+      has_none = refl;
     })
 
 cancel_some : (words : Words) (l : Label) → cancel_at words ≡ Some l → Tells (codes "cancel") words l
@@ -288,6 +331,7 @@ cancel_some words l p =
     subst (Tells (codes "cancel") words) same (record {
       is = ap (λ more. codes "cancel" ∷ more) (number.0 ∙ ap (λ more. decimal n.0 ∷ more) last.0);
       fits = number.1;
+      has_none = refl;
     })
 
 sense_behind_some : (key : ℕ) (words : Words) (s : Sense) → sense_behind key words ≡ Some s
@@ -354,6 +398,7 @@ return_some words l p =
     subst (Tells (codes "return") words) c.2 (record {
       is = ap (λ more. codes "return" ∷ more) (piece.0 ∙ ap (λ more. decimal n.0 ∷ more) (first_is (drop 1 words) w.0 w.1 ∙ class.0));
       fits = (piece.1, class.1);
+      has_none = refl;
     })
 
 outcome_some : (words : Words) (o : NtStatus × ℕ) → outcome_at words ≡ Some o → (words ≡ name_of o.0 ∷ decimal o.1 ∷ drop 1 (drop 1 words)) × (o.1 < 2 ^ 64)
@@ -376,13 +421,14 @@ answer_some words l p =
     subst (Tells (codes "answer") words) b.2 (record {
       is = ap (λ more. codes "answer" ∷ more) (number.0 ∙ ap (λ more. decimal n.0 ∷ more) (outcome.0 ∙ ap (λ more. name_of o.0.0 ∷ decimal o.0.1 ∷ more) bytes.0));
       fits = (number.1, outcome.1, bytes.1);
+      has_none = refl;
     })
 
-alone_some : (verb : List ℕ) (words : Words) (one l : Label) → at_end words (Some one) ≡ Some l → verb ∷ [] ≡ words_of one → Fits one → Tells verb words l
-alone_some verb words one l h is fits =
+alone_some : (verb : List ℕ) (words : Words) (one l : Label) → at_end words (Some one) ≡ Some l → verb ∷ [] ≡ words_of (bare one) → Fits one → OwnerFits one None → Tells verb words l
+alone_some verb words one l h is fits has_none =
     let last = end_some words (Some one) l h in
     let same : one ≡ l = cc (last.1) in
-    subst (Tells verb words) same (record { is = ap (λ more. verb ∷ more) last.0 ∙ is; fits = fits })
+    subst (Tells verb words) same (record { is = ap (λ more. verb ∷ more) last.0 ∙ is; fits = fits; has_none = has_none })
 
 named_so : (v w : List ℕ) (words : Words) (l : Label) → v ≡ w → Tells w words l → Tells v words l
 named_so v w words l e h = subst (λ x. Tells x words l) (sym e) h
@@ -390,16 +436,15 @@ named_so v w words l e h = subst (λ x. Tells x words l) (sym e) h
 short_some_label : (verb : List ℕ) (words : Words) (l : Label) → short_by verb words ≡ Some l → Tells verb words l
 short_some_label verb words l h =
     let P : Type 0 = Tells verb words l in
-    pick verb (codes "start") (start_at words) _ l P h (λ e x. named_so verb _ words l e (start_some words l x))
-    (λ h. pick verb (codes "fault") (fault_at words) _ l P h (λ e x. named_so verb _ words l e (fault_some words l x))
+    pick verb (codes "fault") (fault_at words) _ l P h (λ e x. named_so verb _ words l e (fault_some words l x))
     (λ h. pick verb (codes "return") (return_at words) _ l P h (λ e x. named_so verb _ words l e (return_some words l x))
     (λ h. pick verb (codes "cancel") (cancel_at words) _ l P h (λ e x. named_so verb _ words l e (cancel_some words l x))
-    (λ h. pick verb (codes "pause") (at_end words (Some Pause)) _ l P h (λ e x. named_so verb _ words l e (alone_some _ words Pause l x refl tt))
-    (λ h. pick verb (codes "resume") (at_end words (Some Resume)) _ l P h (λ e x. named_so verb _ words l e (alone_some _ words Resume l x refl tt))
-    (λ h. pick verb (codes "remove") (at_end words (Some Remove)) _ l P h (λ e x. named_so verb _ words l e (alone_some _ words Remove l x refl tt))
-    (λ h. pick verb (codes "surprise") (at_end words (Some Surprise)) _ l P h (λ e x. named_so verb _ words l e (alone_some _ words Surprise l x refl tt))
-    (λ h. pick verb (codes "removed") (at_end words (Some Removed)) None l P h (λ e x. named_so verb _ words l e (alone_some _ words Removed l x refl tt))
-    (λ h. absurd (cc (h)))))))))))
+    (λ h. pick verb (codes "pause") (at_end words (Some Pause)) _ l P h (λ e x. named_so verb _ words l e (alone_some _ words Pause l x refl tt refl))
+    (λ h. pick verb (codes "resume") (at_end words (Some Resume)) _ l P h (λ e x. named_so verb _ words l e (alone_some _ words Resume l x refl tt refl))
+    (λ h. pick verb (codes "remove") (at_end words (Some Remove)) _ l P h (λ e x. named_so verb _ words l e (alone_some _ words Remove l x refl tt refl))
+    (λ h. pick verb (codes "surprise") (at_end words (Some Surprise)) _ l P h (λ e x. named_so verb _ words l e (alone_some _ words Surprise l x refl tt refl))
+    (λ h. pick verb (codes "removed") (at_end words (Some Removed)) None l P h (λ e x. named_so verb _ words l e (alone_some _ words Removed l x refl tt refl))
+    (λ h. absurd (cc (h))))))))))
 
 label_some : (verb : List ℕ) (words : Words) (l : Label) → label_by verb words ≡ Some l → Tells verb words l
 label_some verb words l h =
@@ -411,21 +456,32 @@ label_some verb words l h =
 
 -- LINES
 
--- what is read of a line spells it
-pub read_spells : (text : List ℕ) (l : Label) → label_in text ≡ Some l → Spells text l
-read_spells text l h =
+line_some : (verb : List ℕ) (words : Words) (line : Line) → line_by verb words ≡ Some line → TellsLine verb words line
+line_some verb words line h =
+    pick verb (codes "start") (owned_start_at words) (option_map bare (label_by verb words)) line (TellsLine verb words line) h
+    (λ e is. subst (λ v. TellsLine v words line) (sym e) (owned_start_some words line is))
+    (λ is. let l = map_some bare (label_by verb words) line is in
+    let label = label_some verb words l.0 l.1 in
+    subst (TellsLine verb words) l.2 (record { is = label.is; fits = label.fits; owner_fits = label.has_none }))
+
+-- what is read of a text spells it
+pub read_spells : (text : List ℕ) (line : Line) → line_in text ≡ Some line → Spells text line
+read_spells text line h =
     let words = parted 32 text in
-    let v = then_some_of (λ verb. label_by verb (drop 1 words)) (slice_get words 0) l h in
-    let is = label_some v.0 (drop 1 words) l v.2 in
-    record { line = sym (join_with_byte-slice_split 32 text) ∙ ap (join_with_byte 32) (first_is words v.0 v.1 ∙ is.is); fits = is.fits }
+    let v = then_some_of (λ verb. line_by verb (drop 1 words)) (slice_get words 0) line h in
+    let is = line_some v.0 (drop 1 words) line v.2 in record {
+      is = sym (join_with_byte-slice_split 32 text) ∙ ap (join_with_byte 32) (first_is words v.0 v.1 ∙ is.is);
+      fits = is.fits;
+      owner_fits = is.owner_fits;
+    }
 
--- and a line that spells a label is read as it
-pub spelled_is_read : (text : List ℕ) (l : Label) → Spells text l → label_in text ≡ Some l
-spelled_is_read text l h =
-    ap label_in h.line ∙ ap label_at (parts_again 32 (words_of l) (omega arith) (all_free l h.fits)) ∙ label_is l h.fits
+-- and a text that spells a line is read as it
+pub spelled_is_read : (text : List ℕ) (line : Line) → Spells text line → line_in text ≡ Some line
+spelled_is_read text line h =
+    ap line_in h.is ∙ ap line_at (parts_again 32 (words_of line) (omega arith) (all_free line h.fits h.owner_fits)) ∙ line_is line.label line.owner h.fits h.owner_fits
 
-pub only_one : (text : List ℕ) (l other : Label) → label_in text ≡ Some l → Spells text other → other ≡ l
-only_one text l other h is = let again : label_in text ≡ Some other = spelled_is_read text other is in cc (h, again)
+pub only_one : (text : List ℕ) (line other : Line) → line_in text ≡ Some line → Spells text other → other ≡ line
+only_one text line other h is = let again : line_in text ≡ Some other = spelled_is_read text other is in cc (h, again)
 
-pub none_spelled : (text : List ℕ) → label_in text ≡ None → (l : Label) → ¬ (Spells text l)
-none_spelled text h l is = let again : label_in text ≡ Some l = spelled_is_read text l is in absurd (cc (h, again))
+pub none_spelled : (text : List ℕ) → line_in text ≡ None → (line : Line) → ¬ (Spells text line)
+none_spelled text h line is = let again : line_in text ≡ Some line = spelled_is_read text line is in absurd (cc (h, again))

@@ -19,9 +19,10 @@ use Rattle.srb.specs.declared.Kind.TheVariants.{Read, Write, Flush}
 use Rattle.machine.specs.declared.ClientRequest.{ClientRequest}
 use Rattle.machine.specs.declared.Label.{Label}
 use Rattle.machine.specs.declared.Label.TheVariants.{Call, Device, Answer, Cancel, Pause, Resume, Remove, Surprise, Removed}
+use Rattle.trace_line.specs.declared.Line.{Line}
 use Rattle.label_text.specs.Runs.{AreBytes, digit_of, hex_bytes, hex_of, runs_of, runs_text}
-use Rattle.label_text.specs.Lines.{BlockFits, ClassFits, Fits, PartitionFits, RequestFits, SenseFits, Words, block_words, class_words, extent_words, kind_word, partition_word, request_words, runs_words, sense_words, through_words, verb_of, words_behind, words_of}
-use Rattle.label_text.specs.inside.Reading.{behind, behind_extent, behind_head, behind_placed, block_at, byte_in, bytes_at, bytes_in, class_at, extent_at, flushed_at, head_at, in_partition_at, is_next, is_some_extent, kind_in, label_at, number_in, partition_in, placed_at, sense_at, sense_behind, short_block, status_in, two_at, with_bytes}
+use Rattle.label_text.specs.Lines.{BlockFits, ClassFits, Fits, OwnerFits, OwnerIsSmall, PartitionFits, RequestFits, SenseFits, Words, block_words, class_words, extent_words, kind_word, owner_words, partition_word, request_words, runs_words, sense_words, through_words, verb_of, words_behind, words_of}
+use Rattle.label_text.specs.inside.Reading.{bare, behind, behind_block, behind_extent, behind_head, behind_placed, behind_start, block_at, block_in, byte_in, bytes_at, bytes_in, class_at, extent_at, flushed_at, head_at, in_partition_at, is_next, is_some_extent, kind_in, label_by, line_by, number_in, owned_start_at, owner_at, partition_in, placed_at, sense_at, sense_behind, short_block, start_at, status_in, two_at, with_bytes}
 use Rattle.label_text.specs.declared.reading.Head.{Head}
 use Rattle.label_text.proofs.Digits.{hex_above, hex_bytes_above, hex_bytes_is, hex_is}
 use Rattle.label_text.proofs.Names.{status_is}
@@ -59,7 +60,7 @@ hex_free b = free_of 32 (hex_of b) (omega arith) (hex_above b)
 
 runs_words_free : (bytes : List ℕ) → AreBytes bytes → AreFree (runs_words bytes)
 runs_words_free [] h = none_free
-runs_words_free (b ∷ bs) h = and_then_free (runs_text (runs_of (b ∷ bs))) [] (runs_free (runs_of (b ∷ bs)) h) none_free
+runs_words_free (b ∷ bs) h = and_then_free (runs_text (runs_of (b ∷ bs))) [] (runs_free (runs_of (b ∷ bs)) h.each) none_free
 
 block_words_free : (bytes : List ℕ) → AreFree (block_words bytes)
 block_words_free [] = none_free
@@ -154,28 +155,34 @@ piece_free piece words small more = and_then_free (decimal piece) words (decimal
 number_free : (number : ℕ) (words : Words) → number < 2 ^ 64 → AreFree words → AreFree (decimal number ∷ words)
 number_free number words small more = and_then_free (decimal number) words (decimal_free 64 number (omega arith) small) more
 
-behind_free : (l : Label) → Fits l → AreFree (words_behind l)
-behind_free (Call number q) h = number_free number (request_words q) h.0 (request_free q h.1)
-behind_free (Device (Start piece tag block)) h =
-    piece_free piece (codes "tag" ∷ decimal tag ∷ block_words block) h.0
-    (and_then_free (codes "tag") (decimal tag ∷ block_words block) (plain (codes "tag") refl)
-    (and_then_free (decimal tag) (block_words block) (decimal_free 8 tag (omega arith) h.1) (block_words_free block)))
-behind_free (Device (Act piece bytes)) h = piece_free piece (runs_words bytes) h.0 (runs_words_free bytes h.1)
-behind_free (Device (Fault piece)) h = piece_free piece [] h none_free
-behind_free (Device (Return piece class)) h = piece_free piece (class_words class) h.0 (class_free class)
-behind_free (Answer number s information bytes) h =
+owner_free : (owner : Option ℕ) → OwnerIsSmall owner → AreFree (owner_words owner)
+owner_free None h = none_free
+owner_free (Some number) h = and_then_free (codes "of") (decimal number ∷ []) (plain (codes "of") refl) (number_free number [] h none_free)
+
+behind_free : (l : Label) (owner : Option ℕ) → Fits l → OwnerFits l owner → AreFree (words_behind l owner)
+behind_free (Call number q) owner h o = number_free number (request_words q) h.0 (request_free q h.1)
+behind_free (Device (Start piece tag block)) owner h o =
+    let last : AreFree (block_words block ++ owner_words owner) = All-append (IsFree 32) (block_words block) (owner_words owner) (block_words_free block) (owner_free owner o) in
+    piece_free piece (codes "tag" ∷ decimal tag ∷ (block_words block ++ owner_words owner)) h.0
+    (and_then_free (codes "tag") (decimal tag ∷ (block_words block ++ owner_words owner)) (plain (codes "tag") refl)
+    (and_then_free (decimal tag) (block_words block ++ owner_words owner) (decimal_free 8 tag (omega arith) h.1) last))
+behind_free (Device (Act piece bytes)) owner h o = piece_free piece (runs_words bytes) h.0 (runs_words_free bytes h.1)
+behind_free (Device (Fault piece)) owner h o = piece_free piece [] h none_free
+behind_free (Device (Return piece class)) owner h o = piece_free piece (class_words class) h.0 (class_free class)
+behind_free (Answer number s information bytes) owner h o =
     number_free number (name_of s ∷ decimal information ∷ runs_words bytes) h.0
     (and_then_free (name_of s) (decimal information ∷ runs_words bytes) (plain (name_of s) (name_free s))
     (number_free information (runs_words bytes) h.1 (runs_words_free bytes h.2)))
-behind_free (Cancel number) h = number_free number [] h none_free
-behind_free Pause h = none_free
-behind_free Resume h = none_free
-behind_free Remove h = none_free
-behind_free Surprise h = none_free
-behind_free Removed h = none_free
+behind_free (Cancel number) owner h o = number_free number [] h none_free
+behind_free Pause owner h o = none_free
+behind_free Resume owner h o = none_free
+behind_free Remove owner h o = none_free
+behind_free Surprise owner h o = none_free
+behind_free Removed owner h o = none_free
 
-pub all_free : (l : Label) → Fits l → AreFree (words_of l)
-all_free l h = and_then_free (verb_of l) (words_behind l) (plain (verb_of l) (verb_free l)) (behind_free l h)
+pub all_free : (line : Line) → Fits line.label → OwnerFits line.label line.owner → AreFree (words_of line)
+all_free line h o =
+    and_then_free (verb_of line.label) (words_behind line.label line.owner) (plain (verb_of line.label) (verb_free line.label)) (behind_free line.label line.owner h o)
 
 -- EACH PART IS READ
 
@@ -189,11 +196,33 @@ some_length x xs = grind (arith, nat_tests)
 short_is : (bytes : List ℕ) → length bytes ≤ 16 → short_block bytes ≡ Some bytes
 short_is bytes short = let fits : nat_le (length bytes) 16 ≡ true = grind (arith, nat_tests) in ap (λ b. cond b (Some bytes) None) fits
 
-block_words_is : (block : List ℕ) → BlockFits block → block_at (block_words block) ≡ Some block
-block_words_is [] h = refl
-block_words_is (b ∷ bs) h =
+-- no digit is the first letter of the word of
+not_of : (b : ℕ) (rest : List ℕ) → b < 2 ^ 8 → bytes_eq (digit_of (b / 16) ∷ rest) (codes "of") ≡ false
+not_of b rest small = false_from_ne_true _ (λ e.
+    let same : digit_of (b / 16) ∷ rest ≡ codes "of" = (bytes_eq-Decides (digit_of (b / 16) ∷ rest) (codes "of")).0 e in
+    let first : digit_of (b / 16) ≡ 111 = cc (same) in
+    absurd (grind (arith, nat_tests, first)))
+
+block_in_is : (b : ℕ) (bs : List ℕ) → BlockFits (b ∷ bs) → block_in (hex_bytes (b ∷ bs)) ≡ Some (b ∷ bs)
+block_in_is b bs h =
     ap (λ t. cond t None (option_and_then short_block (bytes_in (hex_bytes (b ∷ bs))))) (some_length (digit_of (b / 16)) (digit_of (b % 16) ∷ hex_bytes bs))
     ∙ ap (option_and_then short_block) (hex_bytes_is (b ∷ bs) h.1) ∙ short_is (b ∷ bs) h.0
+
+-- a block before an owner
+block_is : (block : List ℕ) (owner : Option ℕ) → BlockFits block
+    → (block_at (block_words block ++ owner_words owner) ≡ Some block) × (behind_block (block_words block ++ owner_words owner) ≡ owner_words owner)
+block_is [] None h = (refl, refl)
+block_is [] (Some number) h = (refl, refl)
+block_is (b ∷ bs) owner h =
+    let digits : List ℕ = digit_of (b % 16) ∷ hex_bytes bs in
+    let other : bytes_eq (hex_bytes (b ∷ bs)) (codes "of") ≡ false = not_of b digits (All-head (λ x. x < 2 ^ 8) b bs h.1) in (
+      ap (λ t. cond t (Some []) (block_in (hex_bytes (b ∷ bs)))) other ∙ block_in_is b bs h,
+      ap (λ t. cond t (hex_bytes (b ∷ bs) ∷ owner_words owner) (owner_words owner)) other,
+    )
+
+owner_is : (owner : Option ℕ) → OwnerIsSmall owner → owner_at (owner_words owner) ≡ Some owner
+owner_is None h = refl
+owner_is (Some number) h = ap (option_and_then (λ n. Some (Some n))) (number_is 64 number (omega arith) h)
 
 abbrev head_of : ClientRequest → Head
 head_of q = record { partition = q.partition; kind = q.kind; offset = q.offset; length = q.length; through = q.through }
@@ -306,27 +335,38 @@ class_is (Bad c) h =
     ∙ ap (λ o. option_map (λ x. Bad x) (option_and_then (λ scsi. option_map (λ sense. record { srb_status = c.srb_status; scsi_status = scsi; sense = sense }) (sense_at (sense_words c.sense))) o)) (hex_is c.scsi_status h.1)
     ∙ ap (λ o. option_map (λ x. Bad x) (option_map (λ sense. record { srb_status = c.srb_status; scsi_status = c.scsi_status; sense = sense }) o)) (sense_is c.sense h.2)
 
--- a label is read of its words
-pub label_is : (l : Label) → Fits l → label_at (words_of l) ≡ Some l
-label_is (Call number q) h =
+start_is : (piece tag : ℕ) (block : List ℕ) (owner : Option ℕ) → Fits (Device (Start piece tag block))
+    → start_at (words_behind (Device (Start piece tag block)) owner) ≡ Some (Device (Start piece tag block))
+start_is piece tag block owner h =
+    let rest : Words = block_words block ++ owner_words owner in
+    ap (option_and_then (λ p. option_and_then (λ t. option_map (λ b. Device (Start p t b)) (block_at rest)) (number_in 8 (decimal tag)))) (number_is 128 piece (omega arith) h.0)
+    ∙ ap (option_and_then (λ t. option_map (λ b. Device (Start piece t b)) (block_at rest))) (number_is 8 tag (omega arith) h.1)
+    ∙ ap (option_map (λ b. Device (Start piece tag b))) (block_is block owner h.2).0
+
+owned_start_is : (piece tag : ℕ) (block : List ℕ) (owner : Option ℕ) → Fits (Device (Start piece tag block)) → OwnerIsSmall owner
+    → owned_start_at (words_behind (Device (Start piece tag block)) owner) ≡ Some (record { label = Device (Start piece tag block); owner = owner })
+owned_start_is piece tag block owner h o =
+    let words : Words = words_behind (Device (Start piece tag block)) owner in
+    ap (option_and_then (λ label. option_map (λ x. record { label = label; owner = x }) (owner_at (behind_start words)))) (start_is piece tag block owner h)
+    ∙ ap (λ ws. option_map (λ x. record { label = Device (Start piece tag block); owner = x }) (owner_at ws)) (block_is block owner h.2).1
+    ∙ ap (option_map (λ x. record { label = Device (Start piece tag block); owner = x })) (owner_is owner o)
+
+-- a label without an owner
+bare_is : (l : Label) (owner : Option ℕ) (found : Option Label) → owner ≡ None → found ≡ Some l → option_map bare found ≡ Some (record { label = l; owner = owner })
+bare_is l owner found none is = ap (option_map bare) is ∙ ap (λ x. Some (record { label = l; owner = x })) (sym none)
+
+call_is : (number : ℕ) (q : ClientRequest) → Fits (Call number q) → label_by (codes "call") (words_behind (Call number q) None) ≡ Some (Call number q)
+call_is number q h =
     let x = request_is q h.1 in
     ap (option_and_then (λ n. option_and_then (λ p. option_map (λ bytes. Call n (with_bytes p bytes)) (bytes_at (behind_head (request_words q)))) (head_at (request_words q))))
     (number_is 64 number (omega arith) h.0)
     ∙ ap (option_and_then (λ p. option_map (λ bytes. Call number (with_bytes p bytes)) (bytes_at (behind_head (request_words q))))) x.0
     ∙ ap (λ ws. option_map (λ bytes. Call number (with_bytes (head_of q) bytes)) (bytes_at ws)) x.1
     ∙ ap (option_map (λ bytes. Call number (with_bytes (head_of q) bytes))) (bytes_words_is q.bytes h.1.bytes)
-label_is (Device (Start piece tag block)) h =
-    ap (option_and_then (λ p. option_and_then (λ t. option_map (λ b. Device (Start p t b)) (block_at (block_words block))) (number_in 8 (decimal tag)))) (number_is 128 piece (omega arith) h.0)
-    ∙ ap (option_and_then (λ t. option_map (λ b. Device (Start piece t b)) (block_at (block_words block)))) (number_is 8 tag (omega arith) h.1)
-    ∙ ap (option_map (λ b. Device (Start piece tag b))) (block_words_is block h.2)
-label_is (Device (Act piece bytes)) h =
-    ap (option_and_then (λ p. option_map (λ bs. Device (Act p bs)) (bytes_at (runs_words bytes)))) (number_is 128 piece (omega arith) h.0)
-    ∙ ap (option_map (λ bs. Device (Act piece bs))) (bytes_words_is bytes h.1)
-label_is (Device (Fault piece)) h = ap (option_and_then (λ p. Some (Device (Fault p)))) (number_is 128 piece (omega arith) h)
-label_is (Device (Return piece class)) h =
-    ap (option_and_then (λ p. option_map (λ c. Device (Return p c)) (class_at (class_words class)))) (number_is 128 piece (omega arith) h.0)
-    ∙ ap (option_map (λ c. Device (Return piece c))) (class_is class h.1)
-label_is (Answer number s information bytes) h =
+
+answer_is : (number : ℕ) (s : NtStatus) (information : ℕ) (bytes : List ℕ) → Fits (Answer number s information bytes)
+    → label_by (codes "answer") (words_behind (Answer number s information bytes) None) ≡ Some (Answer number s information bytes)
+answer_is number s information bytes h =
     ap (option_and_then (λ n. option_and_then (λ (o : NtStatus × ℕ). option_map (λ bs. Answer n o.0 o.1 bs) (bytes_at (runs_words bytes)))
     (option_and_then (λ x. option_map (λ i. (x, i)) (number_in 64 (decimal information))) (status_in (name_of s))))) (number_is 64 number (omega arith) h.0)
     ∙ ap (λ o. option_and_then (λ (o : NtStatus × ℕ). option_map (λ bs. Answer number o.0 o.1 bs) (bytes_at (runs_words bytes)))
@@ -334,9 +374,22 @@ label_is (Answer number s information bytes) h =
     ∙ ap (λ o. option_and_then (λ (o : NtStatus × ℕ). option_map (λ bs. Answer number o.0 o.1 bs) (bytes_at (runs_words bytes)))
     (option_map (λ i. (s, i)) o)) (number_is 64 information (omega arith) h.1)
     ∙ ap (option_map (λ bs. Answer number s information bs)) (bytes_words_is bytes h.2)
-label_is (Cancel number) h = ap (option_and_then (λ n. Some (Cancel n))) (number_is 64 number (omega arith) h)
-label_is Pause h = refl
-label_is Resume h = refl
-label_is Remove h = refl
-label_is Surprise h = refl
-label_is Removed h = refl
+
+-- a line is read of its words
+pub line_is : (l : Label) (owner : Option ℕ) → Fits l → OwnerFits l owner → line_by (verb_of l) (words_behind l owner) ≡ Some (record { label = l; owner = owner })
+line_is (Device (Start piece tag block)) owner h o = owned_start_is piece tag block owner h o
+line_is (Call number q) owner h o = bare_is _ owner _ o (call_is number q h)
+line_is (Device (Act piece bytes)) owner h o = bare_is _ owner _ o
+    (ap (option_and_then (λ p. option_map (λ bs. Device (Act p bs)) (bytes_at (runs_words bytes)))) (number_is 128 piece (omega arith) h.0)
+    ∙ ap (option_map (λ bs. Device (Act piece bs))) (bytes_words_is bytes h.1))
+line_is (Device (Fault piece)) owner h o = bare_is _ owner _ o (ap (option_and_then (λ p. Some (Device (Fault p)))) (number_is 128 piece (omega arith) h))
+line_is (Device (Return piece class)) owner h o = bare_is _ owner _ o
+    (ap (option_and_then (λ p. option_map (λ c. Device (Return p c)) (class_at (class_words class)))) (number_is 128 piece (omega arith) h.0)
+    ∙ ap (option_map (λ c. Device (Return piece c))) (class_is class h.1))
+line_is (Answer number s information bytes) owner h o = bare_is _ owner _ o (answer_is number s information bytes h)
+line_is (Cancel number) owner h o = bare_is _ owner _ o (ap (option_and_then (λ n. Some (Cancel n))) (number_is 64 number (omega arith) h))
+line_is Pause owner h o = bare_is _ owner _ o refl
+line_is Resume owner h o = bare_is _ owner _ o refl
+line_is Remove owner h o = bare_is _ owner _ o refl
+line_is Surprise owner h o = bare_is _ owner _ o refl
+line_is Removed owner h o = bare_is _ owner _ o refl

@@ -1,7 +1,7 @@
 -- Why a line was not read.
 use Rattle.std.specs.Prelude.{ℕ, List, ⊤, ◌++◌, codes}
 use Rattle.std.specs.Fmt.{decimal}
-use Rattle.machine.specs.declared.Label.{Label}
+use Rattle.trace_line.specs.declared.Line.{Line}
 use Rattle.label_text.specs.declared.LineFault.{LineFault}
 use Rattle.label_text.specs.declared.LineFault.TheVariants.{BadWord, NoMemory}
 use Rattle.label_text.specs.Lines.{Spells}
@@ -11,7 +11,7 @@ abbrev pub text_of : LineFault → List ℕ
 text_of (BadWord column) = codes "bad word in column " ++ decimal column
 text_of NoMemory = codes "no memory"
 
--- no label is spelled by the line, or memory was refused
+-- the text is no line of a trace, or memory was refused
 abbrev pub IsFaultOf : List ℕ → LineFault → Type 0
-IsFaultOf text (BadWord column) = (label : Label) → ¬ (Spells text label)
+IsFaultOf text (BadWord column) = (line : Line) → ¬ (Spells text line)
 IsFaultOf text NoMemory = ⊤

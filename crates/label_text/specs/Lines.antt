@@ -1,4 +1,4 @@
--- The text of a label: one line, of words that single spaces join.
+-- The text of a line of a trace: words that single spaces join.
 use Rattle.std.specs.Prelude.{◌≡◌, ◌≤◌, ◌<◌, ◌^◌, ◌==◌, ◌&&◌, ℕ, Bool, true, false, All, List, [], ◌∷◌, ◌++◌, Option, Some, None, codes, length, not, ⊤, if◌then◌else◌}
 use Rattle.std.specs.Fmt.{decimal}
 use Rattle.std.specs.List.{join_with_byte}
@@ -12,6 +12,7 @@ use Rattle.srb.specs.declared.Kind.TheVariants.{Read, Write, Flush}
 use Rattle.machine.specs.declared.ClientRequest.{ClientRequest}
 use Rattle.machine.specs.declared.Label.{Label}
 use Rattle.machine.specs.declared.Label.TheVariants.{Call, Device, Answer, Cancel, Pause, Resume, Remove, Surprise, Removed}
+use Rattle.trace_line.specs.declared.Line.{Line}
 use Rattle.label_text.specs.Runs.{AreBytes, hex_bytes, hex_of, runs_of, runs_text}
 
 -- several words
@@ -63,6 +64,11 @@ class_words Good = codes "good" ∷ []
 class_words Busy = codes "busy" ∷ []
 class_words (Bad completion) = codes "bad" ∷ hex_of completion.srb_status ∷ hex_of completion.scsi_status ∷ sense_words completion.sense
 
+-- behind a start the request that its piece is of, where the line tells it
+abbrev pub owner_words : Option ℕ → Words
+owner_words None = []
+owner_words (Some owner) = codes "of" ∷ decimal owner ∷ []
+
 -- the first word of a line
 abbrev pub verb_of : Label → List ℕ
 verb_of (Call number request) = codes "call"
@@ -79,26 +85,26 @@ verb_of Surprise = codes "surprise"
 verb_of Removed = codes "removed"
 
 -- the other words of a line
-abbrev pub words_behind : Label → Words
-words_behind (Call number request) = decimal number ∷ request_words request
-words_behind (Device (Start piece tag block)) = decimal piece ∷ codes "tag" ∷ decimal tag ∷ block_words block
-words_behind (Device (Act piece bytes)) = decimal piece ∷ runs_words bytes
-words_behind (Device (Fault piece)) = decimal piece ∷ []
-words_behind (Device (Return piece class)) = decimal piece ∷ class_words class
-words_behind (Answer number status information bytes) = decimal number ∷ name_of status ∷ decimal information ∷ runs_words bytes
-words_behind (Cancel number) = decimal number ∷ []
-words_behind Pause = []
-words_behind Resume = []
-words_behind Remove = []
-words_behind Surprise = []
-words_behind Removed = []
+abbrev pub words_behind : Label → Option ℕ → Words
+words_behind (Call number request) owner = decimal number ∷ request_words request
+words_behind (Device (Start piece tag block)) owner = decimal piece ∷ codes "tag" ∷ decimal tag ∷ (block_words block ++ owner_words owner)
+words_behind (Device (Act piece bytes)) owner = decimal piece ∷ runs_words bytes
+words_behind (Device (Fault piece)) owner = decimal piece ∷ []
+words_behind (Device (Return piece class)) owner = decimal piece ∷ class_words class
+words_behind (Answer number status information bytes) owner = decimal number ∷ name_of status ∷ decimal information ∷ runs_words bytes
+words_behind (Cancel number) owner = decimal number ∷ []
+words_behind Pause owner = []
+words_behind Resume owner = []
+words_behind Remove owner = []
+words_behind Surprise owner = []
+words_behind Removed owner = []
 
-abbrev pub words_of : Label → Words
-words_of label = verb_of label ∷ words_behind label
+abbrev pub words_of : Line → Words
+words_of line = verb_of line.label ∷ words_behind line.label line.owner
 
--- the line of a label, without its end
-abbrev pub line_of : Label → List ℕ
-line_of label = join_with_byte 32 (words_of label)
+-- the text of a line, without its end
+abbrev pub line_of : Line → List ℕ
+line_of line = join_with_byte 32 (words_of line)
 
 -- the end of a line
 abbrev pub line_end : List ℕ
@@ -143,10 +149,20 @@ Fits Remove = ⊤
 Fits Surprise = ⊤
 Fits Removed = ⊤
 
--- a text spells a label: it is the label's line
-pub record Spells (text : List ℕ) (label : Label) : Type 0 where
-  pub line : text ≡ line_of label
-  pub fits : Fits label
+abbrev pub OwnerIsSmall : Option ℕ → Type 0
+OwnerIsSmall None = ⊤
+OwnerIsSmall (Some owner) = owner < 2 ^ 64
+
+-- only a start has an owner
+abbrev pub OwnerFits : Label → Option ℕ → Type 0
+OwnerFits (Device (Start piece tag block)) owner = OwnerIsSmall owner
+OwnerFits _ owner = owner ≡ None
+
+-- a text spells a line of a trace
+pub record Spells (text : List ℕ) (line : Line) : Type 0 where
+  pub is : text ≡ line_of line
+  pub fits : Fits line.label
+  pub owner_fits : OwnerFits line.label line.owner
 
 -- a line of a trace tells a label: it is neither empty nor a remark, which begins with #
 abbrev pub is_told : List ℕ → Bool

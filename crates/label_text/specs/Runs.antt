@@ -1,5 +1,5 @@
 -- Bytes in print: each run of equal bytes as BYTE*COUNT, the runs joined by commas.
-use Rattle.std.specs.Prelude.{ℕ, ◌+◌, ◌/◌, ◌%◌, ◌==◌, ◌^◌, ◌<◌, nat_lt, All, List, [], ◌∷◌, ◌++◌, map, replicate, if◌then◌else◌}
+use Rattle.std.specs.Prelude.{ℕ, ◌+◌, ◌/◌, ◌%◌, ◌==◌, ◌^◌, ◌<◌, ◌≤◌, length, nat_lt, All, List, [], ◌∷◌, ◌++◌, map, replicate, if◌then◌else◌}
 use Rattle.std.specs.Fmt.{decimal}
 use Rattle.std.specs.List.{join_with_byte}
 
@@ -50,6 +50,11 @@ pub record IsShort (run : Run) : Type 0 where
   pub byte : run.byte < 2 ^ 8
   pub count : run.count < 2 ^ 64
 
--- bytes that can stand in a label: each is one, and no run of equal ones is as long as 2^64
-abbrev pub AreBytes : List ℕ → Type 0
-AreBytes bytes = All IsShort (runs_of bytes)
+-- the most bytes of a label: those of the longest request, which has 65,536 sectors of 4,096
+abbrev pub most_bytes : ℕ
+most_bytes = 2 ^ 28
+
+-- bytes that can stand in a label
+pub record AreBytes (bytes : List ℕ) : Type 0 where
+  pub most : length bytes ≤ most_bytes
+  pub each : All IsShort (runs_of bytes)

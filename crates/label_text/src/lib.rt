@@ -1,12 +1,12 @@
-//! The text of labels, one label a line. It tells all that a label holds, so a trace can be stored, sent and read
-//! again.
+//! The text of a trace, one label a line, behind a start with the request that its piece is of. It tells all that a
+//! label holds, so a trace can be stored, sent and read again.
 //!
-//! [`write_line`] promises to the crate above, by its clauses `text` and `spelled`, that a label is written as its line
-//! and nothing else. [`read_line`] promises, by `spelled`, `only`, `again` and `fault`, that a line is read as the one
-//! label whose line it is, and refused only where no label has this line or memory was refused. What is written is
-//! therefore read as the label that it was, and what is read would be written as the line that it was.
+//! [`write_line`] promises to the crate above, by its clauses `text` and `spelled`, that a line is written as its text
+//! and nothing else. [`read_line`] promises, by `spelled`, `only`, `again` and `fault`, that a text is read as the one
+//! line whose text it is, and refused only where no line has this text or memory was refused. What is written is
+//! therefore read as the line that it was, and what is read would be written as the text that it was.
 //!
-//! The crate does not promise that labels are a run of the machine, or that a writer takes all.
+//! The crate does not promise that lines are a run of the machine, or that a writer takes all.
 #![tactic(auto)]
 
 mod reading;
@@ -26,7 +26,7 @@ pub use writing::write_line;
 /// Why a line was not read.
 #[derive(Debug, Clone, Copy, PartialEq, Eq)]
 pub enum LineFault {
-    /// No label has this line. Reading stopped at the word that begins in this column, counted in bytes from 1.
+    /// No line has this text. Reading stopped at the word that begins in this column, counted in bytes from 1.
     BadWord { column: u64 },
     /// Memory was refused.
     NoMemory,

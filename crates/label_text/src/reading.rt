@@ -2,11 +2,11 @@
 
 ghost use Rattle.std.specs.Prelude.{◌≡◌, IfErr, IfOk, MatchResult, OnSome, Some, drop, option_map};
 ghost use Rattle.srb.specs.declared.Kind.TheVariants.{Flush};
-ghost use Rattle.machine.specs.declared.Label.{Label};
+ghost use Rattle.trace_line.specs.declared.Line.{Line};
 ghost use Rattle.label_text.specs.declared.LineFault.TheVariants.{NoMemory};
 ghost use Rattle.label_text.specs.Faults.{IsFaultOf};
 ghost use Rattle.label_text.specs.Lines.{Spells, is_told};
-ghost use Rattle.label_text.specs.inside.Reading.{act_at, answer_at, at_end, behind_extent, behind_head, block_at, block_in, bytes_at, call_at, cancel_at, class_at, completion_at, extent_at, fault_at, head_at, in_partition_at, kind_in, label_at, named, outcome_at, partition_in, place_of, return_at, sense_at, sense_behind, sense_from, short_by, start_at, status_in, tag_at, two_at};
+ghost use Rattle.label_text.specs.inside.Reading.{act_at, answer_at, at_end, behind_block, behind_extent, behind_head, behind_start, block_at, block_in, bytes_at, call_at, cancel_at, class_at, completion_at, extent_at, fault_at, head_at, in_partition_at, kind_in, label_by, line_at, named, outcome_at, owned_start_at, owner_at, partition_in, place_of, return_at, sense_at, sense_behind, sense_from, short_by, start_at, status_in, tag_at, two_at};
 
 use crate::LineFault;
 use crate::runs::expanded;
@@ -17,6 +17,7 @@ use ntstatus::{NtStatus, Sense};
 use sector::Bytes;
 use srb::{Class, CommandBlock, Completion, DeviceLabel};
 use std::alloc::{AllocError, Global};
+use trace_line::Line;
 
 /// A request without its bytes.
 #[derive(Debug, Clone, Copy)]
@@ -56,33 +57,46 @@ pub fn is_told(line: &str) -> bool
     !line.is_empty() && !line.starts_with('#')
 }
 
-/// Reads the label that a line tells. The line has no line feed and no carriage return at its end.
+/// Reads a line of a trace. The text has no line feed and no carriage return at its end.
 ///
 /// # Errors
 ///
-/// [`LineFault::BadWord`] where no label has this line; [`LineFault::NoMemory`].
-pub fn read_line(alloc: Global, line: &str) -> Result<Label, LineFault>
-    ensures spelled { IfOk result (Spells line.now) }
-    ensures only { IfOk result (λ label. (other : Label) → Spells line.now other → other ≡ label) }
-    ensures again { (label : Label) → Spells line.now label → MatchResult result (λ read. read ≡ label) (λ fault. fault ≡ NoMemory) }
-    ensures fault { IfErr result (IsFaultOf line.now) }
+/// [`LineFault::BadWord`] where no line has this text; [`LineFault::NoMemory`].
+pub fn read_line(alloc: Global, text: &str) -> Result<Line, LineFault>
+    ensures spelled { IfOk result (Spells text.now) }
+    ensures only { IfOk result (λ line. (other : Line) → Spells text.now other → other ≡ line) }
+    ensures again { (line : Line) → Spells text.now line → MatchResult result (λ read. read ≡ line) (λ fault. fault ≡ NoMemory) }
+    ensures fault { IfErr result (IsFaultOf text.now) }
 {
-    let mut words = Words::new(b' ', line);
-    match label(alloc, &mut words)? {
-        Some(label) => Ok(label),
+    let mut words = Words::new(b' ', text);
+    match line(alloc, &mut words)? {
+        Some(line) => Ok(line),
         None => Err(LineFault::BadWord {
             column: words.column(),
         }),
     }
 }
 
-/// The label that words tell.
-fn label(alloc: Global, words: &mut Words<'_>) -> Result<Option<Label>, AllocError>
-    ensures { IfOk result (λ found. found ≡ label_at words.old) }
+/// The line that words tell.
+fn line(alloc: Global, words: &mut Words<'_>) -> Result<Option<Line>, AllocError>
+    ensures { IfOk result (λ found. found ≡ line_at words.old) }
 {
     let Some(verb) = words.word() else {
         return Ok(None);
     };
+    if verb == "start" {
+        return Ok(owned_start(words));
+    }
+    let Some(label) = label(alloc, verb, words)? else {
+        return Ok(None);
+    };
+    Ok(Some(Line { label, owner: None }))
+}
+
+/// The label, but for a start, that this word and those behind it tell.
+fn label(alloc: Global, verb: &str, words: &mut Words<'_>) -> Result<Option<Label>, AllocError>
+    ensures { IfOk result (λ found. found ≡ label_by verb.now words.old) }
+{
     match verb {
         "call" => call(alloc, words),
         "act" => act(alloc, words),
@@ -96,7 +110,6 @@ fn short(verb: &str, words: &mut Words<'_>) -> Option<Label>
     ensures { result ≡ short_by verb.now words.old }
 {
     match verb {
-        "start" => start(words),
         "fault" => fault(words),
         "return" => returned(words),
         "cancel" => cancel(words),
@@ -240,8 +253,18 @@ fn bytes(alloc: Global, words: &mut Words<'_>) -> Result<Option<Bytes>, AllocErr
 }
 
 /// Returns what the words behind `start` tell.
+fn owned_start(words: &mut Words<'_>) -> Option<Line>
+    ensures { result ≡ owned_start_at words.old }
+{
+    let label = start(words)?;
+    let owner = owner(words)?;
+    Some(Line { label, owner })
+}
+
+/// A start, without its owner.
 fn start(words: &mut Words<'_>) -> Option<Label>
-    ensures { result ≡ start_at words.old }
+    ensures value { result ≡ start_at words.old }
+    ensures rest { OnSome result (words.new ≡ behind_start words.old) }
 {
     let piece = words.piece()?;
     let tag = tag(words)?;
@@ -260,15 +283,26 @@ fn tag(words: &mut Words<'_>) -> Option<u8>
     words.tag()
 }
 
-/// The command block whose digits are the last word; an empty one where no word is left.
+/// The command block whose digits are the next word; an empty one where no such word is left.
 fn block(words: &mut Words<'_>) -> Option<CommandBlock>
-    ensures { result ≡ block_at words.old }
+    ensures value { result ≡ block_at words.old }
+    ensures rest { OnSome result (words.new ≡ behind_block words.old) }
 {
-    let Some(word) = words.word() else {
-        return Some(CommandBlock::new(ArrayVec::new()));
-    };
-    let block = block_in(word.as_bytes())?;
-    words.are_over().then_some(block)
+    match words.next() {
+        None | Some("of") => Some(CommandBlock::new(ArrayVec::new())),
+        Some(_) => block_in(words.word()?.as_bytes()),
+    }
+}
+
+/// The request that stands behind `of` as the last word; none where no word is left.
+fn owner(words: &mut Words<'_>) -> Option<Option<u64>>
+    ensures { result ≡ owner_at words.old }
+{
+    if !words.takes("of") {
+        return words.are_over().then_some(None);
+    }
+    let owner = words.number()?;
+    words.are_over().then_some(Some(owner))
 }
 
 /// The bytes of at most 32 digits, of which there are some.

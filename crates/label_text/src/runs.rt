@@ -1,9 +1,9 @@
 //! Bytes as runs of equal ones.
 
-ghost use Rattle.std.specs.Prelude.{◌≡◌, ◌≢◌, ◌<◌, ◌≤◌, ◌++◌, All, IfOk, OnOk, codes, length, option_map, replicate, slice_index, take};
+ghost use Rattle.std.specs.Prelude.{◌≡◌, ◌≢◌, ◌<◌, ◌≤◌, ◌+◌, ◌^◌, ◌++◌, nat_le, All, IfOk, OnOk, codes, length, option_map, replicate, slice_index, take};
 ghost use Rattle.std.specs.Fmt.{decimal};
 ghost use Rattle.std.specs.Io.KnownBytes.{Appends};
-ghost use Rattle.label_text.specs.Runs.{hex_of, runs_of, runs_text};
+ghost use Rattle.label_text.specs.Runs.{hex_of, most_bytes, runs_of, runs_text};
 ghost use Rattle.label_text.specs.inside.Spacing.{comma};
 ghost use Rattle.label_text.specs.inside.Reading.{may_follow, run_in, run_told, runs_in};
 
@@ -13,6 +13,9 @@ use std::alloc::{AllocError, Global};
 use std::io;
 use std::io::Write;
 
+/// The most bytes of a label: those of the longest request, which has 65,536 sectors of 4,096.
+const MOST_BYTES: usize = 1 << 28;
+
 /// Equal bytes in a row.
 #[derive(Debug, Clone, Copy)]
 pub(crate) struct Run {
@@ -20,7 +23,8 @@ pub(crate) struct Run {
     pub count: u64,
 }
 
-/// The bytes that runs tell, where each run is written as long as it can be.
+/// The bytes that runs tell, where each run is written as long as it can be, and they are no more than a label can
+/// have. Those that are more take no memory.
 ///
 /// # Errors
 ///
@@ -35,7 +39,7 @@ pub(crate) fn expanded(alloc: Global, word: &str) -> Result<Option<Vec<u8>>, All
         let Some(run) = run_in(part) else {
             return Ok(None);
         };
-        if !may_follow(last, run) {
+        if !may_follow(last, run) || !has_room(bytes.len(), run) {
             return Ok(None);
         }
         append(&mut bytes, run)?;
@@ -51,14 +55,20 @@ fn may_follow(last: Option<u8>, run: Run) -> bool
     run.count != 0 && last != Some(run.byte)
 }
 
+/// Whether a label that has so many bytes may have those of a run besides.
+fn has_room(length: usize, run: Run) -> bool
+    requires { length ≤ 2 ^ 28 }
+    ensures { result ≡ nat_le (length + run.count) most_bytes }
+{
+    run.count <= (MOST_BYTES - length) as u64
+}
+
 /// Appends the bytes of a run.
 fn append(bytes: &mut Vec<u8>, run: Run) -> Result<(), AllocError>
+    requires { length bytes.old.items + run.count ≤ 2 ^ 28 }
     ensures { OnOk result (bytes.new.items ≡ bytes.old.items ++ replicate run.count run.byte) }
 {
-    let Some(length) = bytes.len().checked_add(run.count as usize) else {
-        return Err(AllocError);
-    };
-    bytes.resize(length, run.byte)
+    bytes.resize(bytes.len() + run.count as usize, run.byte)
 }
 
 /// The run that a part of a word tells: its byte, *, and how many.

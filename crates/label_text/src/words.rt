@@ -58,6 +58,14 @@ impl<'a> Words<'a> {
         Some(word)
     }
 
+    /// The next part, which is not taken.
+    pub fn next(&self) -> Option<&'a str>
+        ensures { option_copied result ≡ slice_get self.now 0 }
+    {
+        let (word, _) = first(self.separator, self.rest)?;
+        Some(word)
+    }
+
     /// Whether no part is left. If one is left, it is taken.
     pub fn are_over(&mut self) -> bool
         ensures { result ≡ is_end self.old }

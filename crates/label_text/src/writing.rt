@@ -7,7 +7,7 @@ ghost use Rattle.ntstatus.specs.Codes.{name_of};
 ghost use Rattle.machine.specs.declared.Label.TheVariants.{Device};
 ghost use Rattle.srb.specs.declared.Class.TheVariants.{Bad};
 ghost use Rattle.label_text.specs.Runs.{digit_of, hex_bytes, hex_of};
-ghost use Rattle.label_text.specs.Lines.{Fits, Spells, block_words, class_words, extent_words, kind_word, line_end, line_of, partition_word, request_words, runs_words, sense_words, through_words, verb_of, words_behind};
+ghost use Rattle.label_text.specs.Lines.{Fits, OwnerFits, Spells, block_words, class_words, extent_words, kind_word, line_end, line_of, owner_words, partition_word, request_words, runs_words, sense_words, through_words, verb_of, words_behind};
 ghost use Rattle.label_text.specs.inside.Spacing.{spaced, spaced_before};
 
 use crate::runs::write_runs;
@@ -17,23 +17,24 @@ use ntstatus::{NtStatus, Sense};
 use srb::{Class, CommandBlock, Completion, DeviceLabel};
 use std::io;
 use std::io::Write;
+use trace_line::Line;
 
-/// Writes the line of a label, and a line feed.
+/// Writes a line of a trace, and a line feed.
 #[tactic(auto, using(crate::proofs::Spaced::line_is))]
-pub fn write_line<W: Write>(out: &mut W, label: &Label) -> io::Result<()>
-    ensures text { OnOk result (Appends (W.contents out.old) (W.contents out.new) (line_of label.now ++ line_end)) }
-    ensures spelled { Fits label.now → Spells (line_of label.now) label.now }
+pub fn write_line<W: Write>(out: &mut W, line: &Line) -> io::Result<()>
+    ensures text { OnOk result (Appends (W.contents out.old) (W.contents out.new) (line_of line.now ++ line_end)) }
+    ensures spelled { Fits line.now.label → OwnerFits line.now.label line.now.owner → Spells (line_of line.now) line.now }
 {
-    write_words(out, label)
+    write_words(out, &line.label, line.owner)
 }
 
-/// Writes a label word by word.
-fn write_words<W: Write>(out: &mut W, label: &Label) -> io::Result<()>
-    ensures { OnOk result (Appends (W.contents out.old) (W.contents out.new) (verb_of label.now ++ spaced (words_behind label.now))) }
+/// Writes a line word by word.
+fn write_words<W: Write>(out: &mut W, label: &Label, owner: Option<u64>) -> io::Result<()>
+    ensures { OnOk result (Appends (W.contents out.old) (W.contents out.new) (verb_of label.now ++ spaced (words_behind label.now owner))) }
 {
     match label {
         Label::Call { number, request } => write_call(out, *number, request),
-        Label::Device(label) => write_device_label(out, label),
+        Label::Device(label) => write_device_label(out, label, owner),
         Label::Answer {
             number,
             status,
@@ -175,11 +176,18 @@ fn write_partition<W: Write>(out: &mut W, partition: Option<u8>) -> io::Result<(
     }
 }
 
-fn write_device_label<W: Write>(out: &mut W, label: &DeviceLabel) -> io::Result<()>
-    ensures { OnOk result (Appends (W.contents out.old) (W.contents out.new) (verb_of (Device label.now) ++ spaced (words_behind (Device label.now)))) }
+fn write_device_label<W: Write>(
+    out: &mut W,
+    label: &DeviceLabel,
+    owner: Option<u64>,
+) -> io::Result<()>
+    ensures { OnOk result (Appends (W.contents out.old) (W.contents out.new) (verb_of (Device label.now) ++ spaced (words_behind (Device label.now) owner))) }
 {
     match label {
-        DeviceLabel::Start { piece, tag, block } => write_start(out, *piece, *tag, block),
+        DeviceLabel::Start { piece, tag, block } => {
+            write_start(out, *piece, *tag, block)?;
+            write_owner(out, owner)
+        }
         DeviceLabel::Act { piece, bytes } => {
             out.write_all(b"act ")?;
             write_piece(out, *piece)?;
@@ -209,7 +217,7 @@ fn write_piece<W: Write>(out: &mut W, piece: u128) -> io::Result<()>
 }
 
 fn write_start<W: Write>(out: &mut W, piece: u128, tag: u8, block: &CommandBlock) -> io::Result<()>
-    ensures { OnOk result (Appends (W.contents out.old) (W.contents out.new) (codes "start" ++ spaced (decimal piece ∷ codes "tag" ∷ decimal tag ∷ block_words block.now))) }
+    ensures { OnOk result (Appends (W.contents out.old) (W.contents out.new) (codes "start" ++ spaced_before (decimal piece ∷ codes "tag" ∷ decimal tag ∷ block_words block.now) [])) }
 {
     out.write_all(b"start ")?;
     write_piece(out, piece)?;
@@ -218,15 +226,25 @@ fn write_start<W: Write>(out: &mut W, piece: u128, tag: u8, block: &CommandBlock
     write_block(out, block)
 }
 
-/// Writes the digits of a command block as the last word of a line, if it has bytes, and ends the line.
+/// Writes the digits of a command block behind a space, if it has bytes.
 fn write_block<W: Write>(out: &mut W, block: &CommandBlock) -> io::Result<()>
-    ensures { OnOk result (Appends (W.contents out.old) (W.contents out.new) (spaced (block_words block.now))) }
+    ensures { OnOk result (Appends (W.contents out.old) (W.contents out.new) (spaced_before (block_words block.now) [])) }
 {
     if block.as_slice().is_empty() {
-        return out.write_all(b"\n");
+        return Ok(());
     }
     out.write_all(b" ")?;
-    write_hex(out, block.as_slice())?;
+    write_hex(out, block.as_slice())
+}
+
+/// Writes the request that a piece is of behind the word of, if it is told, and ends the line.
+fn write_owner<W: Write>(out: &mut W, owner: Option<u64>) -> io::Result<()>
+    ensures { OnOk result (Appends (W.contents out.old) (W.contents out.new) (spaced (owner_words owner))) }
+{
+    if let Some(owner) = owner {
+        out.write_all(b" of ")?;
+        write_number(out, owner)?;
+    }
     out.write_all(b"\n")
 }
 

@@ -2,14 +2,14 @@
 
 use crate::expect::same;
 use label_text::{LineFault, is_told, read_line, write_line};
-use machine::Label;
 use script::write_label;
 use std::alloc::Global;
 use std::process::Abort;
 use std::test::Fail;
+use trace_line::Line;
 
 /// A line of each kind, with and without what may be left away, and what `stackrun` prints of its label.
-static LINES: [(&str, &str); 33] = [
+static LINES: [(&str, &str); 35] = [
     ("call 1 read 0 131072 in 0", "call 1 read 0 131072"),
     (
         "call 18446744073709551615 read 0 512 through in 255",
@@ -41,6 +41,11 @@ static LINES: [(&str, &str); 33] = [
     ),
     ("start 2 tag 31 2a0800ff", "start 2 tag 31 2a0800ff"),
     ("start 1 tag 31", "start 1 tag 31 "),
+    ("start 1 tag 31 of 0", "start 1 tag 31 "),
+    (
+        "start 3 tag 1 28000000080000004000 of 18446744073709551615",
+        "start 3 tag 1 28000000080000004000",
+    ),
     ("act 1", "act 1"),
     ("act 2 00*512,a5*512", "act 2"),
     (
@@ -72,42 +77,54 @@ static LINES: [(&str, &str); 33] = [
     ("removed", "removed"),
 ];
 
-/// What is written of a label, whole or short, without its end.
-fn written(alloc: Global, label: &Label, whole: bool) -> Result<Vec<u8>, Fail> {
+/// What is written of a line, whole or short, without its end.
+fn written(alloc: Global, line: &Line, whole: bool) -> Result<Vec<u8>, Fail> {
     let mut out = Vec::new(alloc);
     match whole {
-        true => write_line(&mut out, label)?,
-        false => write_label(&mut out, label)?,
+        true => write_line(&mut out, line)?,
+        false => write_label(&mut out, &line.label)?,
     }
     out.pop();
     Ok(out)
 }
 
 fn each_again(rt: &impl Abort, alloc: Global, lines: &[(&str, &str)]) -> Result<(), Fail> {
-    for (line, short) in lines {
-        let label = read_line(alloc, line).ok().ok_or("not read")?;
+    for (text, short) in lines {
+        let line = read_line(alloc, text).ok().ok_or("not read")?;
         same(
             rt,
-            &written(alloc, &label, true)?.as_slice(),
-            &line.as_bytes(),
+            &written(alloc, &line, true)?.as_slice(),
+            &text.as_bytes(),
         );
         same(
             rt,
-            &written(alloc, &label, false)?.as_slice(),
+            &written(alloc, &line, false)?.as_slice(),
             &short.as_bytes(),
         );
     }
     Ok(())
 }
 
-/// Lines that tell nothing are passed over before they are read; an empty one is that of no label.
+/// What is refused, and in which column: an empty line, an owner behind another label, none behind its word, and one
+/// byte more than a label can have.
+static REFUSED: [(&str, u64); 5] = [
+    ("", 1),
+    ("fault 1 of 1", 9),
+    ("start 1 tag 31 of", 19),
+    ("start 1 tag 31 28 of 01", 22),
+    ("act 1 a5*268435457", 7),
+];
+
+/// Lines that tell nothing are passed over before they are read.
 #[test]
 fn a_line_is_read_and_written_again(rt: HostRuntime) -> Result<(), Fail> {
     each_again(&rt, rt.alloc(), &LINES)?;
     same(&rt, &is_told("# a remark"), &false);
     same(&rt, &is_told(""), &false);
     same(&rt, &is_told("pause"), &true);
-    let empty = read_line(rt.alloc(), "").err();
-    same(&rt, &empty, &Some(LineFault::BadWord { column: 1 }));
+    for (text, column) in &REFUSED {
+        let fault = read_line(rt.alloc(), text).err();
+        same(&rt, &fault, &Some(LineFault::BadWord { column: *column }));
+    }
     Ok(())
 }

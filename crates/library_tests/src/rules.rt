@@ -184,7 +184,8 @@ fn zeros(alloc: Global, kept: Kept) -> Result<Vec<Sectors>, AllocError> {
 }
 
 fn label(alloc: Global, line: &str) -> Result<Label, Fail> {
-    Ok(read_line(alloc, line).ok().ok_or("not read")?)
+    let line = read_line(alloc, line).ok().ok_or("not read")?;
+    Ok(line.label)
 }
 
 fn judge_of(alloc: Global, kept: Kept) -> Result<Judge, Fail> {

@@ -1,6 +1,6 @@
 -- What is read of words, one after the other. It is proved that a label is written as what is read as this label.
 use denote.Ref.{Bor}
-use Rattle.std.specs.Prelude.{◌≡◌, ℕ, ◌+◌, ◌-◌, ◌*◌, ◌^◌, ◌==◌, ◌&&◌, not, nat_lt, nat_le, Bool, false, List, [], ◌∷◌, ◌++◌, Option, Some, None, codes, drop, length, replicate, slice_get, is_none, if◌then◌else◌}
+use Rattle.std.specs.Prelude.{◌≡◌, ℕ, ◌+◌, ◌-◌, ◌*◌, ◌^◌, ◌==◌, ◌&&◌, ◌||◌, not, nat_lt, nat_le, Bool, false, List, [], ◌∷◌, ◌++◌, Option, Some, None, codes, drop, length, replicate, slice_get, is_none, if◌then◌else◌}
 use Rattle.std.specs.Fmt.{decimal}
 use Rattle.std.specs.List.{position, slice_split}
 use Rattle.std.specs.Option.{option_and_then, option_copied, option_map}
@@ -19,7 +19,8 @@ use Rattle.srb.specs.declared.Kind.TheVariants.{Read, Write, Flush}
 use Rattle.machine.specs.declared.ClientRequest.{ClientRequest}
 use Rattle.machine.specs.declared.Label.{Label}
 use Rattle.machine.specs.declared.Label.TheVariants.{Call, Device, Answer, Cancel, Pause, Resume, Remove, Surprise, Removed}
-use Rattle.label_text.specs.Runs.{Run}
+use Rattle.trace_line.specs.declared.Line.{Line}
+use Rattle.label_text.specs.Runs.{Run, most_bytes}
 use Rattle.label_text.specs.Lines.{Words}
 use Rattle.label_text.specs.declared.reading.Head.{Head}
 use Rattle.label_text.specs.declared.runs.Run.{Run as TakenRun}
@@ -125,8 +126,12 @@ bytes_after last (part ∷ parts) = option_and_then
     (λ (run : Run). if may_follow last run then option_map (λ bytes. replicate run.count run.byte ++ bytes) (bytes_after (Some run.byte) parts) else None)
     (run_in part)
 
+-- no more bytes than a label can have
+abbrev pub few_bytes : List ℕ → Option (List ℕ)
+few_bytes bytes = if nat_le (length bytes) most_bytes then Some bytes else None
+
 abbrev pub runs_in : List ℕ → Option (List ℕ)
-runs_in word = bytes_after None (parted 44 word)
+runs_in word = option_and_then few_bytes (bytes_after None (parted 44 word))
 
 -- the bytes that are the last word, or none where no word is left
 abbrev pub bytes_at : Words → Option (List ℕ)
@@ -208,16 +213,37 @@ short_block bytes = if nat_le (length bytes) 16 then Some bytes else None
 abbrev pub block_in : List ℕ → Option (List ℕ)
 block_in word = if length word == 0 then None else option_and_then short_block (bytes_in word)
 
+-- the next word is no command block: it is the word of, or there is none
+abbrev pub is_no_block : Words → Bool
+is_no_block words = is_end words || is_next (codes "of") words
+
 abbrev pub block_at : Words → Option (List ℕ)
-block_at words = elim (word_at words) [ Some word ↦ at_end (drop 1 words) (block_in word) | None ↦ Some [] ]
+block_at words = if is_no_block words then Some [] else option_and_then block_in (word_at words)
+
+abbrev pub behind_block : Words → Words
+behind_block words = if is_no_block words then words else drop 1 words
+
+-- the request behind the word of, which are the last words, or none where no word is left
+abbrev pub owner_at : Words → Option (Option ℕ)
+owner_at words =
+    if is_next (codes "of") words
+    then option_and_then (λ owner. at_end (drop 1 (drop 1 words)) (Some (Some owner))) (number_at 64 (drop 1 words))
+    else at_end words (Some None)
 
 abbrev pub tag_at : Words → Option ℕ
 tag_at words = if is_next (codes "tag") words then number_at 8 (drop 1 words) else None
 
+-- a start without its owner
 abbrev pub start_at : Words → Option Label
 start_at words = option_and_then
     (λ piece. option_and_then (λ tag. option_map (λ block. Device (Start piece tag block)) (block_at (drop 1 (drop 1 (drop 1 words))))) (tag_at (drop 1 words)))
     (number_at 128 words)
+
+abbrev pub behind_start : Words → Words
+behind_start words = behind_block (drop 1 (drop 1 (drop 1 words)))
+
+abbrev pub owned_start_at : Words → Option Line
+owned_start_at words = option_and_then (λ label. option_map (λ owner. record { label = label; owner = owner }) (owner_at (behind_start words))) (start_at words)
 
 abbrev pub act_at : Words → Option Label
 act_at words = option_and_then (λ piece. option_map (λ bytes. Device (Act piece bytes)) (bytes_at (drop 1 words))) (number_at 128 words)
@@ -294,25 +320,33 @@ cancel_at words = option_and_then (λ number. at_end (drop 1 words) (Some (Cance
 
 -- a label by the word that it begins with, where it has no bytes
 abbrev pub short_by : List ℕ → Words → Option Label
-short_by verb words = if bytes_eq verb (codes "start") then start_at words
-    else (if bytes_eq verb (codes "fault") then fault_at words
+short_by verb words = if bytes_eq verb (codes "fault") then fault_at words
     else (if bytes_eq verb (codes "return") then return_at words
     else (if bytes_eq verb (codes "cancel") then cancel_at words
     else (if bytes_eq verb (codes "pause") then at_end words (Some Pause)
     else (if bytes_eq verb (codes "resume") then at_end words (Some Resume)
     else (if bytes_eq verb (codes "remove") then at_end words (Some Remove)
     else (if bytes_eq verb (codes "surprise") then at_end words (Some Surprise)
-    else (if bytes_eq verb (codes "removed") then at_end words (Some Removed) else None))))))))
+    else (if bytes_eq verb (codes "removed") then at_end words (Some Removed) else None)))))))
 
--- any label, by the word that it begins with
+-- any label but a start, by the word that it begins with
 abbrev pub label_by : List ℕ → Words → Option Label
 label_by verb words = if bytes_eq verb (codes "call") then call_at words
     else (if bytes_eq verb (codes "act") then act_at words
     else (if bytes_eq verb (codes "answer") then answer_at words else short_by verb words))
 
-abbrev pub label_at : Words → Option Label
-label_at words = option_and_then (λ verb. label_by verb (drop 1 words)) (word_at words)
+-- LINES
 
--- the label that a line tells
-abbrev pub label_in : List ℕ → Option Label
-label_in line = label_at (parted 32 line)
+-- a label without an owner
+abbrev pub bare : Label → Line
+bare label = record { label = label; owner = None }
+
+abbrev pub line_by : List ℕ → Words → Option Line
+line_by verb words = if bytes_eq verb (codes "start") then owned_start_at words else option_map bare (label_by verb words)
+
+abbrev pub line_at : Words → Option Line
+line_at words = option_and_then (λ verb. line_by verb (drop 1 words)) (word_at words)
+
+-- the line of a trace that a text is
+abbrev pub line_in : List ℕ → Option Line
+line_in text = line_at (parted 32 text)
