@@ -33,7 +33,7 @@ use serving::{
     serve_file,
 };
 use settings::Config;
-use startup::{Verdict, ended, fault_of, read_settings};
+use startup::{Verdict, ended, fault_of, hold_standard, read_settings};
 use std::alloc::{AllocError, Global};
 use std::fs::{File, OpenOptions, TryLockError};
 use std::io::{BufReader, BufWriter, ErrorKind, Read, Write};
@@ -231,5 +231,13 @@ fn locked(file: File) -> Result<File, Error> {
 }
 
 fn main(rt: HostRuntime) -> ExitCode {
-    ExitCode::from(ended(run(&rt, rt), &mut rt.stderr()))
+    match hold_standard(&rt) {
+        // They are held until the run has ended.
+        Ok(_standard) => ExitCode::from(ended(run(&rt, rt), &mut rt.stderr())),
+        Err(error) => {
+            // Nobody is left to hear of a fault of this writer.
+            let _ = writeln!(rt.stderr(), "nbd_disk: cannot open /dev/null: {error}");
+            ExitCode::FAILURE
+        }
+    }
 }

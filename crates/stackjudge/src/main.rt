@@ -13,7 +13,7 @@ use judging::progress::Progress;
 use judging::scripts::record_script;
 use judging::words::asked::Command;
 use judging::words::command;
-use startup::{Verdict, ended, fault_of, open_input};
+use startup::{Verdict, ended, fault_of, hold_standard, open_input};
 use std::env;
 use std::io::{BufWriter, Write};
 use std::process::ExitCode;
@@ -123,5 +123,13 @@ fn draw_trace(rt: &HostRuntime, trace: &str, events: bool) -> Result<Verdict, Er
 }
 
 fn main(rt: HostRuntime) -> ExitCode {
-    ExitCode::from(ended(run(&rt), &mut rt.stderr()))
+    match hold_standard(&rt) {
+        // They are held until the run has ended.
+        Ok(_standard) => ExitCode::from(ended(run(&rt), &mut rt.stderr())),
+        Err(error) => {
+            // Nobody is left to hear of a fault of this writer.
+            let _ = writeln!(rt.stderr(), "stackjudge: cannot open /dev/null: {error}");
+            ExitCode::FAILURE
+        }
+    }
 }

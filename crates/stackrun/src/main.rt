@@ -11,8 +11,9 @@ use commands::clients::clients;
 use commands::trace::trace;
 use commands::words::asked::Command;
 use commands::words::command;
-use startup::{Verdict, ended, fault_of, open_input};
+use startup::{Verdict, ended, fault_of, hold_standard, open_input};
 use std::env;
+use std::io::Write;
 use std::process::ExitCode;
 use std::sync::Wait;
 use std::thread::Threads;
@@ -47,5 +48,13 @@ fn run<H: Threads + Wait + Sync>(rt: &HostRuntime, host: &H) -> Result<Verdict, 
 }
 
 fn main(rt: HostRuntime) -> ExitCode {
-    ExitCode::from(ended(run(&rt, &rt), &mut rt.stderr()))
+    match hold_standard(&rt) {
+        // They are held until the run has ended.
+        Ok(_standard) => ExitCode::from(ended(run(&rt, &rt), &mut rt.stderr())),
+        Err(error) => {
+            // Nobody is left to hear of a fault of this writer.
+            let _ = writeln!(rt.stderr(), "stackrun: cannot open /dev/null: {error}");
+            ExitCode::FAILURE
+        }
+    }
 }

@@ -39,7 +39,7 @@ impl fmt::Display for Error {
 }
 
 /// Returns what is wrong with a partition table, in print.
-fn words_for(fault: MbrFault) -> &'static str
+pub fn words_for(fault: MbrFault) -> &'static str
     ensures { result.now ≡ mbr_text fault }
 {
     match fault {
