@@ -1,0 +1,4 @@
+pub mod History
+pub mod Schedules
+pub mod Laws
+pub mod Widening

@@ -1,0 +1,30 @@
+//! Histories: what the clients of a service saw of it, calls and answers with their bytes, and no label of its device.
+//!
+//! A history is explained where some run of the sector machine has just these calls and answers (`IsExplained`). Each
+//! sector of an explained history has a schedule: the history with the moments at which its requests take effect on that
+//! sector, as on a register (Herlihy and Wing: a linearization). So a history of which some sector has no schedule is
+//! explained by no run, however the service cuts and orders its requests.
+//!
+//! Each law is the contract of a function with an empty body. Nothing is said of loss of power, and it is not said that
+//! schedules of all sectors make a run.
+#![tactic(auto)]
+
+ghost use Rattle.history_laws.specs.Laws.{ExplainedAreNumbered, ExplainedAreScheduled};
+ghost use Rattle.history_laws.specs.Widening.{AnswersMoveDown, CallsMoveUp};
+
+/// Each sector of an explained history has a schedule, from the bytes that it had at the start.
+pub fn explained_are_scheduled()
+    ensures { ExplainedAreScheduled }
+{}
+
+/// The calls of an explained history count 1, 2 and on.
+pub fn explained_are_numbered()
+    ensures { ExplainedAreNumbered }
+{}
+
+/// A schedule holds where a call is seen earlier or an answer later: so a recorder anywhere above the service accuses it of
+/// nothing that it hasn't done.
+pub fn schedules_widen()
+    ensures calls { CallsMoveUp }
+    ensures answers { AnswersMoveDown }
+{}
