@@ -17,11 +17,11 @@ use Rattle.miniport.specs.Checking.{disk_with}
 use Rattle.miniport.specs.Faults.{invalid_request}
 use Rattle.miniport.proofs.Bad.{fault_is_bad}
 use Rattle.file_disk.specs.declared.storage.Failure.{Failure}
-use Rattle.file_disk.specs.declared.storage.Failure.TheVariants.{Protected, Failed}
+use Rattle.file_disk.specs.declared.storage.Failure.TheVariants.{Protected, Full, Failed}
 use Rattle.file_disk.specs.declared.file_disk.Task.{Task}
 use Rattle.file_disk.specs.declared.file_disk.Task.TheVariants.{Read as ReadTask, Write as WriteTask, Flush as FlushTask}
 use Rattle.file_disk.specs.Calls.{Call}
-use Rattle.file_disk.specs.Transfers.{Carries, DiskView, Does, FailsByRow, Fits, IsSentOr, LacksMemory, Transfers, entry_of, hardware_fault, kind_of, read_fault, task_in, write_fault}
+use Rattle.file_disk.specs.Transfers.{Carries, DiskView, Does, FailsByRow, Fits, IsSentOr, LacksMemory, TellsRoom, Transfers, entry_of, hardware_fault, kind_of, read_fault, task_in, write_fault}
 
 -- WHAT A COMMAND NAMES
 
@@ -100,6 +100,7 @@ moved_by offset sent bytes task calls (inr h) = absurd (let e : ◌≡◌ {A = R
 
 write_bad : (why : Failure) → class_of (write_fault why) ≡ Bad (write_fault why)
 write_bad Protected = refl
+write_bad Full = refl
 write_bad Failed = refl
 
 same_bad : (one completion : Completion) → completion ≡ one → class_of one ≡ Bad one → class_of completion ≡ Bad completion
@@ -132,9 +133,10 @@ module _ (old : DiskView) (tag piece : ℕ) (srb : Srb) where
   nothing_suits completion is = same_bad invalid_request completion is refl
 
   module _ (command : Cdb) (task : Task) (extent : Extent) (named : Option (Task × Extent)) (fits : Fits old srb command) (e : named ≡ task_in command) (is : named ≡ Some (task, extent)) (new : DiskView) where
-    pub carried_out : (moved : Result (List ℕ) Completion) → Carries old task extent srb.data moved new → new ≡ record old { calls = new.calls } → Transfers old tag piece srb (entry_of tag piece task extent moved) new
-    carried_out moved carries after =
-        inl (record { command = command; task = task; extent = extent; moved = moved; passes = fits; asks = sym e ∙ is; carries = carries; becomes = refl; after = after })
+    pub carried_out : (moved : Result (List ℕ) Completion) → Carries old task extent srb.data moved new → TellsRoom old new → new ≡ record old { calls = new.calls; full = new.full }
+        → Transfers old tag piece srb (entry_of tag piece task extent moved) new
+    carried_out moved carries room after =
+        inl (record { command = command; task = task; extent = extent; moved = moved; passes = fits; asks = sym e ∙ is; carries = carries; becomes = refl; room = room; after = after })
 
     pub entry_suits : (bytes : List ℕ) → Carries old task extent srb.data (Ok bytes) new → Suits old.sector_size old.sectors srb (entry_of tag piece task extent (Ok bytes))
     entry_suits bytes carries = record {
@@ -150,8 +152,9 @@ module _ (old : DiskView) (tag piece : ℕ) (srb : Srb) where
         subst (λ (n : Option (Task × Extent)). MatchOption n ⊤ (λ named. IsSentOr named.0 None → entry_sent tag piece srb ≡ record { piece = piece; tag = tag; extent = named.1; kind = kind_of named.0; bytes = srb.data }))
         (sym e ∙ is) (sent_named tag piece srb command fits.means)
 
-    pub sent_out : IsSentOr task None → Carries old task extent srb.data (Ok srb.data) new → new ≡ record old { calls = new.calls } → Transfers old tag piece srb (Ok (entry_sent tag piece srb)) new
-    sent_out sends carries after = subst (λ (x : Entry). Transfers old tag piece srb (Ok x) new) (sym (sent_is sends)) (carried_out (Ok srb.data) carries after)
+    pub sent_out : IsSentOr task None → Carries old task extent srb.data (Ok srb.data) new → TellsRoom old new → new ≡ record old { calls = new.calls; full = new.full }
+        → Transfers old tag piece srb (Ok (entry_sent tag piece srb)) new
+    sent_out sends carries room after = subst (λ (x : Entry). Transfers old tag piece srb (Ok x) new) (sym (sent_is sends)) (carried_out (Ok srb.data) carries room after)
 
     pub sent_suits : IsSentOr task None → Carries old task extent srb.data (Ok srb.data) new → Suits old.sector_size old.sectors srb (Ok (entry_sent tag piece srb))
     sent_suits sends carries = subst (λ (x : Entry). Suits old.sector_size old.sectors srb (Ok x)) (sym (sent_is sends)) (entry_suits srb.data carries)

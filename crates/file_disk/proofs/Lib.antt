@@ -1,3 +1,4 @@
 pub mod CallByCall
 pub mod Doing
 pub mod Booking
+pub mod Rooming

@@ -12,13 +12,13 @@ use Rattle.disk.specs.Medium.{MediumView}
 use Rattle.miniport.specs.Faults.{error, invalid_request}
 use Rattle.miniport.specs.Checking.{IsRefused, Passes}
 use Rattle.file_disk.specs.declared.storage.Failure.{Failure}
-use Rattle.file_disk.specs.declared.storage.Failure.TheVariants.{Protected, Failed}
+use Rattle.file_disk.specs.declared.storage.Failure.TheVariants.{Protected, Full, Failed}
 use Rattle.adapter.specs.Booking.{entry_sent}
 use Rattle.file_disk.specs.declared.file_disk.Task.{Task}
 use Rattle.file_disk.specs.declared.file_disk.Task.TheVariants.{Read as ReadTask, Write as WriteTask, Flush as FlushTask}
 use Rattle.file_disk.specs.declared.file_disk.Moved.{Moved}
 use Rattle.file_disk.specs.declared.file_disk.Moved.TheVariants.{Read as ReadMoved, Sent}
-use Rattle.file_disk.specs.Calls.{Call, Sync, Since, ReadsAll, StopsReading, WritesAll, StopsWriting}
+use Rattle.file_disk.specs.Calls.{Call, WriteAt, Sync, Since, ReadsAll, StopsReading, WritesAll, StopsWriting}
 
 -- what a disk over a storage shows
 pub record DiskView : Type 0 where
@@ -27,15 +27,18 @@ pub record DiskView : Type 0 where
   -- how many sectors it has
   pub sectors : ℕ
   pub write_protected : Bool
+  -- whether the storage had no room for the newest of the writes that it refused
+  pub full : Bool
   -- the calls to the storage, the newest first
   pub calls : List Call
 
 -- a disk of the sizes of this medium
-abbrev pub disk_over : MediumView → Bool → List Call → DiskView
-disk_over shape write_protected calls = record {
+abbrev pub disk_over : MediumView → Bool → Bool → List Call → DiskView
+disk_over shape write_protected full calls = record {
   sector_size = shape.sector_size;
   sectors = length shape.sectors;
   write_protected = write_protected;
+  full = full;
   calls = calls;
 }
 
@@ -50,9 +53,10 @@ pub record IsDiskSize (shape : MediumView) : Type 0 where
 abbrev pub read_fault : Completion
 read_fault = error 3 0x11 0x00
 
--- WRITE PROTECTED, or WRITE ERROR
+-- WRITE PROTECTED, SPACE ALLOCATION FAILED WRITE PROTECT, or WRITE ERROR
 abbrev pub write_fault : Failure → Completion
 write_fault Protected = error 7 0x27 0x00
+write_fault Full = error 7 0x27 0x07
 write_fault Failed = error 3 0x0C 0x00
 
 -- HARDWARE ERROR
@@ -117,6 +121,19 @@ IsSentOr _ _ = ⊥
 abbrev pub LacksMemory : Result (List ℕ) Completion → List Call → Type 0
 LacksMemory moved calls = (moved ≡ Err hardware_fault) × (calls ≡ [])
 
+-- ROOM
+
+-- whether the storage had no room for the newest of the writes that it refused; before these calls it was so
+abbrev pub full_after : Bool → List Call → Bool
+full_after was [] = was
+full_after was (WriteAt at bytes (Err Full) ∷ calls) = true
+full_after was (WriteAt at bytes (Err Protected) ∷ calls) = false
+full_after was (_ ∷ calls) = full_after was calls
+
+-- the disk tells of the calls since whether there was room
+abbrev pub TellsRoom : DiskView → DiskView → Type 0
+TellsRoom old new = Since old.calls new.calls (λ calls. new.full ≡ full_after old.full calls)
+
 -- WHAT A PIECE DOES
 
 -- what a command asks of a file, and of which sectors; a READ CAPACITY asks nothing of it
@@ -169,7 +186,8 @@ pub record CarriesOut (old : DiskView) (tag piece : ℕ) (srb : Srb) (what : Res
   pub asks : task_in command ≡ Some (task, extent)
   pub carries : Carries old task extent srb.data moved new
   pub becomes : what ≡ entry_of tag piece task extent moved
-  pub after : new ≡ record old { calls = new.calls }
+  pub room : TellsRoom old new
+  pub after : new ≡ record old { calls = new.calls; full = new.full }
 
 -- the command asks nothing of a file, and fails as an invalid request
 pub record AsksNothing (old : DiskView) (srb : Srb) (what : Result Entry Completion) (new : DiskView) : Type 0 where

@@ -40,6 +40,7 @@ fn failure_of(error: &io::Error) -> Failure {
     }
     match error.kind() {
         ErrorKind::PermissionDenied | ErrorKind::ReadOnlyFilesystem => Failure::Protected,
+        ErrorKind::StorageFull | ErrorKind::QuotaExceeded => Failure::Full,
         _ => Failure::Failed,
     }
 }

@@ -1,16 +1,18 @@
 //! The pieces of a stack, moved by the calls of a storage.
 
-ghost use Rattle.std.specs.Prelude.{◌≡◌, ◌⊎◌, ◌≤◌, ◌<◌, ◌*◌, ◌+◌, ◌^◌, length, IfOk, MatchResult};
+ghost use Rattle.std.specs.Prelude.{◌≡◌, ◌⊎◌, ◌≤◌, ◌<◌, ◌*◌, ◌+◌, ◌^◌, false, length, IfOk, MatchResult};
 ghost use Rattle.adapter.specs.Booking.{Suits};
 ghost use Rattle.miniport.specs.Faults.{invalid_request};
 ghost use Rattle.file_disk.specs.Calls.{Since};
-ghost use Rattle.file_disk.specs.Transfers.{Carries, IsOfPiece, IsSentOr, LacksMemory, ReadsBytes, Syncs, Transfers, WritesBytes, entry_moved, hardware_fault, kind_of, moved_by, read_fault, task_in, write_fault};
+ghost use Rattle.file_disk.specs.Noting.{full_behind};
+ghost use Rattle.file_disk.specs.Transfers.{Carries, IsOfPiece, IsSentOr, LacksMemory, ReadsBytes, Syncs, TellsRoom, Transfers, WritesBytes, entry_moved, full_after, hardware_fault, kind_of, moved_by, read_fault, task_in, write_fault};
 
 use crate::moving::{read_all, write_all};
 use crate::storage::{Failure, Storage};
 use cdb::Cdb;
 use disk::{Medium, SparseDisk};
 use miniport::{MEDIUM_ERROR, check_on, failed_with};
+use ntstatus::Sense;
 use sector::{Bytes, Extent};
 use srb::{Completion, Entry, Kind, Srb};
 use std::alloc::Global;
@@ -97,7 +99,35 @@ fn write_fault(why: Failure) -> Completion
 {
     match why {
         Failure::Protected => failed_with(DATA_PROTECT, 0x27),
+        Failure::Full => space_fault(),
         Failure::Failed => failed_with(MEDIUM_ERROR, 0x0C),
+    }
+}
+
+/// SPACE ALLOCATION FAILED WRITE PROTECT.
+fn space_fault() -> Completion
+    ensures { result ≡ write_fault Failure.Full }
+{
+    let sense = Sense {
+        key: DATA_PROTECT,
+        asc: 0x27,
+        ascq: 0x07,
+    };
+    Completion {
+        sense: Some(sense),
+        ..failed_with(DATA_PROTECT, 0x27)
+    }
+}
+
+/// Returns whether there was no room for the newest of the writes that were refused, behind one that failed in this
+/// way.
+fn full_behind(full: bool, why: Failure) -> bool
+    ensures { result ≡ full_behind full why }
+{
+    match why {
+        Failure::Full => true,
+        Failure::Protected => false,
+        Failure::Failed => full,
     }
 }
 
@@ -133,22 +163,27 @@ fn flush<S: Storage>(storage: &mut S) -> Result<(), Completion>
     }
 }
 
-/// Writes these bytes, and then syncs with `through`.
+/// Writes these bytes, and then syncs with `through`. It notes whether there was room.
 ///
 /// # Errors
 ///
 /// What the call that failed comes to.
 fn write<S: Storage>(
     storage: &mut S,
+    full: &mut bool,
     offset: u64,
     bytes: &[u8],
     through: bool,
 ) -> Result<(), Completion>
     requires { offset + length bytes.now < 2 ^ 64 }
-    ensures { Since (S.calls storage.old) (S.calls storage.new) (WritesBytes through offset bytes.now result) }
+    ensures writes { Since (S.calls storage.old) (S.calls storage.new) (WritesBytes through offset bytes.now result) }
+    ensures room { Since (S.calls storage.old) (S.calls storage.new) (λ calls. full.new ≡ full_after full.old calls) }
 {
     match write_all(storage, offset, bytes) {
-        Err(why) => Err(write_fault(why)),
+        Err(why) => {
+            *full = full_behind(*full, why);
+            Err(write_fault(why))
+        }
         Ok(()) if through => flush(storage),
         Ok(()) => Ok(()),
     }
@@ -170,6 +205,8 @@ pub struct FileDisk<S: Storage + Drop> {
     /// A blank disk of these sizes, by which commands are checked.
     shape: SparseDisk,
     write_protected: bool,
+    /// Whether there was no room for the newest of the writes that the storage refused.
+    full: bool,
     /// The memory for the bytes of the next piece.
     room: Vec<u8>,
 }
@@ -180,7 +217,7 @@ impl<S: Storage + Drop> Model for FileDisk<S> {
 
     ghost Value = { DiskView };
 
-    ghost view = { λ d. disk_over (shown d.shape) d.write_protected (S.calls d.storage) };
+    ghost view = { λ d. disk_over (shown d.shape) d.write_protected d.full (S.calls d.storage) };
 
     ghost invariant = { λ d. IsDiskSize (shown d.shape) };
 }
@@ -190,14 +227,22 @@ impl<S: Storage + Drop> FileDisk<S> {
     pub fn new(alloc: Global, storage: S, sizes: Sizes) -> FileDisk<S>
         requires size { (sizes.sector_size ≡ 512) ⊎ (sizes.sector_size ≡ 4096) }
         requires few { sizes.sectors ≤ 2 ^ 40 }
-        ensures { result ≡ record { sector_size = sizes.sector_size; sectors = sizes.sectors; write_protected = sizes.write_protected; calls = S.calls storage } }
+        ensures { result ≡ record { sector_size = sizes.sector_size; sectors = sizes.sectors; write_protected = sizes.write_protected; full = false; calls = S.calls storage } }
     {
         FileDisk {
             storage,
             shape: SparseDisk::new(alloc, sizes.sector_size, sizes.sectors, Vec::new(alloc)),
             write_protected: sizes.write_protected,
+            full: false,
             room: Vec::new(alloc),
         }
+    }
+
+    /// Returns whether the storage had no room for the newest of the writes that it refused.
+    pub fn is_full(&self) -> bool
+        ensures { result ≡ self.now.full }
+    {
+        self.full
     }
 
     /// Makes room for this many bytes. It takes no memory where as much was taken back.
@@ -225,6 +270,7 @@ impl<S: Storage + Drop> FileDisk<S> {
     fn read(&mut self, offset: u64, count: usize) -> Result<Bytes, Completion>
         requires fits { offset + count < 2 ^ 64 }
         ensures reads { Since self.old.calls self.new.calls (λ calls. ReadsBytes offset count result calls ⊎ LacksMemory result calls) }
+        ensures room { TellsRoom self.old self.new }
         ensures after { self.new ≡ record self.old { calls = self.new.calls } }
     {
         let mut room = self.take_room(count)?;
@@ -252,13 +298,14 @@ impl<S: Storage + Drop> FileDisk<S> {
         requires long { length sent.now ≤ extent.count * self.old.sector_size }
         ensures does { Carries self.old task extent sent.now (moved_by sent.now result) self.new }
         ensures sent { IfOk result (λ bytes. IsSentOr task bytes) }
-        ensures after { self.new ≡ record self.old { calls = self.new.calls } }
+        ensures room { TellsRoom self.old self.new }
+        ensures after { self.new ≡ record self.old { calls = self.new.calls; full = self.new.full } }
     {
         let offset = extent.first * self.shape.sector_size() as u64;
         match task {
             Task::Read => Ok(Some(self.read(offset, sent.len())?)),
             Task::Write { through } => {
-                write(&mut self.storage, offset, sent, through)?;
+                write(&mut self.storage, &mut self.full, offset, sent, through)?;
                 Ok(None)
             }
             Task::Flush => {
@@ -275,7 +322,7 @@ impl<S: Storage + Drop> FileDisk<S> {
     /// The first row that fits of the table of the adapter in memory, such as ILLEGAL REQUEST or WRITE PROTECTED, where
     /// the SRB asks for what a disk doesn't carry out; SRB_STATUS_INVALID_REQUEST for a READ CAPACITY, which only
     /// a start sends. MEDIUM ERROR where a read or a write failed, or DATA PROTECT where the file can't be
-    /// written; HARDWARE ERROR where a sync failed or memory for a read was refused.
+    /// written or has no room; HARDWARE ERROR where a sync failed or memory for a read was refused.
     pub fn transfer(&mut self, tag: u8, piece: u128, srb: &Srb) -> Result<Moved, Completion>
         ensures transfers { Transfers self.old tag piece srb.now (entry_moved tag piece srb.now result) self.new }
         ensures suits { Suits self.old.sector_size self.old.sectors srb.now (entry_moved tag piece srb.now result) }

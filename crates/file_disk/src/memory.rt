@@ -14,7 +14,8 @@ pub struct MemoryFile {
     longest: usize,
     /// How many calls succeed before one fails.
     before: Option<u64>,
-    protected: bool,
+    /// Why every write fails, if it does.
+    refused: Option<Failure>,
     noted: Record,
 }
 
@@ -25,7 +26,7 @@ impl MemoryFile {
             bytes,
             longest: usize::MAX,
             before: None,
-            protected: false,
+            refused: None,
             noted: Record::new(),
         }
     }
@@ -46,7 +47,15 @@ impl MemoryFile {
     /// Makes every write fail, as a file does that can't be written.
     pub fn write_protected(self) -> MemoryFile {
         MemoryFile {
-            protected: true,
+            refused: Some(Failure::Protected),
+            ..self
+        }
+    }
+
+    /// Makes every write fail, as one of a file does that has no room.
+    pub fn full(self) -> MemoryFile {
+        MemoryFile {
+            refused: Some(Failure::Full),
             ..self
         }
     }
@@ -60,8 +69,8 @@ impl MemoryFile {
     fn refuses(&mut self) -> Option<Failure>
         ensures { self.new.noted ≡ self.old.noted }
     {
-        if self.protected {
-            return Some(Failure::Protected);
+        if self.refused.is_some() {
+            return self.refused;
         }
         match self.fails() {
             true => Some(Failure::Failed),

@@ -13,7 +13,9 @@ const DONE: u64 = 0;
 
 const PROTECTED: u64 = 1;
 
-const FAILED: u64 = 2;
+const FULL: u64 = 2;
+
+const FAILED: u64 = 3;
 
 /// The calls so far, the newest first. It takes no memory: a storage notes what it did, and contracts alone read that.
 #[derive(Drop)]
@@ -91,6 +93,7 @@ fn code_of(why: Failure) -> u64
 {
     match why {
         Failure::Protected => PROTECTED,
+        Failure::Full => FULL,
         Failure::Failed => FAILED,
     }
 }

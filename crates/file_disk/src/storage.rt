@@ -8,7 +8,10 @@ pub enum Failure {
     /// The file can't be written.
     #[error("write protected")]
     Protected,
-    /// The call failed in another way; there was no room, for one.
+    /// There is no room for what was to be written.
+    #[error("no room")]
+    Full,
+    /// The call failed in another way.
     #[error("failed")]
     Failed,
 }

@@ -18,9 +18,9 @@ struct Counting {
 }
 
 impl Array for Counting {
-    ghost use Rattle.std.specs.Prelude.{if◌then◌else◌, ⊤};
+    ghost use Rattle.std.specs.Prelude.{false, if◌then◌else◌, ⊤};
 
-    ghost content = { λ a. record { block = (if a.array.long_blocks then 4096 else 512); bytes = a.array.bytes.items } };
+    ghost content = { λ a. record { block = (if a.array.long_blocks then 4096 else 512); bytes = a.array.bytes.items; read_only = false } };
 
     ghost fails = { λ _ _ _. ⊤ };
 

@@ -83,6 +83,7 @@ broken_off c mid new o a b n fits within e h =
           ∙ drop-drop (n - (a + b)) (o + a + b) (splice c.bytes o (replicate a 0))
           ∙ ap (λ (m : ℕ). drop m (splice c.bytes o (replicate a 0))) k
           ∙ behind_of c.bytes o n (replicate a 0) (omega arith) (omega (arith, la));
+      told = h.told ∙ ap (λ (m : Content). m.read_only) e;
     }
 
 abbrev Pieces : ℕ → ℕ → ℕ → ℕ → ℕ → Type 0
@@ -123,4 +124,5 @@ written_inside c o more fits = record {
   long = length-spliced c.bytes o more fits;
   before = front_of c.bytes o more (omega arith);
   behind = behind_of c.bytes o (length more) more (omega arith) (omega arith);
+  told = refl;
 }

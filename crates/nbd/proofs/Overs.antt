@@ -145,10 +145,10 @@ module _ {S : Type 0} (Carries : Command → List ℕ → S → Outcome → S �
   -- whole sessions
 
   pub ends_in_options : (old : S) (told_sizes : Sizes) (no_zeroes : Bool) (i x j y z : Option (List ℕ)) (end : End) → told_sizes ≡ sizes
-      → Greets i x j y no_zeroes → EndsHaggling told_sizes.block told_sizes.bytes no_zeroes j y end z → IsSessionOver Carries sizes old i x end old z
+      → Greets i x j y no_zeroes → EndsHaggling told_sizes no_zeroes j y end z → IsSessionOver Carries sizes old i x end old z
   ends_in_options old told_sizes no_zeroes i x j y z end same g h' =
-      let h : EndsHaggling sizes.block sizes.bytes no_zeroes j y end z = subst (λ (s : Sizes). EndsHaggling s.block s.bytes no_zeroes j y end z) same h' in
-      let ans = answers_to sizes.block sizes.bytes no_zeroes in
+      let h : EndsHaggling sizes no_zeroes j y end z = subst (λ (s : Sizes). EndsHaggling s no_zeroes j y end z) same h' in
+      let ans = answers_to sizes no_zeroes in
       inr (record {
         flags = g.flags;
         no_zeroes = no_zeroes;
@@ -166,10 +166,10 @@ module _ {S : Type 0} (Carries : Command → List ℕ → S → Outcome → S �
       })
 
   pub whole_session : (old new : S) (told_sizes : Sizes) (no_zeroes : Bool) (i x j y k z w : Option (List ℕ)) (end : End) → told_sizes ≡ sizes
-      → Greets i x j y no_zeroes → Haggles told_sizes.block told_sizes.bytes no_zeroes j y k z Requests → EndsOver Carries sizes old k z end new w → IsSessionOver Carries sizes old i x end new w
+      → Greets i x j y no_zeroes → Haggles told_sizes no_zeroes j y k z Requests → EndsOver Carries sizes old k z end new w → IsSessionOver Carries sizes old i x end new w
   whole_session old new told_sizes no_zeroes i x j y k z w end same g h' e =
-      let h : Haggles sizes.block sizes.bytes no_zeroes j y k z Requests = subst (λ (s : Sizes). Haggles s.block s.bytes no_zeroes j y k z Requests) same h' in
-      let ans = answers_to sizes.block sizes.bytes no_zeroes in
+      let h : Haggles sizes no_zeroes j y k z Requests = subst (λ (s : Sizes). Haggles s no_zeroes j y k z Requests) same h' in
+      let ans = answers_to sizes no_zeroes in
       inr (record {
         flags = g.flags;
         no_zeroes = no_zeroes;

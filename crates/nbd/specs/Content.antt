@@ -1,5 +1,6 @@
 -- An array of bytes, and what is done to it.
-use Rattle.std.specs.Prelude.{◌≡◌, ◌≤◌, ◌<◌, ◌⊎◌, ℕ, ◌+◌, ◌%◌, List, ◌++◌, length, take, drop}
+use Rattle.std.specs.Prelude.{◌≡◌, ◌≤◌, ◌<◌, ◌⊎◌, ℕ, ◌+◌, ◌%◌, Bool, List, ◌++◌, length, take, drop}
+use Rattle.nbd.specs.declared.arrays.Sizes.{Sizes}
 
 -- an array as its user sees it
 pub record Content : Type 0 where
@@ -7,6 +8,12 @@ pub record Content : Type 0 where
   pub block : ℕ
   -- the bytes of the array
   pub bytes : List ℕ
+  -- whether clients are told that it can't be written
+  pub read_only : Bool
+
+-- what clients are told of an array
+abbrev pub sizes_of : Content → Sizes
+sizes_of c = record { block = c.block; bytes = length c.bytes; read_only = c.read_only }
 
 abbrev pub IsBlockSize : ℕ → Type 0
 IsBlockSize size = (size ≡ 512) ⊎ (size ≡ 4096)
@@ -32,3 +39,4 @@ pub record IsSameOutside (old : Content) (offset count : ℕ) (new : Content) : 
   pub long : length new.bytes ≡ length old.bytes
   pub before : take offset new.bytes ≡ take offset old.bytes
   pub behind : drop (offset + count) new.bytes ≡ drop (offset + count) old.bytes
+  pub told : new.read_only ≡ old.read_only

@@ -2,17 +2,18 @@
 use Rattle.std.specs.Prelude.{◌≡◌, ◌⊎◌, ℕ, Bool, List, [], ◌∷◌, ◌++◌, length, Option, IsTrue, IsFalse}
 use Rattle.byteorder.specs.Endian.{big_from}
 use Rattle.nbd.specs.declared.End.{End}
+use Rattle.nbd.specs.declared.arrays.Sizes.{Sizes}
 use Rattle.nbd.specs.declared.End.TheVariants.{Left, Malformed}
 use Rattle.nbd.specs.declared.options.Next.{Next}
 use Rattle.nbd.specs.declared.options.Next.TheVariants.{Options, Requests, Ended}
-use Rattle.nbd.specs.Content.{Content}
+use Rattle.nbd.specs.Content.{Content, sizes_of}
 use Rattle.nbd.specs.Options.{Asked, IsAsked, IsNoOption, are_known, greeting, next_of, option_bytes, replies_to, wants_no_zeroes, wish_of}
 use Rattle.nbd.specs.Carrying.{Faulting}
 use Rattle.nbd.specs.Session.{Begins, Exchange, IsTold, IsLast, Run, asked_by, said, told_by}
 
 -- the replies to an option
-abbrev pub answers_to : ℕ → ℕ → Bool → Asked → List ℕ
-answers_to block size no_zeroes a = replies_to block size no_zeroes a.code (wish_of a)
+abbrev pub answers_to : Sizes → Bool → Asked → List ℕ
+answers_to sizes no_zeroes a = replies_to sizes no_zeroes a.code (wish_of a)
 
 -- each of these options but the last leads to another option, and the last one leads to this
 abbrev pub Leads : List Asked → Next → Type 0
@@ -45,7 +46,7 @@ pub record Talks (F : Faulting) (old : Content) (input out : Option (List ℕ)) 
   -- no request is served but behind an option that leads to requests
   pub in_turn : ((next ≡ Requests) × IsLast end last) ⊎ ((exchanges ≡ []) × (((next ≡ Ended end) × (last ≡ [])) ⊎ ((next ≡ Options) × IsLastOption end last)))
   pub asked : Begins input (flags ++ (said option_bytes options ++ (said asked_by exchanges ++ last)))
-  pub told : IsTold end out after (greeting ++ (said (answers_to old.block (length old.bytes) no_zeroes) options ++ said told_by exchanges))
+  pub told : IsTold end out after (greeting ++ (said (answers_to (sizes_of old) no_zeroes) options ++ said told_by exchanges))
   pub run : Run F old exchanges new
 
 -- four bytes with a flag that isn't known

@@ -2,13 +2,14 @@
 use Rattle.std.specs.Prelude.{◌≡◌, ◌≢◌, ℕ, ◌+◌, ◌*◌, ◌==◌, ◌||◌, Bool, not, nat_lt, if◌then◌else◌, List, [], ◌++◌, length, replicate, bit_and}
 use Rattle.byteorder.specs.Endian.{big_from, big_bytes}
 use Rattle.nbd.specs.declared.End.TheVariants.{Left, Malformed}
+use Rattle.nbd.specs.declared.arrays.Sizes.{Sizes}
 use Rattle.nbd.specs.declared.options.Wish.{Wish}
 use Rattle.nbd.specs.declared.options.Wish.TheVariants.{Export, Leave, Exports, Info, Go, Refuse, Close}
 use Rattle.nbd.specs.declared.options.OptionError.{OptionError}
 use Rattle.nbd.specs.declared.options.OptionError.TheVariants.{Unsupported, Invalid, Unknown, TooBig}
 use Rattle.nbd.specs.declared.options.Next.{Next}
 use Rattle.nbd.specs.declared.options.Next.TheVariants.{Options, Requests, Ended}
-use Rattle.nbd.specs.declared.constants.TheConstants.{NBDMAGIC, IHAVEOPT, NBD_REP_MAGIC, NBD_FLAG_FIXED_NEWSTYLE, NBD_FLAG_NO_ZEROES, NBD_FLAG_C_FIXED_NEWSTYLE, NBD_FLAG_C_NO_ZEROES, NBD_OPT_EXPORT_NAME, NBD_OPT_ABORT, NBD_OPT_LIST, NBD_OPT_INFO, NBD_OPT_GO, NBD_REP_ACK, NBD_REP_SERVER, NBD_REP_INFO, NBD_REP_ERR_UNSUP, NBD_REP_ERR_INVALID, NBD_REP_ERR_UNKNOWN, NBD_REP_ERR_TOO_BIG, NBD_INFO_EXPORT, NBD_INFO_BLOCK_SIZE, NBD_FLAG_HAS_FLAGS, NBD_FLAG_SEND_FLUSH, NBD_FLAG_SEND_FUA, NBD_FLAG_SEND_WRITE_ZEROES, LONGEST, LONGEST_OPTION}
+use Rattle.nbd.specs.declared.constants.TheConstants.{NBDMAGIC, IHAVEOPT, NBD_REP_MAGIC, NBD_FLAG_FIXED_NEWSTYLE, NBD_FLAG_NO_ZEROES, NBD_FLAG_C_FIXED_NEWSTYLE, NBD_FLAG_C_NO_ZEROES, NBD_OPT_EXPORT_NAME, NBD_OPT_ABORT, NBD_OPT_LIST, NBD_OPT_INFO, NBD_OPT_GO, NBD_REP_ACK, NBD_REP_SERVER, NBD_REP_INFO, NBD_REP_ERR_UNSUP, NBD_REP_ERR_INVALID, NBD_REP_ERR_UNKNOWN, NBD_REP_ERR_TOO_BIG, NBD_INFO_EXPORT, NBD_INFO_BLOCK_SIZE, NBD_FLAG_HAS_FLAGS, NBD_FLAG_READ_ONLY, NBD_FLAG_SEND_FLUSH, NBD_FLAG_SEND_FUA, NBD_FLAG_SEND_WRITE_ZEROES, LONGEST, LONGEST_OPTION}
 
 -- the server's first bytes: its two magic numbers and its handshake flags
 abbrev pub greeting : List ℕ
@@ -67,33 +68,38 @@ option_header code kind count = big_bytes 8 NBD_REP_MAGIC ++ (big_bytes 4 code +
 abbrev pub option_reply : ℕ → ℕ → List ℕ → List ℕ
 option_reply code kind bytes = option_header code kind (length bytes) ++ bytes
 
--- NBD_FLAG_HAS_FLAGS, NBD_FLAG_SEND_FLUSH, NBD_FLAG_SEND_FUA, NBD_FLAG_SEND_WRITE_ZEROES
-abbrev pub export_flags : ℕ
-export_flags = NBD_FLAG_HAS_FLAGS + NBD_FLAG_SEND_FLUSH + NBD_FLAG_SEND_FUA + NBD_FLAG_SEND_WRITE_ZEROES
+-- flush, FUA and zeros are served, and clients are told of an array that can't be written
+abbrev pub export_flags : Bool → ℕ
+export_flags read_only =
+    NBD_FLAG_HAS_FLAGS + NBD_FLAG_SEND_FLUSH + NBD_FLAG_SEND_FUA + NBD_FLAG_SEND_WRITE_ZEROES + (if read_only then NBD_FLAG_READ_ONLY else 0)
 
 -- the size of the export, and its transmission flags
-abbrev pub export_bytes : ℕ → List ℕ
-export_bytes size = big_bytes 8 size ++ big_bytes 2 export_flags
+abbrev pub export_bytes : Sizes → List ℕ
+export_bytes sizes = big_bytes 8 sizes.bytes ++ big_bytes 2 (export_flags sizes.read_only)
 
 -- the smallest block, the best and the longest
 abbrev pub block_bytes : ℕ → List ℕ
 block_bytes block = big_bytes 4 block ++ (big_bytes 4 4096 ++ big_bytes 4 LONGEST)
 
 -- the export, its blocks, and an end
-abbrev pub info_replies : ℕ → ℕ → ℕ → List ℕ
-info_replies block size code =
-    option_reply code NBD_REP_INFO (big_bytes 2 NBD_INFO_EXPORT ++ export_bytes size)
-    ++ (option_reply code NBD_REP_INFO (big_bytes 2 NBD_INFO_BLOCK_SIZE ++ block_bytes block) ++ option_reply code NBD_REP_ACK [])
+abbrev pub info_replies : Sizes → ℕ → List ℕ
+info_replies sizes code =
+    option_reply code NBD_REP_INFO (big_bytes 2 NBD_INFO_EXPORT ++ export_bytes sizes)
+    ++ (option_reply code NBD_REP_INFO (big_bytes 2 NBD_INFO_BLOCK_SIZE ++ block_bytes sizes.block) ++ option_reply code NBD_REP_ACK [])
 
--- the reply of an export of this many bytes, in blocks of this size
-abbrev pub replies_to : ℕ → ℕ → Bool → ℕ → Wish → List ℕ
-replies_to block size no_zeroes code Export = export_bytes size ++ (if no_zeroes then [] else replicate 124 0)
-replies_to block size no_zeroes code Leave = option_reply code NBD_REP_ACK []
-replies_to block size no_zeroes code Exports = option_reply code NBD_REP_SERVER (big_bytes 4 0) ++ option_reply code NBD_REP_ACK []
-replies_to block size no_zeroes code Info = info_replies block size code
-replies_to block size no_zeroes code Go = info_replies block size code
-replies_to block size no_zeroes code (Refuse e) = option_reply code (option_error_number e) []
-replies_to block size no_zeroes code Close = []
+-- the names of the exports: one, which is empty
+abbrev pub name_replies : ℕ → List ℕ
+name_replies code = option_reply code NBD_REP_SERVER (big_bytes 4 0) ++ option_reply code NBD_REP_ACK []
+
+-- the reply of an export of these sizes
+abbrev pub replies_to : Sizes → Bool → ℕ → Wish → List ℕ
+replies_to sizes no_zeroes code Export = export_bytes sizes ++ (if no_zeroes then [] else replicate 124 0)
+replies_to sizes no_zeroes code Leave = option_reply code NBD_REP_ACK []
+replies_to sizes no_zeroes code Exports = name_replies code
+replies_to sizes no_zeroes code Info = info_replies sizes code
+replies_to sizes no_zeroes code Go = info_replies sizes code
+replies_to sizes no_zeroes code (Refuse e) = option_reply code (option_error_number e) []
+replies_to sizes no_zeroes code Close = []
 
 -- THE BYTES OF AN OPTION
 

@@ -48,7 +48,7 @@ module _ {S : Type 0} (Carries : Command → List ℕ → S → Outcome → S �
     -- no request is served but behind an option that leads to requests
     pub in_turn : ((next ≡ Requests) × IsLast end last) ⊎ ((exchanges ≡ []) × (((next ≡ Ended end) × (last ≡ [])) ⊎ ((next ≡ Options) × IsLastOption end last)))
     pub asked : Begins input (flags ++ (said option_bytes options ++ (said asked_by exchanges ++ last)))
-    pub told : IsTold end out after (greeting ++ (said (answers_to sizes.block sizes.bytes no_zeroes) options ++ said told_by exchanges))
+    pub told : IsTold end out after (greeting ++ (said (answers_to sizes no_zeroes) options ++ said told_by exchanges))
     pub run : RunOver old exchanges new
 
   -- a session that ended before its options: nothing was done

@@ -8,13 +8,15 @@ use crate::constants::LONGEST;
 use std::alloc::Global;
 use thiserror::Error;
 
-/// The sizes of an array.
+/// The sizes of an array, and whether it can be written.
 #[derive(Debug, Clone, Copy, PartialEq, Eq)]
 pub struct Sizes {
     /// The bytes of a block, 512 or 4096. Each request has whole blocks.
     pub block: u32,
     /// The bytes of the array.
     pub bytes: u64,
+    /// Whether clients are told that it can't be written. A write that comes all the same is for the array to fail.
+    pub read_only: bool,
 }
 
 /// Why an array did not do what it was asked to.
@@ -45,6 +47,7 @@ pub trait Array {
     fn sizes(&self) -> Sizes
         ensures block { result.block ≡ (content self.now).block }
         ensures bytes { result.bytes ≡ length (content self.now).bytes }
+        ensures read_only { result.read_only ≡ (content self.now).read_only }
         ensures block_size { IsBlockSize result.block };
 
     /// Reads as many bytes as the buffer has, from byte `offset` on.

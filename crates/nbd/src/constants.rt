@@ -59,6 +59,8 @@ pub(crate) const NBD_INFO_BLOCK_SIZE: u16 = 3;
 // Transmission flags.
 pub(crate) const NBD_FLAG_HAS_FLAGS: u16 = 1;
 
+pub(crate) const NBD_FLAG_READ_ONLY: u16 = 2;
+
 pub(crate) const NBD_FLAG_SEND_FLUSH: u16 = 4;
 
 pub(crate) const NBD_FLAG_SEND_FUA: u16 = 8;

@@ -69,8 +69,8 @@ pub(crate) fn answer_options<R: Read, W: Write>(
     sizes: Sizes,
     no_zeroes: bool,
 ) -> Result<(), End>
-    ensures opened { OnOk result (Haggles sizes.block sizes.bytes no_zeroes (R.remaining input.old) (W.contents out.old) (R.remaining input.new) (W.contents out.new) Requests) }
-    ensures ended { IfErr result (λ end. EndsHaggling sizes.block sizes.bytes no_zeroes (R.remaining input.old) (W.contents out.old) end (W.contents out.new)) }
+    ensures opened { OnOk result (Haggles sizes no_zeroes (R.remaining input.old) (W.contents out.old) (R.remaining input.new) (W.contents out.new) Requests) }
+    ensures ended { IfErr result (λ end. EndsHaggling sizes no_zeroes (R.remaining input.old) (W.contents out.old) end (W.contents out.new)) }
 {
     let mut buffer = [0; LONGEST_OPTION as usize];
     haggle(input, out, sizes, no_zeroes, &mut buffer)
@@ -89,8 +89,8 @@ fn haggle<R: Read, W: Write>(
     buffer: &mut [u8],
 ) -> Result<(), End>
     requires { length buffer.old ≡ LONGEST_OPTION }
-    ensures opened { OnOk result (Haggles sizes.block sizes.bytes no_zeroes (R.remaining input.old) (W.contents out.old) (R.remaining input.new) (W.contents out.new) Requests) }
-    ensures ended { IfErr result (λ end. EndsHaggling sizes.block sizes.bytes no_zeroes (R.remaining input.old) (W.contents out.old) end (W.contents out.new)) }
+    ensures opened { OnOk result (Haggles sizes no_zeroes (R.remaining input.old) (W.contents out.old) (R.remaining input.new) (W.contents out.new) Requests) }
+    ensures ended { IfErr result (λ end. EndsHaggling sizes no_zeroes (R.remaining input.old) (W.contents out.old) end (W.contents out.new)) }
 {
     for _ in 0..u64::MAX {
         match haggle_once(input, out, sizes, no_zeroes, buffer) {
@@ -116,7 +116,7 @@ fn haggle_once<R: Read, W: Write>(
     buffer: &mut [u8],
 ) -> Result<Next, End>
     requires { length buffer.old ≡ LONGEST_OPTION }
-    ensures asked { IfOk result (AsksOnce sizes.block sizes.bytes no_zeroes (R.remaining input.old) (W.contents out.old) (R.remaining input.new) (W.contents out.new)) }
+    ensures asked { IfOk result (AsksOnce sizes no_zeroes (R.remaining input.old) (W.contents out.old) (R.remaining input.new) (W.contents out.new)) }
     ensures ended { IfErr result (TakesLastOption (R.remaining input.old)) }
     ensures told { IfErr result (λ end. IsTold end (W.contents out.old) (W.contents out.new) []) }
 {
@@ -137,7 +137,7 @@ fn reply<W: Write>(
     code: u32,
     wish: Wish,
 ) -> Result<(), End>
-    ensures told { OnOk result (Appends (W.contents out.old) (W.contents out.new) (replies_to sizes.block sizes.bytes no_zeroes code wish)) }
+    ensures told { OnOk result (Appends (W.contents out.old) (W.contents out.new) (replies_to sizes no_zeroes code wish)) }
     ensures ended { IfErr result (λ end. end ≡ End.Output) }
 {
     let written = write_replies(out, sizes, no_zeroes, code, wish);

@@ -15,9 +15,9 @@ pub struct MemArray {
 }
 
 impl Array for MemArray {
-    ghost use Rattle.std.specs.Prelude.{if◌then◌else◌};
+    ghost use Rattle.std.specs.Prelude.{false, if◌then◌else◌};
 
-    ghost content = { λ a. record { block = (if a.long_blocks then 4096 else 512); bytes = a.bytes.items } };
+    ghost content = { λ a. record { block = (if a.long_blocks then 4096 else 512); bytes = a.bytes.items; read_only = false } };
 
     ghost fails = { λ _ _ _. ⊥ };
 
@@ -25,6 +25,7 @@ impl Array for MemArray {
         Sizes {
             block: if self.long_blocks { 4096 } else { 512 },
             bytes: self.bytes.len() as u64,
+            read_only: false,
         }
     }
 

@@ -1,27 +1,27 @@
 //! The options that a client sends before its requests, and their replies.
 
-ghost use Rattle.std.specs.Prelude.{◌≡◌, ◌≤◌, ◌<◌, ◌^◌, ◌++◌, ℕ, List, true, length, IfErr, IfOk, OnOk};
+ghost use Rattle.std.specs.Prelude.{◌≡◌, ◌≤◌, ◌<◌, ◌^◌, ◌++◌, ℕ, List, length, IfErr, IfOk, OnOk};
 ghost use Rattle.std.specs.Io.KnownBytes.{Appends};
 ghost use Rattle.byteorder.specs.Endian.{big_bytes};
 ghost use Rattle.nbd.specs.inside.Handshake.{TakesLastOption};
-ghost use Rattle.nbd.specs.Options.{block_bytes, export_bytes, info_in, info_replies, next_of, option_error_number, option_header, option_reply, replies_to, wish_in};
+ghost use Rattle.nbd.specs.Options.{block_bytes, export_bytes, export_flags, info_in, info_replies, name_replies, next_of, option_error_number, option_header, option_reply, replies_to, wish_in};
 ghost use Rattle.nbd.specs.inside.Options.{TakesOption, TakesOptionHeader};
 
 use crate::End;
 use crate::arrays::Sizes;
 use crate::constants::{
-    IHAVEOPT, LONGEST, LONGEST_OPTION, NBD_FLAG_HAS_FLAGS, NBD_FLAG_SEND_FLUSH, NBD_FLAG_SEND_FUA,
-    NBD_FLAG_SEND_WRITE_ZEROES, NBD_INFO_BLOCK_SIZE, NBD_INFO_EXPORT, NBD_OPT_ABORT,
-    NBD_OPT_EXPORT_NAME, NBD_OPT_GO, NBD_OPT_INFO, NBD_OPT_LIST, NBD_REP_ACK, NBD_REP_ERR_INVALID,
-    NBD_REP_ERR_TOO_BIG, NBD_REP_ERR_UNKNOWN, NBD_REP_ERR_UNSUP, NBD_REP_INFO, NBD_REP_MAGIC,
-    NBD_REP_SERVER,
+    IHAVEOPT, LONGEST, LONGEST_OPTION, NBD_FLAG_HAS_FLAGS, NBD_FLAG_READ_ONLY, NBD_FLAG_SEND_FLUSH,
+    NBD_FLAG_SEND_FUA, NBD_FLAG_SEND_WRITE_ZEROES, NBD_INFO_BLOCK_SIZE, NBD_INFO_EXPORT,
+    NBD_OPT_ABORT, NBD_OPT_EXPORT_NAME, NBD_OPT_GO, NBD_OPT_INFO, NBD_OPT_LIST, NBD_REP_ACK,
+    NBD_REP_ERR_INVALID, NBD_REP_ERR_TOO_BIG, NBD_REP_ERR_UNKNOWN, NBD_REP_ERR_UNSUP, NBD_REP_INFO,
+    NBD_REP_MAGIC, NBD_REP_SERVER,
 };
 use crate::streams::{skip, take};
 use byteorder::{BigEndian, ByteOrder};
 use std::io;
 use std::io::{Read, Write};
 
-/// What the server can do.
+/// What the server can do, but for writes.
 const EXPORT_FLAGS: u16 = NBD_FLAG_HAS_FLAGS
     + NBD_FLAG_SEND_FLUSH
     + NBD_FLAG_SEND_FUA
@@ -196,7 +196,7 @@ pub fn write_replies<W: Write>(
     code: u32,
     wish: Wish,
 ) -> io::Result<()>
-    ensures { OnOk result (Appends (W.contents out.old) (W.contents out.new) (replies_to sizes.block sizes.bytes no_zeroes code wish)) }
+    ensures { OnOk result (Appends (W.contents out.old) (W.contents out.new) (replies_to sizes no_zeroes code wish)) }
 {
     match wish {
         Wish::Export => write_export(out, sizes, no_zeroes),
@@ -214,9 +214,9 @@ pub fn write_replies<W: Write>(
 ///
 /// The errors of the writer.
 fn write_export<W: Write>(out: &mut W, sizes: Sizes, no_zeroes: bool) -> io::Result<()>
-    ensures { OnOk result (Appends (W.contents out.old) (W.contents out.new) (replies_to sizes.block sizes.bytes no_zeroes 0 Wish.Export)) }
+    ensures { OnOk result (Appends (W.contents out.old) (W.contents out.new) (replies_to sizes no_zeroes 0 Wish.Export)) }
 {
-    out.write_all(&export(sizes.bytes))?;
+    out.write_all(&export(sizes))?;
     if !no_zeroes {
         out.write_all(&[0; 124])?;
     }
@@ -229,7 +229,7 @@ fn write_export<W: Write>(out: &mut W, sizes: Sizes, no_zeroes: bool) -> io::Res
 ///
 /// The errors of the writer.
 fn write_exports<W: Write>(out: &mut W, code: u32) -> io::Result<()>
-    ensures { OnOk result (Appends (W.contents out.old) (W.contents out.new) (replies_to 0 0 true code Wish.Exports)) }
+    ensures { OnOk result (Appends (W.contents out.old) (W.contents out.new) (name_replies code)) }
 {
     write_option_reply(out, code, NBD_REP_SERVER, &[0; 4])?;
     write_option_reply(out, code, NBD_REP_ACK, &[])?;
@@ -242,9 +242,9 @@ fn write_exports<W: Write>(out: &mut W, code: u32) -> io::Result<()>
 ///
 /// The errors of the writer.
 fn write_info<W: Write>(out: &mut W, sizes: Sizes, code: u32) -> io::Result<()>
-    ensures { OnOk result (Appends (W.contents out.old) (W.contents out.new) (info_replies sizes.block sizes.bytes code)) }
+    ensures { OnOk result (Appends (W.contents out.old) (W.contents out.new) (info_replies sizes code)) }
 {
-    write_option_reply(out, code, NBD_REP_INFO, &export_info(sizes.bytes))?;
+    write_option_reply(out, code, NBD_REP_INFO, &export_info(sizes))?;
     write_option_reply(out, code, NBD_REP_INFO, &block_info(sizes.block))?;
     write_option_reply(out, code, NBD_REP_ACK, &[])?;
     Ok(())
@@ -276,24 +276,35 @@ fn header(code: u32, kind: u32, count: u32) -> [u8; 20]
     bytes
 }
 
+/// The transmission flags of an export.
+fn flags_of(read_only: bool) -> u16
+    ensures { result ≡ export_flags read_only }
+{
+    if read_only {
+        EXPORT_FLAGS + NBD_FLAG_READ_ONLY
+    } else {
+        EXPORT_FLAGS
+    }
+}
+
 /// The size of the export, and its transmission flags.
-fn export(size: u64) -> [u8; 10]
-    ensures { result ≡ export_bytes size }
+fn export(sizes: Sizes) -> [u8; 10]
+    ensures { result ≡ export_bytes sizes }
 {
     let mut bytes = [0; 10];
-    BigEndian::write_u64(&mut bytes, size);
-    BigEndian::write_u16(&mut bytes[8..], EXPORT_FLAGS);
+    BigEndian::write_u64(&mut bytes, sizes.bytes);
+    BigEndian::write_u16(&mut bytes[8..], flags_of(sizes.read_only));
     bytes
 }
 
 /// Returns what NBD_INFO_EXPORT tells.
-fn export_info(size: u64) -> [u8; 12]
-    ensures { result ≡ big_bytes 2 NBD_INFO_EXPORT ++ export_bytes size }
+fn export_info(sizes: Sizes) -> [u8; 12]
+    ensures { result ≡ big_bytes 2 NBD_INFO_EXPORT ++ export_bytes sizes }
 {
     let mut bytes = [0; 12];
     BigEndian::write_u16(&mut bytes, NBD_INFO_EXPORT);
-    BigEndian::write_u64(&mut bytes[2..], size);
-    BigEndian::write_u16(&mut bytes[10..], EXPORT_FLAGS);
+    BigEndian::write_u64(&mut bytes[2..], sizes.bytes);
+    BigEndian::write_u16(&mut bytes[10..], flags_of(sizes.read_only));
     bytes
 }
 

@@ -64,7 +64,7 @@ pub enum ReplyError {
     /// The request is not served: it is unknown, has unknown flags or no bytes, is too long or not in whole blocks, or
     /// reads past the end.
     Einval,
-    /// The request writes past the end.
+    /// The request writes past the end, or the storage has no room for it.
     Enospc,
     /// The array isn't there any more.
     Eshutdown,

@@ -10,6 +10,7 @@
 //!   NBD protocol, over the bytes of the partition of the settings' disk, which are zeros at its start.
 //! - [`serving::serve_file`]: over a file the stack answered each success, with just the calls to the file that the
 //!   pieces of the requests made.
+//! - [`serving::check_apart`]: a disk's file that is CONFIG or standard output is refused.
 //! - [`serving::command`]: paths and partition are those that the parser of the command line found under their names,
 //!   and only words that ask for nothing that can be served are refused.
 //! - [`Error`]'s text and [`Ending`](startup::Ending): the line and the exit status of each fault, as [`startup::say`]
@@ -20,24 +21,28 @@
 //! for one.
 #![tactic(auto)]
 
+mod found;
+
 ghost use Rattle.std.specs.Prelude.{◌≡◌};
 ghost use Rattle.std.specs.Result.{result_err};
 ghost use Rattle.settings.specs.InRange.{AreInRange};
 ghost use Rattle.serving.specs.OnDisk.{IsFileSession};
 
 use file_disk::{DiskFile, Storage};
+use found::settings_in;
 use nbd::Ahead;
 use read_ahead::{Naming, ReadAhead};
 use serving::{
-    Asked, DiskFault, Error, Filed, command, disk_bytes, open_file, put_table, serve_disk,
-    serve_file,
+    Asked, DiskFault, Error, Filed, Inode, check_apart, command, disk_bytes, open_file, put_table,
+    read_only, serve_disk, serve_file,
 };
 use settings::Config;
 use startup::{Verdict, ended, fault_of, hold_standard, read_settings};
 use std::alloc::{AllocError, Global};
-use std::fs::{File, OpenOptions, TryLockError};
-use std::io::{BufReader, BufWriter, ErrorKind, Read, Write};
+use std::fs::{File, Metadata, OpenOptions, TryLockError};
+use std::io::{BufReader, BufWriter, ErrorKind, Read, Seek, SeekFrom, Write};
 use std::marker::Brand;
+use std::os::unix::fs::MetadataExt;
 use std::process::ExitCode;
 use std::sync::Wait;
 use std::thread::Threads;
@@ -56,12 +61,14 @@ const INPUT_BUFFER: usize = 61_440;
 /// the system anew each time (mallopt(3), `M_MMAP_THRESHOLD`).
 const KEPT: usize = 33_538_048;
 
-/// A disk that is in a file.
-#[derive(Clone, Copy)]
-struct Place<'a> {
-    path: &'a str,
-    /// Whether the file is to be made.
-    create: bool,
+/// The file of a disk.
+#[derive(Drop)]
+struct Image {
+    file: File,
+    /// How many bytes it has.
+    end: u64,
+    /// Whether it is open for reading alone.
+    read_only: bool,
 }
 
 /// Serves as the command line asks for.
@@ -81,9 +88,13 @@ fn run<H: Threads + Wait + Copy + Send + 'static>(
         disk,
         create,
     } = command(alloc, words.as_slice())?;
-    let config = match File::open(rt, config) {
-        Ok(config) => config,
-        Err(error) => return Err(unopened(&error)),
+    if takes_faults(rt, disk) {
+        // A fault would be said into the disk.
+        return Ok(Verdict::Failed);
+    }
+    let config = match config {
+        Some(path) => Some(config_file(rt, path)?),
+        None => None,
     };
     let Ok(input) = BufReader::with_capacity(alloc, INPUT_BUFFER, rt.stdin()) else {
         return Err(Error::NoMemory);
@@ -93,33 +104,58 @@ fn run<H: Threads + Wait + Copy + Send + 'static>(
     };
     match disk {
         Some(path) => {
-            let settings = read_settings(alloc, config)?;
-            let place = Place { path, create };
-            let mut filed = filed(rt, place, settings, partition)?;
-            serve_ahead::<Brand, _, _, _, _>(alloc, handle, &mut filed, input, &mut out)?;
+            let mut filed = match config {
+                Some(config) => filed(rt, path, create, config, partition)?,
+                None if create => return Err(Error::Usage),
+                None => told_by_file(rt, path, partition)?,
+            };
+            let (outcome, unread) = serve_ahead::<Brand, _, _, _, _>(
+                alloc, handle, &mut filed, input, &mut out,
+            );
+            served(outcome, create && unread)
         }
-        None if create => return Err(Error::Usage),
-        None => {
-            let mut input = input;
-            serve_disk(alloc, config, partition, &mut input, &mut out)?
-        }
+        None if create => Err(Error::Usage),
+        None => match config {
+            Some(config) => {
+                let mut input = input;
+                serve_disk(alloc, config, partition, &mut input, &mut out)?;
+                Ok(Verdict::Passed)
+            }
+            None => Err(Error::Usage),
+        },
     }
-    Ok(Verdict::Passed)
 }
 
-/// Serves a client over a disk in a file, with a second thread that fetches the bytes of long writes.
+/// Returns how a run ends behind a session. A file that was made for no client was made all the same.
+fn served(outcome: Result<(), Error>, made_alone: bool) -> Result<Verdict, Error> {
+    match outcome {
+        Ok(()) => Ok(Verdict::Passed),
+        Err(Error::InputEnded) if made_alone => Ok(Verdict::Passed),
+        Err(fault) => Err(fault),
+    }
+}
+
+/// Serves a client over a disk in a file, with a second thread that fetches the bytes of long writes. It also returns
+/// whether the client sent nothing.
 fn serve_ahead<
     J: Naming + Send + Sync + 'static,
     H: Threads + Wait + Copy + Send + 'static,
     S: Storage + Drop,
     I: Ahead + Send + Drop + 'static,
     W: Write,
->(alloc: Global, handle: H, filed: &mut Filed<S>, input: I, out: &mut W) -> Result<(), Error>
+>(
+    alloc: Global,
+    handle: H,
+    filed: &mut Filed<S>,
+    input: I,
+    out: &mut W,
+) -> (Result<(), Error>, bool)
     requires { I.remaining input ≡ J.given }
-    ensures { IsFileSession filed.old (I.remaining input) (W.contents out.old) (result_err result) filed.new (W.contents out.new) }
+    ensures { IsFileSession filed.old (I.remaining input) (W.contents out.old) (result_err result.0) filed.new (W.contents out.new) }
 {
     let mut input: ReadAhead<J, H, I> = ReadAhead::new(alloc, handle, input);
-    serve_file(alloc, filed, &mut input, out)
+    let outcome = serve_file(alloc, filed, &mut input, out);
+    (outcome, input.is_unread())
 }
 
 /// Makes the C library keep freed memory from here on.
@@ -128,26 +164,107 @@ fn keep_freed(alloc: Global) {
     drop(block);
 }
 
-/// Returns the fault of settings that can't be opened.
-fn unopened(error: &io::Error) -> Error {
-    Error::Startup(fault_of(error, startup::Error::ConfigUnreadable))
+/// Opens the file of the settings.
+fn config_file(rt: &HostRuntime, path: &str) -> Result<File, Error> {
+    match File::open(rt, path) {
+        Ok(config) => Ok(config),
+        Err(error) => Err(Error::Startup(fault_of(&error, startup::Error::ConfigUnreadable))),
+    }
 }
 
-/// Opens a partition of the disk in a file. A file that was made for it is removed where that fails.
+/// Returns which file it is, where that is known.
+fn inode_of(found: io::Result<Metadata>) -> Option<Inode> {
+    match found {
+        Ok(found) => Some(Inode {
+            device: found.dev(),
+            number: found.ino(),
+        }),
+        Err(_) => None,
+    }
+}
+
+/// Whether the disk's file takes what is said of faults.
+fn takes_faults(rt: &HostRuntime, disk: Option<&str>) -> bool {
+    let Some(path) = disk else {
+        return false;
+    };
+    let Some(faults) = inode_of(fs::metadata(rt, "/dev/stderr")) else {
+        return false;
+    };
+    match inode_of(fs::metadata(rt, path)) {
+        Some(disk) => check_apart(disk, Some(faults), None).is_err(),
+        None => false,
+    }
+}
+
+/// Opens a partition of the disk of some settings in a file.
 fn filed(
     rt: &HostRuntime,
-    place: Place<'_>,
-    config: Config,
+    path: &str,
+    create: bool,
+    config: File,
+    partition: u8,
+) -> Result<Filed<DiskFile>, Error> {
+    let config_inode = inode_of(config.metadata());
+    let settings = read_settings(rt.alloc(), config)?;
+    if create {
+        return made(rt, path, settings, partition);
+    }
+    let opened = opened(rt, path, config_inode, settings.write_protected)?;
+    open_in(rt, opened, settings, partition)
+}
+
+/// Opens a partition of a disk whose sizes and partitions its file tells.
+fn told_by_file(rt: &HostRuntime, path: &str, partition: u8) -> Result<Filed<DiskFile>, Error> {
+    let opened = opened(rt, path, None, false)?;
+    let settings = settings_in(rt.alloc(), &opened.file, opened.end)?;
+    open_in(rt, opened, settings, partition)
+}
+
+/// Opens a partition of the disk of some settings in a file that was opened.
+fn open_in(
+    rt: &HostRuntime,
+    opened: Image,
+    settings: Config,
     partition: u8,
 ) -> Result<Filed<DiskFile>, Error>
-    requires { AreInRange config }
+    requires { AreInRange settings }
 {
-    let storage = storage_of(rt, place, &config)?;
-    let opened = open_file(rt.alloc(), config, partition, storage);
-    if place.create && opened.is_err() {
-        remove(rt, place.path);
+    let Image {
+        file,
+        end: found,
+        read_only: only,
+    } = opened;
+    let wanted = disk_bytes(&settings);
+    if found != wanted {
+        return Err(Error::Disk(DiskFault::OtherSize { found, wanted }));
+    }
+    let settings = read_only(settings, only);
+    open_file(rt.alloc(), settings, partition, DiskFile::new(file))
+}
+
+/// Makes a file for the disk of some settings, and opens a partition of it. Where that fails the file is removed.
+fn made(
+    rt: &HostRuntime,
+    path: &str,
+    settings: Config,
+    partition: u8,
+) -> Result<Filed<DiskFile>, Error>
+    requires { AreInRange settings }
+{
+    let storage = created(rt, path, &settings)?;
+    let opened = open_file(rt.alloc(), settings, partition, storage);
+    if opened.is_err() {
+        remove(rt, path);
     }
     opened
+}
+
+/// Returns the fault, and says the system's words for it.
+fn failed(rt: &HostRuntime, path: &str, error: &io::Error, fault: DiskFault) -> Error {
+    // Nobody is left to hear of a fault of this writer.
+    let _ = writeln!(rt.stderr(), "nbd_disk: {path}: {error}");
+    Error::Disk(fault)
 }
 
 /// Removes a file that was made. Where that fails, it stays.
@@ -155,61 +272,89 @@ fn remove(rt: &HostRuntime, path: &str) {
     let _ = fs::remove_file(rt, path);
 }
 
-/// Opens and locks the file of a disk of these settings, which has as many bytes as the disk.
-fn storage_of(rt: &HostRuntime, place: Place<'_>, config: &Config) -> Result<DiskFile, Error>
-    requires { AreInRange config.now }
-{
-    if place.create {
-        return created(rt, place.path, config);
+/// Opens and locks the file of a disk, which is no other file of the program.
+fn opened(
+    rt: &HostRuntime,
+    path: &str,
+    config: Option<Inode>,
+    protected: bool,
+) -> Result<Image, Error> {
+    let (file, read_only) = open(rt, path, protected)?;
+    let Some(disk) = inode_of(file.metadata()) else {
+        return Err(Error::Disk(DiskFault::NotOpened));
+    };
+    check_apart(disk, config, inode_of(fs::metadata(rt, "/dev/stdout")))?;
+    lock(&file)?;
+    match end_of(&file) {
+        Ok(end) => Ok(Image {
+            file,
+            end,
+            read_only,
+        }),
+        Err(error) => Err(failed(rt, path, &error, DiskFault::NotOpened)),
     }
-    let file = locked(opened(rt, place.path, config.write_protected)?)?;
-    match file.metadata() {
-        Ok(found) if found.len() == disk_bytes(config) => Ok(DiskFile::new(file)),
-        Ok(_) => Err(Error::Disk(DiskFault::OtherSize)),
-        Err(_) => Err(Error::Disk(DiskFault::NotOpened)),
-    }
+}
+
+/// Returns where a file or a block device ends.
+fn end_of(file: &File) -> io::Result<u64> {
+    let mut file = file;
+    file.seek(SeekFrom::End(0))
 }
 
 /// Makes a file for the disk. Where it can't be filled, it is removed.
 fn created(rt: &HostRuntime, path: &str, config: &Config) -> Result<DiskFile, Error>
     requires { AreInRange config.now }
 {
-    let Ok(file) = File::create_new(rt, path) else {
-        return Err(Error::Disk(DiskFault::NotCreated));
+    let file = match File::create_new(rt, path) {
+        Ok(file) => file,
+        Err(error) => return Err(failed(rt, path, &error, DiskFault::NotCreated)),
     };
-    let filled = filled(rt, file, config);
+    let filled = filled(rt, path, file, config);
     if filled.is_err() {
         remove(rt, path);
     }
     filled
 }
 
-/// Gives a new file as many bytes as the disk, and the partition table of the settings.
-fn filled(rt: &HostRuntime, file: File, config: &Config) -> Result<DiskFile, Error>
+/// Gives a new file as many bytes as the disk, and the partition table of the settings, and syncs it and its folder.
+fn filled(rt: &HostRuntime, path: &str, file: File, config: &Config) -> Result<DiskFile, Error>
     requires { AreInRange config.now }
 {
-    let file = locked(file)?;
-    if file.set_len(disk_bytes(config)).is_err() {
-        return Err(Error::Disk(DiskFault::NotCreated));
+    lock(&file)?;
+    if let Err(error) = file.set_len(disk_bytes(config)) {
+        return Err(failed(rt, path, &error, DiskFault::NotCreated));
     }
     let mut storage = DiskFile::new(file);
     put_table(rt.alloc(), &mut storage, config)?;
-    Ok(storage)
+    match sync_folder(rt, path) {
+        Ok(()) => Ok(storage),
+        Err(error) => Err(failed(rt, path, &error, DiskFault::NotCreated)),
+    }
 }
 
-/// Opens the file, for reading alone where it can't be written or isn't to be.
-fn opened(rt: &HostRuntime, path: &str, protected: bool) -> Result<File, Error> {
+/// Syncs the folder that a path is in.
+fn sync_folder(rt: &HostRuntime, path: &str) -> io::Result<()> {
+    let folder = match path.rsplit_once('/') {
+        Some(("", _)) => "/",
+        Some((folder, _)) => folder,
+        None => ".",
+    };
+    File::open(rt, folder)?.sync_all()
+}
+
+/// Opens the file, for reading alone where it can't be written or isn't to be, and says whether it is so.
+fn open(rt: &HostRuntime, path: &str, protected: bool) -> Result<(File, bool), Error> {
     let both = OpenOptions::new()
         .read(true)
         .write(!protected)
         .open(rt, path);
     match both {
-        Ok(file) => Ok(file),
+        Ok(file) => Ok((file, protected)),
         Err(error) if is_refused(&error) => match File::open(rt, path) {
-            Ok(file) => Ok(file),
-            Err(_) => Err(Error::Disk(DiskFault::NotOpened)),
+            Ok(file) => Ok((file, true)),
+            Err(_) => Err(failed(rt, path, &error, DiskFault::NotOpened)),
         },
-        Err(_) => Err(Error::Disk(DiskFault::NotOpened)),
+        Err(error) => Err(failed(rt, path, &error, DiskFault::NotOpened)),
     }
 }
 
@@ -222,9 +367,9 @@ fn is_refused(error: &io::Error) -> bool {
 }
 
 /// Locks the file for this process alone.
-fn locked(file: File) -> Result<File, Error> {
+fn lock(file: &File) -> Result<(), Error> {
     match file.try_lock() {
-        Ok(()) => Ok(file),
+        Ok(()) => Ok(()),
         Err(TryLockError::WouldBlock) => Err(Error::Disk(DiskFault::InUse)),
         Err(TryLockError::Error(_)) => Err(Error::Disk(DiskFault::NotOpened)),
     }

@@ -101,6 +101,11 @@ impl<
 }
 
 impl<J: Naming, H: Wait + Copy, I: Ahead + Drop> ReadAhead<J, H, I> {
+    /// Returns whether none of the bytes was given yet.
+    pub fn is_unread(&self) -> bool {
+        self.at == 0
+    }
+
     /// Reads bytes that were fetched before.
     ///
     /// # Errors

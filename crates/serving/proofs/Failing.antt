@@ -20,7 +20,7 @@ use Rattle.startup.specs.Started.{rules_over}
 use Rattle.file_disk.specs.Calls.{Call}
 use Rattle.serving.specs.declared.faults.Error.{Error}
 use Rattle.serving.specs.declared.faults.Error.TheVariants.{Usage, Startup, NoPartition, Disk, Malformed, InputEnded, OutputFailed, NoMemory}
-use Rattle.serving.specs.declared.faults.DiskFault.TheVariants.{NotOpened, NotCreated, InUse, OtherSize, Unreadable, OtherTable, BadSectors}
+use Rattle.serving.specs.declared.faults.DiskFault.TheVariants.{NotOpened, NotCreated, InUse, OtherSize, Unreadable, OtherTable, BadSectors, IsConfig, IsOutput}
 use Rattle.serving.specs.OnDisk.{AreServable, IsNotStarted, IsOpenFault, IsTableFault, ReadsTable}
 
 -- an open that is refused for its parameter is one of a partition that isn't there
@@ -55,12 +55,14 @@ module _ (c : Config) (p : ℕ) (before after : List Call) (servable : AreServab
   pub fault_of_table : (fault : Error) → IsTableFault c before fault after → IsOpenFault c p before fault after
   fault_of_table NoMemory h = (servable, inl h)
   fault_of_table (Disk Unreadable) h = (servable, h)
-  fault_of_table (Disk OtherTable) h = (servable, h)
+  fault_of_table (Disk (OtherTable difference)) h = (servable, h)
   fault_of_table (Disk NotOpened) h = absurd h
   fault_of_table (Disk NotCreated) h = absurd h
   fault_of_table (Disk InUse) h = absurd h
-  fault_of_table (Disk OtherSize) h = absurd h
+  fault_of_table (Disk (OtherSize found wanted)) h = absurd h
   fault_of_table (Disk BadSectors) h = absurd h
+  fault_of_table (Disk IsConfig) h = absurd h
+  fault_of_table (Disk IsOutput) h = absurd h
   fault_of_table Usage h = absurd h
   fault_of_table (Startup why) h = absurd h
   fault_of_table NoPartition h = absurd h

@@ -20,7 +20,7 @@ abbrev pub filed_over : ManagerView → DiskView → Handle → Sizes → FiledV
 filed_over stack disk handle sizes = record { carried = over stack disk; handle = handle; sizes = sizes }
 
 module _ (stack stack' : ManagerView) (disk disk' : DiskView) (handle : Handle) (sizes : Sizes) where
-  pub asked_so : (event : Event) (result : Result Answer Refusal) (done : Result (List ℕ) ReplyError) → Requests (over stack disk) event result (over stack' disk') → ComesTo result done
+  pub asked_so : (event : Event) (result : Result Answer Refusal) (done : Result (List ℕ) ReplyError) → Requests (over stack disk) event result (over stack' disk') → ComesTo disk'.full result done
       → IsAsked (filed_over stack disk handle sizes) event done (filed_over stack' disk' handle sizes)
   asked_so event result done requests comes_to = record { result = result; requests = requests; comes_to = comes_to; same_handle = refl; same_sizes = refl }
 

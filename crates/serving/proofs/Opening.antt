@@ -8,7 +8,7 @@ use Rattle.volume.specs.Shown.{Content, VolumeView}
 use Rattle.startup.specs.Started.{IsOpenFault, IsVolumeOf}
 use Rattle.serving.specs.Serving.{IsStartFault, array_of, fault_of_open, new_array}
 
-pub array_is : (c : Config) (p : ℕ) (volume : VolumeView) → IsVolumeOf c p volume → array_of volume.content ≡ new_array c p
+pub array_is : (c : Config) (p : ℕ) (volume : VolumeView) → IsVolumeOf c p volume → array_of volume.content c.write_protected ≡ new_array c p
 array_is c p volume h =
     let size : volume.content.sector_size ≡ c.sector_size = ap (λ (shown : Content). shown.sector_size) h.content in
     let bytes = h.blank in

@@ -12,7 +12,9 @@ use Rattle.mbr.specs.Faults.{told_by}
 use Rattle.file_disk.specs.declared.storage.Failure.{Failure}
 use Rattle.file_disk.specs.Calls.{Call, Since, StopsWriting, Sync, WritesAll}
 use Rattle.file_disk.specs.Transfers.{SyncsAfter}
-use Rattle.serving.specs.OnDisk.{StopsPutting}
+use Rattle.serving.specs.declared.faults.Difference.{Difference}
+use Rattle.serving.specs.declared.faults.Difference.TheVariants.{BadTable}
+use Rattle.serving.specs.OnDisk.{Differs, DiffersFrom, IsFirstOther, StopsPutting}
 
 -- bytes that were all told, and then synced
 pub put_synced : (old mid new : List Call) (offset : ℕ) (bytes : List ℕ) → Since old mid (WritesAll offset bytes) → new ≡ Sync None ∷ mid → Since old new (SyncsAfter offset bytes None)
@@ -59,6 +61,18 @@ pub same_all : (xs : List Extent) (ps : List Partition) (k : ℕ) → length xs 
 same_all xs ps k long many same =
     sym (ap (λ (n : ℕ). take n xs) (sym long) ∙ take-length xs) ∙ same ∙ ap (λ (l : List Partition). map extent_of l) (ap (λ (n : ℕ). take n ps) (sym many) ∙ take-length ps)
 
+-- up to a place where they differ
+pub first_other : (xs : List Extent) (ps : List Partition) (k : ℕ) (d : Extent) (e : Partition) (x y : Extent) → k < length xs → k < length ps → take k xs ≡ map extent_of (take k ps) → x ≡ get_or xs k d
+    → y ≡ extent_of (get_or ps k e) → (x ≢ y) → IsFirstOther xs ps k x y
+first_other xs ps k d e x y here there same is wants other = record {
+  same = same;
+  found_is = subst (λ (z : Extent). take (k + 1) xs ≡ take k xs ++ (z ∷ [])) (sym is) (take_more xs k d here);
+  wanted_is =
+      ap (λ (l : List Partition). map extent_of l) (take_more ps k e there) ∙ map-append extent_of (take k ps) (get_or ps k e ∷ [])
+      ∙ ap (λ (z : Extent). map extent_of (take k ps) ++ (z ∷ [])) (sym wants);
+  other = other;
+}
+
 -- WHAT A SECTOR GIVES
 
 module _ (sectors : ℕ) (sector : List ℕ) (wanted : List Extent) where
@@ -73,6 +87,21 @@ module _ (sectors : ℕ) (sector : List ℕ) (wanted : List Extent) where
       where
         same_items : (xs ys : List Extent) → ◌≡◌ {A = Result (List Extent) MbrFault} (Ok xs) (Ok ys) → xs ≡ ys
         same_items xs ys e = cc
+
+    pub compared_same : {E : Type 0} (result : Result (Unit {0}) E) → OnOk result (found ≡ wanted) → OnOk result (told_by sectors sector ≡ Ok wanted)
+    compared_same (Ok x) h = gives_those h
+    compared_same (Err e) h = tt
+
+    pub compared_other : {E : Type 0} (result : Result (Unit {0}) E) → IfErr result (λ _. found ≢ wanted) → IfErr result (λ _. told_by sectors sector ≢ Ok wanted)
+    compared_other (Ok x) h = tt
+    compared_other (Err e) h = gives_others h
+
+    pub compared_differs : (ps : List Partition) (result : Result (Unit {0}) Difference) → IfErr result (DiffersFrom found ps) → IfErr result (Differs (told_by sectors sector) ps)
+    compared_differs ps (Ok x) h = tt
+    compared_differs ps (Err difference) h = subst (λ (told : Result (List Extent) MbrFault). Differs told ps difference) answer h
+
+  pub bad_table : (fault : MbrFault) (ps : List Partition) → ◌≡◌ {A = Result (List Extent) MbrFault} (Err fault) (told_by sectors sector) → Differs (told_by sectors sector) ps (BadTable fault)
+  bad_table fault ps answer = subst (λ (told : Result (List Extent) MbrFault). Differs told ps (BadTable fault)) answer refl
 
   pub gives_none : (fault : MbrFault) → ◌≡◌ {A = Result (List Extent) MbrFault} (Err fault) (told_by sectors sector) → told_by sectors sector ≢ Ok wanted
   gives_none fault answer = λ told. absurd (let k : ◌≡◌ {A = Result (List Extent) MbrFault} (Err fault) (Ok wanted) = answer ∙ told in cc)

@@ -7,11 +7,11 @@ use Rattle.clap.proofs.OnLiterals.{clap_on_literals}
 use Rattle.command_line.specs.Grammar.{flag_rule, option_rule, word_rule}
 use Rattle.serving.specs.declared.words.asked.Asked.{Asked}
 
--- CONFIG [PARTITION]
+-- [CONFIG [PARTITION]]
 abbrev pub words : App
-words = with_rule (with_rule (new_app (codes "nbd_disk")) (word_rule (codes "CONFIG") true)) (word_rule (codes "PARTITION") false)
+words = with_rule (with_rule (new_app (codes "nbd_disk")) (word_rule (codes "CONFIG") false)) (word_rule (codes "PARTITION") false)
 
--- nbd_disk CONFIG [PARTITION] [--disk FILE] [--create]
+-- nbd_disk [CONFIG [PARTITION]] [--disk FILE] [--create]
 abbrev pub program : App
 program = with_rule (with_rule words (option_rule (codes "disk"))) (flag_rule (codes "create"))
 
@@ -32,7 +32,7 @@ IsFlag (Some text) flag = (text ≡ codes "true" → flag ≡ true) × (text ≡
 
 -- paths, partition and flag are what the parser found under their names. The partition is 0 where none is named
 pub record IsFoundIn (rows : List Row) (asked : Asked) : Type 0 where
-  pub config : first_of (codes "CONFIG") rows ≡ Some asked.config.now
+  pub config : first_of (codes "CONFIG") rows ≡ option_map (λ word. word.now) asked.config
   pub partition : MatchOption (first_of (codes "PARTITION") rows) (asked.partition ≡ 0) (λ word. SpellsPartition word asked.partition)
   pub disk : first_of (codes "disk") rows ≡ option_map (λ word. word.now) asked.disk
   pub create : IsFlag (one_of (codes "create") rows) asked.create

@@ -1,5 +1,5 @@
 -- A partition of a disk in a storage: what a client's commands ask of its stack.
-use Rattle.std.specs.Prelude.{◌≡◌, ◌≢◌, ◌≤◌, ◌⊎◌, ◌^◌, ℕ, ◌+◌, Bool, List, [], ◌∷◌, length, replicate, IsFalse, Option, Some, None, Result, Ok, Err}
+use Rattle.std.specs.Prelude.{◌≡◌, ◌≢◌, ◌≤◌, ◌⊎◌, ◌^◌, ℕ, ◌+◌, Bool, if◌then◌else◌, List, [], ◌∷◌, length, replicate, IsFalse, Option, Some, None, Result, Ok, Err}
 use Rattle.std.specs.Result.{result_err}
 use Rattle.ntstatus.specs.declared.NtStatus.{NtStatus}
 use Rattle.ntstatus.specs.declared.NtStatus.TheVariants.{Success, InsufficientResources, MediaWriteProtected, NoSuchDevice, DeletePending}
@@ -13,7 +13,7 @@ use Rattle.nbd.specs.declared.arrays.Sizes.{Sizes}
 use Rattle.nbd.specs.declared.requests.Command.{Command}
 use Rattle.nbd.specs.declared.requests.Command.TheVariants.{Read, Write, Flush, WriteZeroes}
 use Rattle.nbd.specs.declared.requests.ReplyError.{ReplyError}
-use Rattle.nbd.specs.declared.requests.ReplyError.TheVariants.{Eio, Enomem, Eperm, Eshutdown}
+use Rattle.nbd.specs.declared.requests.ReplyError.TheVariants.{Eio, Enomem, Enospc, Eperm, Eshutdown}
 use Rattle.nbd.specs.Replies.{Outcome, failure, success}
 use Rattle.serving.specs.Carried.{CarriedView, Requests, StandsIn}
 
@@ -26,13 +26,14 @@ pub record FiledView : Type 0 where
 
 -- ONE REQUEST
 
--- the error by which a status is told
-abbrev pub status_error : NtStatus → ReplyError
-status_error InsufficientResources = Enomem
-status_error MediaWriteProtected = Eperm
-status_error NoSuchDevice = Eshutdown
-status_error DeletePending = Eshutdown
-status_error _ = Eio
+-- the error by which a status is told, of a storage that had no room for the newest of the writes that it refused, or of
+-- another
+abbrev pub status_error : Bool → NtStatus → ReplyError
+status_error full InsufficientResources = Enomem
+status_error full MediaWriteProtected = if full then Enospc else Eperm
+status_error full NoSuchDevice = Eshutdown
+status_error full DeletePending = Eshutdown
+status_error full _ = Eio
 
 -- the error by which a refusal is told
 abbrev pub refusal_error : Refusal → ReplyError
@@ -40,17 +41,17 @@ refusal_error NoResources = Enomem
 refusal_error _ = Eio
 
 -- what a request came to: its bytes where it succeeded, or the error by which its failure is told
-abbrev pub ComesTo : Result Answer Refusal → Result (List ℕ) ReplyError → Type 0
-ComesTo (Ok answer) (Ok bytes) = (answer.status ≡ Success) × (bytes ≡ answer.bytes)
-ComesTo (Ok answer) (Err error) = (answer.status ≢ Success) × (error ≡ status_error answer.status)
-ComesTo (Err reason) (Ok bytes) = ⊥
-ComesTo (Err reason) (Err error) = error ≡ refusal_error reason
+abbrev pub ComesTo : Bool → Result Answer Refusal → Result (List ℕ) ReplyError → Type 0
+ComesTo full (Ok answer) (Ok bytes) = (answer.status ≡ Success) × (bytes ≡ answer.bytes)
+ComesTo full (Ok answer) (Err error) = (answer.status ≢ Success) × (error ≡ status_error full answer.status)
+ComesTo full (Err reason) (Ok bytes) = ⊥
+ComesTo full (Err reason) (Err error) = error ≡ refusal_error reason
 
 -- the stack was asked for this event, and this came of it
 pub record IsAsked (old : FiledView) (event : Event) (done : Result (List ℕ) ReplyError) (new : FiledView) : Type 0 where
   pub result : Result Answer Refusal
   pub requests : Requests old.carried event result new.carried
-  pub comes_to : ComesTo result done
+  pub comes_to : ComesTo new.carried.disk.full result done
   pub same_handle : new.handle ≡ old.handle
   pub same_sizes : new.sizes ≡ old.sizes
 

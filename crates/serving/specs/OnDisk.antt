@@ -1,8 +1,11 @@
 -- A session over a disk in a storage.
-use Rattle.std.specs.Prelude.{◌≡◌, ◌≢◌, ◌<◌, ◌≤◌, ◌⊎◌, ℕ, ◌*◌, false, IsFalse}
-use Rattle.std.specs.Prelude.{List, [], get_or, length, Option, Some, Ok}
+use Rattle.std.specs.Prelude.{◌≡◌, ◌≢◌, ◌<◌, ◌≤◌, ◌⊎◌, ℕ, ◌+◌, ◌*◌, false, IsFalse}
+use Rattle.std.specs.Prelude.{List, [], ◌∷◌, ◌++◌, get_or, length, map, take, Option, Some, Result, Ok, Err}
+use Rattle.sector.specs.declared.Extent.{Extent}
 use Rattle.settings.specs.declared.Config.{Config}
-use Rattle.settings.specs.Medium.{extents_of, table_sector}
+use Rattle.settings.specs.declared.Partition.{Partition}
+use Rattle.settings.specs.Medium.{extent_of, extents_of, table_sector}
+use Rattle.mbr.specs.declared.MbrFault.{MbrFault}
 use Rattle.mbr.specs.Faults.{told_by}
 use Rattle.machine.specs.declared.Label.{Label}
 use Rattle.adapter.specs.View.{AdapterView}
@@ -20,6 +23,8 @@ use Rattle.nbd.specs.Over.{IsSessionOver}
 use Rattle.file_disk.specs.declared.storage.Failure.{Failure}
 use Rattle.file_disk.specs.Calls.{Call, ReadsAll, Since, StopsReading, StopsWriting}
 use Rattle.file_disk.specs.Transfers.{SyncsAfter}
+use Rattle.serving.specs.declared.faults.Difference.{Difference}
+use Rattle.serving.specs.declared.faults.Difference.TheVariants.{BadTable, Count, Partition as Differing}
 use Rattle.serving.specs.declared.faults.Error.{Error}
 use Rattle.serving.specs.declared.faults.Error.TheVariants.{Startup, NoPartition, Disk, NoMemory}
 use Rattle.serving.specs.declared.faults.DiskFault.TheVariants.{NotCreated, Unreadable, OtherTable, BadSectors}
@@ -50,12 +55,31 @@ pub record ReadsTable (c : Config) (before after : List Call) : Type 0 where
   pub reads : Since before after (ReadsAll 0 table)
   pub told : told_by c.sectors table ≡ Ok (extents_of c)
 
+-- of a table's extents and the partitions that are wanted, those of this number are the first that differ
+pub record IsFirstOther (found : List Extent) (wanted : List Partition) (number : ℕ) (this that : Extent) : Type 0 where
+  pub same : take number found ≡ map extent_of (take number wanted)
+  pub found_is : take (number + 1) found ≡ take number found ++ (this ∷ [])
+  pub wanted_is : map extent_of (take (number + 1) wanted) ≡ map extent_of (take number wanted) ++ (that ∷ [])
+  pub other : this ≢ that
+
+-- how a table's extents differ from the partitions that are wanted
+abbrev pub DiffersFrom : List Extent → List Partition → Difference → Type 0
+DiffersFrom found wanted (BadTable fault) = ⊥
+DiffersFrom found wanted (Count these those) = (these ≡ length found) × (those ≡ length wanted) × (these ≢ those)
+DiffersFrom found wanted (Differing number this that) = IsFirstOther found wanted number this that
+
+-- how what a table tells differs from the partitions that are wanted
+abbrev pub Differs : Result (List Extent) MbrFault → List Partition → Difference → Type 0
+Differs (Ok found) wanted difference = DiffersFrom found wanted difference
+Differs (Err fault) wanted difference = difference ≡ BadTable fault
+
 -- sector 0 was read, which gives other partitions than the settings, or none
-pub record ReadsOtherTable (c : Config) (before after : List Call) : Type 0 where
+pub record ReadsOtherTable (c : Config) (difference : Difference) (before after : List Call) : Type 0 where
   pub table : List ℕ
   pub long : length table ≡ c.sector_size
   pub reads : Since before after (ReadsAll 0 table)
   pub other : told_by c.sectors table ≢ Ok (extents_of c)
+  pub differs : Differs (told_by c.sectors table) c.partitions.items difference
 
 -- why sector 0 does not give the partitions of the settings, and what was called
 abbrev pub IsTableFault : Config → List Call → Error → List Call → Type 0
@@ -63,7 +87,7 @@ abbrev pub IsTableFault : Config → List Call → Error → List Call → Type 
 IsTableFault c before NoMemory after = after ≡ before
 -- a call of the read gave nothing, and none was made behind it
 IsTableFault c before (Disk Unreadable) after = (why : Failure) × Since before after (StopsReading 0 c.sector_size why)
-IsTableFault c before (Disk OtherTable) after = ReadsOtherTable c before after
+IsTableFault c before (Disk (OtherTable difference)) after = ReadsOtherTable c difference before after
 IsTableFault c before _ after = ⊥
 
 -- A STACK IS STARTED
@@ -99,7 +123,9 @@ pub record IsOpened (c : Config) (p : ℕ) (calls : List Call) (filed : FiledVie
   pub none_bad : c.bad_sectors.items ≡ []
   pub table : ReadsTable c calls filed.carried.disk.calls
   pub block : filed.sizes.block ≡ c.sector_size
+  -- clients are told of write protection
   pub write_protected : filed.carried.disk.write_protected ≡ c.write_protected
+  pub told : filed.sizes.read_only ≡ c.write_protected
   -- the stack's partitions, sizes and limits are those of the settings; the handle is on this partition
   pub rules : filed.carried.stack.rules ≡ rules_over false c
   pub on : IsOn filed.carried.stack filed.handle p
@@ -129,7 +155,7 @@ IsOpenFault c p before NoPartition after = (c.bad_sectors.items ≡ []) × (leng
 -- a call of the table's read gave nothing
 IsOpenFault c p before (Disk Unreadable) after = AreServable c p × IsTableFault c before (Disk Unreadable) after
 -- the table was read, and is another
-IsOpenFault c p before (Disk OtherTable) after = AreServable c p × ReadsOtherTable c before after
+IsOpenFault c p before (Disk (OtherTable difference)) after = AreServable c p × ReadsOtherTable c difference before after
 -- the table was read, and no stack could be started
 IsOpenFault c p before (Startup (Start fault)) after = AreServable c p × StopsStarting c before fault after
 -- memory was refused elsewhere, before the table was read or after it

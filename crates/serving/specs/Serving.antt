@@ -1,5 +1,5 @@
 -- A session over the disk of some settings.
-use Rattle.std.specs.Prelude.{◌≡◌, ◌≤◌, ◌⊎◌, ℕ, List, Option, Some, None, length, ⊤}
+use Rattle.std.specs.Prelude.{◌≡◌, ◌≤◌, ◌⊎◌, ℕ, Bool, List, Option, Some, None, length, ⊤}
 use Rattle.std.specs.List.{concat}
 use Rattle.ntstatus.specs.declared.NtStatus.TheVariants.{InsufficientResources as NoResources, MediaWriteProtected, NoSuchDevice, DeletePending}
 use Rattle.io_manager.specs.declared.Refusal.TheVariants.{InvalidParameter, InsufficientResources}
@@ -23,9 +23,9 @@ use Rattle.nbd.specs.declared.End.TheVariants.{Left, Malformed as NoProtocol, In
 use Rattle.serving.specs.declared.faults.Error.{Error}
 use Rattle.serving.specs.declared.faults.Error.TheVariants.{Startup, NoPartition, Malformed, InputEnded, OutputFailed, NoMemory}
 
--- the bytes of a partition as an array, in blocks of a sector
-abbrev pub array_of : VolumeContent → Content
-array_of c = record { block = c.sector_size; bytes = c.bytes }
+-- the bytes of a partition as an array, in blocks of a sector, that clients may be told not to write
+abbrev pub array_of : VolumeContent → Bool → Content
+array_of c read_only = record { block = c.sector_size; bytes = c.bytes; read_only = read_only }
 
 -- the array may fail by any fault, and then hold any bytes
 abbrev pub may_fail : Faulting
@@ -41,9 +41,13 @@ told_fault (FailedCall NoSuchDevice) = Gone
 told_fault (FailedCall DeletePending) = Gone
 told_fault (FailedCall _) = FailedArray
 
--- the array of a partition of these settings before anything was written: zeros
+-- the array of a partition of these settings before anything was written: zeros. Clients are told of write protection
 abbrev pub new_array : Config → ℕ → Content
-new_array c p = record { block = c.sector_size; bytes = concat (zeros c (extent_at (extents_of c) p).count) }
+new_array c p = record {
+  block = c.sector_size;
+  bytes = concat (zeros c (extent_at (extents_of c) p).count);
+  read_only = c.write_protected;
+}
 
 -- the fault by which an end of the session is told
 abbrev pub fault_of_end : End → Option Error

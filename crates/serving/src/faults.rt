@@ -1,10 +1,12 @@
 //! Why the program `nbd_disk` ends early.
 
 ghost use Rattle.std.specs.Prelude.{◌≡◌};
-ghost use Rattle.serving.specs.Faults.{disk_text, is_usage};
+ghost use Rattle.serving.specs.Faults.{is_usage};
 ghost use Rattle.serving.specs.declared.faults.Error.TheVariants.{NoMemory, Startup};
 
-use startup::Ending;
+use mbr::MbrFault;
+use sector::Extent;
+use startup::{Ending, words_for};
 use std::alloc::AllocError;
 use std::fmt;
 
@@ -39,13 +41,35 @@ pub enum DiskFault {
     /// Another process has locked the file.
     InUse,
     /// The file has another number of bytes than the disk of the settings.
-    OtherSize,
+    OtherSize { found: u64, wanted: u64 },
     /// Sector 0 can't be read.
     Unreadable,
     /// Sector 0 gives other partitions than the settings, or none.
-    OtherTable,
+    OtherTable(Difference),
     /// The settings have bad sectors.
     BadSectors,
+    /// The file is the one that has the settings.
+    IsConfig,
+    /// The file is the one that takes the output.
+    IsOutput,
+}
+
+/// How a partition table differs from the partitions of the settings. Its text stands in the line that is said.
+#[derive(Debug, Clone, Copy, PartialEq, Eq)]
+pub enum Difference {
+    /// The table is wrong by itself.
+    BadTable(MbrFault),
+    /// It has another number of partitions.
+    Count {
+        found: u64,
+        wanted: u64,
+    },
+    /// The partition of this number, counted from 0, is the first that is another.
+    Partition {
+        number: u64,
+        found: Extent,
+        wanted: Extent,
+    },
 }
 
 impl Ending for Error {
@@ -66,11 +90,11 @@ impl fmt::Display for Error {
     fn fmt<W: fmt::Write>(&self, f: &mut fmt::Formatter<W>) -> fmt::Result {
         match self {
             Error::Usage => f.write_str(
-                "usage: nbd_disk CONFIG [PARTITION] [--disk FILE [--create]]",
+                "usage: nbd_disk CONFIG [PARTITION] [--disk FILE [--create]] | nbd_disk --disk FILE",
             ),
             Error::Startup(fault) => write!(f, "nbd_disk: {fault}"),
             Error::NoPartition => f.write_str("nbd_disk: no such partition"),
-            Error::Disk(fault) => write!(f, "nbd_disk: {}", words_for(*fault)),
+            Error::Disk(fault) => write!(f, "nbd_disk: {fault}"),
             Error::Malformed => f.write_str("nbd_disk: malformed input"),
             Error::InputEnded => f.write_str("nbd_disk: input ended"),
             Error::OutputFailed => f.write_str("nbd_disk: output failed"),
@@ -79,18 +103,57 @@ impl fmt::Display for Error {
     }
 }
 
-/// Returns what is wrong with a disk in a file, in print.
-fn words_for(fault: DiskFault) -> &'static str
-    ensures { result.now ≡ disk_text fault }
-{
-    match fault {
-        DiskFault::NotOpened => "cannot open FILE",
-        DiskFault::NotCreated => "cannot create FILE",
-        DiskFault::InUse => "FILE is in use",
-        DiskFault::OtherSize => "FILE has another size than the settings",
-        DiskFault::Unreadable => "cannot read FILE",
-        DiskFault::OtherTable => "FILE has other partitions than the settings",
-        DiskFault::BadSectors => "bad_sectors are not for a disk in FILE",
+/// What is wrong with a disk in a file, in print.
+impl fmt::Display for DiskFault {
+    ghost use Rattle.std.specs.Prelude.{Some};
+    ghost use Rattle.serving.specs.Faults.{disk_text};
+
+    ghost output = { λ fault. Some (disk_text fault) };
+
+    fn fmt<W: fmt::Write>(&self, f: &mut fmt::Formatter<W>) -> fmt::Result {
+        match self {
+            DiskFault::NotOpened => f.write_str("cannot open FILE"),
+            DiskFault::NotCreated => f.write_str("cannot create FILE"),
+            DiskFault::InUse => f.write_str("FILE is in use"),
+            DiskFault::OtherSize { found, wanted } => write!(
+                f,
+                "FILE has {found} bytes, the settings ask for {wanted}"
+            ),
+            DiskFault::Unreadable => f.write_str("cannot read FILE"),
+            DiskFault::OtherTable(difference) => write!(f, "{difference}"),
+            DiskFault::BadSectors => f.write_str("bad_sectors are not for a disk in FILE"),
+            DiskFault::IsConfig => f.write_str("FILE is CONFIG"),
+            DiskFault::IsOutput => f.write_str("FILE is standard output"),
+        }
+    }
+}
+
+/// What a table has, and what the settings ask for, in print.
+impl fmt::Display for Difference {
+    ghost use Rattle.std.specs.Prelude.{Some};
+    ghost use Rattle.serving.specs.Faults.{difference_text};
+
+    ghost output = { λ difference. Some (difference_text difference) };
+
+    fn fmt<W: fmt::Write>(&self, f: &mut fmt::Formatter<W>) -> fmt::Result {
+        match self {
+            Difference::BadTable(fault) => {
+                write!(f, "FILE has a bad partition table: {}", words_for(*fault))
+            }
+            Difference::Count { found, wanted } => write!(
+                f,
+                "FILE has {found} partitions, the settings ask for {wanted}"
+            ),
+            Difference::Partition {
+                number,
+                found,
+                wanted,
+            } => write!(
+                f,
+                "partition {number} of FILE has {} sectors from {} on, the settings ask for {} from {} on",
+                found.count, found.first, wanted.count, wanted.first
+            ),
+        }
     }
 }
 

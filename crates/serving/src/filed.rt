@@ -64,7 +64,7 @@ impl<S: Storage + Drop> Filed<S> {
         match carry_out(&mut self.stack, &mut self.disk, alloc, event) {
             Ok(answer) => match answer.status {
                 NtStatus::Success => Ok(answer.bytes),
-                status => Err(status_error(status)),
+                status => Err(status_error(self.disk.is_full(), status)),
             },
             Err(reason) => Err(refusal_error(reason)),
         }
@@ -198,12 +198,14 @@ fn zeros(alloc: Global, count: u32) -> Option<Vec<u8>>
     vec![in alloc; 0; count as usize].ok()
 }
 
-/// Returns the error of a request that failed.
-fn status_error(status: NtStatus) -> ReplyError
-    ensures { result ≡ status_error status }
+/// Returns the error of a request that failed. With `full` the storage had no room for the newest of the writes that it
+/// refused.
+fn status_error(full: bool, status: NtStatus) -> ReplyError
+    ensures { result ≡ status_error full status }
 {
     match status {
         NtStatus::InsufficientResources => ReplyError::Enomem,
+        NtStatus::MediaWriteProtected if full => ReplyError::Enospc,
         NtStatus::MediaWriteProtected => ReplyError::Eperm,
         NtStatus::NoSuchDevice => ReplyError::Eshutdown,
         NtStatus::DeletePending => ReplyError::Eshutdown,

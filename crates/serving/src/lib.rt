@@ -12,6 +12,7 @@
 //!   pieces that acted there, and each piece did in the run what its calls did.
 //! - [`put_table`] (`synced`, `fault`): the table was written and synced. Or a call failed, the last that was made, or
 //!   there was no memory, and nothing was called.
+//! - [`check_apart`]: a disk's file is refused that is the one of the settings, or that of the output.
 //! - [`command`] (`asked`, `fault`): paths, partition and flag are those that the parser of the command line found
 //!   under their names, and only words that ask for nothing that can be served are refused.
 //! - [`Error`]'s text and [`Ending`](startup::Ending): the line of each fault, and which fault is one of the command
@@ -25,13 +26,15 @@ mod faults;
 mod filed;
 mod moving;
 mod on_disk;
+mod same_file;
 mod served;
 mod serving;
 mod words;
 
-pub use faults::{DiskFault, Error};
+pub use faults::{Difference, DiskFault, Error};
 pub use filed::Filed;
-pub use on_disk::{disk_bytes, open_file, put_table, serve_file};
+pub use on_disk::{disk_bytes, open_file, put_table, read_only, serve_file};
+pub use same_file::{Inode, check_apart};
 pub use serving::serve_disk;
 pub use words::asked::Asked;
 pub use words::command;

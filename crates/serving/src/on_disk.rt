@@ -1,6 +1,6 @@
 //! A session over a disk in a storage.
 
-ghost use Rattle.std.specs.Prelude.{◌≡◌, ◌≢◌, ◌≤◌, ◌<◌, ◌⊎◌, ℕ, ◌*◌, ◌^◌, List, [], length, map};
+ghost use Rattle.std.specs.Prelude.{◌≡◌, ◌≢◌, ◌≤◌, ◌<◌, ◌⊎◌, ◌||◌, ℕ, ◌*◌, ◌^◌, List, [], length, map};
 ghost use Rattle.std.specs.Prelude.{IfErr, IfOk, IsFalse, IsTrue, Ok, OnOk, None};
 ghost use Rattle.std.specs.Result.{result_err};
 ghost use Rattle.io_manager.specs.declared.Refusal.TheVariants.{InvalidParameter};
@@ -13,11 +13,11 @@ ghost use Rattle.volume.specs.Shown.{extent_at};
 ghost use Rattle.file_disk.specs.Calls.{ReadsAll, Since};
 ghost use Rattle.file_disk.specs.Transfers.{DiskView, SyncsAfter};
 ghost use Rattle.serving.specs.Carried.{StandsIn, TellsOn, quiet};
-ghost use Rattle.serving.specs.OnDisk.{IsFileSession, IsOpenFault, IsOpened, IsPutFault};
+ghost use Rattle.serving.specs.OnDisk.{Differs, DiffersFrom, IsFileSession, IsOpenFault, IsOpened, IsPutFault};
 ghost use Rattle.serving.specs.OnDisk.{IsNotStarted, IsStartedOver, IsTableFault, StopsPutting};
 ghost use Rattle.serving.specs.declared.faults.Error.TheVariants.{NoMemory, NoPartition};
 
-use crate::faults::{DiskFault, Error};
+use crate::faults::{Difference, DiskFault, Error};
 use crate::filed::Filed;
 use crate::moving::laws_of_entries;
 use crate::serving::outcome;
@@ -37,6 +37,18 @@ pub fn disk_bytes(config: &Config) -> u64
     ensures { result ≡ config.now.sectors * config.now.sector_size }
 {
     config.sectors * config.sector_size as u64
+}
+
+/// Returns the settings, with write protection where the disk's file can only be read.
+pub fn read_only(config: Config, only: bool) -> Config
+    requires { AreInRange config }
+    ensures in_range { AreInRange result }
+    ensures protected { result ≡ record config { write_protected = config.write_protected || only } }
+{
+    Config {
+        write_protected: config.write_protected || only,
+        ..config
+    }
 }
 
 /// Puts the partition table of the settings into sector 0 of a storage, and syncs it.
@@ -88,10 +100,9 @@ fn checked_table<S: Storage>(
     ensures fault { IfErr result (λ fault. IsTableFault config.now (S.calls storage.old) fault (S.calls storage.new)) }
 {
     let sector = first_sector(alloc, storage, config)?;
-    if gives_partitions(sector.as_slice(), config) {
-        Ok(sector)
-    } else {
-        Err(Error::Disk(DiskFault::OtherTable))
+    match compare_table(sector.as_slice(), config) {
+        Ok(()) => Ok(sector),
+        Err(difference) => Err(Error::Disk(DiskFault::OtherTable(difference))),
     }
 }
 
@@ -117,42 +128,71 @@ fn first_sector<S: Storage>(
     }
 }
 
-/// Returns whether the bytes of sector 0 give the partitions of the settings.
-fn gives_partitions(sector: &[u8], config: &Config) -> bool
-    ensures same { IsTrue result → told_by config.now.sectors sector.now ≡ Ok (extents_of config.now) }
-    ensures other { IsFalse result → told_by config.now.sectors sector.now ≢ Ok (extents_of config.now) }
+/// Compares what the bytes of sector 0 tell with the partitions of the settings.
+///
+/// # Errors
+///
+/// How they differ.
+fn compare_table(sector: &[u8], config: &Config) -> Result<(), Difference>
+    ensures same { OnOk result (told_by config.now.sectors sector.now ≡ Ok (extents_of config.now)) }
+    ensures other { IfErr result (λ _. told_by config.now.sectors sector.now ≢ Ok (extents_of config.now)) }
+    ensures differs { IfErr result (Differs (told_by config.now.sectors sector.now) config.now.partitions.items) }
 {
     let partitions = config.partitions.as_slice();
     match parse(sector, config.sectors) {
-        Ok(found) => are_those(found.as_slice(), partitions),
-        Err(_) => false,
+        Ok(found) => compare(found.as_slice(), partitions),
+        Err(fault) => Err(Difference::BadTable(fault)),
     }
 }
 
-/// Returns whether the extents are the partitions' own, in order.
-fn are_those(extents: &[Extent], partitions: &[Partition]) -> bool
-    ensures same { IsTrue result → extents.now ≡ map extent_of partitions.now }
-    ensures other { IsFalse result → extents.now ≢ map extent_of partitions.now }
+/// Compares extents with the partitions' own, in order.
+///
+/// # Errors
+///
+/// How they differ.
+fn compare(extents: &[Extent], partitions: &[Partition]) -> Result<(), Difference>
+    ensures same { OnOk result (extents.now ≡ map extent_of partitions.now) }
+    ensures other { IfErr result (λ _. extents.now ≢ map extent_of partitions.now) }
+    ensures differs { IfErr result (DiffersFrom extents.now partitions.now) }
 {
     if extents.len() != partitions.len() {
-        return false;
+        return Err(Difference::Count {
+            found: extents.len() as u64,
+            wanted: partitions.len() as u64,
+        });
     }
     let mut index = 0;
     while index < partitions.len() {
-        if !is_that(extents[index], partitions[index]) {
-            return false;
+        let found = extents[index];
+        let wanted = extent_of(partitions[index]);
+        if !are_same(found, wanted) {
+            return Err(Difference::Partition {
+                number: index as u64,
+                found,
+                wanted,
+            });
         }
         index += 1;
     }
-    true
+    Ok(())
 }
 
-/// Returns whether the extent is the partition's own.
-fn is_that(extent: Extent, partition: Partition) -> bool
-    ensures same { IsTrue result → extent ≡ extent_of partition }
-    ensures other { IsFalse result → extent ≢ extent_of partition }
+/// Returns the sectors of a partition.
+fn extent_of(partition: Partition) -> Extent
+    ensures { result ≡ extent_of partition }
 {
-    extent.first == partition.first as u64 && extent.count == partition.count as u64
+    Extent {
+        first: partition.first as u64,
+        count: partition.count as u64,
+    }
+}
+
+/// Returns whether two extents are the same.
+fn are_same(one: Extent, other: Extent) -> bool
+    ensures same { IsTrue result → one ≡ other }
+    ensures other { IsFalse result → one ≢ other }
+{
+    one.first == other.first && one.count == other.count
 }
 
 /// Opens a partition, counted from 0, of the disk of the settings in a storage that has as many bytes.
@@ -208,7 +248,7 @@ fn has_bad_sectors(config: &Config) -> bool
     !config.bad_sectors.as_slice().is_empty()
 }
 
-/// Returns the bytes of a sector and of a partition.
+/// Returns the bytes of a sector and of a partition, and whether it can be written.
 ///
 /// # Errors
 ///
@@ -218,6 +258,7 @@ fn sizes_of(config: &Config, partition: u8) -> Result<Sizes, Error>
     ensures block { IfOk result (λ sizes. sizes.block ≡ config.now.sector_size) }
     ensures bytes { IfOk result (λ sizes. sizes.bytes ≡ (extent_at (extents_of config.now) partition).count * config.now.sector_size) }
     ensures few { IfOk result (λ sizes. sizes.bytes ≤ 2 ^ 63) }
+    ensures read_only { IfOk result (λ sizes. sizes.read_only ≡ config.now.write_protected) }
     ensures known { IfOk result (λ _. partition < length (extents_of config.now)) }
     ensures fault { IfErr result (λ fault. (fault ≡ NoPartition) × (length (extents_of config.now) ≤ partition)) }
 {
@@ -225,6 +266,7 @@ fn sizes_of(config: &Config, partition: u8) -> Result<Sizes, Error>
         Some(shown) => Ok(Sizes {
             block: config.sector_size,
             bytes: shown.count as u64 * config.sector_size as u64,
+            read_only: config.write_protected,
         }),
         None => Err(Error::NoPartition),
     }

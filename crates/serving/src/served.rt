@@ -16,6 +16,8 @@ use volume::{Error, Volume};
 #[derive(Drop)]
 pub(crate) struct Served<A: Adapter> {
     volume: Volume<A>,
+    /// Whether clients are told that it can't be written.
+    read_only: bool,
 }
 
 impl<A: Adapter> Model for Served<A> {
@@ -24,14 +26,14 @@ impl<A: Adapter> Model for Served<A> {
 
     ghost Value = { Content };
 
-    ghost view = { λ s. array_of s.volume.content };
+    ghost view = { λ s. array_of s.volume.content s.read_only };
 }
 
 impl<A: Adapter> Served<A> {
-    pub fn new(volume: Volume<A>) -> Served<A>
-        ensures { result ≡ array_of volume.content }
+    pub fn new(volume: Volume<A>, read_only: bool) -> Served<A>
+        ensures { result ≡ array_of volume.content read_only }
     {
-        Served { volume }
+        Served { volume, read_only }
     }
 }
 
@@ -47,6 +49,7 @@ impl<A: Adapter> Array for Served<A> {
         Sizes {
             block: sizes.sector_size as u32,
             bytes: sizes.sectors * sizes.sector_size,
+            read_only: self.read_only,
         }
     }
 

@@ -61,8 +61,9 @@ fn start(
     ensures content { IfOk result (λ disk. disk ≡ new_array config partition) }
     ensures fault { IfErr result (IsStartFault config partition) }
 {
+    let read_only = config.write_protected;
     match open(alloc, config, partition) {
-        Ok(volume) => Ok(Served::new(volume)),
+        Ok(volume) => Ok(Served::new(volume, read_only)),
         Err(fault) => Err(open_fault(fault)),
     }
 }

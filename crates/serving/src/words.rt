@@ -39,19 +39,17 @@ impl<'a> Parser<'a> for Asked<'a> {
 
     fn grammar(alloc: Global) -> Result<Command<'a>, AllocError> {
         Command::new(alloc, "nbd_disk")
-            .arg(word(alloc, "CONFIG", true))?
+            .arg(word(alloc, "CONFIG", false))?
             .arg(word(alloc, "PARTITION", false))?
             .arg(option(alloc, "disk"))?
             .arg(flag(alloc, "create"))
     }
 
     fn found_in(matches: &ArgMatches<'a>) -> Option<Asked<'a>> {
-        let Some(config) = matches.get_str("CONFIG") else {
-            return None;
-        };
         let Some(partition) = partition_of(matches.get_str("PARTITION")) else {
             return None;
         };
+        let config = matches.get_str("CONFIG");
         let disk = matches.get_str("disk");
         let create = matches.get_flag("create");
         Some(Asked {

@@ -42,9 +42,9 @@ impl Blocks {
 }
 
 impl Backing for Blocks {
-    ghost use Rattle.std.specs.Prelude.{⊤};
+    ghost use Rattle.std.specs.Prelude.{false, ⊤};
 
-    ghost shape = { λ _. record { block = 512; bytes = 2048 } };
+    ghost shape = { λ _. record { block = 512; bytes = 2048; read_only = false } };
 
     ghost Carries = { λ _ _ _ _ _. ⊤ };
 
@@ -52,6 +52,7 @@ impl Backing for Blocks {
         Sizes {
             block: 512,
             bytes: 2048,
+            read_only: false,
         }
     }
 

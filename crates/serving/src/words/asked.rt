@@ -3,8 +3,9 @@
 /// What the program is asked to serve.
 #[derive(Debug, Clone, Copy, PartialEq, Eq)]
 pub struct Asked<'a> {
-    /// The path of the settings.
-    pub config: &'a str,
+    /// The path of the settings. Without one they come from the file that has the disk; without `disk` too that is for
+    /// the caller to refuse.
+    pub config: Option<&'a str>,
     /// The number of the partition, counted from 0.
     pub partition: u8,
     /// The path of the file that has the disk; without one it is in memory.

@@ -4,4 +4,4 @@ use Rattle.nbd.proofs.handshake.haggle.Given as goal
 
 abbrev pub invariant-loop : goal.invariant-loop
 invariant-loop g l =
-    Haggles l.sizes.block l.sizes.bytes l.no_zeroes (g.R.Read.remaining l.fn.input) (g.W.Write.contents l.fn.out) (g.R.Read.remaining l.input) (g.W.Write.contents l.out) Options
+    Haggles l.sizes l.no_zeroes (g.R.Read.remaining l.fn.input) (g.W.Write.contents l.fn.out) (g.R.Read.remaining l.input) (g.W.Write.contents l.out) Options

@@ -30,6 +30,7 @@ returns-clause-opened g c = record {
   };
   block = c.in_ok-sizes.ensures.block;
   write_protected = ap (λ (d : DiskView). d.write_protected) c.new-disk.ensures;
+  told = c.in_ok-sizes.ensures.read_only;
   rules =
       c.in_ok-handle.ensures.rules
       ∙ rules_at_first c.args.config c.in_ok-first.first.items c.in_ok-stack.stack c.in_ok-stack.ensures.started c.in_ok-first.ensures.told;

@@ -1,7 +1,6 @@
-use Rattle.std.proofs.Common.{◌≡◌, ◌∙◌, Option, None, Some, codes, subst, sym}
+use Rattle.std.proofs.Common.{◌≡◌, ◌∙◌, Option, codes, subst, sym}
 use Rattle.std.specs.Prelude.{MatchOption}
 use Rattle.clap.specs.Words.{Text, found_of}
-use Rattle.clap.specs.Walk.{first_of, rows_of}
 use Rattle.clap.proofs.WalkLemmas.{first_value-rows}
 use Rattle.serving.proofs.Flags.{flag_is}
 use Rattle.serving.specs.CommandLine.{SpellsPartition}
@@ -10,10 +9,10 @@ use Rattle.serving.proofs.words.AskedParser.found_in.Goals as goal
 pub returns-clause-some : goal.returns-clause-some
 returns-clause-some c =
     let found = found_of c.args.matches.now in
-    let n = c.in-Some-partition_of.partition in
+    let n = c.in-Some.partition in
     record {
-      config = sym (c.in-Some.ensures ∙ first_value-rows found (codes "CONFIG"));
-      partition = subst (λ (o : Option Text). MatchOption o (n ≡ 0) (λ word. SpellsPartition word n)) (c.get_str-2.ensures ∙ first_value-rows found (codes "PARTITION")) c.in-Some-partition_of.ensures;
+      config = sym (c.get_str-config.ensures ∙ first_value-rows found (codes "CONFIG"));
+      partition = subst (λ (o : Option Text). MatchOption o (n ≡ 0) (λ word. SpellsPartition word n)) (c.get_str.ensures ∙ first_value-rows found (codes "PARTITION")) c.in-Some.ensures;
       disk = sym (c.get_str-disk.ensures ∙ first_value-rows found (codes "disk"));
       create = flag_is found (codes "create") c.get_flag-create.result c.get_flag-create.ensures.none c.get_flag-create.ensures.value c.get_flag-create.ensures.other;
     }
@@ -21,12 +20,5 @@ returns-clause-some c =
 pub returns-in_default-clause-none : goal.returns-in_default-clause-none
 returns-in_default-clause-none c = λ _ asked is.
     let found = found_of c.args.matches.now in
-    let none : ◌≡◌ {A = Option Text} None (first_of (codes "CONFIG") (rows_of found)) = c.in_default.ensures ∙ first_value-rows found (codes "CONFIG") in
-    let both : ◌≡◌ {A = Option Text} None (Some asked.config.now) = none ∙ is.config in
-    absurd (cc)
-
-pub returns-in_default-partition_of-clause-none : goal.returns-in_default-partition_of-clause-none
-returns-in_default-partition_of-clause-none c = λ _ asked is.
-    let found = found_of c.args.matches.now in
-    c.in_default-partition_of.ensures asked.partition
-    (subst (λ (o : Option Text). MatchOption o (asked.partition ≡ 0) (λ word. SpellsPartition word asked.partition)) (sym (c.get_str-2.ensures ∙ first_value-rows found (codes "PARTITION"))) is.partition)
+    c.in_default.ensures asked.partition
+    (subst (λ (o : Option Text). MatchOption o (asked.partition ≡ 0) (λ word. SpellsPartition word asked.partition)) (sym (c.get_str.ensures ∙ first_value-rows found (codes "PARTITION"))) is.partition)

@@ -1,6 +1,6 @@
 use Rattle.std.proofs.Common.{◌≡◌, ◌≤◌, ◌-◌, length, map, take}
 use Rattle.settings.specs.Medium.{extent_of}
-use Rattle.serving.proofs.on_disk.are_those.Given as goal
+use Rattle.serving.proofs.on_disk.compare.Given as goal
 
 -- so far each is that of its partition
 abbrev pub invariant-loop-index : goal.invariant-loop-index
