@@ -12,61 +12,45 @@ use std::process::Abort;
 /// An entry of a table: its type, its first sector and the number of its sectors.
 pub(crate) type Entry = (u8, u32, u32);
 
-pub(crate) const UNUSED: Entry = (0, 0, 0);
+/// The entries of a table, or none of a blank disk.
+pub(crate) type Table<'a> = Option<&'a [Entry]>;
 
 /// The sectors 2,048 to 3,071.
 pub(crate) const MIDDLE: Entry = (7, 2048, 1024);
 
-pub(crate) const SIGNATURE: [u8; 2] = [0x55, 0xAA];
+pub(crate) const ONE: Table<'static> = Some(&[MIDDLE]);
 
-/// Sector 0 with these entries in its table.
-#[derive(Clone, Copy)]
-pub(crate) struct PartitionTable {
-    pub signature: [u8; 2],
-    pub entries: [Entry; 4],
-}
+/// The second partition has the sectors 3,072 to 4,095.
+pub(crate) const TWO: Table<'static> = Some(&[MIDDLE, (7, 3072, 1024)]);
 
-impl PartitionTable {
-    /// Entries have sixteen bytes each from byte 446 on; their type is byte 4, the first sector and the count are the
-    /// bytes from 8 and 12 on, the lowest first.
-    pub(crate) fn sector(&self) -> [u8; 512] {
-        let mut bytes = [0; 512];
-        for n in 0..4 {
-            let (kind, first, count) = self.entries[n];
+/// Sector 0 with this table. Entries have sixteen bytes each from byte 446 on; their type is byte 4, the first sector and
+/// the count are the bytes from 8 and 12 on, the lowest first.
+pub(crate) fn sector_0(table: Table<'_>) -> [u8; 512] {
+    let mut bytes = [0; 512];
+    let Some(entries) = table else {
+        return bytes;
+    };
+    for n in 0..4_usize {
+        if let Some((kind, first, count)) = entries.get(n) {
             let entry = 446 + 16 * n;
-            bytes[entry + 4] = kind;
+            bytes[entry + 4] = *kind;
             bytes[entry + 8..entry + 12].copy_from_slice(&first.to_le_bytes());
             bytes[entry + 12..entry + 16].copy_from_slice(&count.to_le_bytes());
         }
-        bytes[510..].copy_from_slice(&self.signature);
-        bytes
     }
+    bytes[510] = 0x55;
+    bytes[511] = 0xAA;
+    bytes
 }
-
-/// A table of one partition.
-pub(crate) const ONE: PartitionTable = PartitionTable {
-    signature: SIGNATURE,
-    entries: [MIDDLE, UNUSED, UNUSED, UNUSED],
-};
-
-/// A table of two partitions. The second has the sectors 3,072 to 4,095.
-pub(crate) const TWO: PartitionTable = PartitionTable {
-    signature: SIGNATURE,
-    entries: [MIDDLE, (7, 3072, 1024), UNUSED, UNUSED],
-};
 
 fn no_memory(_refused: NoMemory) -> AllocError {
     AllocError
 }
 
 /// A disk with this table, in which the sectors of the list are bad.
-pub(crate) fn disk(
-    alloc: Global,
-    table: &PartitionTable,
-    bad: &[u64],
-) -> Result<VecDisk, AllocError> {
+pub(crate) fn disk(alloc: Global, table: Table<'_>, bad: &[u64]) -> Result<VecDisk, AllocError> {
     let bad = Vec::from_slice(alloc, bad)?;
-    VecDisk::starting_with(alloc, 512, 4096, &table.sector(), bad).map_err(no_memory)
+    VecDisk::starting_with(alloc, 512, 4096, &sector_0(table), bad).map_err(no_memory)
 }
 
 /// An adapter of two tags that moves this many sectors at most.
@@ -75,34 +59,17 @@ pub(crate) fn adapter<M: Medium>(
     alloc: Global,
     medium: M,
     max_transfer: u32,
+    write_protected: bool,
 ) -> Result<MemAdapter<M>, AllocError>
     requires some { 1 ≤ max_transfer }
     requires short { max_transfer ≤ 2 ^ 16 }
-    ensures idle { IfOk result (λ a. IsIdle a.shown) }
-    ensures unasked { IfOk result (λ a. a.shown.accepted ≡ 0) }
-{
-    adapter_of(rt, alloc, medium, max_transfer, 2)
-}
-
-/// An adapter of this many tags that moves this many sectors at most.
-pub(crate) fn adapter_of<M: Medium>(
-    rt: &impl Abort,
-    alloc: Global,
-    medium: M,
-    max_transfer: u32,
-    tags: u8,
-) -> Result<MemAdapter<M>, AllocError>
-    requires some { 1 ≤ max_transfer }
-    requires short { max_transfer ≤ 2 ^ 16 }
-    requires deep { 1 ≤ tags }
-    requires shallow { tags ≤ 32 }
     ensures idle { IfOk result (λ a. IsIdle a.shown) }
     ensures unasked { IfOk result (λ a. a.shown.accepted ≡ 0) }
 {
     let sectors = medium.sectors();
     assert!(rt; 1 <= sectors && sectors <= 1 << 40);
     assert!(rt; medium.sector_size() == 512 && medium.failures() == 0);
-    MemAdapter::new(alloc, medium, max_transfer, tags, false).map_err(no_memory)
+    MemAdapter::new(alloc, medium, max_transfer, 2, write_protected).map_err(no_memory)
 }
 
 /// A medium that refuses to reserve sectors, this many times. Then it reserves them.

@@ -1,4 +1,4 @@
-//! What tests compare by: a function, since a macro's text is proved again at each place.
+//! What tests compare by: functions, since a macro's text is proved again at each place.
 
 use std::fmt::Debug;
 use std::process::Abort;
@@ -8,12 +8,11 @@ pub(crate) fn same<T: PartialEq + Debug>(rt: &impl Abort, got: &T, wanted: &T) {
     assert_eq!(rt; got, wanted);
 }
 
-/// Compares as `same` does, and names the case.
-pub(crate) fn same_at<T: PartialEq + Debug>(
-    rt: &impl Abort,
-    got: &T,
-    wanted: &T,
-    case: &impl Debug,
-) {
-    assert_eq!(rt; got, wanted, "at {case:?}");
+/// Compares texts as `same` does.
+pub(crate) fn same_text(rt: &impl Abort, got: &[u8], wanted: &[u8]) {
+    same(
+        rt,
+        &std::str::from_utf8(got).ok(),
+        &std::str::from_utf8(wanted).ok(),
+    );
 }

@@ -1,10 +1,14 @@
-//! Tests of the whole stack over disks in memory, and of what no contract says: texts worked by hand, and what a
-//! refused request for memory leaves.
+//! Tests of the whole stack, over a disk in memory and over a journal: calls that no program makes, pieces that fail, and
+//! refused memory. What a script shows stands in `examples/rows`.
 #![tactic(auto)]
 
+#[cfg(test)]
+mod calls;
 #[cfg(test)]
 mod disks;
 #[cfg(test)]
 mod expect;
 #[cfg(test)]
-mod stacks;
+mod journals;
+#[cfg(test)]
+mod playing;

@@ -1,5 +1,0 @@
-use Rattle.std.proofs.Common.{length}
-use Rattle.stack_tests.proofs.stacks.steps.show.Given as goal
-
-abbrev pub decreases-loop-label : goal.decreases-loop-label
-decreases-loop-label g l = length (g.S.Carrier.labels l.stack)
