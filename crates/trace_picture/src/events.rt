@@ -1,188 +1,114 @@
 //! The picture as Trace Event JSON: a process for the device, one with a thread a tag, and one with a thread a row of
-//! requests. A label takes one microsecond, and an arrow leads from each request to its pieces.
+//! requests. A line of the trace takes one microsecond, and an arrow leads from each request to its pieces. No name or word
+//! has a character that JSON escapes.
 
-use crate::facts::{Band, Piece, Request, Stray};
+use crate::command::Command;
+use crate::facts::{Answer, Piece, Request};
 use crate::layout::Scene;
-use crate::names::{Command, Misfit, Name, class_word, phase_word};
-use serde_json::{Value, json};
-use std::alloc::{AllocError, Global};
+use crate::words::{Name, class_word};
 use std::io;
 use std::io::Write;
 
-const DEVICE: u64 = 1;
-
-const TAGS: u64 = 2;
-
-const REQUESTS: u64 = 3;
-
-/// Where an event stands.
+/// Where an event stands: a process, and a thread of it.
 #[derive(Clone, Copy)]
-struct Track {
-    process: u64,
-    thread: u64,
+struct Track(u64, u64);
+
+/// The threads of the device: pauses and removals, and labels that fit nothing.
+const PHASES: Track = Track(1, 1);
+
+const OTHERS: Track = Track(1, 2);
+
+fn tag_track(tag: u64) -> Track {
+    Track(2, tag.saturating_add(1))
 }
 
-/// The thread of pauses and removals.
-const PHASES: Track = Track {
-    process: DEVICE,
-    thread: 1,
-};
-
-/// The thread of labels that fit nothing.
-const OTHERS: Track = Track {
-    process: DEVICE,
-    thread: 2,
-};
-
-/// The time from one label to another.
-#[derive(Clone, Copy)]
-struct Span {
-    start: u64,
-    length: u64,
+fn row_track(row: usize) -> Track {
+    Track(3, (row as u64).saturating_add(1))
 }
+
+/// What stands before all that depends on the trace: the names of the processes, and of the device's threads.
+const HEAD: &str = "{\"displayTimeUnit\":\"ns\",\"traceEvents\":[
+{\"ph\":\"M\",\"pid\":1,\"name\":\"process_name\",\"args\":{\"name\":\"device\"}},
+{\"ph\":\"M\",\"pid\":2,\"name\":\"process_name\",\"args\":{\"name\":\"tags\"}},
+{\"ph\":\"M\",\"pid\":3,\"name\":\"process_name\",\"args\":{\"name\":\"requests\"}},
+{\"ph\":\"M\",\"pid\":1,\"tid\":1,\"name\":\"thread_name\",\"args\":{\"name\":\"phase\"}},
+{\"ph\":\"M\",\"pid\":1,\"tid\":2,\"name\":\"thread_name\",\"args\":{\"name\":\"others\"}}";
 
 /// Writes all events, one a line.
 pub(crate) fn write_events<W: Write>(out: &mut W, scene: Scene<'_>) -> io::Result<()> {
-    let alloc = scene.facts.alloc;
-    out.write_all(b"{\"displayTimeUnit\":\"ns\",\"traceEvents\":[\n")?;
-    let first =
-        json!(in alloc; {"ph": "M", "pid": DEVICE, "name": "process_name", "args": {"name": "device"}})?;
-    out.write_all(first.to_vec(alloc)?.as_slice())?;
+    out.write_all(HEAD.as_bytes())?;
     write_names(out, scene)?;
-    for band in scene.facts.bands.iter() {
-        write_band(out, scene, band)?;
+    write_bands(out, scene)?;
+    for (request, row) in scene.facts.requests.iter().zip(scene.layout.places.iter()) {
+        write_request(out, scene, request, row_track(*row))?;
     }
-    for (request, place) in scene.facts.requests.iter().zip(scene.layout.places.iter()) {
-        write_request(out, scene, request, place.row)?;
-    }
-    let mut number = 0_u64;
-    for piece in scene.facts.pieces.iter() {
-        write_piece(out, scene, piece)?;
-        number = number.saturating_add(1);
-        write_arrow(out, scene, piece, number)?;
-    }
-    for stray in scene.facts.strays.iter() {
-        write_stray(out, alloc, stray)?;
+    write_pieces(out, scene)?;
+    for line in scene.facts.strays.iter() {
+        write_instant(out, OTHERS, *line, "fits nothing before it")?;
     }
     out.write_all(b"\n]}\n")
 }
 
-/// Writes an event behind another.
-fn write_event<W: Write>(out: &mut W, alloc: Global, event: &Value) -> io::Result<()> {
-    out.write_all(b",\n")?;
-    out.write_all(event.to_vec(alloc)?.as_slice())
+/// Writes the times in which the device is paused or removed.
+fn write_bands<W: Write>(out: &mut W, scene: Scene<'_>) -> io::Result<()> {
+    for band in scene.facts.bands.iter() {
+        let length = span_of(scene, band.start, band.end);
+        begin_slice(out, PHASES, band.start, length)?;
+        write!(out, "}},\"name\":\"{}\"}}", band.word)?;
+    }
+    Ok(())
 }
 
-/// Writes the names of processes and threads.
+/// Writes the names of threads of tags and rows.
 fn write_names<W: Write>(out: &mut W, scene: Scene<'_>) -> io::Result<()> {
-    let alloc = scene.facts.alloc;
-    write_process(out, alloc, TAGS, "tags")?;
-    write_process(out, alloc, REQUESTS, "requests")?;
-    write_thread(out, alloc, PHASES, "phase")?;
-    write_thread(out, alloc, OTHERS, "others")?;
     for (tag, row) in scene.layout.tags.iter().enumerate() {
         if row.is_some() {
-            let name = format!(in alloc; "tag {tag}")?;
-            write_thread(out, alloc, tag_track(tag as u64), name.as_str())?;
+            write_name(out, tag_track(tag as u64), "tag", tag as u64)?;
         }
     }
-    if scene.layout.is_shared {
-        return write_row_names(out, scene);
-    }
-    write_request_names(out, scene)
-}
-
-/// Writes the names of rows that have one request each.
-fn write_request_names<W: Write>(out: &mut W, scene: Scene<'_>) -> io::Result<()> {
-    let alloc = scene.facts.alloc;
-    for (request, place) in scene.facts.requests.iter().zip(scene.layout.places.iter()) {
-        let number = request.number;
-        let name = format!(in alloc; "request {number}")?;
-        write_thread(out, alloc, row_track(place.row), name.as_str())?;
-    }
-    Ok(())
-}
-
-/// Writes the names of rows that several requests share.
-fn write_row_names<W: Write>(out: &mut W, scene: Scene<'_>) -> io::Result<()> {
-    let alloc = scene.facts.alloc;
     for row in 0..scene.layout.rows.len() {
-        let track = row_track(row);
-        let name = format!(in alloc; "row {}", track.thread)?;
-        write_thread(out, alloc, track, name.as_str())?;
+        write_name(out, row_track(row), "row", row as u64)?;
     }
     Ok(())
 }
 
-fn write_process<W: Write>(out: &mut W, alloc: Global, process: u64, name: &str) -> io::Result<()> {
-    let event =
-        json!(in alloc; {"ph": "M", "pid": process, "name": "process_name", "args": {"name": name}})?;
-    write_event(out, alloc, &event)
+fn write_name<W: Write>(out: &mut W, track: Track, word: &str, number: u64) -> io::Result<()> {
+    begin_event(out, "M", track)?;
+    write!(
+        out,
+        ",\"name\":\"thread_name\",\"args\":{{\"name\":\"{word} {number}\"}}}}"
+    )
 }
 
-fn write_thread<W: Write>(out: &mut W, alloc: Global, track: Track, name: &str) -> io::Result<()> {
-    let Track { process, thread } = track;
-    let event = json!(in alloc; {
-        "ph": "M", "pid": process, "tid": thread, "name": "thread_name", "args": {"name": name}
-    })?;
-    write_event(out, alloc, &event)
+/// Writes the beginning of an event.
+fn begin_event<W: Write>(out: &mut W, phase: &str, track: Track) -> io::Result<()> {
+    let Track(process, thread) = track;
+    write!(
+        out,
+        ",\n{{\"ph\":\"{phase}\",\"pid\":{process},\"tid\":{thread}"
+    )
 }
 
-fn tag_track(tag: u64) -> Track {
-    Track {
-        process: TAGS,
-        thread: tag.saturating_add(1),
-    }
+/// Writes the beginning of an event that takes a while, up to its first argument.
+fn begin_slice<W: Write>(out: &mut W, track: Track, start: u64, length: u64) -> io::Result<()> {
+    begin_event(out, "X", track)?;
+    write!(out, ",\"ts\":{start},\"dur\":{length}")?;
+    write!(out, ",\"args\":{{\"line\":{start}")
 }
 
-fn row_track(row: usize) -> Track {
-    Track {
-        process: REQUESTS,
-        thread: (row as u64).saturating_add(1),
-    }
+/// The lines from one to another, or to the end of the trace.
+fn span_of(scene: Scene<'_>, start: u64, end: Option<u64>) -> u64 {
+    let end = end.unwrap_or(scene.facts.line.saturating_add(1));
+    end.saturating_sub(start)
 }
 
-/// The labels from one to another, or to the end of the trace.
-fn span_of(scene: Scene<'_>, start: u64, end: Option<u64>) -> Span {
-    let end = end.unwrap_or(scene.facts.labels.saturating_add(1));
-    Span {
-        start,
-        length: end.saturating_sub(start),
-    }
-}
-
-/// An event that takes a while.
-fn slice_event(
-    alloc: Global,
-    track: Track,
-    span: Span,
-    parts: (String, Value),
-) -> Result<Value, AllocError> {
-    let (name, args) = parts;
-    let (process, thread) = (track.process, track.thread);
-    let (start, length) = (span.start, span.length);
-    json!(in alloc; {
-        "ph": "X", "pid": process, "tid": thread, "ts": start, "dur": length, "name": name, "args": args
-    })
-}
-
-/// An event that happens at one label.
-fn instant_event(
-    alloc: Global,
-    track: Track,
-    label: u64,
-    name: String,
-) -> Result<Value, AllocError> {
-    let (process, thread) = (track.process, track.thread);
-    json!(in alloc; {"ph": "i", "s": "t", "pid": process, "tid": thread, "ts": label, "name": name})
-}
-
-fn write_band<W: Write>(out: &mut W, scene: Scene<'_>, band: &Band) -> io::Result<()> {
-    let alloc = scene.facts.alloc;
-    let span = span_of(scene, band.start, band.end);
-    let name = String::from_str(alloc, phase_word(band.phase))?;
-    let event = slice_event(alloc, PHASES, span, (name, json!(in alloc; {})?))?;
-    write_event(out, alloc, &event)
+/// Writes an event that happens in one line.
+fn write_instant<W: Write>(out: &mut W, track: Track, line: u64, name: &str) -> io::Result<()> {
+    begin_event(out, "i", track)?;
+    write!(
+        out,
+        ",\"s\":\"t\",\"ts\":{line},\"name\":\"{name}\",\"args\":{{\"line\":{line}}}}}"
+    )
 }
 
 /// Writes a request, and its cancel.
@@ -190,102 +116,72 @@ fn write_request<W: Write>(
     out: &mut W,
     scene: Scene<'_>,
     request: &Request,
-    row: usize,
+    track: Track,
 ) -> io::Result<()> {
-    let alloc = scene.facts.alloc;
-    let track = row_track(row);
-    let span = span_of(scene, request.call, request.end());
-    let name = Name(request).to_string(alloc)?;
-    let event = slice_event(alloc, track, span, (name, request_args(alloc, request)?))?;
-    write_event(out, alloc, &event)?;
-    if let Some(label) = request.cancel {
-        write_instant(out, alloc, (track, label), "cancel")?;
+    let length = span_of(scene, request.call, request.end());
+    begin_slice(out, track, request.call, length)?;
+    write!(out, ",\"request\":{}", request.number)?;
+    if let Some(partition) = request.partition {
+        write!(out, ",\"partition\":{partition}")?;
+    }
+    if let Some(answer) = request.answer {
+        write_answer(out, answer)?;
+    }
+    write!(out, "}},\"name\":\"{}\"}}", Name(request))?;
+    match request.cancel {
+        Some(line) => write_instant(out, track, line, "cancel"),
+        None => Ok(()),
+    }
+}
+
+fn write_answer<W: Write>(out: &mut W, answer: Answer) -> io::Result<()> {
+    let (status, moved) = (answer.status.name(), answer.moved);
+    write!(out, ",\"answer\":\"{status}\",\"bytes moved\":{moved}")
+}
+
+/// Writes the pieces, each with its arrow.
+fn write_pieces<W: Write>(out: &mut W, scene: Scene<'_>) -> io::Result<()> {
+    let mut number = 0_u64;
+    for piece in scene.facts.pieces.iter() {
+        write_piece(out, scene, piece)?;
+        number = number.saturating_add(1);
+        if let Some(row) = scene.layout.row_of(piece) {
+            write_arrow(out, piece, row_track(row), number)?;
+        }
     }
     Ok(())
-}
-
-fn write_instant<W: Write>(
-    out: &mut W,
-    alloc: Global,
-    place: (Track, u64),
-    word: &str,
-) -> io::Result<()> {
-    let (track, label) = place;
-    let event = instant_event(alloc, track, label, String::from_str(alloc, word)?)?;
-    write_event(out, alloc, &event)
-}
-
-/// Returns what is told of a request.
-fn request_args(alloc: Global, request: &Request) -> Result<Value, AllocError> {
-    let number = request.number;
-    let partition = match request.partition {
-        Some(partition) => Value::from(u64::from(partition)),
-        None => Value::Null,
-    };
-    let (status, moved) = match request.answer {
-        Some(answer) => (answer.status.name(), answer.information),
-        None => ("none", 0),
-    };
-    json!(in alloc; {"request": number, "partition": partition, "answer": status, "bytes moved": moved})
 }
 
 /// Writes a piece, and its act or fault.
 fn write_piece<W: Write>(out: &mut W, scene: Scene<'_>, piece: &Piece) -> io::Result<()> {
-    let alloc = scene.facts.alloc;
     let track = tag_track(u64::from(piece.tag));
-    let span = span_of(scene, piece.start, piece.end());
+    let length = span_of(scene, piece.start, piece.end());
+    begin_slice(out, track, piece.start, length)?;
     let (number, word) = (piece.number, class_word(piece.back));
-    let name = format!(in alloc; "piece {number} {word}")?;
-    let event = slice_event(alloc, track, span, (name, piece_args(scene, piece)?))?;
-    write_event(out, alloc, &event)?;
-    if let Some(label) = piece.act {
-        write_instant(out, alloc, (track, label), "act")?;
+    write!(out, ",\"piece\":{number},\"return\":\"{word}\"")?;
+    if let Some(request) = scene.facts.owner_of(piece) {
+        write!(out, ",\"request\":{}", request.number)?;
     }
-    if let Some(label) = piece.fault {
-        write_instant(out, alloc, (track, label), "fault")?;
+    write!(out, ",\"command\":\"{}\"}}", Command(piece.command))?;
+    write!(out, ",\"name\":\"piece {number} {word}\"}}")?;
+    match piece.fate {
+        Some((line, word)) => write_instant(out, track, line, word),
+        None => Ok(()),
     }
-    Ok(())
-}
-
-/// Returns what is told of a piece.
-fn piece_args(scene: Scene<'_>, piece: &Piece) -> Result<Value, AllocError> {
-    let alloc = scene.facts.alloc;
-    let request = match scene.facts.owner_of(piece) {
-        Some(request) => Value::from(request.number),
-        None => Value::Null,
-    };
-    let command = Command(piece.command).to_string(alloc)?;
-    let word = class_word(piece.back);
-    json!(in alloc; {"request": request, "command": command, "return": word})
 }
 
 /// Writes an arrow from the request of a piece to the piece.
-fn write_arrow<W: Write>(
-    out: &mut W,
-    scene: Scene<'_>,
-    piece: &Piece,
-    number: u64,
-) -> io::Result<()> {
-    let alloc = scene.facts.alloc;
-    let Some(row) = scene.layout.row_of(piece) else {
-        return Ok(());
-    };
-    let Track { process, thread } = row_track(row);
-    let start = piece.start;
-    let tail = json!(in alloc; {
-        "ph": "s", "pid": process, "tid": thread, "ts": start, "id": number, "cat": "piece", "name": "piece"
-    })?;
-    write_event(out, alloc, &tail)?;
-    let Track { process, thread } = tag_track(u64::from(piece.tag));
-    let head = json!(in alloc; {
-        "ph": "f", "bp": "e", "pid": process, "tid": thread, "ts": start, "id": number, "cat": "piece", "name": "piece"
-    })?;
-    write_event(out, alloc, &head)
+fn write_arrow<W: Write>(out: &mut W, piece: &Piece, row: Track, number: u64) -> io::Result<()> {
+    begin_event(out, "s", row)?;
+    write_arrow_end(out, piece.start, number)?;
+    begin_event(out, "f", tag_track(u64::from(piece.tag)))?;
+    out.write_all(b",\"bp\":\"e\"")?;
+    write_arrow_end(out, piece.start, number)
 }
 
-/// Writes a label that fits nothing.
-fn write_stray<W: Write>(out: &mut W, alloc: Global, stray: &Stray) -> io::Result<()> {
-    let name = format!(in alloc; "{} fits nothing before it", Misfit(stray))?;
-    let event = instant_event(alloc, OTHERS, stray.label, name)?;
-    write_event(out, alloc, &event)
+fn write_arrow_end<W: Write>(out: &mut W, line: u64, number: u64) -> io::Result<()> {
+    write!(
+        out,
+        ",\"ts\":{line},\"id\":{number},\"cat\":\"piece\",\"name\":\"piece\"}}"
+    )
 }

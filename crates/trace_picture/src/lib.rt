@@ -1,27 +1,22 @@
 //! A trace to look at: a picture of it, as an SVG or as Trace Event JSON.
 //!
 //! [`Picture::take`] is given the labels of a trace one after the other, legal or not, and keeps their numbers and no
-//! bytes. [`Picture::write_svg`] writes one self-contained SVG without scripts: labels run to the right, a row a tag
-//! with its pieces, a row a request (shared above 400 labels) with its call, pieces, cancel and answer, and bands for
-//! pauses and removals.
+//! bytes. [`Picture::write_svg`] writes one self-contained SVG without scripts: the lines of the trace run to the right, a
+//! row a tag with its pieces, a row a request (shared above 400 lines) with its call, pieces, cancel and answer, and bands
+//! for pauses and removals.
 //! [`Picture::write_events`] writes what Perfetto and Chrome's tracing page open.
 //!
 //! It promises to the crate above that each call returns, whatever the labels, and that want of memory is told. What is
 //! written is only tested. It does not promise that a writer takes all.
 #![tactic(auto)]
 
-mod bands;
+mod command;
 mod events;
 mod facts;
 mod layout;
-mod legend;
-mod marks;
-mod names;
 mod owners;
-mod rows;
 mod svg;
-mod texts;
-mod titles;
+mod words;
 
 use facts::Facts;
 use layout::{Layout, Scene};
@@ -61,14 +56,8 @@ impl Picture {
     pub fn write_svg<W: Write>(&mut self, out: &mut W) -> io::Result<()> {
         owners::find_owners(&mut self.facts)?;
         let facts = &self.facts;
-        let layout = Layout::of(facts)?;
-        svg::write_svg(
-            out,
-            Scene {
-                facts,
-                layout: &layout,
-            },
-        )
+        let layout = &Layout::of(facts)?;
+        svg::write_svg(out, Scene { facts, layout })
     }
 
     /// Writes the Trace Event JSON. The writer is not flushed.
@@ -79,13 +68,7 @@ impl Picture {
     pub fn write_events<W: Write>(&mut self, out: &mut W) -> io::Result<()> {
         owners::find_owners(&mut self.facts)?;
         let facts = &self.facts;
-        let layout = Layout::of(facts)?;
-        events::write_events(
-            out,
-            Scene {
-                facts,
-                layout: &layout,
-            },
-        )
+        let layout = &Layout::of(facts)?;
+        events::write_events(out, Scene { facts, layout })
     }
 }

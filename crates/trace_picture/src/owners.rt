@@ -5,44 +5,26 @@
 //! partition's first request tells where the partition begins. An owner is therefore a guess where requests ask for the
 //! same sectors at once.
 
-use crate::facts::{Facts, Piece, Request};
-use cdb::Cdb;
+use crate::command::{Asked, asked_by};
+use crate::facts::{Facts, Piece, Request, Step};
 use machine::Kind;
 use srb::Class;
-use std::alloc::{AllocError, Global};
+use std::alloc::AllocError;
 
 /// The bytes of a sector where no act tells them.
 const SECTOR: u64 = 512;
 
-/// What a command asks for, in sectors; a flush counts as one.
-#[derive(Clone, Copy)]
-struct Asked {
-    kind: Kind,
-    first: u64,
-    count: u64,
-    through: bool,
-}
+/// How well a request fits a piece: not at all; where its partition begins isn't known yet; somewhere inside; or where its
+/// last piece ended.
+const NOT: u64 = 0;
 
-/// How well a request fits a piece.
-#[derive(Clone, Copy)]
-enum Fit {
-    No,
-    /// It isn't known yet where the request's partition begins.
-    First,
-    Inside,
-    /// The piece goes on where the last one ended.
-    Next,
-}
+const FIRST: u64 = 1;
 
-/// A piece that comes back busy: its sectors are sent again.
-#[derive(Clone, Copy)]
-struct Busy {
-    label: u64,
-    owner: usize,
-    count: u64,
-}
+const INSIDE: u64 = 2;
 
-/// What is known at the start of a piece.
+const NEXT: u64 = 3;
+
+/// What is known at a step.
 #[derive(Drop)]
 struct Search {
     sector_size: u64,
@@ -50,108 +32,107 @@ struct Search {
     bases: [Option<u64>; 256],
     /// The places of the requests that are open.
     open: Vec<usize>,
-    /// The requests called so far.
-    called: usize,
-    busy: Vec<Busy>,
 }
 
-/// Finds the owner of each piece.
+/// Finds the owner of each piece, and its lane there.
 pub(crate) fn find_owners(facts: &mut Facts) -> Result<(), AllocError> {
-    let mut search = Search::new(facts.alloc, facts.sector_size.unwrap_or(SECTOR));
+    let mut search = Search {
+        sector_size: sector_size(facts.pieces.as_slice()),
+        bases: [None; 256],
+        open: Vec::new(facts.alloc),
+    };
     for request in facts.requests.iter_mut() {
         request.sent = 0;
+        request.taken = 0;
+        request.lanes = 0;
     }
-    for piece in facts.pieces.iter_mut() {
-        search.go_to(piece.start, facts.requests.as_mut_slice())?;
-        piece.owner = search.own(piece, facts.requests.as_mut_slice())?;
+    let requests = facts.requests.as_mut_slice();
+    let pieces = facts.pieces.as_mut_slice();
+    for step in facts.steps.iter() {
+        match step {
+            Step::Called(place) => search.open.push(*place)?,
+            Step::Answered(place) => search.close(*place),
+            Step::Started(place) => search.start(*place, pieces, requests),
+            Step::CameBack(place) => come_back(*place, pieces, requests),
+        }
     }
     Ok(())
 }
 
+/// The bytes of a sector, as the first act of some sectors tells them.
+fn sector_size(pieces: &[Piece]) -> u64 {
+    for piece in pieces.iter() {
+        if let Some(asked) = asked_by(piece.command)
+            && piece.bytes >= asked.count
+        {
+            return piece.bytes.checked_div(asked.count).unwrap_or(SECTOR);
+        }
+    }
+    SECTOR
+}
+
+/// Frees the lane of the piece at a place. What came back busy is to be sent again.
+fn come_back(place: usize, pieces: &[Piece], requests: &mut [Request]) {
+    let Some(piece) = pieces.get(place) else {
+        return;
+    };
+    let Some(request) = owner_among(requests, piece.owner) else {
+        return;
+    };
+    request.taken &= !lane_bit(piece.lane);
+    if let (Some((_, Class::Busy)), Some(asked)) = (piece.back, asked_by(piece.command)) {
+        request.sent = request.sent.saturating_sub(asked.count);
+    }
+}
+
+fn owner_among(requests: &mut [Request], owner: Option<usize>) -> Option<&mut Request> {
+    requests.get_mut(owner?)
+}
+
+/// The bit of a lane; none above the 64th.
+fn lane_bit(lane: u64) -> u64 {
+    if lane < 64 { 1 << lane } else { 0 }
+}
+
 impl Search {
-    fn new(alloc: Global, sector_size: u64) -> Search {
-        Search {
-            sector_size,
-            bases: [None; 256],
-            open: Vec::new(alloc),
-            called: 0,
-            busy: Vec::new(alloc),
-        }
+    fn close(&mut self, place: usize) {
+        self.open.retain(|open| *open != place);
     }
 
-    /// Takes in what came before this label.
-    fn go_to(&mut self, label: u64, requests: &mut [Request]) -> Result<(), AllocError> {
-        self.give_back(label, requests);
-        self.open.retain(|place| is_open(requests, *place, label));
-        for request in requests.iter().skip(self.called) {
-            if request.call > label {
-                break;
-            }
-            if is_open_at(request, label) {
-                self.open.push(self.called)?;
-            }
-            self.called = self.called.saturating_add(1);
-        }
-        Ok(())
-    }
-
-    /// Gives back what came back busy before this label.
-    fn give_back(&mut self, label: u64, requests: &mut [Request]) {
-        for busy in self.busy.iter() {
-            if busy.label < label
-                && let Some(request) = requests.get_mut(busy.owner)
-            {
-                request.sent = request.sent.saturating_sub(busy.count);
-            }
-        }
-        self.busy.retain(|busy| busy.label >= label);
-    }
-
-    /// The owner of a piece, with the piece among those that it sent.
-    fn own(
-        &mut self,
-        piece: &Piece,
-        requests: &mut [Request],
-    ) -> Result<Option<usize>, AllocError> {
+    /// Gives the piece at a place to the request that fits it best, if one does.
+    fn start(&mut self, place: usize, pieces: &mut [Piece], requests: &mut [Request]) {
+        let Some(piece) = pieces.get_mut(place) else {
+            return;
+        };
         let Some(asked) = asked_by(piece.command) else {
-            return Ok(None);
+            return;
         };
-        let Some(owner) = self.best(&asked, piece.start, requests) else {
-            return Ok(None);
+        piece.owner = self.best(&asked, requests, piece.start);
+        let Some(request) = owner_among(requests, piece.owner) else {
+            return;
         };
-        if let Some(request) = requests.get_mut(owner) {
-            self.learn(&asked, request);
-            request.sent = request.sent.saturating_add(asked.count);
-        }
-        if let Some((label, Class::Busy)) = piece.back {
-            self.busy.push(Busy {
-                label,
-                owner,
-                count: asked.count,
-            })?;
-        }
-        Ok(Some(owner))
+        self.learn(&asked, request);
+        request.sent = request.sent.saturating_add(asked.count);
+        piece.lane = u64::from(request.taken.trailing_ones());
+        request.taken |= lane_bit(piece.lane);
+        request.lanes = request.lanes.max(piece.lane.saturating_add(1));
     }
 
     /// Learns where the partition of a request begins from its first piece.
     fn learn(&mut self, asked: &Asked, request: &Request) {
-        if asked.kind == Kind::Flush || self.base_of(request).is_some() {
-            return;
+        if asked.kind != Kind::Flush && self.base_of(request).is_none() {
+            let first = self.sectors(request.offset);
+            self.bases[request.partition.unwrap_or(0) as usize] = asked.first.checked_sub(first);
         }
-        let first = self.sectors(request.offset);
-        self.bases[request.partition.unwrap_or(0) as usize] = asked.first.checked_sub(first);
     }
 
     /// The open request that fits best, and of these the first.
-    fn best(&self, asked: &Asked, label: u64, requests: &[Request]) -> Option<usize> {
+    fn best(&self, asked: &Asked, requests: &[Request], line: u64) -> Option<usize> {
         let mut best = None;
-        let mut fit = Fit::No;
+        let mut fit = NOT;
         for place in self.open.iter() {
-            let Some(request) = requests.get(*place) else {
-                continue;
-            };
-            let next = self.fit(asked, request);
-            if next as u8 > fit as u8 && !is_before(request.cancel, label) {
+            let next = self.fit_at(asked, requests.get(*place), line);
+            if next > fit {
                 best = Some(*place);
                 fit = next;
             }
@@ -159,35 +140,39 @@ impl Search {
         best
     }
 
-    fn fit(&self, asked: &Asked, request: &Request) -> Fit {
+    /// How well a request fits that isn't cancelled before a line.
+    fn fit_at(&self, asked: &Asked, request: Option<&Request>, line: u64) -> u64 {
+        match request {
+            Some(request) if request.cancel.unwrap_or(line) >= line => self.fit(asked, request),
+            _ => NOT,
+        }
+    }
+
+    fn fit(&self, asked: &Asked, request: &Request) -> u64 {
         if request.kind != asked.kind {
-            return Fit::No;
+            return NOT;
         }
         match request.kind {
-            Kind::Flush if request.sent == 0 => Fit::Next,
-            Kind::Flush => Fit::No,
-            _ if request.through != asked.through => Fit::No,
+            Kind::Flush if request.sent == 0 => NEXT,
+            Kind::Flush => NOT,
+            _ if request.through != asked.through => NOT,
             _ => self.fit_transfer(asked, request),
         }
     }
 
-    fn fit_transfer(&self, asked: &Asked, request: &Request) -> Fit {
+    fn fit_transfer(&self, asked: &Asked, request: &Request) -> u64 {
         let first = self.sectors(request.offset);
         let count = self.sectors(request.length);
         if request.sent.saturating_add(asked.count) > count || asked.first < first {
-            return Fit::No;
+            return NOT;
         }
         let Some(base) = self.base_of(request) else {
-            return if request.sent == 0 {
-                Fit::First
-            } else {
-                Fit::No
-            };
+            return if request.sent == 0 { FIRST } else { NOT };
         };
         match asked.first.checked_sub(base.saturating_add(first)) {
-            Some(at) if at == request.sent => Fit::Next,
-            Some(at) if at.saturating_add(asked.count) <= count => Fit::Inside,
-            _ => Fit::No,
+            Some(at) if at == request.sent => NEXT,
+            Some(at) if at.saturating_add(asked.count) <= count => INSIDE,
+            _ => NOT,
         }
     }
 
@@ -199,48 +184,4 @@ impl Search {
     fn sectors(&self, bytes: u64) -> u64 {
         bytes.checked_div(self.sector_size).unwrap_or(0)
     }
-}
-
-/// Whether something came before a label.
-fn is_before(event: Option<u64>, label: u64) -> bool {
-    match event {
-        Some(at) => at < label,
-        None => false,
-    }
-}
-
-/// Whether the request of this place has no answer before a label.
-fn is_open(requests: &[Request], place: usize, label: u64) -> bool {
-    match requests.get(place) {
-        Some(request) => is_open_at(request, label),
-        None => false,
-    }
-}
-
-fn is_open_at(request: &Request, label: u64) -> bool {
-    match request.answer {
-        Some(answer) => answer.label > label,
-        None => true,
-    }
-}
-
-/// Returns what a command asks for, if it is a transfer of some sectors or a flush.
-fn asked_by(command: Option<Cdb>) -> Option<Asked> {
-    let (kind, first, count, through) = match command? {
-        Cdb::Read10 { lba, count, fua } => (Kind::Read, u64::from(lba), u64::from(count), fua),
-        Cdb::Write10 { lba, count, fua } => (Kind::Write, u64::from(lba), u64::from(count), fua),
-        Cdb::Read16 { lba, count, fua } => (Kind::Read, lba, u64::from(count), fua),
-        Cdb::Write16 { lba, count, fua } => (Kind::Write, lba, u64::from(count), fua),
-        Cdb::Sync10 { .. } | Cdb::Sync16 { .. } => (Kind::Flush, 0, 1, false),
-        _ => return None,
-    };
-    if count == 0 {
-        return None;
-    }
-    Some(Asked {
-        kind,
-        first,
-        count,
-        through,
-    })
 }
