@@ -39,6 +39,10 @@ pub record HasRoom (c : Config) (threads : ℕ) : Type 0 where
 abbrev pub IsOutputFault : Error → Type 0
 IsOutputFault fault = (fault ≡ Script OutputFailed) ⊎ (fault ≡ NoMemory)
 
+-- nothing was printed, unless the output failed or memory was refused
+abbrev pub IsUntold : Option (List ℕ) → Option (List ℕ) → Error → Type 0
+IsUntold old new fault = IsOutputFault fault ⊎ (new ≡ old)
+
 -- why no tally is printed of this many clients. Settings are looked at first, then a stack is started, and then there
 -- has to be room for the clients
 abbrev pub IsClientsFault : Option (List ℕ) → ℕ → Error → Type 0

@@ -4,7 +4,7 @@ ghost use Rattle.std.specs.Prelude.{◌≡◌, ◌≤◌, ◌++◌, ◌∷◌, �
 ghost use Rattle.std.specs.Io.KnownBytes.{Appends};
 ghost use Rattle.traced.specs.Sizes.{AreSizes, sizes_of};
 ghost use Rattle.settings.specs.InRange.{AreInRange};
-ghost use Rattle.commands.specs.Clients.{HasRoom, IsClientsFault, IsOutputFault, PrintsTally, tally_line, verdict_on};
+ghost use Rattle.commands.specs.Clients.{HasRoom, IsClientsFault, IsOutputFault, IsUntold, PrintsTally, tally_line, verdict_on};
 ghost use Rattle.settings.specs.declared.ConfigFault.TheVariants.{OutOfRange};
 ghost use Rattle.commands.specs.declared.faults.Error.TheVariants.{Startup};
 ghost use Rattle.startup.specs.declared.faults.Error.TheVariants.{Settings};
@@ -44,6 +44,7 @@ pub fn clients<C: Read + Drop, O: Write, R: Threads + Wait + Sync>(
     requires { (1 ≤ threads) × (threads ≤ 32) }
     ensures printed { IfOk result (PrintsTally threads rounds (O.contents out.old) (O.contents out.new)) }
     ensures fault { IfErr result (IsClientsFault (C.remaining config) threads) }
+    ensures untold { IfErr result (IsUntold (O.contents out.old) (O.contents out.new)) }
 {
     let config = read_settings(alloc, config)?;
     let has_room = has_room(&config, threads);

@@ -2,13 +2,11 @@
 
 ghost use Rattle.std.specs.Prelude.{IfErr, OnOk};
 ghost use Rattle.script.specs.Trace.{Prints};
-ghost use Rattle.commands.specs.Trace.{IsPrintOf, IsTraceFault};
+ghost use Rattle.commands.specs.Trace.{IsPrintOf, IsTraceFault, IsUntold};
 
 use crate::faults::Error;
-use adapter::Adapter;
-use compose::Stack;
-use script::{Line, ScriptFault, play};
-use script_runs::{Playing, run};
+use script::Style;
+use script_runs::run;
 use std::alloc::Global;
 use std::io::{Read, Write};
 
@@ -27,25 +25,8 @@ pub fn trace<C: Read + Drop, S: Read + Drop, O: Write>(
 ) -> Result<(), Error>
     ensures text { OnOk result (Prints (O.contents out.old) (O.contents out.new) (IsPrintOf (C.remaining config) (S.remaining script))) }
     ensures fault { IfErr result (IsTraceFault (C.remaining config) (S.remaining script)) }
+    ensures untold { IfErr result (IsUntold (O.contents out.old) (O.contents out.new)) }
 {
-    run::<Tracing, C, S, O>(alloc, config, script, out)?;
+    run(alloc, config, script, Style::Transcript, out)?;
     Ok(())
-}
-
-/// Lines are played with their replies and the labels of their steps in print.
-struct Tracing;
-
-impl Playing for Tracing {
-    ghost use Rattle.script.specs.Trace.{line_text};
-
-    ghost text_of = { line_text };
-
-    fn play<A: Adapter, W: Write>(
-        alloc: Global,
-        stack: &mut Stack<A>,
-        lines: &[Line<'_>],
-        out: &mut W,
-    ) -> Result<(), ScriptFault> {
-        play(alloc, stack, lines, out)
-    }
 }

@@ -1,7 +1,5 @@
 mod LinesRead
 mod Courses
-mod RecordedLabels
-mod PlayedLines
 mod Blaming
 mod SaidOfTraces
 mod Stopping

@@ -1,32 +1,15 @@
 -- A script run through a stack, and the trace that is written of it.
-use Rattle.std.specs.Prelude.{ℕ, List, ◌++◌, Option, None, map}
-use Rattle.std.specs.List.{concat}
-use Rattle.machine.specs.declared.Label.{Label}
-use Rattle.script.specs.Trace.{LineText}
+use Rattle.std.specs.Prelude.{ℕ, List, Option}
+use Rattle.script.specs.declared.Style.TheVariants.{Trace}
 use Rattle.script.specs.declared.ScriptFault.TheVariants.{BadLine as BadScriptLine, NoMemory as WantOfMemory, OutputFailed as PrintFailed}
 use Rattle.script_runs.specs.declared.faults.Error.TheVariants.{Startup as RunStartup, Unreadable as RunUnreadable, Script as RunScript}
 use Rattle.script_runs.specs.Runs.{IsRunFault, IsTextOf}
-use Rattle.label_text.specs.Lines.{line_end, line_of}
 use Rattle.judging.specs.declared.faults.Error.{Error}
 use Rattle.judging.specs.declared.faults.Error.TheVariants.{Usage, Startup, TraceUnreadable, ScriptUnreadable, BadLine, Script, OutputFailed, NoMemory}
 
--- a label as a line, with its end
-abbrev pub whole_line : Label → List ℕ
-whole_line label = line_of (record { label = label; owner = None }) ++ line_end
-
--- the lines of labels, one after the other
-abbrev pub lines_text : List Label → List ℕ
-lines_text labels = concat (map whole_line labels)
-
--- of a line the labels of its step are written
-abbrev pub record_text : LineText
-record_text line reply labels = lines_text labels
-
--- THE WHOLE PROGRAM
-
 -- what is written of a script: the labels of the steps of its lines, from the stack that its settings start
 abbrev pub IsRecordOf : Option (List ℕ) → Option (List ℕ) → List ℕ → Type 0
-IsRecordOf config script text = IsTextOf record_text config script text
+IsRecordOf config script text = IsTextOf Trace config script text
 
 -- why a script is not recorded to its end
 abbrev pub IsRecordFault : Option (List ℕ) → Option (List ℕ) → Error → Type 0

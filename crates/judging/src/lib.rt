@@ -23,7 +23,6 @@ mod faults;
 mod opened;
 pub mod progress;
 mod reading;
-mod recording;
 pub mod scripts;
 mod told;
 pub mod words;

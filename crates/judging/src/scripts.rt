@@ -5,7 +5,7 @@ ghost use Rattle.script.specs.Trace.{Prints};
 ghost use Rattle.judging.specs.Recorded.{IsRecordFault, IsRecordOf};
 
 use crate::faults::Error;
-use crate::recording::Recording;
+use script::Style;
 use script_runs::run;
 use std::alloc::Global;
 use std::io::{Read, Write};
@@ -26,6 +26,6 @@ pub fn record_script<C: Read + Drop, S: Read + Drop, O: Write>(
     ensures text { OnOk result (Prints (O.contents out.old) (O.contents out.new) (IsRecordOf (C.remaining config) (S.remaining script))) }
     ensures fault { IfErr result (IsRecordFault (C.remaining config) (S.remaining script)) }
 {
-    run::<Recording, C, S, O>(alloc, config, script, out)?;
+    run(alloc, config, script, Style::Trace, out)?;
     Ok(())
 }

@@ -2,9 +2,11 @@ mod Found
 mod Parting
 mod Numbers
 mod Digits
-mod Printed
+pub mod Printed
 mod Hexed
 mod LongestRuns
+mod Same
+mod Skipped
 mod RunsTaken
 mod RunsRead
 mod Spaced

@@ -21,7 +21,7 @@ use Rattle.machine.specs.declared.Label.{Label}
 use Rattle.machine.specs.declared.Label.TheVariants.{Call, Device, Answer, Cancel, Pause, Resume, Remove, Surprise, Removed}
 use Rattle.trace_line.specs.declared.Line.{Line}
 use Rattle.label_text.specs.Runs.{AreBytes, hex_bytes, hex_of}
-use Rattle.label_text.specs.Lines.{BlockFits, ClassFits, Fits, OwnerFits, OwnerIsSmall, PartitionFits, SenseFits, Spells, Words, block_words, class_words, extent_words, kind_word, owner_words, partition_word, runs_words, sense_words, through_words, words_of}
+use Rattle.label_text.specs.Lines.{BlockFits, ClassFits, Fits, OwnerFits, OwnerIsSmall, PartitionFits, SenseFits, Spells, Words, block_words, class_words, extent_words, kind_word, owned, owner_words, partition_word, runs_words, sense_words, through_words, words_of}
 use Rattle.label_text.specs.inside.Reading.{act_at, answer_at, at_end, bare, behind, behind_block, behind_extent, behind_head, behind_placed, behind_start, block_at, block_in, byte_at, byte_in, bytes_at, bytes_in, call_at, cancel_at, class_at, class_by, completion_at, extent_at, fault_at, flushed_at, head_at, in_partition_at, is_next, is_no_block, is_some_extent, kind_in, label_by, line_at, line_by, line_in, number_at, number_in, outcome_at, owned_start_at, owner_at, parted, partition_in, placed_at, return_at, runs_in, sense_at, sense_behind, sense_from, short_block, short_by, start_at, status_in, tag_at, two_at, with_bytes}
 use Rattle.label_text.specs.declared.reading.Head.{Head}
 use Rattle.label_text.proofs.Digits.{hex_bytes_some, hex_some}
@@ -287,7 +287,7 @@ record TellsLine (verb : List ℕ) (words : Words) (line : Line) : Type 0 where
   owner_fits : OwnerFits line.label line.owner
 
 start_some : (words : Words) (l : Label) (owner : Option ℕ) → start_at words ≡ Some l → behind_start words ≡ owner_words owner → OwnerIsSmall owner
-    → TellsLine (codes "start") words (record { label = l; owner = owner })
+    → TellsLine (codes "start") words (owned l owner)
 start_some words l owner p rest small =
     let n = then_some_of (λ piece. option_and_then (λ tag. option_map (λ block. Device (Start piece tag block)) (block_at (drop 1 (drop 1 (drop 1 words))))) (tag_at (drop 1 words))) (number_at 128 words) l p in
     let t = then_some_of (λ tag. option_map (λ block. Device (Start n.0 tag block)) (block_at (drop 1 (drop 1 (drop 1 words))))) (tag_at (drop 1 words)) l n.2 in
@@ -295,7 +295,7 @@ start_some words l owner p rest small =
     let piece = number_at_some 128 words n.0 n.1 in
     let tag = tag_some (drop 1 words) t.0 t.1 in
     let block = block_at_some (drop 1 (drop 1 (drop 1 words))) b.0 b.1 in
-    subst (λ x. TellsLine (codes "start") words (record { label = x; owner = owner })) b.2 (record {
+    subst (λ x. TellsLine (codes "start") words (owned x owner)) b.2 (record {
       is =
           ap (λ more. codes "start" ∷ more)
           (piece.0 ∙ ap (λ more. decimal n.0 ∷ more) (tag.0 ∙ ap (λ more. codes "tag" ∷ decimal t.0 ∷ more) (block.0 ∙ ap (λ more. block_words b.0 ++ more) rest)));
@@ -305,8 +305,8 @@ start_some words l owner p rest small =
 
 owned_start_some : (words : Words) (line : Line) → owned_start_at words ≡ Some line → TellsLine (codes "start") words line
 owned_start_some words line h =
-    let l = then_some_of (λ label. option_map (λ owner. record { label = label; owner = owner }) (owner_at (behind_start words))) (start_at words) line h in
-    let o = map_some (λ owner. record { label = l.0; owner = owner }) (owner_at (behind_start words)) line l.2 in
+    let l = then_some_of (λ label. option_map (owned label) (owner_at (behind_start words))) (start_at words) line h in
+    let o = map_some (owned l.0) (owner_at (behind_start words)) line l.2 in
     let owner = owner_some (behind_start words) o.0 o.1 in
     subst (TellsLine (codes "start") words) o.2 (start_some words l.0 o.0 l.1 owner.0 owner.1)
 

@@ -21,7 +21,7 @@ use Rattle.machine.specs.declared.Label.{Label}
 use Rattle.machine.specs.declared.Label.TheVariants.{Call, Device, Answer, Cancel, Pause, Resume, Remove, Surprise, Removed}
 use Rattle.trace_line.specs.declared.Line.{Line}
 use Rattle.label_text.specs.Runs.{AreBytes, digit_of, hex_bytes, hex_of, runs_of, runs_text}
-use Rattle.label_text.specs.Lines.{BlockFits, ClassFits, Fits, OwnerFits, OwnerIsSmall, PartitionFits, RequestFits, SenseFits, Words, block_words, class_words, extent_words, kind_word, owner_words, partition_word, request_words, runs_words, sense_words, through_words, verb_of, words_behind, words_of}
+use Rattle.label_text.specs.Lines.{BlockFits, ClassFits, Fits, OwnerFits, OwnerIsSmall, PartitionFits, RequestFits, SenseFits, Words, block_words, class_words, extent_words, kind_word, owned, owner_words, partition_word, request_words, runs_words, sense_words, through_words, verb_of, words_behind, words_of}
 use Rattle.label_text.specs.inside.Reading.{bare, behind, behind_block, behind_extent, behind_head, behind_placed, behind_start, block_at, block_in, byte_in, bytes_at, bytes_in, class_at, extent_at, flushed_at, head_at, in_partition_at, is_next, is_some_extent, kind_in, label_by, line_by, number_in, owned_start_at, owner_at, partition_in, placed_at, sense_at, sense_behind, short_block, start_at, status_in, two_at, with_bytes}
 use Rattle.label_text.specs.declared.reading.Head.{Head}
 use Rattle.label_text.proofs.Digits.{hex_above, hex_bytes_above, hex_bytes_is, hex_is}
@@ -344,16 +344,16 @@ start_is piece tag block owner h =
     ∙ ap (option_map (λ b. Device (Start piece tag b))) (block_is block owner h.2).0
 
 owned_start_is : (piece tag : ℕ) (block : List ℕ) (owner : Option ℕ) → Fits (Device (Start piece tag block)) → OwnerIsSmall owner
-    → owned_start_at (words_behind (Device (Start piece tag block)) owner) ≡ Some (record { label = Device (Start piece tag block); owner = owner })
+    → owned_start_at (words_behind (Device (Start piece tag block)) owner) ≡ Some (owned (Device (Start piece tag block)) owner)
 owned_start_is piece tag block owner h o =
     let words : Words = words_behind (Device (Start piece tag block)) owner in
-    ap (option_and_then (λ label. option_map (λ x. record { label = label; owner = x }) (owner_at (behind_start words)))) (start_is piece tag block owner h)
-    ∙ ap (λ ws. option_map (λ x. record { label = Device (Start piece tag block); owner = x }) (owner_at ws)) (block_is block owner h.2).1
-    ∙ ap (option_map (λ x. record { label = Device (Start piece tag block); owner = x })) (owner_is owner o)
+    ap (option_and_then (λ label. option_map (owned label) (owner_at (behind_start words)))) (start_is piece tag block owner h)
+    ∙ ap (λ ws. option_map (owned (Device (Start piece tag block))) (owner_at ws)) (block_is block owner h.2).1
+    ∙ ap (option_map (owned (Device (Start piece tag block)))) (owner_is owner o)
 
 -- a label without an owner
-bare_is : (l : Label) (owner : Option ℕ) (found : Option Label) → owner ≡ None → found ≡ Some l → option_map bare found ≡ Some (record { label = l; owner = owner })
-bare_is l owner found none is = ap (option_map bare) is ∙ ap (λ x. Some (record { label = l; owner = x })) (sym none)
+bare_is : (l : Label) (owner : Option ℕ) (found : Option Label) → owner ≡ None → found ≡ Some l → option_map bare found ≡ Some (owned l owner)
+bare_is l owner found none is = ap (option_map bare) is ∙ ap (λ x. Some (owned l x)) (sym none)
 
 call_is : (number : ℕ) (q : ClientRequest) → Fits (Call number q) → label_by (codes "call") (words_behind (Call number q) None) ≡ Some (Call number q)
 call_is number q h =
@@ -376,7 +376,7 @@ answer_is number s information bytes h =
     ∙ ap (option_map (λ bs. Answer number s information bs)) (bytes_words_is bytes h.2)
 
 -- a line is read of its words
-pub line_is : (l : Label) (owner : Option ℕ) → Fits l → OwnerFits l owner → line_by (verb_of l) (words_behind l owner) ≡ Some (record { label = l; owner = owner })
+pub line_is : (l : Label) (owner : Option ℕ) → Fits l → OwnerFits l owner → line_by (verb_of l) (words_behind l owner) ≡ Some (owned l owner)
 line_is (Device (Start piece tag block)) owner h o = owned_start_is piece tag block owner h o
 line_is (Call number q) owner h o = bare_is _ owner _ o (call_is number q h)
 line_is (Device (Act piece bytes)) owner h o = bare_is _ owner _ o

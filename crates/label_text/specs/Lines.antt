@@ -59,6 +59,11 @@ abbrev pub sense_words : Option Sense → Words
 sense_words None = []
 sense_words (Some sense) = hex_of sense.key ∷ hex_of sense.asc ∷ hex_of sense.ascq ∷ []
 
+abbrev pub class_word : Class → List ℕ
+class_word Good = codes "good"
+class_word Busy = codes "busy"
+class_word (Bad completion) = codes "bad"
+
 abbrev pub class_words : Class → Words
 class_words Good = codes "good" ∷ []
 class_words Busy = codes "busy" ∷ []
@@ -102,6 +107,10 @@ words_behind Removed owner = []
 abbrev pub words_of : Line → Words
 words_of line = verb_of line.label ∷ words_behind line.label line.owner
 
+-- a line of a label, and of the request that its piece is of, where it tells that
+abbrev pub owned : Label → Option ℕ → Line
+owned label owner = record { label = label; owner = owner }
+
 -- the text of a line, without its end
 abbrev pub line_of : Line → List ℕ
 line_of line = join_with_byte 32 (words_of line)
@@ -109,6 +118,24 @@ line_of line = join_with_byte 32 (words_of line)
 -- the end of a line
 abbrev pub line_end : List ℕ
 line_end = 10 ∷ []
+
+-- IN SHORT: of a call the number, the kind and the extent, of a piece that came back how it did, and bytes of answers alone
+
+-- a write tells whether it goes through
+abbrev pub short_extent : Kind → ClientRequest → Words
+short_extent Read q = decimal q.offset ∷ decimal q.length ∷ []
+short_extent Write q = decimal q.offset ∷ decimal q.length ∷ through_words q.through
+short_extent Flush q = []
+
+abbrev pub short_words : Label → Words
+short_words (Call number q) = decimal number ∷ kind_word q.kind ∷ short_extent q.kind q
+short_words (Device (Act piece bytes)) = decimal piece ∷ []
+short_words (Device (Return piece class)) = decimal piece ∷ class_word class ∷ []
+short_words label = words_behind label None
+
+-- a label in short, without the end of its line
+abbrev pub short_line_of : Label → List ℕ
+short_line_of label = join_with_byte 32 (verb_of label ∷ short_words label)
 
 -- WHAT FITS: the numbers of a label are no larger than their types
 

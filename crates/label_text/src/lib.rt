@@ -5,6 +5,7 @@
 //! and nothing else. [`read_line`] promises, by `spelled`, `only`, `again` and `fault`, that a text is read as the one
 //! line whose text it is, and refused only where no line has this text or memory was refused. What is written is
 //! therefore read as the line that it was, and what is read would be written as the text that it was.
+//! [`write_short_line`] (`text`) writes a label as a script's transcript tells it, which is not read again.
 //!
 //! The crate does not promise that lines are a run of the machine, or that a writer takes all.
 #![tactic(auto)]
@@ -21,7 +22,7 @@ pub use reading::{is_told, read_line};
 use std::alloc::AllocError;
 use std::error::Error;
 use std::fmt;
-pub use writing::write_line;
+pub use writing::{write_line, write_number, write_short_line};
 
 /// Why a line was not read.
 #[derive(Debug, Clone, Copy, PartialEq, Eq)]

@@ -1,6 +1,6 @@
 //! Bytes as runs of equal ones.
 
-ghost use Rattle.std.specs.Prelude.{◌≡◌, ◌≢◌, ◌<◌, ◌≤◌, ◌+◌, ◌^◌, ◌++◌, nat_le, All, IfOk, OnOk, codes, length, option_map, replicate, slice_index, take};
+ghost use Rattle.std.specs.Prelude.{◌≡◌, ◌≢◌, ◌<◌, ◌≤◌, ◌+◌, ◌^◌, ◌++◌, nat_le, All, IfOk, IsTrue, OnOk, codes, length, option_map, replicate, slice_index, take};
 ghost use Rattle.std.specs.Fmt.{decimal};
 ghost use Rattle.std.specs.Io.KnownBytes.{Appends};
 ghost use Rattle.label_text.specs.Runs.{hex_of, most_bytes, runs_of, runs_text};
@@ -15,6 +15,9 @@ use std::io::Write;
 
 /// The most bytes of a label: those of the longest request, which has 65,536 sectors of 4,096.
 const MOST_BYTES: usize = 1 << 28;
+
+/// How many bytes are compared at once.
+const BLOCK: usize = 128;
 
 /// Equal bytes in a row.
 #[derive(Debug, Clone, Copy)]
@@ -81,7 +84,43 @@ fn run_in(part: &str) -> Option<Run>
     words.are_over().then_some(Run { byte, count })
 }
 
-/// How many bytes at the front equal this one.
+/// How many bytes at the front equal this one, found block by block.
+fn run_of(bytes: &[u8], byte: u8) -> usize
+    ensures within { result ≤ length bytes.now }
+    ensures equal { All (λ b. b ≡ byte) (take result bytes.now) }
+    ensures longest { result < length bytes.now → slice_index bytes.now result ≢ byte }
+{
+    let mut rest = bytes;
+    while rest.len() >= BLOCK {
+        let (block, behind) = rest.split_at(BLOCK);
+        if !is_all(block, byte) {
+            break;
+        }
+        rest = behind;
+    }
+    bytes.len() - rest.len() + equal_bytes(rest, byte)
+}
+
+/// Whether all bytes of a block are this one. Where the first is not, no other is looked at.
+fn is_all(block: &[u8], byte: u8) -> bool
+    requires { 0 < length block.now }
+    ensures { IsTrue result → All (λ b. b ≡ byte) block.now }
+{
+    block[0] == byte && are_all(block, byte)
+}
+
+/// Whether all bytes are this one. All are looked at, many at once.
+fn are_all(bytes: &[u8], byte: u8) -> bool
+    ensures { IsTrue result → All (λ b. b ≡ byte) bytes.now }
+{
+    let mut same = true;
+    for b in bytes {
+        same = same & (*b == byte);
+    }
+    same
+}
+
+/// How many bytes at the front equal this one, found byte by byte.
 fn equal_bytes(bytes: &[u8], byte: u8) -> usize
     ensures within { result ≤ length bytes.now }
     ensures equal { All (λ b. b ≡ byte) (take result bytes.now) }
@@ -97,7 +136,7 @@ pub(crate) fn write_runs<W: Write>(out: &mut W, bytes: &[u8]) -> io::Result<()>
     let mut rest = bytes;
     while !rest.is_empty() {
         let byte = rest[0];
-        let count = equal_bytes(rest, byte);
+        let count = run_of(rest, byte);
         let (_, behind) = rest.split_at(count);
         write_run(out, byte, count, behind.is_empty())?;
         rest = behind;

@@ -7,7 +7,7 @@ ghost use Rattle.ntstatus.specs.Codes.{name_of};
 ghost use Rattle.machine.specs.declared.Label.TheVariants.{Device};
 ghost use Rattle.srb.specs.declared.Class.TheVariants.{Bad};
 ghost use Rattle.label_text.specs.Runs.{digit_of, hex_bytes, hex_of};
-ghost use Rattle.label_text.specs.Lines.{Fits, OwnerFits, Spells, block_words, class_words, extent_words, kind_word, line_end, line_of, owner_words, partition_word, request_words, runs_words, sense_words, through_words, verb_of, words_behind};
+ghost use Rattle.label_text.specs.Lines.{Fits, OwnerFits, Spells, block_words, class_word, class_words, extent_words, kind_word, line_end, line_of, owned, owner_words, partition_word, request_words, runs_words, sense_words, short_extent, short_line_of, short_words, through_words, verb_of, words_behind};
 ghost use Rattle.label_text.specs.inside.Spacing.{spaced, spaced_before};
 
 use crate::runs::write_runs;
@@ -17,15 +17,91 @@ use ntstatus::{NtStatus, Sense};
 use srb::{Class, CommandBlock, Completion, DeviceLabel};
 use std::io;
 use std::io::Write;
-use trace_line::Line;
 
-/// Writes a line of a trace, and a line feed.
+/// Writes the line of a label, behind a start with the request that its piece is of, if it is given, and a line feed.
 #[tactic(auto, using(crate::proofs::Spaced::line_is))]
-pub fn write_line<W: Write>(out: &mut W, line: &Line) -> io::Result<()>
-    ensures text { OnOk result (Appends (W.contents out.old) (W.contents out.new) (line_of line.now ++ line_end)) }
-    ensures spelled { Fits line.now.label → OwnerFits line.now.label line.now.owner → Spells (line_of line.now) line.now }
+pub fn write_line<W: Write>(out: &mut W, label: &Label, owner: Option<u64>) -> io::Result<()>
+    ensures text { OnOk result (Appends (W.contents out.old) (W.contents out.new) (line_of (owned label.now owner) ++ line_end)) }
+    ensures spelled { Fits label.now → OwnerFits label.now owner → Spells (line_of (owned label.now owner)) (owned label.now owner) }
 {
-    write_words(out, &line.label, line.owner)
+    write_words(out, label, owner)
+}
+
+/// Writes a label in short, and a line feed: a call without its partition and its bytes, an act without its bytes, and
+/// of a piece that came back only how it did.
+#[tactic(auto, using(crate::proofs::Spaced::line_is))]
+pub fn write_short_line<W: Write>(out: &mut W, label: &Label) -> io::Result<()>
+    ensures text { OnOk result (Appends (W.contents out.old) (W.contents out.new) (short_line_of label.now ++ line_end)) }
+{
+    write_short_words(out, label)
+}
+
+/// Writes a label in short, word by word.
+fn write_short_words<W: Write>(out: &mut W, label: &Label) -> io::Result<()>
+    ensures { OnOk result (Appends (W.contents out.old) (W.contents out.new) (verb_of label.now ++ spaced (short_words label.now))) }
+{
+    match label {
+        Label::Call { number, request } => write_short_call(out, *number, request),
+        Label::Device(label) => write_short_device_label(out, label),
+        label => write_words(out, label, None),
+    }
+}
+
+#[tactic(auto, using(crate::proofs::Spaced::words_then))]
+fn write_short_call<W: Write>(out: &mut W, number: u64, request: &ClientRequest) -> io::Result<()>
+    ensures { OnOk result (Appends (W.contents out.old) (W.contents out.new) (codes "call" ++ spaced (decimal number ∷ kind_word request.now.kind ∷ short_extent request.now.kind request.now))) }
+{
+    out.write_all(b"call ")?;
+    write_number(out, number)?;
+    out.write_all(b" ")?;
+    out.write_all(kind_word(request.kind).as_bytes())?;
+    write_short_extent(out, request)?;
+    out.write_all(b"\n")
+}
+
+/// Writes where a read or a write begins and how long it is, and of a write that it goes through, each behind a space.
+#[tactic(auto, using(crate::proofs::Spaced::spaced_append))]
+fn write_short_extent<W: Write>(out: &mut W, request: &ClientRequest) -> io::Result<()>
+    ensures { OnOk result (Appends (W.contents out.old) (W.contents out.new) (spaced_before (short_extent request.now.kind request.now) [])) }
+{
+    match request.kind {
+        Kind::Read => write_two(out, request.offset, request.length),
+        Kind::Write => {
+            write_two(out, request.offset, request.length)?;
+            write_through(out, request.through)
+        }
+        Kind::Flush => Ok(()),
+    }
+}
+
+fn write_short_device_label<W: Write>(out: &mut W, label: &DeviceLabel) -> io::Result<()>
+    ensures { OnOk result (Appends (W.contents out.old) (W.contents out.new) (verb_of (Device label.now) ++ spaced (short_words (Device label.now)))) }
+{
+    match label {
+        DeviceLabel::Act { piece, .. } => {
+            out.write_all(b"act ")?;
+            write_piece(out, *piece)?;
+            out.write_all(b"\n")
+        }
+        DeviceLabel::Return { piece, class } => {
+            out.write_all(b"return ")?;
+            write_piece(out, *piece)?;
+            out.write_all(class_word(class).as_bytes())?;
+            out.write_all(b"\n")
+        }
+        label => write_device_label(out, label, None),
+    }
+}
+
+/// Returns how a piece came back, behind a space.
+fn class_word(class: &Class) -> &'static str
+    ensures { result.now ≡ codes " " ++ class_word class.now }
+{
+    match class {
+        Class::Good => " good",
+        Class::Busy => " busy",
+        Class::Bad(_) => " bad",
+    }
 }
 
 /// Writes a line word by word.
@@ -55,7 +131,7 @@ fn write_words<W: Write>(out: &mut W, label: &Label, owner: Option<u64>) -> io::
 }
 
 /// Writes a number in decimal digits.
-pub(crate) fn write_number<W: Write, N: Integer>(out: &mut W, number: N) -> io::Result<()>
+pub fn write_number<W: Write, N: Integer>(out: &mut W, number: N) -> io::Result<()>
     ensures { OnOk result (Appends (W.contents out.old) (W.contents out.new) (N.text number)) }
 {
     out.write_all(Buffer::new().format(number).as_bytes())

@@ -1,14 +1,13 @@
-//! Lines of labels: each is read, and written again as it stood and as `stackrun` prints it.
+//! Lines of labels: each is read, and written again as it stood and in short.
 
 use crate::expect::same;
-use label_text::{LineFault, is_told, read_line, write_line};
-use script::write_label;
+use label_text::{LineFault, is_told, read_line, write_line, write_short_line};
 use std::alloc::Global;
 use std::process::Abort;
 use std::test::Fail;
 use trace_line::Line;
 
-/// A line of each kind, with and without what may be left away, and what `stackrun` prints of its label.
+/// A line of each kind, with and without what may be left away, and what a transcript prints of its label.
 static LINES: [(&str, &str); 35] = [
     ("call 1 read 0 131072 in 0", "call 1 read 0 131072"),
     (
@@ -40,8 +39,8 @@ static LINES: [(&str, &str); 35] = [
         "start 340282366920938463463374607431768211455 tag 255 88000000000100000000000000010000",
     ),
     ("start 2 tag 31 2a0800ff", "start 2 tag 31 2a0800ff"),
-    ("start 1 tag 31", "start 1 tag 31 "),
-    ("start 1 tag 31 of 0", "start 1 tag 31 "),
+    ("start 1 tag 31", "start 1 tag 31"),
+    ("start 1 tag 31 of 0", "start 1 tag 31"),
     (
         "start 3 tag 1 28000000080000004000 of 18446744073709551615",
         "start 3 tag 1 28000000080000004000",
@@ -81,8 +80,8 @@ static LINES: [(&str, &str); 35] = [
 fn written(alloc: Global, line: &Line, whole: bool) -> Result<Vec<u8>, Fail> {
     let mut out = Vec::new(alloc);
     match whole {
-        true => write_line(&mut out, line)?,
-        false => write_label(&mut out, &line.label)?,
+        true => write_line(&mut out, &line.label, line.owner)?,
+        false => write_short_line(&mut out, &line.label)?,
     }
     out.pop();
     Ok(out)

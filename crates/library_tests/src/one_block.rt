@@ -9,7 +9,7 @@ use adapter::Adapter;
 use compose::{Settings, Stack};
 use disk::{NoMemory, VecDisk};
 use miniport::MemAdapter;
-use script::{Line, lines, play};
+use script::{Line, Style, lines, play};
 use settings::{Config, table_sector};
 use startup::settings_of;
 use std::alloc::Global;
@@ -50,7 +50,7 @@ fn play_on<A: Adapter>(
     requires unasked { (A.view adapter).accepted ≡ 0 }
 {
     match Stack::start(alloc, adapter, settings) {
-        Ok(mut stack) => play(alloc, &mut stack, lines, out).is_ok(),
+        Ok(mut stack) => play(alloc, &mut stack, lines, Style::Transcript, out).is_ok(),
         Err(_) => false,
     }
 }

@@ -1,5 +1,5 @@
 -- No answer is left behind the labels of an order.
-use Rattle.std.proofs.Common.{◌≡◌, ◌≤◌, ◌-◌, inl, inr, ℕ, suc, List, [], ◌∷◌, ◌++◌, Bool, true, false, ap, subst, refl, ◌∙◌, drop, map, length, arith}
+use Rattle.std.proofs.Common.{◌≡◌, ◌≤◌, ◌-◌, inl, inr, suc, List, [], ◌∷◌, ◌++◌, Bool, true, false, ap, subst, refl, ◌∙◌, drop, map, length, arith}
 use Rattle.std.specs.Prelude.{IsPermutation}
 use Rattle.std.proofs.lemmas.List.{append-nil, drop_all, length-drop}
 use Rattle.std.proofs.lemmas.List.Sorted.{length_permutation}

@@ -1,4 +1,3 @@
-pub mod Buffers
 pub mod Events
 pub mod Faults
 pub mod Printing

@@ -13,7 +13,10 @@ use Rattle.script.specs.declared.Line.{Line}
 use Rattle.script.specs.declared.Order.{Order}
 use Rattle.script.specs.declared.given.Given.{Given}
 use Rattle.script.specs.Events.{IsEventOf, IsReplyTo, Keeps}
-use Rattle.script.specs.Printing.{labels_text, line_end, reply_line}
+use Rattle.label_text.specs.Lines.{line_end}
+use Rattle.script.specs.declared.Style.{Style}
+use Rattle.script.specs.declared.Style.TheVariants.{Transcript, Trace}
+use Rattle.script.specs.Printing.{labels_text, reply_line}
 
 -- WHAT IS TAKEN
 
@@ -52,45 +55,39 @@ pub record Between : Type 0 where
   pub stack : ManagerView
   pub given : Given
 
--- the text of a line, of its reply, and of the labels of its step
-abbrev pub LineText : Type 0
-LineText = Line → Reply → List Label → List ℕ
-
--- the line behind "> ", the line of its reply, and the lines of the labels
-abbrev pub line_text : LineText
-line_text line reply labels = (codes "> " ++ (line.text.now ++ line_end)) ++ (reply_line reply ++ labels_text labels)
+-- what is told of a line: in a transcript the line behind "> ", the line of its reply, and the labels of its step in
+-- short; in a trace the labels alone
+abbrev pub line_text : Style → Line → Reply → List Label → List ℕ
+line_text Transcript line reply labels = (codes "> " ++ (line.text.now ++ line_end)) ++ (reply_line reply ++ labels_text Transcript labels)
+line_text Trace line reply labels = labels_text Trace labels
 
 -- a line is carried out, its text is told, and then all labels and answers are taken
-pub record IsLineTold (text_of : LineText) (old : Between) (line : Line) (text : List ℕ) (new : Between) : Type 0 where
+pub record IsLineTold (style : Style) (old : Between) (line : Line) (text : List ℕ) (new : Between) : Type 0 where
   pub reply : Reply
   pub stepped : ManagerView
   pub carried : IsCarriedOut old.given line.order old.stack reply stepped
-  pub told : text ≡ text_of line reply stepped.labels
+  pub told : text ≡ line_text style line reply stepped.labels
   pub taken : new.stack ≡ record stepped { labels = []; answers = [] }
   pub keeps : Keeps reply old.given new.given
 
 -- ALL LINES
 
 -- lines are carried out in order, and their texts are told
-abbrev pub AreLinesTold : LineText → Between → List Line → List ℕ → Between → Type 0
-AreLinesTold text_of old [] text new = (text ≡ []) × (new ≡ old)
-AreLinesTold text_of old (line ∷ lines) text new =
-    (first : List ℕ) × (rest : List ℕ) × (mid : Between) × IsLineTold text_of old line first mid × AreLinesTold text_of mid lines rest new × (text ≡ first ++ rest)
+abbrev pub AreLinesTold : Style → Between → List Line → List ℕ → Between → Type 0
+AreLinesTold style old [] text new = (text ≡ []) × (new ≡ old)
+AreLinesTold style old (line ∷ lines) text new =
+    (first : List ℕ) × (rest : List ℕ) × (mid : Between) × IsLineTold style old line first mid × AreLinesTold style mid lines rest new × (text ≡ first ++ rest)
 
 -- lines are run through a stack that has given nothing, and their texts are told
-pub record IsToldTo (text_of : LineText) (stack : ManagerView) (lines : List Line) (text : List ℕ) (end : Between) : Type 0 where
+pub record IsToldTo (style : Style) (stack : ManagerView) (lines : List Line) (text : List ℕ) (end : Between) : Type 0 where
   pub given : Given
   pub no_handle : IsEmpty given.handles
   pub no_request : given.requests.items ≡ []
-  pub told : AreLinesTold text_of (record { stack = stack; given = given }) lines text end
+  pub told : AreLinesTold style (record { stack = stack; given = given }) lines text end
 
 -- the text of a run, with the stack that is left
-abbrev pub IsTold : LineText → ManagerView → List Line → List ℕ → ManagerView → Type 0
-IsTold text_of stack lines text last = (end : Between) × IsToldTo text_of stack lines text end × (last ≡ end.stack)
-
--- the trace of a run: each line, its reply, and the labels of its step
-abbrev pub IsTrace : ManagerView → List Line → List ℕ → ManagerView → Type 0
-IsTrace stack lines text last = IsTold line_text stack lines text last
+abbrev pub IsTold : Style → ManagerView → List Line → List ℕ → ManagerView → Type 0
+IsTold style stack lines text last = (end : Between) × IsToldTo style stack lines text end × (last ≡ end.stack)
 
 -- PRINTING
 
@@ -99,9 +96,3 @@ pub record Prints (old new : Option (List ℕ)) (Is : List ℕ → Type 0) : Typ
   pub text : List ℕ
   pub is : Is text
   pub appends : Appends old new text
-
--- a text of this kind stands behind an older one
-pub record Adds (old new : List ℕ) (Is : List ℕ → Type 0) : Type 0 where
-  pub text : List ℕ
-  pub is : Is text
-  pub appends : new ≡ old ++ text

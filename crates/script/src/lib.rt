@@ -5,28 +5,24 @@
 //! - [`lines`] (`events`, `fault`): the lines of a script are read as the events that they ask for, or the first bad
 //!   one is named.
 //! - [`event`]: which event of a stack an order is.
-//! - [`write_reply`] and [`write_labels`]: the text of a reply, and of the labels that a stack has not given yet.
-//! - [`play`] (`text`, `fault`): where it succeeds it wrote just the text of these lines, carried out one after the
-//!   other by the stack that it was given.
+//! - [`write_reply`]: the line of a reply.
+//! - [`play`] (`text`, `fault`): where it succeeds it wrote just the text of these lines in some [`Style`], carried out
+//!   one after the other by the stack that it was given.
 //!
 //! It does not promise that a writer takes all.
 #![tactic(auto)]
 
 ghost use Rattle.script.specs.Faults.{IsOfWrite};
 
-mod buffers;
 mod given;
-mod numbers;
 mod orders;
 mod player;
 mod printing;
-mod runs;
 
-pub use buffers::Spare;
 pub use given::Given;
 pub use orders::lines;
-pub use player::{event, play, write_labels};
-pub use printing::{write_label, write_reply};
+pub use player::{event, play};
+pub use printing::write_reply;
 use std::alloc::{AllocError, AllocFailed};
 use std::error::Error;
 use std::io::ErrorKind;
@@ -85,6 +81,15 @@ pub enum Order {
 pub struct Line<'a> {
     pub text: &'a str,
     pub order: Order,
+}
+
+/// How lines that are carried out are told.
+#[derive(Debug, Clone, Copy, PartialEq, Eq)]
+pub enum Style {
+    /// Each line, its reply, and the labels of its step in short.
+    Transcript,
+    /// The labels alone, each as a line of a trace.
+    Trace,
 }
 
 /// Why a script was not read, or not played to its end.

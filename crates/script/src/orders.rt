@@ -1,7 +1,6 @@
 //! A script: one event a line.
 
 mod cuts;
-mod verbs;
 mod words;
 
 ghost use Rattle.std.specs.Prelude.{◌≡◌, [], ◌∷◌, IfErr, IfOk, codes};
@@ -9,7 +8,6 @@ ghost use Rattle.std.specs.List.{AllZip};
 ghost use Rattle.script.specs.Script.{AreEvents, Asks, Finds, IsFaultOf, Number, Spells, is_event, lines_of, request_of, through_of, trimmed, words_of};
 
 use crate::orders::cuts::first_line;
-use crate::orders::verbs::{is_act, is_finish, is_read, is_write};
 use crate::orders::words::Words;
 use crate::{Line, Order, ScriptFault};
 use std::alloc::Global;
@@ -59,40 +57,28 @@ fn is_event(text: &str) -> bool
     !text.is_empty() && !text.starts_with('#')
 }
 
-/// Returns what a line asks for; none where it is no event. The verbs of most lines are looked for first.
+/// Returns what a line asks for; none where it is no event.
 fn order_of(text: &str) -> Option<Order>
     ensures { Finds (Asks (words_of text.now)) result }
 {
     let mut words = Words::new(text);
     let verb = words.word()?;
-    if is_act(verb) {
-        return Some(Order::Act {
-            tag: last_number(words)?,
-        });
-    }
-    if is_finish(verb) {
-        return Some(Order::Finish {
-            tag: last_number(words)?,
-        });
-    }
-    if is_read(verb) {
-        return read(words);
-    }
-    if is_write(verb) {
-        return write(words);
-    }
-    other_order(verb, words)
+    order_by(verb, words)
 }
 
-/// Returns what a line of another verb asks for.
-fn other_order(verb: &str, words: Words<'_>) -> Option<Order>
-    requires not_act { ¬ (verb.now ≡ codes "act") }
-    requires not_finish { ¬ (verb.now ≡ codes "finish") }
-    requires not_read { ¬ (verb.now ≡ codes "read") }
-    requires not_write { ¬ (verb.now ≡ codes "write") }
+/// Returns what a line of this verb asks for. The verbs of most lines are looked for first.
+fn order_by(verb: &str, words: Words<'_>) -> Option<Order>
     ensures { Finds (Asks (verb.now ∷ words.entry)) result }
 {
     match verb {
+        "act" => Some(Order::Act {
+            tag: last_number(words)?,
+        }),
+        "finish" => Some(Order::Finish {
+            tag: last_number(words)?,
+        }),
+        "read" => read(words),
+        "write" => write(words),
         "open" => Some(Order::Open {
             partition: last_number(words)?,
         }),

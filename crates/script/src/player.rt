@@ -1,43 +1,30 @@
 //! Lines of a script, carried out by a stack, and what comes of each in print.
 
-ghost use Rattle.std.specs.Prelude.{◌≡◌, ◌⊎◌, ◌++◌, [], IfErr, OnOk, MatchResult, codes};
-ghost use Rattle.std.specs.Io.KnownBytes.{Appends, Keeps, append_known};
+ghost use Rattle.std.specs.Prelude.{◌≡◌, [], IfErr, IfOk, MatchResult, OnOk, replicate};
+ghost use Rattle.std.specs.Io.KnownBytes.{Appends};
+ghost use Rattle.io_manager.specs.declared.Refusal.TheVariants.{InsufficientResources};
+ghost use Rattle.io_manager.specs.declared.Reply.TheVariants.{Refused};
 ghost use Rattle.script.specs.Events.{AreNamed, IsEventOf, IsReplyTo, MovesBytes};
 ghost use Rattle.script.specs.Faults.{IsPrintFault};
-ghost use Rattle.script.specs.Buffers.{AreFilled};
-ghost use Rattle.script.specs.Printing.{labels_text, line_end};
-ghost use Rattle.script.specs.Trace.{Adds, IsAllTaken, IsCarriedOut, IsLineTold, IsTrace, Prints, left_by, line_text, without_labels};
+ghost use Rattle.script.specs.Printing.{labels_text};
+ghost use Rattle.script.specs.Trace.{IsAllTaken, IsCarriedOut, IsTold, Prints, left_by, line_text, without_labels};
 
-use crate::buffers::Spare;
 use crate::given::Given;
-use crate::printing::{write_label, write_reply};
-use crate::{Line, Order, ScriptFault};
+use crate::printing::{write_event, write_label, write_reply};
+use crate::{Line, Order, ScriptFault, Style};
 use adapter::Adapter;
-use compose::{Event, Reply, Stack};
+use compose::{Event, Refusal, Reply, Stack};
 use machine::Label;
-use std::alloc::{AllocError, Global};
+use sector::Bytes;
+use std::alloc::Global;
 use std::io;
 use std::io::Write;
 
 /// How many tags an adapter can have.
 const TAGS: u64 = 32;
 
-/// How many bytes of text are written at once.
-const BLOCK: usize = 65_536;
-
-/// The bytes of the longest text of one answer, which has 65,536 sectors, each of another byte than the one before.
-const LONGEST: usize = 65_536 * 9;
-
-/// What is kept from one line to the next.
-#[derive(Drop)]
-struct Kept {
-    given: Given,
-    spare: Spare,
-}
-
-/// Carries the lines of a script out, one after the other, and writes each line, its reply and the labels of its step,
-/// in blocks. What is left of the text is written behind the last line, also where a line ends in want of memory. The
-/// writer is flushed only where no fault came.
+/// Carries the lines of a script out, one after the other, and writes what comes of each. The writer is flushed behind
+/// the last.
 ///
 /// All labels and answers of the stack have to be taken. The lines can name the handles and the requests that they
 /// open, and no others.
@@ -49,156 +36,79 @@ pub fn play<A: Adapter, W: Write>(
     alloc: Global,
     stack: &mut Stack<A>,
     lines: &[Line<'_>],
+    style: Style,
     out: &mut W,
 ) -> Result<(), ScriptFault>
     requires taken { IsAllTaken stack.old }
-    ensures text { OnOk result (Prints (W.contents out.old) (W.contents out.new) (λ text. IsTrace stack.old lines.now text stack.new)) }
+    ensures text { OnOk result (Prints (W.contents out.old) (W.contents out.new) (λ text. IsTold style stack.old lines.now text stack.new)) }
     ensures fault { IfErr result IsPrintFault }
 {
-    let mut text = Vec::with_capacity(alloc, BLOCK + LONGEST)?;
-    match play_lines(alloc, stack, lines, &mut text, out) {
-        Ok(()) => {
-            write_out(&mut text, out)?;
-            out.flush()?;
-            Ok(())
-        }
-        Err(fault) => {
-            let _ = write_out(&mut text, out);
-            Err(fault)
-        }
-    }
-}
-
-/// Gives a text that waited to the writer, and begins a new one.
-fn write_out<W: Write>(text: &mut Vec<u8>, out: &mut W) -> io::Result<()>
-    ensures written { OnOk result (Appends (W.contents out.old) (W.contents out.new) text.old.items) }
-    ensures none_waits { text.new.items ≡ [] }
-{
-    let written = out.write_all(text.as_slice());
-    text.clear();
-    written
-}
-
-/// Gives a text that waited to the writer once it fills a block.
-fn write_block<W: Write>(text: &mut Vec<u8>, out: &mut W) -> io::Result<()>
-    ensures { OnOk result (Keeps (append_known (W.contents out.old) text.old.items) (append_known (W.contents out.new) text.new.items)) }
-{
-    if text.len() < BLOCK {
-        return Ok(());
-    }
-    write_out(text, out)
-}
-
-/// Carries the lines out. What the writer has not got yet stands in the text.
-fn play_lines<A: Adapter, W: Write>(
-    alloc: Global,
-    stack: &mut Stack<A>,
-    lines: &[Line<'_>],
-    text: &mut Vec<u8>,
-    out: &mut W,
-) -> Result<(), ScriptFault>
-    requires taken { IsAllTaken stack.old }
-    ensures text { OnOk result (Prints (append_known (W.contents out.old) text.old.items) (append_known (W.contents out.new) text.new.items) (λ told. IsTrace stack.old lines.now told stack.new)) }
-    ensures fault { IfErr result IsPrintFault }
-{
-    let given = Given::new(alloc);
-    let spare = Spare::with_places(alloc)?;
-    let mut kept = Kept { given, spare };
+    let mut given = Given::new(alloc);
     for line in lines {
-        write_block(text, out)?;
-        play_line(alloc, stack, line, &mut kept, text)?;
+        let reply = carry_out(alloc, stack, line.order, &given);
+        given.keep(&reply)?;
+        tell(stack, style, line, &reply, out)?;
     }
+    out.flush()?;
     Ok(())
-}
-
-/// Carries out what a line asks for, and writes the line, the reply and the labels behind a text.
-fn play_line<A: Adapter>(
-    alloc: Global,
-    stack: &mut Stack<A>,
-    line: &Line<'_>,
-    kept: &mut Kept,
-    text: &mut Vec<u8>,
-) -> Result<(), ScriptFault>
-    requires taken { IsAllTaken stack.old }
-    requires named { AreNamed kept.old.given }
-    requires filled { AreFilled kept.old.spare }
-    ensures named { OnOk result (AreNamed kept.new.given) }
-    ensures filled { OnOk result (AreFilled kept.new.spare) }
-    ensures text { OnOk result (Adds text.old.items text.new.items (λ told. IsLineTold line_text (record { stack = stack.old; given = kept.old.given }) line.now told (record { stack = stack.new; given = kept.new.given }))) }
-    ensures fault { IfErr result IsPrintFault }
-{
-    let reply = carry_out(alloc, stack, line.order, &kept.given, &mut kept.spare);
-    write_line(text, line.text)?;
-    write_reply(text, &reply)?;
-    kept.given.keep(&reply)?;
-    kept.spare.take_back(line.order, reply);
-    write_labels(stack, text, &mut kept.spare)?;
-    Ok(())
-}
-
-/// Writes a line of the script behind a text.
-fn write_line(text: &mut Vec<u8>, line: &str) -> Result<(), AllocError>
-    ensures { OnOk result (text.new.items ≡ text.old.items ++ (codes "> " ++ (line.now ++ line_end))) }
-{
-    text.extend_from_slice(b"> ")?;
-    text.extend_from_slice(line.as_bytes())?;
-    text.extend_from_slice(b"\n")
 }
 
 /// Carries out what a line asks for.
-fn carry_out<A: Adapter>(
-    alloc: Global,
-    stack: &mut Stack<A>,
-    order: Order,
-    given: &Given,
-    spare: &mut Spare,
-) -> Reply
+fn carry_out<A: Adapter>(alloc: Global, stack: &mut Stack<A>, order: Order, given: &Given) -> Reply
     requires taken { IsAllTaken stack.old }
     requires named { AreNamed given.now }
-    requires filled { AreFilled spare.old }
-    ensures carried { IsCarriedOut given.now order stack.old result stack.new }
-    ensures filled { AreFilled spare.new }
+    ensures { IsCarriedOut given.now order stack.old result stack.new }
 {
-    match event_from(alloc, order, given, spare) {
+    match event(alloc, order, given) {
         Ok(event) => stack.step(alloc, event),
         Err(reply) => reply,
     }
 }
 
-/// Writes all labels that a stack has not given yet behind a text, and takes the answers that go with them, whose
-/// buffers are kept.
-///
-/// # Errors
-///
-/// [`AllocError`] where the text has no room, and memory for more was refused.
-pub fn write_labels<A: Adapter>(
+/// Writes what came of a line, and takes all labels and the answers that go with them.
+fn tell<A: Adapter, W: Write>(
     stack: &mut Stack<A>,
-    text: &mut Vec<u8>,
-    spare: &mut Spare,
-) -> Result<(), AllocError>
-    requires { AreFilled spare.old }
+    style: Style,
+    line: &Line<'_>,
+    reply: &Reply,
+    out: &mut W,
+) -> io::Result<()>
     ensures taken { OnOk result (stack.new ≡ without_labels stack.old) }
-    ensures text { OnOk result (text.new.items ≡ text.old.items ++ labels_text stack.old.labels) }
-    ensures filled { AreFilled spare.new }
+    ensures text { OnOk result (Appends (W.contents out.old) (W.contents out.new) (line_text style line.now reply.now stack.old.labels)) }
+{
+    match style {
+        Style::Transcript => {
+            write_event(out, line.text)?;
+            write_reply(out, reply)?;
+            write_labels(stack, style, out)
+        }
+        Style::Trace => write_labels(stack, style, out),
+    }
+}
+
+/// Writes all labels that a stack has not given yet, and takes the answers that go with them.
+fn write_labels<A: Adapter, W: Write>(
+    stack: &mut Stack<A>,
+    style: Style,
+    out: &mut W,
+) -> io::Result<()>
+    ensures taken { OnOk result (stack.new ≡ without_labels stack.old) }
+    ensures text { OnOk result (Appends (W.contents out.old) (W.contents out.new) (labels_text style stack.old.labels)) }
 {
     while let Some(label) = stack.take_label() {
-        write_label(text, &label)?;
-        take_answer_of(stack, label, spare);
+        write_label(out, style, &label)?;
+        take_answer_of(stack, label);
     }
     Ok(())
 }
 
-/// Takes the answer that goes with a label, if one does, and keeps its buffer.
+/// Takes the answer that goes with a label, if one does.
 #[tactic(auto, using(crate::proofs::PrintedLabels::answer_taken))]
-fn take_answer_of<A: Adapter>(stack: &mut Stack<A>, label: Label, spare: &mut Spare)
-    requires { AreFilled spare.old }
-    ensures taken { stack.new ≡ record stack.old { answers = left_by label stack.old.answers } }
-    ensures filled { AreFilled spare.new }
+fn take_answer_of<A: Adapter>(stack: &mut Stack<A>, label: Label)
+    ensures { stack.new ≡ record stack.old { answers = left_by label stack.old.answers } }
 {
     if let Label::Answer { .. } = label {
-        if let Some(answer) = stack.take_answer() {
-            spare.take_emptied(answer.bytes);
-        }
+        let _ = stack.take_answer();
     }
 }
 
@@ -212,20 +122,6 @@ pub fn event(alloc: Global, order: Order, given: &Given) -> Result<Event, Reply>
     requires { AreNamed given.now }
     ensures { MatchResult result (IsEventOf given.now order) (IsReplyTo order) }
 {
-    event_from(alloc, order, given, &mut Spare::new(alloc))
-}
-
-/// Does what [`event`] says, in the buffers that were kept.
-///
-/// # Errors
-///
-/// The errors of [`event`].
-fn event_from(alloc: Global, order: Order, given: &Given, spare: &mut Spare) -> Result<Event, Reply>
-    requires named { AreNamed given.now }
-    requires filled { AreFilled spare.old }
-    ensures event { MatchResult result (IsEventOf given.now order) (IsReplyTo order) }
-    ensures filled { AreFilled spare.new }
-{
     match order {
         Order::Read {
             handle,
@@ -234,7 +130,7 @@ fn event_from(alloc: Global, order: Order, given: &Given, spare: &mut Spare) -> 
         } => Ok(Event::Read {
             handle: given.handle(handle),
             offset,
-            buffer: spare.filled(alloc, 0, length)?,
+            buffer: filled(alloc, 0, length)?,
         }),
         Order::Write {
             handle,
@@ -245,10 +141,27 @@ fn event_from(alloc: Global, order: Order, given: &Given, spare: &mut Spare) -> 
         } => Ok(Event::Write {
             handle: given.handle(handle),
             offset,
-            bytes: spare.filled(alloc, byte, length)?,
+            bytes: filled(alloc, byte, length)?,
             through,
         }),
         _ => plain_event(order, given),
+    }
+}
+
+/// Makes this many equal bytes.
+///
+/// # Errors
+///
+/// The reply to an order for whose bytes memory was refused.
+fn filled(alloc: Global, byte: u8, length: u64) -> Result<Bytes, Reply>
+    ensures { MatchResult result (λ bytes. bytes ≡ replicate length byte) (λ reply. reply ≡ Refused InsufficientResources []) }
+{
+    match vec![in alloc; byte; length as usize] {
+        Ok(bytes) => Ok(Bytes::new(bytes)),
+        Err(_) => Err(Reply::Refused {
+            refusal: Refusal::InsufficientResources,
+            bytes: Bytes::new(Vec::new(alloc)),
+        }),
     }
 }
 

@@ -10,8 +10,21 @@ use Rattle.script.specs.Faults.{IsPrintFault}
 use Rattle.script.specs.Script.{IsFaultOf}
 use Rattle.startup.specs.Reading.{AreRead, IsAllOf}
 use Rattle.script_runs.specs.declared.faults.Error.{Error}
-use Rattle.script_runs.specs.declared.faults.Error.TheVariants.{Script}
-use Rattle.script_runs.specs.Runs.{AreGiven, IsRunFault, IsUnread}
+use Rattle.script_runs.specs.declared.faults.Error.TheVariants.{Script, Startup, Unreadable}
+use Rattle.script_runs.specs.Runs.{AreGiven, IsRunFault, IsUnread, IsUntold}
+
+-- a text was begun
+pub begun : (old new : Option (List ℕ)) (fault : ScriptFault) → IsPrintFault fault → IsUntold old new (Script fault)
+begun old new fault (inl is) = subst (λ f. IsUntold old new (Script f)) (sym is) tt
+begun old new fault (inr is) = subst (λ f. IsUntold old new (Script f)) (sym is) tt
+
+-- nothing was
+pub unread : (old new : Option (List ℕ)) (fault : Error) → new ≡ old → IsUntold old new fault
+unread old new (Startup fault) same = same
+unread old new Unreadable same = same
+unread old new (Script (BadLine line)) same = same
+unread old new (Script NoMemory) same = tt
+unread old new (Script OutputFailed) same = tt
 
 module _ (config script : Option (List ℕ)) where
   module _ (settings : Config) (are_read : AreRead config settings) where

@@ -6,7 +6,8 @@ use Rattle.startup.specs.Reading.{AreRead, IsAllOf}
 use Rattle.startup.specs.Started.{IsStartOf}
 use Rattle.script.specs.declared.Line.{Line}
 use Rattle.script.specs.Script.{AreEvents, lines_of}
-use Rattle.script.specs.Trace.{IsTold, LineText, Prints}
+use Rattle.script.specs.declared.Style.{Style}
+use Rattle.script.specs.Trace.{IsTold, Prints}
 use Rattle.script_runs.specs.Runs.{AreGiven, IsTextOf}
 
 module _ (config script : Option (List ℕ)) (settings : Config) (are_read : AreRead config settings) where
@@ -21,10 +22,10 @@ module _ (config script : Option (List ℕ)) (settings : Config) (are_read : Are
   }
 
   -- played by the stack of those settings
-  pub written : (text_of : LineText) (lines shown : List Line) (start last : ManagerView) (a b : Option (List ℕ))
+  pub written : (style : Style) (lines shown : List Line) (start last : ManagerView) (a b : Option (List ℕ))
       → AreGiven config script settings lines → shown ≡ lines → IsStartOf settings start
-      → Prints a b (λ text. IsTold text_of start shown text last) → Prints a b (IsTextOf text_of config script)
-  written text_of lines shown start last a b are_given same_lines starts trace = record {
+      → Prints a b (λ text. IsTold style start shown text last) → Prints a b (IsTextOf style config script)
+  written style lines shown start last a b are_given same_lines starts trace = record {
     text = trace.text;
     is = record {
       settings = settings;
@@ -33,7 +34,7 @@ module _ (config script : Option (List ℕ)) (settings : Config) (are_read : Are
       start = start;
       starts = starts;
       last = last;
-      told = subst (λ (ls : List Line). IsTold text_of start ls trace.text last) same_lines trace.is;
+      told = subst (λ (ls : List Line). IsTold style start ls trace.text last) same_lines trace.is;
     };
     appends = trace.appends;
   }

@@ -9,7 +9,8 @@ use Rattle.startup.specs.Started.{IsStartFault, IsStartOf}
 use Rattle.script.specs.declared.Line.{Line}
 use Rattle.script.specs.declared.ScriptFault.TheVariants.{BadLine, NoMemory as WantOfMemory, OutputFailed}
 use Rattle.script.specs.Script.{AreEvents, IsFirstBad, lines_of}
-use Rattle.script.specs.Trace.{IsTold, LineText}
+use Rattle.script.specs.Trace.{IsTold}
+use Rattle.script.specs.declared.Style.{Style}
 use Rattle.script_runs.specs.declared.faults.Error.{Error}
 use Rattle.script_runs.specs.declared.faults.Error.TheVariants.{Startup, Unreadable, Script}
 
@@ -20,15 +21,21 @@ pub record AreGiven (config script : Option (List ℕ)) (settings : Config) (lin
   pub all : IsAllOf script script_text
   pub events : AreEvents (lines_of script_text) lines
 
--- what is written of a script: the texts of its lines, from the stack that its settings start
-pub record IsTextOf (text_of : LineText) (config script : Option (List ℕ)) (text : List ℕ) : Type 0 where
+-- what is written of a script in some style: the texts of its lines, from the stack that its settings start
+pub record IsTextOf (style : Style) (config script : Option (List ℕ)) (text : List ℕ) : Type 0 where
   pub settings : Config
   pub lines : List Line
   pub given : AreGiven config script settings lines
   pub start : ManagerView
   pub starts : IsStartOf settings start
   pub last : ManagerView
-  pub told : IsTold text_of start lines text last
+  pub told : IsTold style start lines text last
+
+-- nothing was written, unless the output failed or memory was refused
+abbrev pub IsUntold : Option (List ℕ) → Option (List ℕ) → Error → Type 0
+IsUntold old new (Script WantOfMemory) = Unit {0}
+IsUntold old new (Script OutputFailed) = Unit {0}
+IsUntold old new _ = new ≡ old
 
 -- a script could not be read to its end
 abbrev pub IsUnread : Error → Type 0

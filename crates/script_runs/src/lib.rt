@@ -2,7 +2,7 @@
 //! are played.
 //!
 //! It promises to the crate above, by the contract of [`run`] (`text`, `fault`): a run that succeeds has written just
-//! the text that its way of [`Playing`] makes of the lines, from the stack that the settings start. The settings, or a
+//! the text of the lines in the [`Style`](script::Style) that was asked for, from the stack that the settings start. The settings, or a
 //! line of the script, are blamed only where that fault is there, settings first.
 //!
 //! It does not promise what an input holds, nor that there is memory.
@@ -12,4 +12,4 @@ mod faults;
 mod running;
 
 pub use faults::Error;
-pub use running::{Playing, run};
+pub use running::run;

@@ -4,53 +4,33 @@ ghost use Rattle.std.specs.Prelude.{ℕ, IfErr, IfOk, List, OnOk, Option};
 ghost use Rattle.script.specs.Trace.{Prints};
 ghost use Rattle.settings.specs.InRange.{AreInRange};
 ghost use Rattle.startup.specs.Reading.{IsAllOf};
-ghost use Rattle.script_runs.specs.Runs.{AreGiven, IsRunFault, IsTextOf, IsUnread};
+ghost use Rattle.script_runs.specs.Runs.{AreGiven, IsRunFault, IsTextOf, IsUnread, IsUntold};
 
 use crate::faults::Error;
-use adapter::Adapter;
-use compose::Stack;
-use script::{Line, ScriptFault, lines};
+use script::{Line, ScriptFault, Style, lines, play};
 use settings::Config;
 use startup::{contents, fault_of, read_settings, start};
 use std::alloc::Global;
 use std::io::{Read, Write};
 
-/// A way to play the lines of a script on a stack, and to write what comes of them.
-pub trait Playing {
-    ghost use Rattle.std.specs.Prelude.{IfErr, OnOk};
-    ghost use Rattle.script.specs.Faults.{IsPrintFault};
-    ghost use Rattle.script.specs.Trace.{IsAllTaken, IsTold, LineText, Prints};
-
-    /// What is written of a line, its reply and the labels of its step.
-    ghost text_of: { LineText };
-
-    /// Carries the lines out, one after the other, and writes what comes of each.
-    fn play<A: Adapter, W: Write>(
-        alloc: Global,
-        stack: &mut Stack<A>,
-        lines: &[Line<'_>],
-        out: &mut W,
-    ) -> Result<(), ScriptFault>
-        requires { IsAllTaken stack.old }
-        ensures text { OnOk result (Prints (W.contents out.old) (W.contents out.new) (λ text. IsTold text_of stack.old lines.now text stack.new)) }
-        ensures fault { IfErr result IsPrintFault };
-}
-
-/// Runs a script in some way through a stack over a disk in memory, and writes what comes of each event.
+/// Runs a script through a stack over a disk in memory, and writes what comes of each event in some style.
 ///
 /// # Errors
 ///
 /// The first of these that fits: the settings can't be read, or are refused; the script can't be read, or has a bad
 /// line; no stack of the settings could be started; `out` failed, after a beginning of the text. Where memory was
-/// refused, the step's own error for it stands in place of any of them.
-pub fn run<P: Playing, C: Read + Drop, S: Read + Drop, O: Write>(
+/// refused, the step's own error for it stands in place of any of them. Of settings or a script that are blamed, `out`
+/// has nothing.
+pub fn run<C: Read + Drop, S: Read + Drop, O: Write>(
     alloc: Global,
     config: C,
     script: S,
+    style: Style,
     out: &mut O,
 ) -> Result<(), Error>
-    ensures text { OnOk result (Prints (O.contents out.old) (O.contents out.new) (IsTextOf P.text_of (C.remaining config) (S.remaining script))) }
+    ensures text { OnOk result (Prints (O.contents out.old) (O.contents out.new) (IsTextOf style (C.remaining config) (S.remaining script))) }
     ensures fault { IfErr result (IsRunFault (C.remaining config) (S.remaining script)) }
+    ensures untold { IfErr result (IsUntold (O.contents out.old) (O.contents out.new)) }
 {
     let config = read_settings(alloc, config)?;
     let script = bytes_of(alloc, script)?;
@@ -58,7 +38,7 @@ pub fn run<P: Playing, C: Read + Drop, S: Read + Drop, O: Write>(
         return Err(Error::Script(ScriptFault::BadLine { line: 1 }));
     };
     let lines = lines(alloc, text)?;
-    play_lines::<P, O>(alloc, config, lines.as_slice(), out)
+    play_lines(alloc, config, lines.as_slice(), style, out)
 }
 
 /// Plays the lines of a script on a stack of some settings, whichever inputs gave both.
@@ -66,18 +46,20 @@ pub fn run<P: Playing, C: Read + Drop, S: Read + Drop, O: Write>(
 /// # Errors
 ///
 /// No stack of the settings could be started; `out` failed, after a beginning of the text; memory was refused.
-fn play_lines<P: Playing, O: Write>(
+fn play_lines<O: Write>(
     alloc: Global,
     config: Config,
     lines: &[Line<'_>],
+    style: Style,
     out: &mut O,
 ) -> Result<(), Error>
     requires { AreInRange config }
-    ensures text { (settings script : Option (List ℕ)) → AreGiven settings script config lines.now → OnOk result (Prints (O.contents out.old) (O.contents out.new) (IsTextOf P.text_of settings script)) }
+    ensures text { (settings script : Option (List ℕ)) → AreGiven settings script config lines.now → OnOk result (Prints (O.contents out.old) (O.contents out.new) (IsTextOf style settings script)) }
     ensures fault { (settings script : Option (List ℕ)) → AreGiven settings script config lines.now → IfErr result (IsRunFault settings script) }
+    ensures untold { IfErr result (IsUntold (O.contents out.old) (O.contents out.new)) }
 {
     let mut stack = start(alloc, config)?;
-    match P::play(alloc, &mut stack, lines, out) {
+    match play(alloc, &mut stack, lines, style, out) {
         Ok(()) => Ok(()),
         Err(fault) => Err(Error::Script(fault)),
     }

@@ -7,8 +7,9 @@ ghost use Rattle.script.specs.Events.{AreNamed};
 use crate::expect::{same, same_text};
 use adapter::Adapter;
 use compose::{Answer, Event, Refusal, Reply, RunStopped, Settings, Shown, Stack, StartFault};
+use label_text::write_short_line;
 use machine::Label;
-use script::{Given, Line, Order, ScriptFault, event, lines, write_label, write_reply};
+use script::{Given, Line, Order, ScriptFault, event, lines, write_reply};
 use std::alloc::{AllocError, Global};
 use std::process::Abort;
 
@@ -150,7 +151,7 @@ fn tell_answer(text: &mut Vec<u8>, answer: Answer) -> Result<(), AllocError> {
         information: answer.information,
         bytes: answer.bytes,
     };
-    write_label(text, &label)
+    write_short_line(text, &label).map_err(|_| AllocError)
 }
 
 /// Tells a line, and what it showed.
@@ -163,12 +164,12 @@ fn tell(
     text.extend_from_slice(b"> ")?;
     text.extend_from_slice(line.text.as_bytes())?;
     text.extend_from_slice(b"\n")?;
-    write_reply(text, &shown.reply)?;
+    write_reply(text, &shown.reply).map_err(|_| AllocError)?;
     if let Reply::Refused { bytes, .. } = &shown.reply {
         same(rt, &is_handed_back(line.order, bytes.as_slice()), &true);
     }
     for label in &shown.labels {
-        write_label(text, label)?;
+        write_short_line(text, label).map_err(|_| AllocError)?;
     }
     Ok(())
 }

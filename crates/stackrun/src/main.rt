@@ -13,10 +13,13 @@ use commands::words::asked::Command;
 use commands::words::command;
 use startup::{Verdict, ended, fault_of, hold_standard, open_input};
 use std::env;
-use std::io::Write;
+use std::io::{BufWriter, Write};
 use std::process::ExitCode;
 use std::sync::Wait;
 use std::thread::Threads;
+
+/// How many bytes of a transcript are written at once.
+const BUFFER: usize = 65_536;
 
 /// Does what the command line asks for. Clients run in threads of `host`.
 fn run<H: Threads + Wait + Sync>(rt: &HostRuntime, host: &H) -> Result<Verdict, Error> {
@@ -29,7 +32,10 @@ fn run<H: Threads + Wait + Sync>(rt: &HostRuntime, host: &H) -> Result<Verdict, 
         Command::Trace { config, script } => {
             let config = open_input(rt, config);
             let script = open_input(rt, script);
-            trace(alloc, config, script, &mut rt.stdout())?;
+            let Ok(mut out) = BufWriter::with_capacity(alloc, BUFFER, rt.stdout()) else {
+                return Err(Error::NoMemory);
+            };
+            trace(alloc, config, script, &mut out)?;
             Ok(Verdict::Passed)
         }
         Command::Clients {

@@ -21,7 +21,7 @@ use Rattle.machine.specs.declared.Label.{Label}
 use Rattle.machine.specs.declared.Label.TheVariants.{Call, Device, Answer, Cancel, Pause, Resume, Remove, Surprise, Removed}
 use Rattle.trace_line.specs.declared.Line.{Line}
 use Rattle.label_text.specs.Runs.{Run, most_bytes}
-use Rattle.label_text.specs.Lines.{Words}
+use Rattle.label_text.specs.Lines.{Words, owned}
 use Rattle.label_text.specs.declared.reading.Head.{Head}
 use Rattle.label_text.specs.declared.runs.Run.{Run as TakenRun}
 
@@ -243,7 +243,7 @@ abbrev pub behind_start : Words → Words
 behind_start words = behind_block (drop 1 (drop 1 (drop 1 words)))
 
 abbrev pub owned_start_at : Words → Option Line
-owned_start_at words = option_and_then (λ label. option_map (λ owner. record { label = label; owner = owner }) (owner_at (behind_start words))) (start_at words)
+owned_start_at words = option_and_then (λ label. option_map (owned label) (owner_at (behind_start words))) (start_at words)
 
 abbrev pub act_at : Words → Option Label
 act_at words = option_and_then (λ piece. option_map (λ bytes. Device (Act piece bytes)) (bytes_at (drop 1 words))) (number_at 128 words)
@@ -339,7 +339,7 @@ label_by verb words = if bytes_eq verb (codes "call") then call_at words
 
 -- a label without an owner
 abbrev pub bare : Label → Line
-bare label = record { label = label; owner = None }
+bare label = owned label None
 
 abbrev pub line_by : List ℕ → Words → Option Line
 line_by verb words = if bytes_eq verb (codes "start") then owned_start_at words else option_map bare (label_by verb words)

@@ -4,5 +4,5 @@ use Rattle.label_text.proofs.runs.write_runs.Goals as goal
 
 pub loop-rest-preserved : goal.loop-rest-preserved
 loop-rest-preserved g c =
-    run_written _ c.args.bytes.now c.loop-rest.rest.now c.split_at.result.1.now _ _ _ c.equal_bytes-count.result _ c.loop-rest.invariant c.equal_bytes-count.ensures.within
-    (some_equal c.equal_bytes-count.result _ c.loop-rest.rest.now (search rules) (search rules) c.equal_bytes-count.ensures.longest) c.equal_bytes-count.ensures.equal c.equal_bytes-count.ensures.longest c.split_at.ensures.back c.is_empty-in-loop-rest.ensures c.in_ok-write_run.ensures
+    run_written _ c.args.bytes.now c.loop-rest.rest.now c.split_at.result.1.now _ _ _ c.run_of-count.result _ c.loop-rest.invariant c.run_of-count.ensures.within
+    (some_equal c.run_of-count.result _ c.loop-rest.rest.now (search rules) (search rules) c.run_of-count.ensures.longest) c.run_of-count.ensures.equal c.run_of-count.ensures.longest c.split_at.ensures.back c.is_empty-in-loop-rest.ensures c.in_ok-write_run.ensures

@@ -1,14 +1,10 @@
 use Rattle.std.proofs.Common.{length}
-use Rattle.script.specs.Buffers.{AreFilled}
 use Rattle.script.proofs.PrintedLabels.{AreWritten}
 use Rattle.script.proofs.player.write_labels.Given as goal
 
--- the labels before those that are left are written; the spared buffers are full
+-- the labels before those that are left are written
 abbrev pub invariant-loop-label : goal.invariant-loop-label
-invariant-loop-label g l = record {
-  written : AreWritten l.initial.text.items l.initial.stack l.stack l.text.items;
-  filled : AreFilled l.spare;
-}
+invariant-loop-label g l = AreWritten l.style (g.W.Write.contents l.initial.out) l.initial.stack l.stack (g.W.Write.contents l.out)
 
 abbrev pub decreases-loop-label : goal.decreases-loop-label
 decreases-loop-label g l = length l.stack.labels

@@ -1,5 +1,5 @@
-use Rattle.script.proofs.Skipped.{block_skipped, equal_more, other_behind}
-use Rattle.script.proofs.runs.run_of.Goals as goal
+use Rattle.label_text.proofs.Skipped.{block_skipped, equal_more, other_behind}
+use Rattle.label_text.proofs.runs.run_of.Goals as goal
 
 pub loop-rest-preserved : goal.loop-rest-preserved
 loop-rest-preserved c =

@@ -1,5 +1,5 @@
 -- Bytes that are all one byte, one after the other.
-use Rattle.std.proofs.Common.{◌≡◌, ◌≢◌, ◌<◌, ◌==◌, ◌+◌, ◌&&◌, ℕ, zero, suc, Bool, true, false, List, All, IsTrue, length, take, get_or, arith, refl}
+use Rattle.std.proofs.Common.{◌≡◌, ◌<◌, ◌==◌, ◌+◌, ◌&&◌, ℕ, Bool, true, false, List, All, IsTrue, length, take, get_or, refl}
 use borrow.Author.Tests.{eqb-true}
 use Rattle.std.proofs.lemmas.List.Elements.{All-more}
 
@@ -11,8 +11,3 @@ pub one_same : (byte : ℕ) (bytes : List ℕ) (i : ℕ) (d : ℕ) (so_far : Boo
     → IsTrue (so_far && (get_or bytes i d == byte)) → All (λ b. b ≡ byte) (take (i + 1) bytes)
 one_same byte bytes i d false inside before = λ both. absurd (never both)
 one_same byte bytes i d true inside before = λ both. All-more (λ b. b ≡ byte) bytes i d inside (before refl) (eqb-true (get_or bytes i d) byte both)
-
--- a longest run of a byte that is there is not empty
-pub some_of : (byte n : ℕ) (bytes : List ℕ) → 0 < length bytes → get_or bytes 0 0 ≡ byte → (n < length bytes → get_or bytes n 0 ≢ byte) → 0 < n
-some_of byte zero bytes some first longest = absurd (longest some first)
-some_of byte (suc n) bytes some first longest = omega arith

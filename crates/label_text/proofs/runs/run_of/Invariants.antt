@@ -1,6 +1,6 @@
 use Rattle.std.proofs.Common.{length}
-use Rattle.script.proofs.Skipped.{IsSkipped}
-use Rattle.script.proofs.runs.run_of.Given as goal
+use Rattle.label_text.proofs.Skipped.{IsSkipped}
+use Rattle.label_text.proofs.runs.run_of.Given as goal
 
 -- the bytes before the rest are all this one
 abbrev pub invariant-loop-rest : goal.invariant-loop-rest

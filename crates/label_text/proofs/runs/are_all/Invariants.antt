@@ -1,5 +1,5 @@
 use Rattle.std.proofs.Common.{◌≡◌, All, IsTrue, take}
-use Rattle.script.proofs.runs.are_all.Given as goal
+use Rattle.label_text.proofs.runs.are_all.Given as goal
 
 -- the bytes so far are all this one, if it is said of them
 abbrev pub invariant-loop-b : goal.invariant-loop-b
