@@ -31,6 +31,20 @@ step(const char *what, struct saddlemug_event event, size_t length, uint32_t kin
 	expect(what, reply.kind, kind);
 }
 
+/* The answer of a request, which is not the lowest that waits. */
+static void
+answered_apart(const char *what, uint64_t number, uint32_t status, uint64_t count)
+{
+	struct saddlemug_answer answer = {0};
+	expect(what, saddlemug_stack_take_answer_of(&stack, number + 100, &answer, got, sizeof got), false);
+	expect(what, answer.number, 0);
+	expect(what, saddlemug_stack_take_answer_of(&stack, number, &answer, got, sizeof got), true);
+	expect(what, answer.number, number);
+	expect(what, answer.status, status);
+	expect(what, answer.information, count);
+	expect(what, saddlemug_stack_take_answer_of(&stack, number, &answer, got, sizeof got), false);
+}
+
 /* The next answer is that of a request. */
 static void
 answered(const char *what, uint64_t number, uint32_t status, uint64_t count)
@@ -126,6 +140,76 @@ over(void)
 	saddlemug_stack_close(&stack);
 }
 
+/* The version, the names of statuses, and what is wrong with settings. */
+static void
+words(void)
+{
+	char room[SADDLEMUG_NAME_ROOM], why[64];
+	const uint8_t *text = (const uint8_t *) settings;
+	expect("the version", saddlemug_version(), SADDLEMUG_VERSION);
+	expect("a name", strcmp(saddlemug_status_name(SADDLEMUG_SUCCESS, room), "STATUS_SUCCESS"), 0);
+	expect("the longest name", strcmp(saddlemug_status_name(UINT32_C(0xC0000016), room), "STATUS_MORE_PROCESSING_REQUIRED"), 0);
+	expect("no name", strcmp(saddlemug_status_name(1, room), "a status without a name"), 0);
+	expect("no fault", saddlemug_settings_fault(text, strlen(settings), why, sizeof why), false);
+	expect("no words", why[0], 0);
+	expect("a fault", saddlemug_settings_fault(text, 18, why, sizeof why), true);
+	expect("its words", strcmp(why, "config: missing key"), 0);
+	expect("a fault in little room", saddlemug_settings_fault(text, 18, why, 7), true);
+	expect("its words", strcmp(why, "config"), 0);
+	expect("no settings", saddlemug_settings_fault(NULL, 0, why, sizeof why), true);
+}
+
+/* A write to a protected disk comes back bad: DATA PROTECT, WRITE PROTECTED. */
+static void
+failed_write(void)
+{
+	struct saddlemug_label label = {0};
+	step("open", (struct saddlemug_event){.kind = SADDLEMUG_OPEN}, 0, SADDLEMUG_IS_HANDLE);
+	step("write", (struct saddlemug_event){.kind = SADDLEMUG_WRITE, .handle = reply.id}, 512, SADDLEMUG_IS_REQUEST);
+	step("act", (struct saddlemug_event){.kind = SADDLEMUG_ACT}, 0, SADDLEMUG_IS_DONE);
+	step("finish", (struct saddlemug_event){.kind = SADDLEMUG_FINISH}, 0, SADDLEMUG_IS_DONE);
+	expect("a return", saddlemug_stack_take_label(&stack, &label, got, 0), true);
+	expect("a return", label.kind, SADDLEMUG_RETURNED);
+	expect("how", label.class_, 2);
+	expect("CHECK CONDITION", label.completion.scsi_status, 2);
+	expect("with sense", label.completion.has_sense, true);
+	expect("DATA PROTECT", label.completion.key, 7);
+	expect("WRITE PROTECTED", label.completion.asc, 0x27);
+	answered("write", 1, SADDLEMUG_MEDIA_WRITE_PROTECTED, 0);
+}
+
+/* A disk by numbers: the second of its two partitions, with a bad sector. */
+static void
+numbers(void)
+{
+	struct saddlemug volume = {0};
+	struct saddlemug_memory disk = {.sectors = 64, .sector_size = 512, .max_transfer = 8, .depth = 2, .window = 2, .open_requests = 2,
+		.partition_count = 2, .partitions = {{1, 8, 0x83}, {16, 4, 7}}};
+	uint64_t bad = 17;
+	expect("no disk", saddlemug_open_memory(&volume, NULL, NULL, 0, 0), SADDLEMUG_INVALID_PARAMETER);
+	expect("no bad sectors", saddlemug_open_memory(&volume, &disk, NULL, 1, 0), SADDLEMUG_INVALID_PARAMETER);
+	expect("no third partition", saddlemug_open_memory(&volume, &disk, NULL, 0, 2), SADDLEMUG_INVALID_PARAMETER);
+	expect("the second", saddlemug_open_memory(&volume, &disk, &bad, 1, 1), SADDLEMUG_SUCCESS);
+	expect("its sectors", saddlemug_sizes(&volume).sectors, 4);
+	memset(bytes, 0x3C, 512);
+	expect("a write", saddlemug_write(&volume, 1024, bytes, 512, false), SADDLEMUG_SUCCESS);
+	expect("a read", saddlemug_read(&volume, 1024, got, 512), SADDLEMUG_SUCCESS);
+	expect("what was read", memcmp(got, bytes, 512), 0);
+	expect("a bad sector", saddlemug_read(&volume, 512, got, 512), SADDLEMUG_DEVICE_DATA_ERROR);
+	saddlemug_close(&volume);
+	disk.write_protected = true;
+	expect("protected", saddlemug_open_memory(&volume, &disk, NULL, 0, 0), SADDLEMUG_SUCCESS);
+	expect("a write there", saddlemug_write(&volume, 0, bytes, 512, false), SADDLEMUG_MEDIA_WRITE_PROTECTED);
+	saddlemug_close(&volume);
+	disk.partitions[1].first = 8;
+	expect("an overlap", saddlemug_stack_open_memory(&stack, &disk, NULL, 0), SADDLEMUG_INVALID_PARAMETER);
+	disk.partition_count = 1;
+	expect("a stack", saddlemug_stack_open_memory(&stack, &disk, NULL, 0), SADDLEMUG_SUCCESS);
+	expect("its room", saddlemug_stack_open_memory(&stack, &disk, NULL, 0), SADDLEMUG_INVALID_PARAMETER);
+	failed_write();
+	saddlemug_stack_close(&stack);
+}
+
 /* What the calls that open and close find by themselves. */
 static void
 rooms(void)
@@ -181,7 +265,7 @@ main(void)
 	step("read", read, 0, SADDLEMUG_IS_REQUEST);
 	step("act", (struct saddlemug_event){.kind = SADDLEMUG_ACT}, 0, SADDLEMUG_IS_DONE);
 	step("finish", (struct saddlemug_event){.kind = SADDLEMUG_FINISH}, 0, SADDLEMUG_IS_DONE);
-	answered("read", 2, SADDLEMUG_SUCCESS, 1024);
+	answered_apart("read", 2, SADDLEMUG_SUCCESS, 1024);
 	expect("what was read", memcmp(got, bytes, 1024), 0);
 
 	/* A read of four pieces, cancelled after the first two went out: the rest is not sent. */
@@ -221,6 +305,8 @@ main(void)
 	saddlemug_stack_close(&stack);
 	over();
 	rooms();
+	words();
+	numbers();
 	if (!failed && puts("the bench found what it expected") >= 0 && fflush(stdout) != 0) {
 		perror("bench: standard output");
 		return 1;

@@ -15,7 +15,6 @@
 
 #include "descriptors.h"
 #include "own_disk.h"
-#include "status.h"
 
 /* Over a file; a volume in memory is used by one thread at a time. */
 #define THREAD_MODEL NBDKIT_THREAD_MODEL_PARALLEL
@@ -147,8 +146,10 @@ open_with(const char *text, size_t length)
 {
 	uint32_t status = saddlemug_open(&volume, (const uint8_t *) text, length, partition);
 	if (status != SADDLEMUG_SUCCESS) {
-		nbdkit_error("saddlemug_open: %s%s", status_name(status), status == SADDLEMUG_INVALID_PARAMETER
-			? ": no such settings, or no such partition; partitions count from 0" : "");
+		char name[SADDLEMUG_NAME_ROOM], why[64];
+		bool faulty = saddlemug_settings_fault((const uint8_t *) text, length, why, sizeof why);
+		const char *otherwise = status == SADDLEMUG_INVALID_PARAMETER ? "no such partition; partitions count from 0" : "no disk";
+		nbdkit_error("saddlemug_open: %s: %s", saddlemug_status_name(status, name), faulty ? why : otherwise);
 		return -1;
 	}
 	sizes = saddlemug_sizes(&volume);
@@ -277,7 +278,8 @@ answered(const char *call, uint32_t status)
 {
 	if (status == SADDLEMUG_SUCCESS)
 		return 0;
-	nbdkit_error("%s: %s", call, status_name(status));
+	char name[SADDLEMUG_NAME_ROOM];
+	nbdkit_error("%s: %s", call, saddlemug_status_name(status, name));
 	switch (status) {
 	case SADDLEMUG_INVALID_PARAMETER:
 		errno = EINVAL;

@@ -8,7 +8,6 @@
 
 #include "descriptors.h"
 #include "own_disk.h"
-#include "status.h"
 
 /* The longest request, in bytes, and how many are out. */
 #define LONGEST (1 << 20)
@@ -40,7 +39,8 @@ static int
 said(const struct own_disk *disk, const char *what, uint32_t status)
 {
 	const char *full = own_disk_is_full(disk, status) ? ": no space is left" : "";
-	fprintf(stderr, "own_disk: %s: %s%s\n", what, status_name(status), full);
+	char name[SADDLEMUG_NAME_ROOM];
+	fprintf(stderr, "own_disk: %s: %s%s\n", what, saddlemug_status_name(status, name), full);
 	return 1;
 }
 

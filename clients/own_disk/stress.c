@@ -8,7 +8,6 @@
 
 #include "descriptors.h"
 #include "own_disk.h"
-#include "status.h"
 
 #define THREADS 20
 #define SECTOR 512
@@ -44,6 +43,13 @@ wrong(struct worker *worker, const char *what, uint64_t sector)
 	worker->failed = true;
 }
 
+static void
+failed(struct worker *worker, uint32_t status, uint64_t sector)
+{
+	char name[SADDLEMUG_NAME_ROOM];
+	wrong(worker, saddlemug_status_name(status, name), sector);
+}
+
 /* Writes sectors full of a new stamp. */
 static void
 write_some(struct worker *worker, uint64_t sector, uint64_t count, bool own)
@@ -56,7 +62,7 @@ write_some(struct worker *worker, uint64_t sector, uint64_t count, bool own)
 	bool through = below(worker, 16) == 0;
 	uint32_t status = own_disk_write(&disk, sector * SECTOR, (uint8_t *) worker->bytes, count * SECTOR, through);
 	if (status != SADDLEMUG_SUCCESS)
-		wrong(worker, status_name(status), sector);
+		failed(worker, status, sector);
 }
 
 /* Each sector of its own has the stamp that was written; of shared ones all have the same. */
@@ -65,7 +71,7 @@ read_some(struct worker *worker, uint64_t sector, uint64_t count, bool own)
 {
 	uint32_t status = own_disk_read(&disk, sector * SECTOR, (uint8_t *) worker->bytes, count * SECTOR);
 	if (status != SADDLEMUG_SUCCESS)
-		wrong(worker, status_name(status), sector);
+		failed(worker, status, sector);
 	for (uint64_t i = 0; i < count && !worker->failed; i++) {
 		const uint64_t *words = worker->bytes + i * SECTOR / 8;
 		uint64_t wanted = own ? worker->written[sector + i - worker->first] : worker->bytes[0];

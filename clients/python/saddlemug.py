@@ -28,9 +28,9 @@ from dataclasses import dataclass
 from typing import Iterator, Optional, Union
 
 __all__ = [
-    "Act", "Answer", "Asked", "Armed", "Cancel", "CancelRemove", "Close", "Disk", "Failed", "Finish", "Flush", "Id", "Label",
-    "LabelKind", "Mark", "Open", "QueryRemove", "Read", "Remove", "Reply", "ReplyKind", "Reset", "Stack", "Status",
-    "SurpriseRemove", "Volume", "Write",
+    "Act", "Answer", "Armed", "Asked", "Cancel", "CancelRemove", "Close", "Completion", "Disk", "Failed", "Finish",
+    "Flush", "Id", "Label", "LabelKind", "Mark", "MemoryDisk", "Open", "Partition", "QueryRemove", "Read", "Remove",
+    "Reply", "ReplyKind", "Reset", "Stack", "Status", "SurpriseRemove", "Volume", "Write", "settings_fault", "version",
 ]
 
 
@@ -57,14 +57,18 @@ class Status(enum.IntEnum):
 class Failed(Exception):
     """A call that was not carried out."""
 
-    def __init__(self, call: str, status: Status):
-        super().__init__(f"{call}: {status.name} ({status:#010x})")
+    def __init__(self, call: str, status: Status, why: Optional[str] = None):
+        super().__init__(f"{call}: {status.name} ({status:#010x})" + (f": {why}" if why else ""))
         self.status = status
 
 
 def _check(call: str, status: int) -> None:
     if status:
         raise Failed(call, Status(status))
+
+
+# The version of saddlemug.h that this file speaks to.
+_VERSION = 0x000200
 
 
 # The structs of saddlemug.h.
@@ -82,6 +86,18 @@ class _Id(ctypes.Structure):
     _fields_ = [("number", c_uint64), ("slot", c_uint32)]
 
 
+class _Partition(ctypes.Structure):
+    _fields_ = [("first", c_uint32), ("count", c_uint32), ("type", c_uint8)]
+
+
+class _Memory(ctypes.Structure):
+    _fields_ = [
+        ("sectors", c_uint64), ("sector_size", c_uint32), ("max_transfer", c_uint32), ("depth", c_uint32),
+        ("window", c_uint32), ("open_requests", c_uint32), ("partition_count", c_uint32), ("partitions", _Partition * 4),
+        ("write_protected", c_bool),
+    ]
+
+
 class _Event(ctypes.Structure):
     _fields_ = [
         ("kind", c_uint32), ("partition", c_uint8), ("tag", c_uint8), ("through", c_bool), ("one", c_bool),
@@ -93,11 +109,18 @@ class _Reply(ctypes.Structure):
     _fields_ = [("kind", c_uint32), ("status", c_uint32), ("id", _Id)]
 
 
+class _Completion(ctypes.Structure):
+    _fields_ = [
+        ("srb_status", c_uint8), ("scsi_status", c_uint8), ("has_sense", c_bool), ("key", c_uint8), ("asc", c_uint8),
+        ("ascq", c_uint8),
+    ]
+
+
 class _Label(ctypes.Structure):
     _fields_ = [
         ("kind", c_uint32), ("status", c_uint32), ("number", c_uint64), ("information", c_uint64), ("piece_low", c_uint64),
         ("piece_high", c_uint64), ("tag", c_uint32), ("class_", c_uint32), ("request", c_uint32), ("partition", c_uint32),
-        ("offset", c_uint64), ("length", c_uint64), ("through", c_uint32), ("bytes", c_uint64),
+        ("offset", c_uint64), ("length", c_uint64), ("through", c_uint32), ("completion", _Completion), ("bytes", c_uint64),
     ]
 
 
@@ -123,13 +146,6 @@ class _Armed(ctypes.Structure):
     ]
 
 
-class _Completion(ctypes.Structure):
-    _fields_ = [
-        ("srb_status", c_uint8), ("scsi_status", c_uint8), ("has_sense", c_bool), ("key", c_uint8), ("asc", c_uint8),
-        ("ascq", c_uint8),
-    ]
-
-
 class _Booking(ctypes.Structure):
     _fields_ = [
         ("piece_low", c_uint64), ("piece_high", c_uint64), ("length", c_uint64), ("tag", c_uint8), ("failed", c_bool),
@@ -139,6 +155,10 @@ class _Booking(ctypes.Structure):
 
 _ROOM = POINTER(_Room)
 _CALLS = {
+    "saddlemug_version": (c_uint32, []),
+    "saddlemug_settings_words": (c_uint64, [c_void_p, c_size_t, c_void_p, c_size_t]),
+    "saddlemug_memory_open_into": (c_uint32, [_ROOM, POINTER(_Memory), POINTER(c_uint64), c_size_t, c_uint8]),
+    "saddlemug_stack_memory_open_into": (c_uint32, [_ROOM, POINTER(_Memory), POINTER(c_uint64), c_size_t]),
     "saddlemug_open_into": (c_uint32, [_ROOM, c_void_p, c_size_t, c_uint8]),
     "saddlemug_sizes": (_Sizes, [_ROOM]),
     "saddlemug_read": (c_uint32, [_ROOM, c_uint64, c_void_p, c_size_t]),
@@ -149,6 +169,7 @@ _CALLS = {
     "saddlemug_stack_step": (c_uint32, [_ROOM, POINTER(_Event), c_void_p, c_size_t, POINTER(_Reply)]),
     "saddlemug_stack_take_label": (c_bool, [_ROOM, POINTER(_Label), c_void_p, c_size_t]),
     "saddlemug_stack_take_answer": (c_bool, [_ROOM, POINTER(_Answer), c_void_p, c_size_t]),
+    "saddlemug_stack_take_answer_of": (c_bool, [_ROOM, c_uint64, POINTER(_Answer), c_void_p, c_size_t]),
     "saddlemug_stack_close_full": (None, [_ROOM]),
     "saddlemug_over_open": (c_uint32, [_ROOM, POINTER(_Disk), c_void_p, c_size_t]),
     "saddlemug_over_armed": (c_uint32, [_ROOM, c_uint8, POINTER(_Armed)]),
@@ -163,6 +184,8 @@ def _load() -> ctypes.CDLL:
     if not found:
         raise ImportError("libsaddlemug.so is not found: `make -C clients shared` builds it, SADDLEMUG_LIBRARY names it")
     library = ctypes.CDLL(found)
+    if not hasattr(library, "saddlemug_version") or library.saddlemug_version() < _VERSION:
+        raise ImportError(f"{found} is older than this file")
     for name, (result, arguments) in _CALLS.items():
         call = getattr(library, name)
         call.restype, call.argtypes = result, arguments
@@ -170,6 +193,13 @@ def _load() -> ctypes.CDLL:
 
 
 _c = _load()
+
+
+def _completion(label: _Label) -> Optional[Completion]:
+    told = label.completion
+    if label.class_ != 2:
+        return None
+    return Completion(told.srb_status, told.scsi_status, (told.key, told.asc, told.ascq) if told.has_sense else None)
 
 
 def _room_for(length: int) -> ctypes.Array:
@@ -181,13 +211,70 @@ def _settings(settings: Union[str, bytes]) -> bytes:
     return settings.encode() if isinstance(settings, str) else settings
 
 
-class Volume:
-    """One partition of a new disk in memory as an array of bytes. `settings` is a TOML text (docs/USING.md)."""
+def version() -> tuple[int, int, int]:
+    """The version of the library."""
+    number = _c.saddlemug_version()
+    return number >> 16, number >> 8 & 255, number & 255
 
-    def __init__(self, settings: Union[str, bytes], partition: int = 0):
+
+def settings_fault(settings: Union[str, bytes]) -> Optional[str]:
+    """What is wrong with a TOML text of settings, in the words of the programs; None where a stack of it can be started."""
+    text, buffer = _settings(settings), _room_for(64)
+    count = _c.saddlemug_settings_words(text, len(text), buffer, len(buffer))
+    return bytes(buffer)[:count].decode() if count else None
+
+
+@dataclass(frozen=True)
+class Partition:
+    """A partition of a disk in memory, in sectors, with the type of its entry in the partition table, 1 to 255."""
+
+    first: int
+    count: int
+    type: int = 7
+
+
+@dataclass(frozen=True)
+class MemoryDisk:
+    """A disk in memory, in place of a TOML text: what each number means stands in docs/USING.md, "Settings"."""
+
+    sectors: int
+    partitions: tuple[Partition, ...] = ()
+    sector_size: int = 512
+    max_transfer: int = 128
+    depth: int = 4
+    window: int = 4
+    open_requests: int = 64
+    write_protected: bool = False
+    bad_sectors: tuple[int, ...] = ()
+
+
+def _memory(disk: MemoryDisk) -> tuple[_Memory, ctypes.Array, int]:
+    told = _Memory(
+        disk.sectors, disk.sector_size, disk.max_transfer, disk.depth, disk.window, disk.open_requests, len(disk.partitions),
+        write_protected=disk.write_protected,
+    )
+    for place, it in enumerate(disk.partitions[:4]):
+        told.partitions[place] = _Partition(it.first, it.count, it.type)
+    return told, (c_uint64 * max(len(disk.bad_sectors), 1))(*disk.bad_sectors), len(disk.bad_sectors)
+
+
+def _check_open(status: int, text: bytes) -> None:
+    if status:
+        raise Failed("open", Status(status), settings_fault(text))
+
+
+class Volume:
+    """One partition of a new disk in memory as an array of bytes. `settings` is a TOML text (docs/USING.md), or the numbers
+    of a disk."""
+
+    def __init__(self, settings: Union[str, bytes, MemoryDisk], partition: int = 0):
         self._room = _Room(None)
-        text = _settings(settings)
-        _check("open", _c.saddlemug_open_into(byref(self._room), text, len(text), partition))
+        if isinstance(settings, MemoryDisk):
+            disk, bad, count = _memory(settings)
+            _check("open", _c.saddlemug_memory_open_into(byref(self._room), byref(disk), bad, count, partition))
+        else:
+            text = _settings(settings)
+            _check_open(_c.saddlemug_open_into(byref(self._room), text, len(text), partition), text)
 
     @property
     def sector_size(self) -> int:
@@ -386,6 +473,15 @@ class LabelKind(enum.IntEnum):
 
 
 @dataclass(frozen=True)
+class Completion:
+    """How a command failed: SRB status (WDK), SCSI status (SAM), and the sense key and its two codes (SPC), if there are any."""
+
+    srb_status: int
+    scsi_status: int
+    sense: Optional[tuple[int, int, int]]
+
+
+@dataclass(frozen=True)
 class Label:
     """What a step did. What the kind doesn't have is 0 or empty."""
 
@@ -396,6 +492,7 @@ class Label:
     piece: int
     tag: int
     returned: int  # 0 good, 1 busy, 2 bad
+    completion: Optional[Completion]  # of a piece that came back bad
     request: int  # 0 read, 1 write, 2 flush
     partition: int  # counted from 1; 0 where the handle isn't open
     offset: int
@@ -446,10 +543,10 @@ class Armed:
 
 
 class Stack:
-    """A stack over a new disk in memory, of TOML settings; or over storage of the program's own, where `first` is sector 0
-    of a `Disk`, with its partition table."""
+    """A stack over a new disk in memory, of TOML settings or the numbers of a disk; or over storage of the program's own,
+    where `first` is sector 0 of a `Disk`, with its partition table."""
 
-    def __init__(self, settings: Union[str, bytes, Disk], first: Optional[bytes] = None):
+    def __init__(self, settings: Union[str, bytes, MemoryDisk, Disk], first: Optional[bytes] = None):
         self._room = _Room(None)
         self._longest = 1 << 20
         if isinstance(settings, Disk):
@@ -457,9 +554,12 @@ class Stack:
                 raise TypeError("a stack over a Disk needs its first sector")
             disk = _Disk(settings.sectors, settings.max_transfer, settings.depth, settings.window, settings.open_requests)
             _check("open", _c.saddlemug_over_open(byref(self._room), byref(disk), first, len(first)))
+        elif isinstance(settings, MemoryDisk):
+            memory, bad, count = _memory(settings)
+            _check("open", _c.saddlemug_stack_memory_open_into(byref(self._room), byref(memory), bad, count))
         else:
             text = _settings(settings)
-            _check("open", _c.saddlemug_stack_open_into(byref(self._room), text, len(text)))
+            _check_open(_c.saddlemug_stack_open_into(byref(self._room), text, len(text)), text)
 
     def step(self, event: Event) -> Reply:
         """Carries one event out. Labels of the step before that were not taken are let go."""
@@ -476,17 +576,23 @@ class Stack:
         while _c.saddlemug_stack_take_label(self._open(), byref(label), buffer, len(buffer)):
             yield Label(
                 LabelKind(label.kind), label.number, Status(label.status), label.information,
-                label.piece_low | label.piece_high << 64, label.tag, label.class_, label.request, label.partition,
-                label.offset, label.length, bool(label.through), ctypes.string_at(buffer, min(label.bytes, len(buffer))),
+                label.piece_low | label.piece_high << 64, label.tag, label.class_, _completion(label), label.request,
+                label.partition, label.offset, label.length, bool(label.through), ctypes.string_at(buffer, min(label.bytes, len(buffer))),
             )
 
     def answers(self) -> list[Answer]:
         """Takes all answers that wait, the lowest number first."""
         answer, buffer, found = _Answer(), self._buffer(), []
         while _c.saddlemug_stack_take_answer(self._open(), byref(answer), buffer, len(buffer)):
-            data = ctypes.string_at(buffer, min(answer.bytes, len(buffer)))
-            found.append(Answer(answer.number, Status(answer.status), answer.information, data))
+            found.append(self._told(answer, buffer))
         return found
+
+    def answer(self, number: int) -> Optional[Answer]:
+        """Takes the answer of the request of this number, if it waits."""
+        answer, buffer = _Answer(), self._buffer()
+        if not _c.saddlemug_stack_take_answer_of(self._open(), number, byref(answer), buffer, len(buffer)):
+            return None
+        return self._told(answer, buffer)
 
     def armed(self, tag: int) -> Optional[Armed]:
         """The command on a tag that could act, of a stack over storage of one's own; None where there is none."""
@@ -513,6 +619,11 @@ class Stack:
         """Ends the stack, and its disk in memory. A second call does nothing."""
         if self._room.at:
             _c.saddlemug_stack_close_full(byref(self._room))
+
+    @staticmethod
+    def _told(answer: _Answer, buffer: ctypes.Array) -> Answer:
+        data = ctypes.string_at(buffer, min(answer.bytes, len(buffer)))
+        return Answer(answer.number, Status(answer.status), answer.information, data)
 
     def _book(self, armed: Armed, booking: _Booking) -> None:
         booking.tag = armed.tag

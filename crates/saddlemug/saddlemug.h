@@ -20,6 +20,7 @@
 #include <stdbool.h>
 #include <stddef.h>
 #include <stdint.h>
+#include <string.h>
 
 #ifdef __cplusplus
 extern "C" {
@@ -40,6 +41,39 @@ extern "C" {
 #define SADDLEMUG_CANCELLED UINT32_C(0xC0000120)
 #define SADDLEMUG_IO_DEVICE_ERROR UINT32_C(0xC0000185)
 #define SADDLEMUG_NOT_FOUND UINT32_C(0xC0000225)
+
+/* VERSIONS: a byte for each of the three numbers, the first on the left. This header is of 0.2.0.
+ *
+ * A program compiled over this header runs over each shared library of its soname, libsaddlemug.so.0, that is no older: the
+ * numbers, the structs with their sizes and places, and what the calls take and answer stay as they are. New calls may come, and
+ * new numbers at the end of an enum; then the last of the three numbers rises, or the second. Whatever else changes raises the
+ * soname's number, and that is the first of the three. The inline functions here are compiled into the program. */
+#define SADDLEMUG_VERSION UINT32_C(0x000200)
+
+/* The version of the library that is linked or loaded. */
+uint32_t saddlemug_version(void);
+
+/* The status's name as `ntstatus.h` has it, without STATUS_, of 24 bytes at most and without a zero at its end: as much of it as
+ * `length` says goes into the buffer. Answers how long the name is: 0 where no status of this library has the number. */
+uint64_t saddlemug_status_word(uint32_t status, uint8_t *buffer, size_t length);
+
+/* Room for a name, with its zero. */
+#define SADDLEMUG_NAME_ROOM 32
+
+/* The name with STATUS_, in the caller's room, which is answered; or words for a status without a name. */
+static inline const char *
+saddlemug_status_name(uint32_t status, char room[SADDLEMUG_NAME_ROOM])
+{
+	static const char prefix[] = "STATUS_", none[] = "a status without a name";
+	uint64_t length;
+	memcpy(room, prefix, sizeof prefix);
+	length = saddlemug_status_word(status, (uint8_t *) room + 7, SADDLEMUG_NAME_ROOM - 8);
+	if (length == 0)
+		memcpy(room, none, sizeof none);
+	else
+		room[7 + (length < SADDLEMUG_NAME_ROOM - 8 ? length : SADDLEMUG_NAME_ROOM - 8)] = 0;
+	return room;
+}
 
 /* VOLUMES: one partition as an array of bytes. Each call is carried out whole before it returns. */
 
@@ -69,6 +103,62 @@ saddlemug_open(struct saddlemug *room, const uint8_t *settings, size_t length, u
 	if (room == NULL || room->at != NULL || settings == NULL)
 		return SADDLEMUG_INVALID_PARAMETER;
 	return saddlemug_open_into(room, settings, length, partition);
+}
+
+/* What is wrong with settings, in the words of the programs, as `config: missing key` or `mbr: overlap`, without a zero at the
+ * end: as much of it as `room` says goes into the buffer. Answers how long it is: 0 where a stack of the settings can be started,
+ * for which one is. A volume of them can then be opened just where they have its partition. */
+uint64_t saddlemug_settings_words(const uint8_t *settings, size_t length, uint8_t *buffer, size_t room);
+
+/* The same with a zero at the end, cut to `room` bytes, of which there is one at least. True where something is wrong; also where
+ * a pointer is null. */
+static inline bool
+saddlemug_settings_fault(const uint8_t *settings, size_t length, char *buffer, size_t room)
+{
+	static const char none[] = "no settings";
+	uint64_t count = sizeof none - 1;
+	if (buffer == NULL || room == 0)
+		return true;
+	if (settings == NULL)
+		memcpy(buffer, none, count < room ? count : room - 1);
+	else
+		count = saddlemug_settings_words(settings, length, (uint8_t *) buffer, room - 1);
+	buffer[count < room ? count : room - 1] = 0;
+	return count != 0;
+}
+
+/* A partition of a disk in memory. */
+struct saddlemug_partition {
+	uint32_t first; /* its first sector */
+	uint32_t count; /* how many sectors it has */
+	uint8_t type;   /* the type of its entry in the partition table, 1 to 255 */
+};
+
+/* A disk in memory by numbers, in place of a text: what each means stands in docs/USING.md, "Settings". */
+struct saddlemug_memory {
+	uint64_t sectors;         /* of the disk, 1 to 2^40 */
+	uint32_t sector_size;     /* bytes of a sector, 512 or 4096 */
+	uint32_t max_transfer;    /* sectors of the longest command, 1 to 65,536 */
+	uint32_t depth;           /* tags, 1 to 32 */
+	uint32_t window;          /* requests at work at once, 1 to 64 */
+	uint32_t open_requests;   /* requests open at once, 1 to 64 */
+	uint32_t partition_count; /* 0 to 4: how many of these there are */
+	struct saddlemug_partition partitions[4];
+	bool write_protected;     /* 0 or 1 */
+};
+
+/* As `saddlemug_open`, of such a disk whose sectors `bad` can't be read or written: `count` of them, each below `sectors`. Where
+ * there are none, `bad` may be null here, and not in the call below. */
+uint32_t saddlemug_memory_open_into(struct saddlemug *room, const struct saddlemug_memory *disk, const uint64_t *bad, size_t count,
+	uint8_t partition);
+
+static inline uint32_t
+saddlemug_open_memory(struct saddlemug *room, const struct saddlemug_memory *disk, const uint64_t *bad, size_t count, uint8_t partition)
+{
+	static const uint64_t none = 0;
+	if (room == NULL || room->at != NULL || disk == NULL || (bad == NULL && count != 0))
+		return SADDLEMUG_INVALID_PARAMETER;
+	return saddlemug_memory_open_into(room, disk, bad == NULL ? &none : bad, count, partition);
 }
 
 struct saddlemug_sizes saddlemug_sizes(struct saddlemug *volume);
@@ -118,6 +208,18 @@ saddlemug_stack_open(struct saddlemug_stack *room, const uint8_t *settings, size
 	if (room == NULL || room->at != NULL || settings == NULL)
 		return SADDLEMUG_INVALID_PARAMETER;
 	return saddlemug_stack_open_into(room, settings, length);
+}
+
+/* As `saddlemug_open_memory`, but for the partition. */
+uint32_t saddlemug_stack_memory_open_into(struct saddlemug_stack *room, const struct saddlemug_memory *disk, const uint64_t *bad, size_t count);
+
+static inline uint32_t
+saddlemug_stack_open_memory(struct saddlemug_stack *room, const struct saddlemug_memory *disk, const uint64_t *bad, size_t count)
+{
+	static const uint64_t none = 0;
+	if (room == NULL || room->at != NULL || disk == NULL || (bad == NULL && count != 0))
+		return SADDLEMUG_INVALID_PARAMETER;
+	return saddlemug_stack_memory_open_into(room, disk, bad == NULL ? &none : bad, count);
 }
 
 /* A handle or an open request. Numbers rise from 1, and none is given twice; a slot is. */
@@ -198,6 +300,16 @@ enum saddlemug_label_kind {
 	SADDLEMUG_REMOVED    /* the removal has ended: nothing is open */
 };
 
+/* How a command failed. */
+struct saddlemug_completion {
+	uint8_t srb_status;  /* WDK: SRB_STATUS. 0x84 for an error with sense data; its low six bits are neither success (1) nor busy (5) */
+	uint8_t scsi_status; /* SAM: STATUS. 2, CHECK CONDITION, where there are sense data */
+	bool has_sense;
+	uint8_t key;         /* SPC: the sense key, the additional sense code and its qualifier */
+	uint8_t asc;
+	uint8_t ascq;
+};
+
 /* What a step did. What the kind doesn't name is 0. */
 struct saddlemug_label {
 	uint32_t kind;
@@ -213,6 +325,7 @@ struct saddlemug_label {
 	uint64_t offset;      /* of a call, in bytes */
 	uint64_t length;      /* of a call, in bytes */
 	uint32_t through;     /* of a call: 1 for a write-through */
+	struct saddlemug_completion completion; /* of a piece that came back bad */
 	uint64_t bytes;       /* how many bytes come with it, also where the buffer is shorter */
 };
 
@@ -230,6 +343,12 @@ struct saddlemug_answer {
 /* Takes the waiting answer of the lowest number, in the same way. Answers wait from step to step. */
 bool saddlemug_stack_take_answer(struct saddlemug_stack *stack, struct saddlemug_answer *answer, uint8_t *buffer, size_t length);
 
+/* Takes the waiting answer of the request of this number, in the same way. False where it has none that waits: it is open, or
+ * its answer was taken, or came with its call. A step's label SADDLEMUG_ANSWERED tells number, status and `bytes` of an answer that
+ * waits from then on, with a buffer of no bytes too: so the answer can go straight to where its request wants it. */
+bool saddlemug_stack_take_answer_of(struct saddlemug_stack *stack, uint64_t number, struct saddlemug_answer *answer, uint8_t *buffer,
+	size_t length);
+
 /* Ends the stack, and its disk in memory with all bytes. The room is empty then. With an empty room, or none, it does nothing. */
 void saddlemug_stack_close_full(struct saddlemug_stack *stack);
 
@@ -245,8 +364,10 @@ saddlemug_stack_close(struct saddlemug_stack *stack)
  * by itself, and tells what became of it (`saddlemug_stack_book`). The command then acts (SADDLEMUG_ACT), which does just
  * that, and is handed back (SADDLEMUG_FINISH). A command that acts with nothing booked fails with HARDWARE ERROR.
  *
- * The bytes may be moved in any order, and on any threads of the program's own, while no call on that stack runs. The calls
- * themselves are made as all others: one at a time on a room.
+ * The bytes of a command may be moved in any order, and on any threads of the program's own, also while the library is called on
+ * that stack: for other commands, and for all else. A command's place stays where it is, with its bytes, until that command was
+ * booked, another command on its tag was told, or the stack is closed; no other call touches it. So a thread that moves the bytes
+ * has to have ended before one of these three. The calls themselves are made as all others: one at a time on a room.
  *
  * The last two answer INVALID_HANDLE where the room is empty. */
 
@@ -304,8 +425,8 @@ struct saddlemug_armed {
  *
  * The bytes stand in memory of the library. The program reads those of a write there, and writes those of a read there, until
  * they are booked; told again before that, the command has the same bytes at the same place. They are the library's again
- * once the command was booked, its tag has another command that was told, or the stack is closed. No call but these changes
- * or moves them.
+ * once the command was booked, its tag has another command that was told, as it may have after a reset, or the stack is closed.
+ * No call but these changes or moves them.
  *
  * NOT_FOUND where no command on the tag could act; INSUFFICIENT_RESOURCES where memory for the bytes was refused;
  * INVALID_DEVICE_REQUEST on a stack of `saddlemug_stack_open`. `armed` is then as it was, and nothing has changed. */
@@ -318,16 +439,6 @@ saddlemug_stack_armed(struct saddlemug_stack *stack, uint8_t tag, struct saddlem
 		return SADDLEMUG_INVALID_PARAMETER;
 	return stack->at == NULL ? SADDLEMUG_INVALID_HANDLE : saddlemug_over_armed(stack, tag, armed);
 }
-
-/* How a command failed. */
-struct saddlemug_completion {
-	uint8_t srb_status;  /* WDK: SRB_STATUS. 0x84 for an error with sense data; its low six bits are neither success (1) nor busy (5) */
-	uint8_t scsi_status; /* SAM: STATUS. 2, CHECK CONDITION, where there are sense data */
-	bool has_sense;
-	uint8_t key;         /* SPC: the sense key, the additional sense code and its qualifier */
-	uint8_t asc;
-	uint8_t ascq;
-};
 
 /* What became of a command. A bool is 0 or 1 in each case. */
 struct saddlemug_booking {

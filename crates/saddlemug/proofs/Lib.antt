@@ -1,6 +1,8 @@
 mod Booked
 mod Failing
+mod Faulty
 mod Filling
+mod InRange
 mod FirstOver
 mod Padding
 mod Standing

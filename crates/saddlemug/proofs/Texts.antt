@@ -1,31 +1,25 @@
--- What settings open is what the text opens that gives them.
-use Rattle.std.proofs.Common.{ℕ, List, Result, Ok, Err, inr}
+-- What settings open is what opens that gives them.
+use Rattle.std.proofs.Common.{ℕ, Result, Ok, Err, inr}
 use Rattle.std.specs.Prelude.{IfErr, IfOk}
 use Rattle.ntstatus.specs.declared.NtStatus.{NtStatus}
 use Rattle.settings.specs.declared.Config.{Config}
-use Rattle.settings.specs.Settings.{AreSettingsOf}
 use Rattle.io_manager.specs.Shown.{ManagerView}
 use Rattle.volume.specs.Shown.{VolumeView}
 use Rattle.startup.specs.Started.{IsFirstOf, IsVolumeOf}
-use Rattle.saddlemug.specs.Opened.{IsNewStack, IsNewVolume, IsOpenStatus, IsStackStatus, IsStartStatus, IsVolumeStatus}
+use Rattle.saddlemug.specs.Opened.{IsStackBy, IsUnopened, IsVolumeBy}
 
-pub volume_of_text : (text : List ℕ) (config : Config) (partition : ℕ) (opened : Result VolumeView NtStatus) → AreSettingsOf text config
-    → IfOk opened (IsVolumeOf config partition) → IfOk opened (IsNewVolume text partition)
-volume_of_text text config partition (Ok v) = λ settings new. record { config = config; settings = settings; new = new }
-volume_of_text text config partition (Err s) = λ settings new. new
+pub volume_given : (AreGiven : Config → Type 0) (config : Config) (partition : ℕ) (opened : Result VolumeView NtStatus) → AreGiven config
+    → IfOk opened (IsVolumeOf config partition) → IfOk opened (IsVolumeBy AreGiven partition)
+volume_given AreGiven config partition (Ok v) = λ settings new. record { config = config; settings = settings; new = new }
+volume_given AreGiven config partition (Err s) = λ settings new. new
 
-pub stack_of_text : (text : List ℕ) (config : Config) (opened : Result ManagerView NtStatus) → AreSettingsOf text config
-    → IfOk opened (IsFirstOf config) → IfOk opened (IsNewStack text)
-stack_of_text text config (Ok v) = λ settings first. record { config = config; settings = settings; first = first }
-stack_of_text text config (Err s) = λ settings first. first
+pub stack_given : (AreGiven : Config → Type 0) (config : Config) (opened : Result ManagerView NtStatus) → AreGiven config
+    → IfOk opened (IsFirstOf config) → IfOk opened (IsStackBy AreGiven)
+stack_given AreGiven config (Ok v) = λ settings first. record { config = config; settings = settings; first = first }
+stack_given AreGiven config (Err s) = λ settings first. first
 
 -- and why nothing is opened
-pub volume_why : (text : List ℕ) (config : Config) (partition : ℕ) (opened : Result VolumeView NtStatus) → AreSettingsOf text config
-    → IfErr opened (IsOpenStatus config partition) → IfErr opened (IsVolumeStatus text partition)
-volume_why text config partition (Ok v) = λ settings why. tt
-volume_why text config partition (Err s) = λ settings why. inr (config, settings, why)
-
-pub stack_why : (text : List ℕ) (config : Config) (opened : Result ManagerView NtStatus) → AreSettingsOf text config
-    → IfErr opened (IsStartStatus config) → IfErr opened (IsStackStatus text)
-stack_why text config (Ok v) = λ settings why. tt
-stack_why text config (Err s) = λ settings why. inr (config, settings, why)
+pub why_none : {A : Type 0} (AreNone : NtStatus → Type 0) (AreGiven : Config → Type 0) (IsOfThem : Config → NtStatus → Type 0) (config : Config)
+    (opened : Result A NtStatus) → AreGiven config → IfErr opened (IsOfThem config) → IfErr opened (IsUnopened AreNone AreGiven IsOfThem)
+why_none AreNone AreGiven IsOfThem config (Ok v) = λ settings why. tt
+why_none AreNone AreGiven IsOfThem config (Err s) = λ settings why. inr (config, settings, why)

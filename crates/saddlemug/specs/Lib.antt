@@ -2,6 +2,8 @@ pub mod Asking
 pub mod Calls
 pub mod Cell
 pub mod Holding
+pub mod InMemory
+pub mod Names
 pub mod Opened
 pub mod Over
 pub mod Places

@@ -1,4 +1,4 @@
--- What is opened from a text of settings.
+-- What is opened over a disk in memory, by settings that a text gives, or C.
 use Rattle.std.specs.Prelude.{◌≡◌, ◌⊎◌, ℕ, List, IsSome}
 use Rattle.ntstatus.specs.declared.NtStatus.{NtStatus}
 use Rattle.ntstatus.specs.declared.NtStatus.TheVariants.{InsufficientResources, InvalidParameter}
@@ -12,17 +12,24 @@ use Rattle.volume.specs.declared.OpenFault.{OpenFault}
 use Rattle.volume.specs.Shown.{VolumeView}
 use Rattle.saddlemug.specs.Statuses.{open_status, start_status}
 
--- a volume is a partition of the disk of a text's settings
-pub record IsNewVolume (text : List ℕ) (partition : ℕ) (v : VolumeView) : Type 0 where
+-- a volume is a partition of the disk of settings that are given so
+pub record IsVolumeBy (AreGiven : Config → Type 0) (partition : ℕ) (v : VolumeView) : Type 0 where
   pub config : Config
-  pub settings : AreSettingsOf text config
+  pub settings : AreGiven config
   pub new : IsVolumeOf config partition v
 
--- a stack stands over the disk of a text's settings, before its first event
-pub record IsNewStack (text : List ℕ) (v : ManagerView) : Type 0 where
+-- a stack stands over the disk of settings that are given so, before its first event
+pub record IsStackBy (AreGiven : Config → Type 0) (v : ManagerView) : Type 0 where
   pub config : Config
-  pub settings : AreSettingsOf text config
+  pub settings : AreGiven config
   pub first : IsFirstOf config v
+
+-- by those of a text
+abbrev pub IsNewVolume : List ℕ → ℕ → VolumeView → Type 0
+IsNewVolume text partition v = IsVolumeBy (AreSettingsOf text) partition v
+
+abbrev pub IsNewStack : List ℕ → ManagerView → Type 0
+IsNewStack text v = IsStackBy (AreSettingsOf text) v
 
 -- WHY NOTHING WAS OPENED
 
@@ -42,10 +49,12 @@ pub record IsStartStatus (config : Config) (status : NtStatus) : Type 0 where
   pub why : IsStartFault config fault
   pub is_status : status ≡ start_status fault
 
--- why no volume was opened: there are no settings, or no volume of them
-abbrev pub IsVolumeStatus : List ℕ → ℕ → NtStatus → Type 0
-IsVolumeStatus text partition status = IsConfigStatus text status ⊎ ((config : Config) × AreSettingsOf text config × IsOpenStatus config partition status)
+-- why nothing was opened: there are no settings, or nothing of them
+abbrev pub IsUnopened : (NtStatus → Type 0) → (Config → Type 0) → (Config → NtStatus → Type 0) → NtStatus → Type 0
+IsUnopened AreNone AreGiven IsOfThem status = AreNone status ⊎ ((config : Config) × AreGiven config × IsOfThem config status)
 
--- why no stack was started: there are no settings, or no stack of them
+abbrev pub IsVolumeStatus : List ℕ → ℕ → NtStatus → Type 0
+IsVolumeStatus text partition status = IsUnopened (IsConfigStatus text) (AreSettingsOf text) (λ config. IsOpenStatus config partition) status
+
 abbrev pub IsStackStatus : List ℕ → NtStatus → Type 0
-IsStackStatus text status = IsConfigStatus text status ⊎ ((config : Config) × AreSettingsOf text config × IsStartStatus config status)
+IsStackStatus text status = IsUnopened (IsConfigStatus text) (AreSettingsOf text) IsStartStatus status

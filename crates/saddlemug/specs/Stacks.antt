@@ -1,9 +1,11 @@
 -- Events, replies, labels and answers of a stack as C tells them and is told them.
-use Rattle.std.specs.Prelude.{◌≡◌, ℕ, ◌+◌, ◌*◌, nat_lt, Bool, ◌%◌, ◌/◌, ◌^◌, List, [], ◌∷◌, drop, length, min, replicate, slice_get, take, if◌then◌else◌, Option, Some, None}
+use Rattle.std.specs.Prelude.{◌≡◌, ℕ, ◌+◌, ◌*◌, nat_lt, Bool, true, false, ◌%◌, ◌/◌, ◌^◌, List, [], ◌∷◌, drop, length, min, replicate, slice_get, take, if◌then◌else◌, Option, Some, None}
 use Rattle.std.specs.Option.{option_map}
 use Rattle.ntstatus.specs.Codes.{value_of}
 use Rattle.srb.specs.declared.Class.{Class}
 use Rattle.srb.specs.declared.Class.TheVariants.{Good, Busy, Bad}
+use Rattle.ntstatus.specs.declared.Sense.{Sense}
+use Rattle.srb.specs.declared.Completion.{Completion}
 use Rattle.srb.specs.declared.DeviceLabel.{DeviceLabel}
 use Rattle.srb.specs.declared.DeviceLabel.TheVariants.{Start, Act as ActLabel, Fault, Return}
 use Rattle.srb.specs.declared.Kind.{Kind}
@@ -18,6 +20,7 @@ use Rattle.io_manager.specs.declared.Reply.{Reply}
 use Rattle.io_manager.specs.declared.Reply.TheVariants.{Handle as HandleReply, Ok as OkReply, Request, Answered, Refused, Ignored}
 use Rattle.compose.specs.declared.Event.{Event}
 use Rattle.compose.specs.declared.Event.TheVariants.{Open, Close, Read, Write, Flush, CancelIoEx, Mark, QueryRemove, CancelRemove, Remove, SurpriseRemove, Act, Finish, Reset}
+use Rattle.saddlemug.specs.declared.booking.StackCompletion.{StackCompletion}
 use Rattle.saddlemug.specs.declared.events.EventKind.{EventKind}
 use Rattle.saddlemug.specs.declared.events.EventKind.TheVariants as which
 use Rattle.saddlemug.specs.declared.events.StackId.{StackId}
@@ -104,6 +107,22 @@ pub record AreToldIn (before bytes after : List ℕ) : Type 0 where
   pub told : take (min (length bytes) (length before)) after ≡ take (min (length bytes) (length before)) bytes
   pub behind : drop (min (length bytes) (length before)) after ≡ drop (min (length bytes) (length before)) before
 
+-- no completion is told
+abbrev pub no_completion : StackCompletion
+no_completion = record { srb_status = 0; scsi_status = 0; has_sense = false; key = 0; asc = 0; ascq = 0 }
+
+-- a completion with these sense data, if there are any
+abbrev pub with_sense : Completion → Option Sense → StackCompletion
+with_sense c None = record no_completion { srb_status = c.srb_status; scsi_status = c.scsi_status }
+with_sense c (Some sense) = record {
+  srb_status = c.srb_status;
+  scsi_status = c.scsi_status;
+  has_sense = true;
+  key = sense.key;
+  asc = sense.asc;
+  ascq = sense.ascq;
+}
+
 -- a label that tells its kind alone
 abbrev pub label_of_kind : ℕ → StackLabel
 label_of_kind kind = record {
@@ -120,6 +139,7 @@ label_of_kind kind = record {
   offset = 0;
   length = 0;
   through = 0;
+  completion = no_completion;
   bytes = 0;
 }
 
@@ -135,10 +155,11 @@ abbrev pub partition_number : Option ℕ → ℕ
 partition_number None = 0
 partition_number (Some partition) = partition + 1
 
-abbrev pub class_number : Class → ℕ
-class_number Good = 0
-class_number Busy = 1
-class_number (Bad completion) = 2
+-- a piece came back: good, busy, or bad with a completion
+abbrev pub shown_return : ℕ → Class → StackLabel
+shown_return piece Good = label_of_piece 4 piece
+shown_return piece Busy = record (label_of_piece 4 piece) { class = 1 }
+shown_return piece (Bad c) = record (label_of_piece 4 piece) { class = 2; completion = with_sense c c.sense }
 
 abbrev pub shown_call : ℕ → ClientRequest → StackLabel
 shown_call number q = record (label_of_kind 0) {
@@ -155,7 +176,7 @@ abbrev pub shown_of_device : DeviceLabel → StackLabel
 shown_of_device (Start piece tag block) = record (label_of_piece 1 piece) { tag = tag; bytes = length block }
 shown_of_device (ActLabel piece bytes) = record (label_of_piece 2 piece) { bytes = length bytes }
 shown_of_device (Fault piece) = label_of_piece 3 piece
-shown_of_device (Return piece class) = record (label_of_piece 4 piece) { class = class_number class }
+shown_of_device (Return piece class) = shown_return piece class
 
 abbrev pub device_bytes : DeviceLabel → List ℕ
 device_bytes (Start piece tag block) = block

@@ -6,7 +6,7 @@ use Rattle.ntstatus.specs.declared.NtStatus.TheVariants.{InsufficientResources, 
 use Rattle.machine.specs.declared.Label.{Label}
 use Rattle.io_manager.specs.declared.Answer.{Answer}
 use Rattle.io_manager.specs.declared.Reply.{Reply}
-use Rattle.io_manager.specs.Right.{TakesAnswer, TakesLabel}
+use Rattle.io_manager.specs.Right.{TakesAnswer, TakesAnswerOf, TakesLabel}
 use Rattle.io_manager.specs.Shown.{ManagerView}
 use Rattle.compose.specs.declared.Event.{Event}
 use Rattle.compose.specs.Right.{IsRight}
@@ -58,5 +58,12 @@ pub record TellsLabel (old : ManagerView) (before : List ℕ) (told : Option Sta
 pub record TellsAnswer (old : ManagerView) (before : List ℕ) (told : Option StackAnswer) (after : List ℕ) (new : ManagerView) : Type 0 where
   pub found : Option Answer
   pub takes : TakesAnswer old found new
+  pub is_told : told ≡ option_map shown_answer found
+  pub bytes : MatchOption found (after ≡ before) (λ answer. AreToldIn before answer.bytes after)
+
+-- so was the answer of a number
+pub record TellsAnswerOf (old : ManagerView) (number : ℕ) (before : List ℕ) (told : Option StackAnswer) (after : List ℕ) (new : ManagerView) : Type 0 where
+  pub found : Option Answer
+  pub takes : TakesAnswerOf old number found new
   pub is_told : told ≡ option_map shown_answer found
   pub bytes : MatchOption found (after ≡ before) (λ answer. AreToldIn before answer.bytes after)

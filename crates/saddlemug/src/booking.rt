@@ -13,7 +13,7 @@ use srb::{Class, Completion, Kind, Srb};
 
 /// How a piece failed.
 #[repr(C)]
-#[derive(Debug, Clone, Copy)]
+#[derive(Debug, Clone, Copy, Default)]
 pub struct StackCompletion {
     /// The SRB status (WDK: SRB_STATUS).
     pub srb_status: u8,

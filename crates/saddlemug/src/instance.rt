@@ -6,7 +6,7 @@ ghost use Rattle.saddlemug.specs.Calls.{IsReadFault, IsWriteFault};
 ghost use Rattle.ntstatus.specs.declared.NtStatus.TheVariants.{InvalidDeviceRequest, Success};
 ghost use Rattle.saddlemug.specs.Holding.{IfInMemory, IfOver, IsAnyStack, IsAnyVolume, IsOver, IsStack, IsVolume, places_in};
 ghost use Rattle.saddlemug.specs.Over.{BooksTold, IsArmedStatus, IsBookStatus, TellsArmed};
-ghost use Rattle.saddlemug.specs.Stepping.{IsNotStepped, IsStepStatus, Steps, TellsAnswer, TellsLabel};
+ghost use Rattle.saddlemug.specs.Stepping.{IsNotStepped, IsStepStatus, Steps, TellsAnswer, TellsAnswerOf, TellsLabel};
 
 use crate::asked::StackArmed;
 use crate::booking::StackBooking;
@@ -14,7 +14,7 @@ use crate::bytes::{copied, zeros};
 use crate::events::{StackEvent, StackReply};
 use crate::labels::{StackAnswer, StackLabel};
 use crate::over::Over;
-use crate::stepping::{step_as_told, tell_answer, tell_label};
+use crate::stepping::{step_as_told, tell_answer, tell_answer_of, tell_label};
 use adapter::Adapter;
 use compose::{Refusal, Stack};
 use disk::SparseDisk;
@@ -160,6 +160,20 @@ impl Instance {
         match self {
             Instance::Stack(stack) => tell_answer(stack, buffer),
             Instance::Over(over) => over.next_answer(buffer),
+            Instance::Volume(_) => unreachable!(),
+        }
+    }
+
+    /// Takes the stack's answer of a number, as [`tell_answer_of`].
+    pub fn answer_of(&mut self, number: u64, buffer: &mut [u8]) -> Option<StackAnswer>
+        requires { IsAnyStack self.old }
+        ensures held { IsAnyStack self.new }
+        ensures told { IsStack (λ old. IsStack (TellsAnswerOf old number buffer.old result buffer.new) self.new) self.old }
+        ensures places { places_in self.new ≡ places_in self.old }
+    {
+        match self {
+            Instance::Stack(stack) => tell_answer_of(stack, number, buffer),
+            Instance::Over(over) => over.answer_of(number, buffer),
             Instance::Volume(_) => unreachable!(),
         }
     }

@@ -1,12 +1,13 @@
 //! The labels and the answers of a stack as C is told them.
 
 ghost use Rattle.std.specs.Prelude.{◌≡◌};
-ghost use Rattle.saddlemug.specs.Stacks.{AreToldIn, device_bytes, label_bytes, label_of_kind, label_of_piece, shown_answer, shown_call, shown_label, shown_of_device};
+ghost use Rattle.saddlemug.specs.Stacks.{AreToldIn, device_bytes, label_bytes, label_of_kind, label_of_piece, shown_answer, shown_call, shown_label, shown_of_device, shown_return, with_sense};
 
+use crate::booking::StackCompletion;
 use crate::bytes::put;
 use compose::Answer;
 use machine::{ClientRequest, Kind, Label};
-use srb::{Class, DeviceLabel};
+use srb::{Class, Completion, DeviceLabel};
 
 /// A label. A field that its kind doesn't tell is 0.
 #[repr(C)]
@@ -38,6 +39,8 @@ pub struct StackLabel {
     pub length: u64,
     /// 1 for the call of a write-through, else 0.
     pub through: u32,
+    /// How the piece of a return failed that came back bad.
+    pub completion: StackCompletion,
     /// The number of bytes that come with the label.
     pub bytes: u64,
 }
@@ -130,13 +133,46 @@ fn told_of_device(label: DeviceLabel, buffer: &mut [u8]) -> StackLabel
             ..of_piece(2, piece)
         },
         DeviceLabel::Fault { piece } => of_piece(3, piece),
-        DeviceLabel::Return { piece, class } => StackLabel {
-            class: match class {
-                Class::Good => 0,
-                Class::Busy => 1,
-                Class::Bad(_) => 2,
-            },
+        DeviceLabel::Return { piece, class } => told_return(piece, class),
+    }
+}
+
+/// The return of a piece.
+fn told_return(piece: u128, class: Class) -> StackLabel
+    ensures { result ≡ shown_return piece class }
+{
+    match class {
+        Class::Good => of_piece(4, piece),
+        Class::Busy => StackLabel {
+            class: 1,
             ..of_piece(4, piece)
+        },
+        Class::Bad(completion) => StackLabel {
+            class: 2,
+            completion: told_completion(completion),
+            ..of_piece(4, piece)
+        },
+    }
+}
+
+fn told_completion(completion: Completion) -> StackCompletion
+    ensures { result ≡ with_sense completion completion.sense }
+{
+    let srb_status = completion.srb_status;
+    let scsi_status = completion.scsi_status;
+    match completion.sense {
+        Some(sense) => StackCompletion {
+            srb_status,
+            scsi_status,
+            has_sense: true,
+            key: sense.key,
+            asc: sense.asc,
+            ascq: sense.ascq,
+        },
+        None => StackCompletion {
+            srb_status,
+            scsi_status,
+            ..StackCompletion::default()
         },
     }
 }

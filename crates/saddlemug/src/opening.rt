@@ -77,7 +77,7 @@ fn config_of(alloc: Global, text: &[u8]) -> Result<Config, NtStatus>
 /// # Errors
 ///
 /// As [`start_status`] and [`Volume::open`] say.
-fn volume_of(
+pub(crate) fn volume_of(
     alloc: Global,
     config: Config,
     partition: u8,
@@ -99,7 +99,10 @@ fn volume_of(
 /// # Errors
 ///
 /// As [`start_status`] says.
-fn stack_of(alloc: Global, config: Config) -> Result<Stack<MemAdapter<SparseDisk>>, NtStatus>
+pub(crate) fn stack_of(
+    alloc: Global,
+    config: Config,
+) -> Result<Stack<MemAdapter<SparseDisk>>, NtStatus>
     requires { AreInRange config }
     ensures stack { IfOk result (IsFirstOf config) }
     ensures fault { IfErr result (λ status. status ≢ Success) }

@@ -5,14 +5,14 @@ ghost use Rattle.ntstatus.specs.declared.NtStatus.TheVariants.{Success};
 ghost use Rattle.adapter.specs.Booking.{IsArmed};
 ghost use Rattle.saddlemug.specs.Places.{HasPiece, place_of};
 ghost use Rattle.saddlemug.specs.Over.{BooksTold, IsArmedStatus, IsBookStatus, IsNotArmed, IsNotTold, IsSuited, IsTold, TellsArmed};
-ghost use Rattle.saddlemug.specs.Stepping.{IsNotStepped, IsStepStatus, Steps, TellsAnswer, TellsLabel};
+ghost use Rattle.saddlemug.specs.Stepping.{IsNotStepped, IsStepStatus, Steps, TellsAnswer, TellsAnswerOf, TellsLabel};
 
 use crate::asked::{Asked, StackArmed, told_armed};
 use crate::booking::{DiskOf, StackBooking, asked_of};
 use crate::events::{StackEvent, StackReply};
 use crate::labels::{StackAnswer, StackLabel};
 use crate::places::{PieceBytes, no_places, stand};
-use crate::stepping::{step_as_told, tell_answer, tell_label};
+use crate::stepping::{step_as_told, tell_answer, tell_answer_of, tell_label};
 use compose::Stack;
 use miniport::BookedAdapter;
 use ntstatus::NtStatus;
@@ -95,6 +95,14 @@ impl Over {
         ensures places { self.new.places ≡ self.old.places }
     {
         tell_answer(&mut self.stack, buffer)
+    }
+
+    /// Takes the answer of a number, as [`tell_answer_of`].
+    pub(crate) fn answer_of(&mut self, number: u64, buffer: &mut [u8]) -> Option<StackAnswer>
+        ensures told { TellsAnswerOf self.old.stack number buffer.old result buffer.new self.new.stack }
+        ensures places { self.new.places ≡ self.old.places }
+    {
+        tell_answer_of(&mut self.stack, number, buffer)
     }
 
     /// Tells of the piece on a tag that could act. Its bytes stand in the tag's place. The first time they are the

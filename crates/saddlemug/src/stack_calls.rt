@@ -4,7 +4,7 @@ ghost use Rattle.std.specs.Prelude.{◌≡◌, ◌⊎◌, None, Some, MatchBool,
 ghost use Rattle.saddlemug.specs.Holding.{HoldsAnyStack, HoldsStack, places_held};
 ghost use Rattle.saddlemug.specs.Opened.{IsNewStack, IsStackStatus};
 ghost use Rattle.saddlemug.specs.Statuses.{IsNumberOfStatus};
-ghost use Rattle.saddlemug.specs.Stepping.{IsNotStepped, IsStepStatus, Steps, TellsAnswer, TellsLabel, told_if};
+ghost use Rattle.saddlemug.specs.Stepping.{IsNotStepped, IsStepStatus, Steps, TellsAnswer, TellsAnswerOf, TellsLabel, told_if};
 
 use crate::cell::Cell;
 use crate::events::{StackEvent, StackReply};
@@ -102,6 +102,33 @@ pub extern "C" fn saddlemug_stack_take_answer(
 {
     let mut held = cell.take(alloc);
     let found = held.next_answer(buffer);
+    cell.put(held);
+    match found {
+        Some(told) => {
+            *answer = told;
+            true
+        }
+        None => false,
+    }
+}
+
+/// Takes the waiting answer of a request's number, in the same way.
+#[unsafe(no_mangle)]
+pub extern "C" fn saddlemug_stack_take_answer_of(
+    alloc: Global,
+    cell: &mut Cell,
+    number: u64,
+    answer: &mut StackAnswer,
+    buffer: &mut [u8],
+) -> bool
+    requires { HoldsAnyStack cell.old.held }
+    ensures held { HoldsAnyStack cell.new.held }
+    ensures told { HoldsStack (λ old. HoldsStack (TellsAnswerOf old number buffer.old (told_if result answer.new) buffer.new) cell.new.held) cell.old.held }
+    ensures as_it_was { (result ≡ true) ⊎ (answer.new ≡ answer.old) }
+    ensures places { places_held cell.new.held ≡ places_held cell.old.held }
+{
+    let mut held = cell.take(alloc);
+    let found = held.answer_of(number, buffer);
     cell.put(held);
     match found {
         Some(told) => {

@@ -2,7 +2,7 @@
 
 ghost use Rattle.std.specs.Prelude.{◌≡◌, ◌≢◌, IfErr, MatchResult};
 ghost use Rattle.ntstatus.specs.declared.NtStatus.TheVariants.{Success};
-ghost use Rattle.saddlemug.specs.Stepping.{IsNotStepped, IsStepStatus, Steps, TellsAnswer, TellsLabel, quiet};
+ghost use Rattle.saddlemug.specs.Stepping.{IsNotStepped, IsStepStatus, Steps, TellsAnswer, TellsAnswerOf, TellsLabel, quiet};
 
 use crate::events::{StackEvent, StackReply, event_of, told_reply};
 use crate::labels::{StackAnswer, StackLabel, told_answer, told_label};
@@ -64,6 +64,20 @@ pub(crate) fn tell_answer<A: Adapter>(
     ensures { TellsAnswer stack.old buffer.old result buffer.new stack.new }
 {
     match stack.take_answer() {
+        Some(answer) => Some(told_answer(answer, buffer)),
+        None => None,
+    }
+}
+
+/// Takes the waiting answer of a number, and tells it.
+pub(crate) fn tell_answer_of<A: Adapter>(
+    stack: &mut Stack<A>,
+    number: u64,
+    buffer: &mut [u8],
+) -> Option<StackAnswer>
+    ensures { TellsAnswerOf stack.old number buffer.old result buffer.new stack.new }
+{
+    match stack.take_answer_of(number) {
         Some(answer) => Some(told_answer(answer, buffer)),
         None => None,
     }

@@ -2,15 +2,20 @@
 
 use crate::cell::Cell;
 use crate::events::{StackEvent, StackId, StackReply};
+use crate::faults::saddlemug_settings_words;
 use crate::labels::{StackAnswer, StackLabel};
+use crate::memory_calls::{saddlemug_memory_open_into, saddlemug_stack_memory_open_into};
+use crate::memory_disk::{MemoryDisk, MemoryPartition};
+use crate::names::{saddlemug_status_word, saddlemug_version};
 use crate::stack_calls::{
     saddlemug_stack_close_full, saddlemug_stack_open_into, saddlemug_stack_step,
-    saddlemug_stack_take_answer, saddlemug_stack_take_label,
+    saddlemug_stack_take_answer, saddlemug_stack_take_answer_of, saddlemug_stack_take_label,
 };
 use crate::volume_calls::{
     saddlemug_close_full, saddlemug_flush, saddlemug_open_into, saddlemug_read, saddlemug_sizes,
     saddlemug_write,
 };
+use std::alloc::Global;
 use std::fmt::Debug;
 use std::process::Abort;
 
@@ -112,7 +117,9 @@ fn steps_a_stack(rt: HostRuntime) {
     let code = bytes[0];
     let acted = saddlemug_stack_step(alloc, &mut cell, &event(11, id), &[], &mut reply);
     let finished = saddlemug_stack_step(alloc, &mut cell, &event(12, id), &[], &mut reply);
-    let answered = saddlemug_stack_take_answer(alloc, &mut cell, &mut answer, &mut bytes);
+    let other = saddlemug_stack_take_answer_of(alloc, &mut cell, 2, &mut answer, &mut bytes);
+    let answered = saddlemug_stack_take_answer_of(alloc, &mut cell, 1, &mut answer, &mut bytes);
+    let again = saddlemug_stack_take_answer(alloc, &mut cell, &mut answer, &mut bytes);
     let unknown = saddlemug_stack_step(alloc, &mut cell, &event(14, id), &[], &mut reply);
     saddlemug_stack_close_full(alloc, &mut cell);
     same(
@@ -126,5 +133,117 @@ fn steps_a_stack(rt: HostRuntime) {
     assert!(rt; call.partition == 1 && call.offset == 1024 && call.length == 512);
     // WRITE(10), of ten bytes.
     assert!(rt; started && start.kind == 1 && start.bytes == 10 && code == 0x2A);
+    assert!(rt; !other && !again);
     assert!(rt; answered && answer.number == 1 && answer.status == 0 && answer.information == 512);
+}
+
+#[test]
+fn tells_names(rt: HostRuntime) {
+    let rows: [(u32, &[u8]); 4] = [
+        (0, b"SUCCESS"),
+        (0xC000_000D, b"INVALID_PARAMETER"),
+        (0xC000_0225, b"NOT_FOUND"),
+        (1, b""),
+    ];
+    for (status, name) in rows {
+        let mut buffer = [0; 24];
+        let count = saddlemug_status_word(status, &mut buffer);
+        same(&rt, &count, &(name.len() as u64));
+        assert!(rt; buffer.starts_with(name));
+    }
+    let mut short = [0; 4];
+    same(&rt, &saddlemug_status_word(0, &mut short), &7);
+    same(&rt, &short, b"SUCC");
+    same(&rt, &saddlemug_version(), &0x0200);
+}
+
+#[test]
+fn tells_what_is_wrong_with_settings(rt: HostRuntime) {
+    let alloc = rt.alloc();
+    let rows: [(&[u8], &[u8]); 4] = [
+        (b"[", b"config: not TOML"),
+        (b"sectors = 9", b"config: missing key"),
+        (
+            b"sector_size = 512\nsectors = 9\nmax_transfer = 2\ndepth = 1\nwindow = 1\n[[partition]]\nfirst = 1\ncount = 9\n",
+            b"mbr: past end",
+        ),
+        (SETTINGS, b""),
+    ];
+    for (settings, words) in rows {
+        let mut buffer = [0; 32];
+        let count = saddlemug_settings_words(alloc, settings, &mut buffer);
+        same(&rt, &count, &(words.len() as u64));
+        assert!(rt; buffer.starts_with(words));
+    }
+}
+
+/// The disk of the settings.
+const MEMORY: MemoryDisk = MemoryDisk {
+    sectors: 9,
+    sector_size: 512,
+    max_transfer: 2,
+    depth: 1,
+    window: 1,
+    open_requests: 64,
+    partition_count: 1,
+    partitions: [MemoryPartition {
+        first: 1,
+        count: 8,
+        kind: 7,
+    }; 4],
+    write_protected: false,
+};
+
+#[test]
+fn opens_a_disk_by_numbers(rt: HostRuntime) {
+    let alloc = rt.alloc();
+    let mut cell = Cell::empty(alloc);
+    if saddlemug_memory_open_into(alloc, &mut cell, &MEMORY, &[8], 0) != 0 {
+        panic!(rt; "no volume");
+    }
+    let sizes = saddlemug_sizes(alloc, &mut cell);
+    let mut buffer = [0; 1024];
+    let wrote = saddlemug_write(alloc, &mut cell, 512, &[0xA5; 1024], false);
+    let was_read = saddlemug_read(alloc, &mut cell, 512, &mut buffer);
+    let bad = saddlemug_write(alloc, &mut cell, 3584, &[0; 512], false);
+    saddlemug_close_full(alloc, &mut cell);
+    same(&rt, &[sizes.sector_size, sizes.sectors], &[512, 8]);
+    same(&rt, &[wrote, was_read, bad], &[0, 0, 0xC000_009C]);
+    same(&rt, &buffer, &[0xA5; 1024]);
+}
+
+/// What is answered where a disk is told so.
+fn opened(alloc: Global, disk: &MemoryDisk, bad: &[u64]) -> u32 {
+    let mut cell = Cell::empty(alloc);
+    let status = saddlemug_stack_memory_open_into(alloc, &mut cell, disk, bad);
+    if status == 0 {
+        saddlemug_stack_close_full(alloc, &mut cell);
+    }
+    status
+}
+
+#[test]
+fn refuses_numbers_out_of_range(rt: HostRuntime) {
+    let alloc = rt.alloc();
+    let odd = MemoryDisk {
+        sector_size: 513,
+        ..MEMORY
+    };
+    let five = MemoryDisk {
+        partition_count: 5,
+        ..MEMORY
+    };
+    let overlapping = MemoryDisk {
+        partition_count: 2,
+        ..MEMORY
+    };
+    let got = [
+        opened(alloc, &MEMORY, &[8]),
+        opened(alloc, &MEMORY, &[9]),
+        opened(alloc, &odd, &[]),
+        opened(alloc, &five, &[]),
+        opened(alloc, &overlapping, &[]),
+    ];
+    let refused = 0xC000_000D;
+    same(&rt, &got, &[0, refused, refused, refused, refused]);
 }
