@@ -41,7 +41,7 @@ legal_line() { awk '{ n[$1]++ } END { print "legal: " NR " labels, " n["call"] +
 is_too_large() { awk '$1 == "count" && $3 > 1048576 { found = 1 } END { exit !found }' "$1"; }
 
 # Runs the judge on a folder's script and its trace: the trace is what is recorded, has the labels that the script's run prints,
-# and is legal.
+# and is legal, or has no label. What it leaves open is not compared.
 run_recorded() {
     local it trace=$scratch/trace part
     it=$(name_of "$1")
@@ -52,8 +52,13 @@ run_recorded() {
     for part in stderr status; do cp "$scratch/wanted/labels.$it.$part" "$scratch/found"; done
     shown_labels "$trace" > "$scratch/found/labels.$it.stdout"
     ! is_too_large "$(settings_of "$1")" || return 0
-    legal_line "$trace" | want "check.$it" 0
+    if [ -s "$trace" ]; then
+        legal_line "$trace" | want "check.$it" 0
+    else
+        want "check.$it" 1 $'stackjudge: the trace has no label\n' < /dev/null
+    fi
     run_case "check.$it" check "$(settings_of "$1")" "$trace"
+    keep_wanted_lines "check.$it"
 }
 
 # Keeps of what a case printed only as many lines as are wanted, unless that is none.
@@ -87,6 +92,7 @@ split_labels() {
         /^\[/ { gsub(/[][]/, ""); file = into $1; $1 = ""; print > (file ".words"); is_trace = 1; next }
         /^> / { print substr($0, 3) > (file ".stdout"); is_trace = 0; next }
         /^! / { print substr($0, 3) > (file ".stderr"); is_trace = 0; next }
+        /^[?] / { print substr($0, 3) > (file ".status"); is_trace = 0; next }
         is_trace { print > (file ".escaped") }' "$1/cases"
 }
 
@@ -98,10 +104,51 @@ run_labels_of() {
     printf '%b' "$(cat "$file.escaped")\n" > "$scratch/trace"
     [ ! -f "$file.stderr" ] || said=$(cat "$file.stderr")$'\n'
     ! grep -q '^legal' "$file.stdout" 2> /dev/null || status=0
+    [ ! -f "$file.status" ] || status=$(cat "$file.status")
     copy_or "$file.stdout" "$scratch/printed"
     want "$it" "$status" "$said" < "$scratch/printed"
     run_case "$it" check "${words[@]}" "$3/config.toml" "$scratch/trace"
     keep_wanted_lines "$it"
+}
+
+# Runs the judge on a trace whose starts have many readings: with the request of each start, which is read in one way, and
+# without them, where `untold` has what is printed, or said where that is a fault.
+run_readings() {
+    local it=readings.$1 folder=$top/examples/judged/readings said='' printed=$scratch/printed
+    legal_line "$folder/$1/trace" | want "$it.told" 0
+    run_case "$it.told" check --ended "$folder/config.toml" "$folder/$1/trace"
+    sed 's/ of [0-9]*$//' "$folder/$1/trace" > "$scratch/trace"
+    if grep -q '^legal' "$folder/$1/untold"; then
+        want "$it.untold" 0 < "$folder/$1/untold"
+    else
+        want "$it.untold" 1 "$(cat "$folder/$1/untold")"$'\n' < /dev/null
+    fi
+    run_case "$it.untold" check "$folder/config.toml" "$scratch/trace"
+}
+
+# Has the judge tell a refusal while its trace goes on: the line is there before the input ends.
+run_told_at_once() {
+    local it=told.at_once
+    want "$it" 0 <<< 'line 1: this is call 1, and not 2'
+    mkfifo "$scratch/going_on"
+    "$program" check "$top/examples/judged/config.toml" - < "$scratch/going_on" > "$scratch/found/$it.stdout" 2> "$scratch/found/$it.stderr" &
+    exec 8> "$scratch/going_on"
+    echo 'call 2 read 0 512 in 0' >&8
+    await_text "$scratch/found/$it.stdout"
+    cp "$scratch/found/$it.stdout" "$scratch/found/told_so_far"
+    exec 8>&-
+    wait "$!" || true
+    mv "$scratch/found/told_so_far" "$scratch/found/$it.stdout"
+    echo 0 > "$scratch/found/$it.status"
+}
+
+# Waits until a file has bytes, a few seconds at most.
+await_text() {
+    local left
+    for ((left = 100; left > 0; left--)); do
+        [ ! -s "$1" ] || return 0
+        sleep 0.1
+    done
 }
 
 # Runs the judge on the labels of all cases of a folder.
@@ -138,7 +185,7 @@ run_cuts() {
     local folder=$top/examples/judged
     want cuts.refused 1 << 'END'
 line 4: request 1 asks for it, but no piece begins at its sector 8: it is cut at multiples of 64
-open: request 1, begun
+open: request 1 of line 2, begun
 out: piece 1 of request 1, on tag 0
 END
     run_case cuts.refused check "$folder/config.toml" "$folder/cut_elsewhere.trace"
@@ -153,9 +200,14 @@ run_judge_cases() {
     local folder it
     make_case_folders
     while IFS= read -r folder; do run_recorded "$folder"; done < <(recorded_folders)
-    for it in rules large; do run_labels "$it" "$top/examples/judged/$it"; done
+    for it in rules large overlap; do run_labels "$it" "$top/examples/judged/$it"; done
     each_row bad_lines "$top/examples/judged/bad_lines" run_bad_line
     each_row wrong "$top/examples/judged/wrong_bodies" run_wrong_body
+    for it in "$top"/examples/judged/readings/*/trace; do
+        it=${it%/*}
+        run_readings "${it##*/}"
+    done
+    run_told_at_once
     run_picture
     for it in "$top"/examples/judged/pictures/*/{picture,events}; do run_drawing "${it%/*}" "${it##*/}"; done
     run_cuts
@@ -167,6 +219,8 @@ run_judge_cases() {
     count_cases "stackjudge, rules" labels_of.
     count_cases "stackjudge, lines of no label" bad_lines.
     count_cases "stackjudge, wrong bodies" wrong.
+    count_cases "stackjudge, starts of many readings" readings.
+    count_cases "stackjudge, told before its end" told.
     count_cases "stackjudge, pictures" picture.
     count_cases "stackjudge, cuts of another stack" cuts.
     count_cases "stackjudge, words refused" refused.

@@ -2,5 +2,6 @@ mod LinesRead
 mod Courses
 mod Blaming
 mod SaidOfTraces
-mod Stopping
+mod Standards
 mod Flags
+mod Trying

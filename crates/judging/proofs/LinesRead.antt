@@ -59,72 +59,25 @@ last_line line none some =
     ap lines_of_parts (slice_split_none (λ b. b == 10) line (no_feeds line none))
     ∙ ap (λ b. cond b [] (line ∷ [])) (ne_eqb (length line) 0 (λ e. omega arith))
 
--- a text may be cut behind a line feed, and before
-at_feed : (front rest : List ℕ) (b : ℕ) → get_or (front ++ b ∷ rest) (length front) 0 ≡ b
-at_feed front rest b =
-    let here : length front ≡ length front + 0 = omega arith in
-    ap (λ n. get_or (front ++ b ∷ rest) n 0) here ∙ get_or-append-add front (b ∷ rest) 0 0
-
-pub behind : (front rest : List ℕ) → IsUtf8 (front ++ 10 ∷ rest) → IsUtf8 rest
-behind front rest is =
-    let text = front ++ 10 ∷ rest in
-    let long : length front < length text = omega (arith, length-append front (10 ∷ rest)) in
-    let low : get_or text (length front) 0 < 128 = omega (arith, at_feed front rest 10) in
-    let further : length (front ++ 10 ∷ []) ≡ length front + 1 = omega (arith, length-append front (10 ∷ [])) in
-    let left : drop (length front + 1) text ≡ rest =
-    ap (drop (length front + 1)) (sym (append_assoc front (10 ∷ []) rest)) ∙ drop_at (front ++ 10 ∷ []) rest (length front + 1) further in
-    subst IsUtf8 left (IsUtf8-drop text (length front + 1) is (IsCharBoundary-after_ascii text (length front) is long low))
-
-before : (front rest : List ℕ) (b : ℕ) → b < 128 → IsUtf8 (front ++ b ∷ rest) → IsUtf8 front
-before front rest b low is =
-    let text = front ++ b ∷ rest in
-    let long : length front < length text = omega (arith, length-append front (b ∷ rest)) in
-    let at : get_or text (length front) 0 < 128 = omega (arith, low, at_feed front rest b) in
-    subst IsUtf8 (take_at front (b ∷ rest) (length front) refl) (IsUtf8-take text (length front) is (IsCharBoundary-before_ascii text (length front) long at))
-
-without_return : (line : List ℕ) (b : Bool) → (slice_index line (length line - 1) == 13) ≡ b → IsUtf8 line → IsUtf8 (cond b (take (length line - 1) line) line)
-without_return line false e is = is
-without_return [] true e is = is
-without_return (x ∷ more) true e is =
-    let line = x ∷ more in
-    let end : get_or line (length line - 1) 0 ≡ 13 = eqb-true (slice_index line (length line - 1)) 13 e in
-    IsUtf8-take line (length line - 1) is (IsCharBoundary-before_ascii line (length line - 1) (omega arith) (omega (arith, end)))
-
-pub first_text : (front rest : List ℕ) → IsUtf8 (front ++ 10 ∷ rest) → IsUtf8 (strip_carriage_return front)
-first_text front rest is = without_return front (slice_index front (length front - 1) == 13) refl (before front rest 10 (omega arith) is)
-
--- these bytes are lines, each with its end, whatever follows; and a text is one behind them
-pub record AreLines (text : List ℕ) (texts : List (List ℕ)) : Type 0 where
-  pub split : (rest : List ℕ) → lines (text ++ rest) ≡ texts ++ lines rest
-  pub left : (rest : List ℕ) → IsUtf8 (text ++ rest) → IsUtf8 rest
+-- these bytes are lines, each with its end, whatever follows
+abbrev pub AreLines : List ℕ → List (List ℕ) → Type 0
+AreLines text texts = (rest : List ℕ) → lines (text ++ rest) ≡ texts ++ lines rest
 
 pub no_lines : AreLines [] []
-no_lines = record { split = λ rest. refl; left = λ rest is. is }
+no_lines rest = refl
 
 pub one_line : (text front : List ℕ) (texts : List (List ℕ)) → AreLines text texts → HasNoFeed front → AreLines (text ++ (front ++ 10 ∷ [])) (texts ++ strip_carriage_return front ∷ [])
-one_line text front texts h none = record {
-  split = λ rest.
-      ap lines (append_assoc text (front ++ 10 ∷ []) rest) ∙ h.split ((front ++ 10 ∷ []) ++ rest)
-      ∙ ap (λ l. texts ++ l) (ap lines (append_assoc front (10 ∷ []) rest) ∙ first_line front rest none)
-      ∙ sym (append_assoc texts (strip_carriage_return front ∷ []) (lines rest));
-  left = λ rest is.
-      behind front rest (subst IsUtf8 (append_assoc front (10 ∷ []) rest)
-      (h.left ((front ++ 10 ∷ []) ++ rest) (subst IsUtf8 (append_assoc text (front ++ 10 ∷ []) rest) is)));
-}
-
--- a line that is no text leaves none
-pub never_behind : (text front : List ℕ) (texts : List (List ℕ)) → AreLines text texts → ¬ (IsUtf8 (strip_carriage_return front)) → (rest : List ℕ)
-    → ¬ (IsUtf8 ((text ++ (front ++ 10 ∷ [])) ++ rest))
-never_behind text front texts h no_text rest is =
-    no_text (first_text front rest (subst IsUtf8 (append_assoc front (10 ∷ []) rest)
-    (h.left ((front ++ 10 ∷ []) ++ rest) (subst IsUtf8 (append_assoc text (front ++ 10 ∷ []) rest) is))))
+one_line text front texts h none rest =
+    ap lines (append_assoc text (front ++ 10 ∷ []) rest) ∙ h ((front ++ 10 ∷ []) ++ rest)
+    ∙ ap (λ l. texts ++ l) (ap lines (append_assoc front (10 ∷ []) rest) ∙ first_line front rest none)
+    ∙ sym (append_assoc texts (strip_carriage_return front ∷ []) (lines rest))
 
 -- all lines, and the last
 pub all_lines : (text : List ℕ) (texts : List (List ℕ)) → AreLines text texts → lines text ≡ texts
-all_lines text texts h = ap lines (sym (append-nil text)) ∙ h.split [] ∙ append-nil texts
+all_lines text texts h = ap lines (sym (append-nil text)) ∙ h [] ∙ append-nil texts
 
 pub with_last : (text line : List ℕ) (texts : List (List ℕ)) → AreLines text texts → HasNoFeed line → 0 < length line → lines (text ++ line) ≡ texts ++ line ∷ []
-with_last text line texts h none some = h.split line ∙ ap (λ l. texts ++ l) (last_line line none some)
+with_last text line texts h none some = h line ∙ ap (λ l. texts ++ l) (last_line line none some)
 
 -- what was taken of an input
 pub taken_both : (a b c : Option (List ℕ)) (x y : List ℕ) → Consumes a b x → Consumes b c y → Consumes a c (x ++ y)
@@ -143,6 +96,18 @@ taken_all (Some xs) None c x y first second end = absurd first
 taken_all (Some xs) (Some ys) None x y first second end = absurd second
 taken_all (Some xs) (Some ys) (Some zs) x y first second end =
     sym (first ∙ ap (λ l. x ++ l) (second ∙ ap (λ l. y ++ l) end ∙ append-nil y))
+
+-- all that an input has, of which these lines come first
+pub record BeginsWith (start : Option (List ℕ)) (texts : List (List ℕ)) : Type 0 where
+  pub all : List ℕ
+  pub is_all : IsAllOf start all
+  pub behind : List (List ℕ)
+  pub split : lines all ≡ texts ++ behind
+
+pub begins_with : (start now : Option (List ℕ)) (text : List ℕ) (texts : List (List ℕ)) → Consumes start now text → AreLines text texts → BeginsWith start texts
+begins_with None now text texts taken h = record { all = text; is_all = tt; behind = lines []; split = ap lines (sym (append-nil text)) ∙ h [] }
+begins_with (Some xs) None text texts taken h = absurd taken
+begins_with (Some xs) (Some ys) text texts taken h = record { all = xs; is_all = refl; behind = lines ys; split = ap lines taken ∙ h ys }
 
 -- behind a line without a feed nothing is left
 behind_one : (x : ℕ) (xs : List ℕ) (b : Bool) → (x == 10) ≡ b → (¬ (IsEnded (take_through 10 xs)) → drop_through 10 xs ≡ [])
@@ -177,6 +142,10 @@ module _ (slice line : List ℕ) (same : slice ≡ line) where
   pub not_ended : (b : Bool) → MatchBool b (IsEnded slice) (¬ (IsEnded slice)) → b ≡ false → ¬ (IsEnded line)
   not_ended true is so = absurd (cc (so))
   not_ended false is so = λ ended. is (subst IsEnded (sym same) ended)
+
+  pub ended_is : (b : Bool) → MatchBool b (IsEnded slice) (¬ (IsEnded slice)) → MatchBool b (IsEnded line) (¬ (IsEnded line))
+  ended_is true is = subst IsEnded same is
+  ended_is false is = λ ended. is (subst IsEnded (sym same) ended)
 
   pub bare : (stripped : List ℕ) → ((front : List ℕ) → slice ≡ front ++ 10 ∷ [] → stripped ≡ strip_carriage_return front) → (ended : IsEnded line)
       → stripped ≡ strip_carriage_return ended.0

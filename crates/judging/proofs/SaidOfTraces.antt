@@ -1,29 +1,24 @@
 -- What is said of a trace, and why nothing is.
-use Rattle.std.proofs.Common.{◌≡◌, ◌==◌, ◌++◌, ◌∷◌, ℕ, List, [], Option, None, Some, Result, Ok, Err, Bool, true, false, inl, inr, refl, subst, sym, ◌∙◌, ap, codes, cond, decimal, string_bytes, IfErr, IfOk, IsUtf8}
-use Rattle.std.specs.Str.{is_utf8}
+use Rattle.std.proofs.Common.{◌≡◌, ◌≢◌, ◌==◌, ◌<◌, ◌++◌, ◌∷◌, ◌⊎◌, inl, inr, ℕ, List, [], All, Option, None, Some, Result, Ok, Err, Bool, true, false, refl, subst, sym, ◌∙◌, ap, append-nil, arith, codes, cond, decimal, length, IfErr, IfOk, IfSome}
 use Rattle.std.specs.Str.Lines.{lines}
-use Rattle.std.specs.Io.KnownBytes.{prepend_known}
+use Rattle.std.specs.Io.KnownBytes.{Appends, prepend_known}
 use Rattle.std.specs.Io.Buffered.{reader_buffer, reader_capacity, reader_inner, reader_remaining}
 use Rattle.std.specs.declared.io.buffered.BufReader.{BufReader}
-use Rattle.std.proofs.lemmas.Str.{IsUtf8-from_is_utf8}
-use Rattle.machine.specs.declared.Label.{Label}
-use Rattle.machine.specs.State.{opening}
-use Rattle.judge.specs.Judging.{IsRun}
-use Rattle.settings.specs.declared.Config.{Config}
-use Rattle.startup.specs.Reading.{AreRead, IsAllOf}
+use Rattle.machine.specs.Rules.{Rules}
+use Rattle.trace_line.specs.declared.Line.{Line}
 use Rattle.startup.specs.declared.ending.Verdict.{Verdict}
 use Rattle.startup.specs.declared.ending.Verdict.TheVariants.{Passed, Failed}
-use Rattle.judging.specs.Checked.{IsCheckFault, IsOutputFault, PrintsVerdict, Says, arrays_of, legal_line, refused_line}
+use Rattle.judging.specs.Checked.{IsCheckFault, IsLegal, IsOutputFault, IsPassedIf, IsToldBefore, IsToldSoFar, Meets, PrintsVerdict, legal_line, refused_line, rules_by}
 use Rattle.judging.specs.Told.{AreTold}
-use Rattle.judging.specs.inside.Checked.{IsCourseOf, IsFaultBy, IsFaultOf, PrintsBy, SaysOf, tally_line}
-use Rattle.judging.specs.inside.Course.{HasTried}
-use Rattle.judging.specs.inside.Reading.{IsUnreadTrace}
 use Rattle.judging.specs.declared.course.Course.{Course}
-use Rattle.judging.specs.declared.course.Course.TheVariants.{Legal, Broken, Bad, NotText}
+use Rattle.judging.specs.declared.course.Course.TheVariants.{Legal, Refused}
 use Rattle.judging.specs.declared.course.Trial.{Trial}
 use Rattle.judging.specs.declared.opened.Standard.{Standard}
 use Rattle.judging.specs.declared.faults.Error.{Error}
-use Rattle.judging.proofs.Stopping.{is_run}
+use Rattle.judging.specs.declared.faults.Error.TheVariants.{NoLabel, OutputFailed, NoMemory}
+use Rattle.judging.specs.inside.Checked.{IsCourseOf, IsLegalFault, IsSaysFault, SaysLegal, SaysOf, tally_line}
+use Rattle.judging.specs.inside.Course.{HasTried}
+use Rattle.judging.proofs.Courses.{is_run, reached}
 
 -- the bytes of an input behind an empty buffer
 behind_none : (known : Option (List ℕ)) → prepend_known [] known ≡ known
@@ -36,89 +31,108 @@ known_is remaining reader input room none same =
     ap (λ n. cond (n == 0) None (prepend_known (reader_buffer reader) (remaining (reader_inner reader)))) room
     ∙ ap (λ b. prepend_known b (remaining (reader_inner reader))) none ∙ behind_none (remaining (reader_inner reader)) ∙ ap remaining same
 
-no_text : (bytes : List ℕ) (b : Bool) → is_utf8 bytes ≡ b → ¬ (IsUtf8 bytes) → is_utf8 bytes ≡ false
-no_text bytes true is never = absurd (never (IsUtf8-from_is_utf8 bytes is))
-no_text bytes false is never = is
-
 -- labels that are a run, by their numbers
-counted : (c : Standard) (labels : List Label) (trial : Trial) → HasTried c labels trial → tally_line trial.tally ≡ legal_line labels
-counted c labels trial h =
-    (λ i. codes "legal: " ++ (decimal (h.labels_are i) ++ (codes " labels, " ++ (decimal (h.calls_are i) ++ (codes " requests, " ++ (decimal (h.starts_are i) ++ (codes " pieces" ++ 10 ∷ [])))))))
+counted : (c : Standard) (told_lines : List Line) (trial : Trial) (left : List ℕ) → HasTried c told_lines trial → tally_line trial.tally left ≡ legal_line told_lines left
+counted c told_lines trial left h =
+    (λ i. codes "legal: " ++ (decimal (h.labels_are i) ++ (codes " labels, " ++ (decimal (h.calls_are i) ++ (codes " requests, " ++ (decimal (h.starts_are i) ++ (codes " pieces" ++ (left ++ 10 ∷ []))))))))
 
-run : (c : Standard) (labels : List Label) (numbers : List ℕ) (trial : Trial) → HasTried c labels trial → Says c labels numbers Passed (tally_line trial.tally)
-run c labels numbers trial h =
-    (subst (λ rules. IsRun rules (opening (arrays_of c.config)) labels) h.rules_are (is_run trial.judge (arrays_of c.config) labels h.taken), counted c labels trial h)
+none_in : {A : Type 0} (xs : List A) → length xs ≡ 0 → xs ≡ []
+none_in [] e = refl
+none_in (x ∷ xs) e = absurd (omega (arith, e))
 
-module _ (config trace : Option (List ℕ)) (settings : Config) (are_read : AreRead config settings) where
-  by_reading : (fault : Error) → IsUnreadTrace fault → IsCheckFault config trace fault
-  by_reading fault (inl is) = subst (IsCheckFault config trace) (sym is) (settings, are_read)
-  by_reading fault (inr is) = subst (IsCheckFault config trace) (sym is) tt
+module _ (c : Standard) where
+  legal : (told_lines : List Line) (trial : Trial) (a b : Option (List ℕ)) (verdict : Verdict) → HasTried c told_lines trial → (says : SaysLegal c.asked trial a b verdict)
+      → IsLegal c told_lines verdict (tally_line trial.tally says.left)
+  legal told_lines trial a b verdict h says = record {
+    some_label = λ none. says.some_label (h.labels_are ∙ ap length none);
+    states = trial.judge.states;
+    reached = reached c told_lines trial h;
+    some_state = h.taken.some;
+    in_table = h.in_table;
+    verdict_is = subst (λ (r : Rules). IsPassedIf (Meets c.asked r trial.judge.states) verdict) h.rules_are (says.meets h.taken.some);
+    left = says.left;
+    line = counted c told_lines trial says.left h;
+  }
 
-  module _ (any_cut : Bool) where
-    said : (course : Course) (a b : Option (List ℕ)) (verdict : Verdict) → IsCourseOf (record { config = settings; any_cut = any_cut }) trace course → SaysOf course a b verdict
-        → PrintsVerdict any_cut config trace a b verdict
-    said (Legal trial) a b Passed h appends = record {
-      settings = settings;
-      are_read = are_read;
+  module _ (trace a mid b : Option (List ℕ)) where
+    said : (course : Course) (verdict : Verdict) → IsCourseOf c trace a mid course → SaysOf c.asked course mid b verdict → PrintsVerdict c trace a b verdict
+    said (Legal trial) verdict h says = record {
       text = h.text;
       all = h.all;
-      labels = h.is.labels;
-      numbers = h.is.numbers;
-      are_told = h.is.told;
-      line = tally_line trial.tally;
-      says = run (record { config = settings; any_cut = any_cut }) h.is.labels h.is.numbers trial h.is.so;
-      appends = appends;
+      told_lines = h.told_lines;
+      numbers = h.numbers;
+      are_told = h.are_told;
+      is_told = inl (record {
+        said = tally_line trial.tally says.left;
+        is_legal = legal h.told_lines trial mid b verdict h.is.0 says;
+        appends = subst (λ x. Appends x b (tally_line trial.tally says.left)) h.is.1 says.appends;
+      });
     }
-    said (Legal trial) a b Failed h says = absurd says
-    said (Broken stop) a b Passed h says = absurd says
-    said (Broken stop) a b Failed h appends = record {
-      settings = settings;
-      are_read = are_read;
+    said (Refused stop) verdict h says = record {
       text = h.text;
       all = h.all;
-      labels = h.is.labels;
-      numbers = h.is.numbers;
-      are_told = h.is.told;
-      line = refused_line stop.line (string_bytes stop.sentence);
-      says = (h.is.so.at, stop.rule, h.is.so.first, (stop.line, h.is.so.there, (string_bytes stop.sentence, refl)));
-      appends = appends;
+      told_lines = h.told_lines;
+      numbers = h.numbers;
+      are_told = h.are_told;
+      is_told = inr (
+        says.0,
+        record {
+          number = stop.line;
+          misstep = stop.misstep;
+          first = h.is.0;
+          sentence = h.is.1.sentence;
+          appends = subst (λ x. Appends a x (refused_line stop.line h.is.1.sentence)) (sym says.1) h.is.1.appends;
+        },
+      );
     }
-    said (Bad line column) a b verdict h says = absurd says
-    said NotText a b verdict h says = absurd says
 
-    output : (text : List ℕ) (labels : List Label) (numbers : List ℕ) (fault : Error) → IsAllOf trace text → AreTold (lines text) labels numbers → IsOutputFault fault → IsCheckFault config trace fault
-    output text labels numbers fault all told (inl is) = subst (IsCheckFault config trace) (sym is) (settings, are_read, (text, all, labels, numbers, told))
-    output text labels numbers fault all told (inr is) = subst (IsCheckFault config trace) (sym is) tt
+    output : (fault : Error) → IsOutputFault fault → IsCheckFault c trace fault × IsToldBefore c trace a b fault
+    output fault (inl is) = (subst (IsCheckFault c trace) (sym is) tt, inl (inl is))
+    output fault (inr is) = (subst (IsCheckFault c trace) (sym is) tt, inl (inr is))
 
-    unsaid : (course : Course) (fault : Error) → IsCourseOf (record { config = settings; any_cut = any_cut }) trace course → IsFaultOf course fault → IsCheckFault config trace fault
-    unsaid (Legal trial) fault h is = output h.text h.is.labels h.is.numbers fault h.all h.is.told is
-    unsaid (Broken stop) fault h is = output h.text h.is.labels h.is.numbers fault h.all h.is.told is
-    unsaid (Bad line column) fault h is = subst (IsCheckFault config trace) (sym is) (settings, are_read, (h.text, h.all, inl h.is))
-    unsaid NotText fault h is = subst (IsCheckFault config trace) (sym is) (settings, are_read, (h.text, h.all, inr (no_text h.text (is_utf8 h.text) refl h.is, refl)))
+    no_label : (trial : Trial) → IsCourseOf c trace a mid (Legal trial) → trial.tally.labels ≡ 0 → b ≡ mid → IsCheckFault c trace NoLabel × IsToldBefore c trace a b NoLabel
+    no_label trial h none same =
+        let no_lines : h.told_lines ≡ [] = none_in h.told_lines (sym h.is.0.labels_are ∙ none) in
+        let no_numbers : h.numbers ≡ [] = none_in h.numbers (h.are_told.as_many ∙ ap length no_lines) in (
+          (h.text, h.all, subst (λ ns. AreTold (lines h.text) [] ns) no_numbers (subst (λ ls. AreTold (lines h.text) ls h.numbers) no_lines h.are_told)),
+          inr (record {
+            text = h.text;
+            all = h.all;
+            told_lines = h.told_lines;
+            numbers = h.numbers;
+            first = record { front = lines h.text; behind = []; split = sym (append-nil (lines h.text)); told = h.are_told };
+            so_far = inl (is_run c h.told_lines trial h.is.0, same ∙ h.is.1);
+          }),
+        )
 
--- by a standard, over whatever gave its settings
-pub unread_by : (standard : Standard) (trace : Option (List ℕ)) (fault : Error) → IsUnreadTrace fault → IsFaultBy standard trace fault
-unread_by standard trace fault is = λ config read. by_reading config trace standard.config read fault is
+    unsaid : (course : Course) (fault : Error) → IsCourseOf c trace a mid course → IsSaysFault course mid b fault → IsCheckFault c trace fault × IsToldBefore c trace a b fault
+    unsaid (Legal trial) fault h (inl is) = output fault is
+    unsaid (Legal trial) fault h (inr is) =
+        subst (λ f. IsCheckFault c trace f × IsToldBefore c trace a b f) (sym is.0) (no_label trial h is.1 is.2)
+    unsaid (Refused stop) fault h is = absurd is
 
-pub said_by : (standard : Standard) (known trace : Option (List ℕ)) (course : Course) (a b : Option (List ℕ)) (result : Result Verdict Error) → known ≡ trace → IsCourseOf standard known course
-    → IfOk result (SaysOf course a b) → IfOk result (PrintsBy standard trace a b)
-said_by standard known trace course a b (Ok verdict) same h says =
-    λ config read. said config trace standard.config read standard.any_cut course a b verdict (subst (λ k. IsCourseOf standard k course) same h) says
-said_by standard known trace course a b (Err fault) same h says = tt
+-- over the buffer of an input
+module _ (c : Standard) (known trace a mid b : Option (List ℕ)) (course : Course) (result : Result Verdict Error) (same : known ≡ trace) (h : IsCourseOf c known a mid course) where
+  there : IsCourseOf c trace a mid course
+  there = subst (λ k. IsCourseOf c k a mid course) same h
 
-pub unsaid_by : (standard : Standard) (known trace : Option (List ℕ)) (course : Course) (result : Result Verdict Error) → known ≡ trace → IsCourseOf standard known course
-    → IfErr result (IsFaultOf course) → IfErr result (IsFaultBy standard trace)
-unsaid_by standard known trace course (Ok verdict) same h is = tt
-unsaid_by standard known trace course (Err fault) same h is =
-    λ config read. unsaid config trace standard.config read standard.any_cut course fault (subst (λ k. IsCourseOf standard k course) same h) is
+  pub said_by : IfOk result (SaysOf c.asked course mid b) → IfOk result (PrintsVerdict c trace a b)
+  said_by says = by result says
+    where
+      by : (r : Result Verdict Error) → IfOk r (SaysOf c.asked course mid b) → IfOk r (PrintsVerdict c trace a b)
+      by (Ok verdict) says = said c trace a mid b course verdict there says
+      by (Err fault) says = tt
 
--- a call of it, over the input that gave the settings
-pub printed_over : (standard : Standard) (config trace a b : Option (List ℕ)) (result : Result Verdict Error) → AreRead config standard.config → IfOk result (PrintsBy standard trace a b)
-    → IfOk result (PrintsVerdict standard.any_cut config trace a b)
-printed_over standard config trace a b (Ok verdict) read h = h config read
-printed_over standard config trace a b (Err fault) read h = tt
+  pub fault_by : IfErr result (IsSaysFault course mid b) → IfErr result (IsCheckFault c trace)
+  fault_by is = by result is
+    where
+      by : (r : Result Verdict Error) → IfErr r (IsSaysFault course mid b) → IfErr r (IsCheckFault c trace)
+      by (Ok verdict) is = tt
+      by (Err fault) is = (unsaid c trace a mid b course fault there is).0
 
-pub fault_over : (standard : Standard) (config trace : Option (List ℕ)) (result : Result Verdict Error) → AreRead config standard.config → IfErr result (IsFaultBy standard trace)
-    → IfErr result (IsCheckFault config trace)
-fault_over standard config trace (Ok verdict) read h = tt
-fault_over standard config trace (Err fault) read h = h config read
+  pub told_by : IfErr result (IsSaysFault course mid b) → IfErr result (IsToldBefore c trace a b)
+  told_by is = by result is
+    where
+      by : (r : Result Verdict Error) → IfErr r (IsSaysFault course mid b) → IfErr r (IsToldBefore c trace a b)
+      by (Ok verdict) is = tt
+      by (Err fault) is = (unsaid c trace a mid b course fault there is).1

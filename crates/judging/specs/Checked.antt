@@ -1,28 +1,32 @@
--- What is said of a trace, and why nothing is said.
-use Rattle.std.specs.Prelude.{◌≡◌, ◌⊎◌, ℕ, Bool, true, false, List, [], ◌∷◌, ◌++◌, Option, Some, codes, count_by, length, map, slice_get, take}
+-- What is said of a trace, and why nothing is.
+use Rattle.std.specs.Prelude.{◌≡◌, ◌≢◌, ◌⊎◌, ◌<◌, ◌≤◌, ◌+◌, ℕ, ◌==◌, ◌&&◌, Bool, true, false, List, [], ◌∷◌, ◌++◌, All, Any, Option, None, Some, codes, count_by, length, map, slice_get}
 use Rattle.std.specs.Fmt.{decimal}
+use Rattle.std.specs.List.{list_any}
 use Rattle.std.specs.Io.KnownBytes.{Appends}
-use Rattle.std.specs.Str.{is_utf8}
 use Rattle.std.specs.Str.Lines.{lines}
 use Rattle.srb.specs.declared.DeviceLabel.TheVariants.{Start}
 use Rattle.machine.specs.declared.Label.{Label}
 use Rattle.machine.specs.declared.Label.TheVariants.{Call, Device}
 use Rattle.machine.specs.State.{State, opening}
 use Rattle.machine.specs.Rules.{Rules}
-use Rattle.machine.specs.Step.{Run}
-use Rattle.judge.specs.Judging.{IsRun, StopsAt}
-use Rattle.judge.specs.Breaking.{Breaks}
-use Rattle.judge.specs.declared.label_rules.Rule.{Rule}
+use Rattle.trace_line.specs.declared.Line.{Line}
+use Rattle.judge.specs.Judging.{AreLinesReached, IsLineRun}
+use Rattle.judge.specs.Following.{IsLineRefused}
+use Rattle.judge.specs.LeftUndone.{IsSettled}
+use Rattle.judge.specs.Refusals.{most_readings}
 use Rattle.settings.specs.declared.Config.{Config}
 use Rattle.settings.specs.Medium.{extents_of, zeros}
-use Rattle.startup.specs.Reading.{AreRead, HasFault, IsAllOf}
+use Rattle.startup.specs.Reading.{IsAllOf}
 use Rattle.startup.specs.Started.{rules_of}
 use Rattle.startup.specs.declared.ending.Verdict.{Verdict}
 use Rattle.startup.specs.declared.ending.Verdict.TheVariants.{Passed, Failed}
-use Rattle.judging.specs.Told.{AreTold, IsFirstBad}
+use Rattle.judging.specs.Told.{AreTold, AreToldFirst, IsFirstBad}
+use Rattle.judging.specs.declared.misstep.Misstep.{Misstep}
+use Rattle.judging.specs.declared.misstep.Misstep.TheVariants.{Breaks, NoPartition}
 use Rattle.judging.specs.declared.opened.Standard.{Standard}
+use Rattle.judging.specs.declared.words.asked.Asked.{Asked}
 use Rattle.judging.specs.declared.faults.Error.{Error}
-use Rattle.judging.specs.declared.faults.Error.TheVariants.{Usage, Startup, TraceUnreadable, ScriptUnreadable, BadLine, Script, OutputFailed, NoMemory}
+use Rattle.judging.specs.declared.faults.Error.TheVariants.{Usage, Startup, TraceUnreadable, ScriptUnreadable, BadLine, NoLabel, Readings, Script, OutputFailed, NoMemory}
 
 -- the sectors of each partition of the settings: zeros
 abbrev pub arrays_of : Config → List (List (List ℕ))
@@ -30,11 +34,11 @@ arrays_of c = map (λ extent. zeros c extent.count) (extents_of c)
 
 -- the rules that a trace is judged by: the rules of the settings, with any cut where that is asked for
 abbrev pub rules_by : Standard → Rules
-rules_by standard = record (rules_of standard.config) { any_cut = standard.any_cut }
+rules_by standard = record (rules_of standard.config) { any_cut = standard.asked.any_cut }
 
 -- the machine of the settings before its first label
-abbrev pub opening_of : Config → State
-opening_of c = opening (arrays_of c)
+abbrev pub opening_of : Standard → State
+opening_of standard = opening (arrays_of standard.config)
 
 abbrev pub is_call : Label → Bool
 is_call (Call number request) = true
@@ -45,68 +49,145 @@ abbrev pub is_start : Label → Bool
 is_start (Device (Start piece tag block)) = true
 is_start _ = false
 
--- the line that is said of labels that are a run
-abbrev pub legal_line : List Label → List ℕ
-legal_line labels =
-    codes "legal: " ++ (decimal (length labels) ++ (codes " labels, " ++ (decimal (count_by is_call labels)
-    ++ (codes " requests, " ++ (decimal (count_by is_start labels) ++ (codes " pieces" ++ 10 ∷ []))))))
+-- the partition of a call whose handle is open
+abbrev pub partition_of : Label → Option ℕ
+partition_of (Call number request) = request.partition
+partition_of _ = None
 
--- the line that is said of the first line that no step allows, with the rule in words
+abbrev pub IsBelow : ℕ → Option ℕ → Type 0
+IsBelow count None = Unit {0}
+IsBelow count (Some partition) = partition < count
+
+-- a call is in one of so many partitions, or has no open handle
+abbrev pub IsInTable : ℕ → Label → Type 0
+IsInTable count label = IsBelow count (partition_of label)
+
+abbrev pub count_of : Standard → ℕ
+count_of standard = length (extents_of standard.config)
+
+-- LINES THAT ARE A RUN
+
+-- the state has no open request, and no piece at the adapter
+abbrev pub has_ended : State → Bool
+has_ended s = (length s.requests == 0) && (length s.pieces == 0)
+
+-- of the states that lines lead to, one has what is asked for
+pub record Meets (asked : Asked) (rules : Rules) (states : List State) : Type 0 where
+  pub settled : asked.settled ≡ true → Any (IsSettled rules) states
+  pub ended : asked.ended ≡ true → list_any has_ended states ≡ true
+
+-- the line that is said of lines that are a run, with what they leave
+abbrev pub legal_line : List Line → List ℕ → List ℕ
+legal_line lines left =
+    codes "legal: " ++ (decimal (length lines) ++ (codes " labels, " ++ (decimal (count_by (λ line. is_call line.label) lines)
+    ++ (codes " requests, " ++ (decimal (count_by (λ line. is_start line.label) lines) ++ (codes " pieces" ++ (left ++ 10 ∷ [])))))))
+
+abbrev pub IsPassedIf : Type 0 → Verdict → Type 0
+IsPassedIf P Passed = P
+IsPassedIf P Failed = ¬ P
+
+-- there are lines, they are a run in the partitions that are there, and the verdict goes by what is asked for
+pub record IsLegal (standard : Standard) (lines : List Line) (verdict : Verdict) (said : List ℕ) : Type 0 where
+  pub some_label : lines ≢ []
+  pub states : List State
+  pub reached : AreLinesReached (rules_by standard) (opening_of standard) lines states
+  pub some_state : 0 < length states
+  pub in_table : All (λ line. IsInTable (count_of standard) line.label) lines
+  pub verdict_is : IsPassedIf (Meets standard.asked (rules_by standard) states) verdict
+  pub left : List ℕ
+  pub line : said ≡ legal_line lines left
+
+-- A LINE THAT IS REFUSED
+
+-- the line behind these is no step, and breaks the rule; or it is a call in a partition that isn't there
+abbrev pub IsMisstep : Standard → List Line → Line → Misstep → Type 0
+IsMisstep standard before line (Breaks rule) = IsLineRefused (rules_by standard) (arrays_of standard.config) before line rule
+IsMisstep standard before line (NoPartition partition count) =
+    (partition_of line.label ≡ Some partition) × (count ≡ count_of standard) × (count ≤ partition)
+
+-- the lines before are a run in the partitions that are there, and the one of this number is refused
+pub record IsFirstRefused (standard : Standard) (lines : List Line) (numbers : List ℕ) (number : ℕ) (misstep : Misstep) : Type 0 where
+  pub before : List Line
+  pub line : Line
+  pub after : List Line
+  pub split : lines ≡ before ++ line ∷ after
+  pub is_number : slice_get numbers (length before) ≡ Some number
+  pub run : IsLineRun (rules_by standard) (opening_of standard) before
+  pub in_table : All (λ line. IsInTable (count_of standard) line.label) before
+  pub is_misstep : IsMisstep standard before line misstep
+
+-- the line that is said of it, with why it is refused in words
 abbrev pub refused_line : ℕ → List ℕ → List ℕ
 refused_line number sentence = codes "line " ++ (decimal number ++ (codes ": " ++ (sentence ++ 10 ∷ [])))
 
--- no step allows the label of this place after the labels before it, and it breaks the rule at a state to which they
--- lead
-pub record IsFirstBroken (rules : Rules) (arrays : List (List (List ℕ))) (labels : List Label) (at : ℕ) (rule : Rule) : Type 0 where
-  pub stops : StopsAt rules (opening arrays) labels at
-  pub label : Label
-  pub there : slice_get labels at ≡ Some label
-  pub state : State
-  pub reached : Run rules (opening arrays) (take at labels) state
-  pub broken : Breaks rules state label rule
+-- the first of these lines that is refused is told
+pub record IsRefusalTold (standard : Standard) (lines : List Line) (numbers : List ℕ) (old new : Option (List ℕ)) : Type 0 where
+  pub number : ℕ
+  pub misstep : Misstep
+  pub first : IsFirstRefused standard lines numbers number misstep
+  pub sentence : List ℕ
+  pub appends : Appends old new (refused_line number sentence)
 
--- the line that is said of the labels of a trace: they are a run of the settings' machine, or the label of this line is
--- the first that breaks a rule
-abbrev pub Says : Standard → List Label → List ℕ → Verdict → List ℕ → Type 0
-Says standard labels numbers Passed line = IsRun (rules_by standard) (opening_of standard.config) labels × (line ≡ legal_line labels)
-Says standard labels numbers Failed line =
-    (at : ℕ) × (rule : Rule) × IsFirstBroken (rules_by standard) (arrays_of standard.config) labels at rule
-    × ((number : ℕ) × (slice_get numbers at ≡ Some number) × ((sentence : List ℕ) × (line ≡ refused_line number sentence)))
+-- THE WHOLE
 
--- the verdict on the trace of one input, by the settings of another, was printed; for any cut or not
-pub record PrintsVerdict (any_cut : Bool) (config trace : Option (List ℕ)) (old new : Option (List ℕ)) (verdict : Verdict) : Type 0 where
-  pub settings : Config
-  pub are_read : AreRead config settings
+pub record IsLegalTold (standard : Standard) (lines : List Line) (verdict : Verdict) (old new : Option (List ℕ)) : Type 0 where
+  pub said : List ℕ
+  pub is_legal : IsLegal standard lines verdict said
+  pub appends : Appends old new said
+
+abbrev pub IsVerdictTold : Standard → List Line → List ℕ → Verdict → Option (List ℕ) → Option (List ℕ) → Type 0
+IsVerdictTold standard lines numbers verdict old new =
+    IsLegalTold standard lines verdict old new ⊎ ((verdict ≡ Failed) × IsRefusalTold standard lines numbers old new)
+
+-- the verdict on the trace of an input was printed
+pub record PrintsVerdict (standard : Standard) (trace : Option (List ℕ)) (old new : Option (List ℕ)) (verdict : Verdict) : Type 0 where
   pub text : List ℕ
   pub all : IsAllOf trace text
-  pub labels : List Label
+  pub told_lines : List Line
   pub numbers : List ℕ
-  pub are_told : AreTold (lines text) labels numbers
-  pub line : List ℕ
-  pub says : Says (record { config = settings; any_cut = any_cut }) labels numbers verdict line
-  pub appends : Appends old new line
+  pub are_told : AreTold (lines text) told_lines numbers
+  pub is_told : IsVerdictTold standard told_lines numbers verdict old new
 
--- WHY NOTHING IS SAID
+-- WHY THERE IS NO VERDICT
 
--- the line of this number is blamed: the first bad one, or line 1 of a text that is not UTF-8
-abbrev pub IsBlamed : List ℕ → ℕ → Type 0
-IsBlamed text line = IsFirstBad (lines text) line ⊎ ((is_utf8 text ≡ false) × (line ≡ 1))
+-- the lines before the one of this number lead to so many states that are told apart, and no more are followed
+pub record MeetsBound (standard : Standard) (trace : Option (List ℕ)) (number readings : ℕ) : Type 0 where
+  pub text : List ℕ
+  pub all : IsAllOf trace text
+  pub told_lines : List Line
+  pub numbers : List ℕ
+  pub first : AreToldFirst (lines text) told_lines numbers
+  pub is_number : number ≡ length first.front + 1
+  pub states : List State
+  pub reached : AreLinesReached (rules_by standard) (opening_of standard) told_lines states
+  pub count : readings ≡ length states
+  pub too_many : most_readings < readings
 
--- why no verdict is printed. Settings are looked at first, then the trace
-abbrev pub IsCheckFault : Option (List ℕ) → Option (List ℕ) → Error → Type 0
-IsCheckFault config trace Usage = ⊥
-IsCheckFault config trace (Startup fault) = HasFault config fault
-IsCheckFault config trace TraceUnreadable = (settings : Config) × AreRead config settings
-IsCheckFault config trace ScriptUnreadable = ⊥
-IsCheckFault config trace (BadLine line column) = (settings : Config) × AreRead config settings × ((text : List ℕ) × IsAllOf trace text × IsBlamed text line)
-IsCheckFault config trace (Script fault) = ⊥
-IsCheckFault config trace OutputFailed = (settings : Config) × AreRead config settings × ((text : List ℕ) × IsAllOf trace text × (labels : List Label) × (numbers : List ℕ) × AreTold (lines text) labels numbers)
-IsCheckFault config trace NoMemory = Unit {0}
+abbrev pub IsCheckFault : Standard → Option (List ℕ) → Error → Type 0
+IsCheckFault standard trace Usage = ⊥
+IsCheckFault standard trace (Startup fault) = ⊥
+IsCheckFault standard trace TraceUnreadable = Unit {0}
+IsCheckFault standard trace ScriptUnreadable = ⊥
+IsCheckFault standard trace (BadLine line column) = (text : List ℕ) × IsAllOf trace text × IsFirstBad (lines text) line
+IsCheckFault standard trace NoLabel = (text : List ℕ) × IsAllOf trace text × AreTold (lines text) [] []
+IsCheckFault standard trace (Readings line readings) = MeetsBound standard trace line readings
+IsCheckFault standard trace (Script fault) = ⊥
+IsCheckFault standard trace OutputFailed = Unit {0}
+IsCheckFault standard trace NoMemory = Unit {0}
 
 -- the output failed, or memory was refused
 abbrev pub IsOutputFault : Error → Type 0
 IsOutputFault fault = (fault ≡ OutputFailed) ⊎ (fault ≡ NoMemory)
 
--- nothing was written, unless the output failed or memory was refused
-abbrev pub IsUntold : Option (List ℕ) → Option (List ℕ) → Error → Type 0
-IsUntold old new fault = IsOutputFault fault ⊎ (new ≡ old)
+-- of the lines that were read nothing is told, and they are a run; or the first of them that is refused is told
+pub record IsToldSoFar (standard : Standard) (trace old new : Option (List ℕ)) : Type 0 where
+  pub text : List ℕ
+  pub all : IsAllOf trace text
+  pub told_lines : List Line
+  pub numbers : List ℕ
+  pub first : AreToldFirst (lines text) told_lines numbers
+  pub so_far : (IsLineRun (rules_by standard) (opening_of standard) told_lines × (new ≡ old)) ⊎ IsRefusalTold standard told_lines numbers old new
+
+-- what was printed before a fault, unless the output failed or memory was refused
+abbrev pub IsToldBefore : Standard → Option (List ℕ) → Option (List ℕ) → Option (List ℕ) → Error → Type 0
+IsToldBefore standard trace old new fault = IsOutputFault fault ⊎ IsToldSoFar standard trace old new

@@ -7,9 +7,10 @@ use Rattle.command_line.specs.Grammar.{flag_rule, word_rule}
 use Rattle.judging.specs.declared.words.asked.Command.{Command}
 use Rattle.judging.specs.declared.words.asked.Command.TheVariants.{Check, Picture, Record}
 
--- check [--any-cut] [--progress] CONFIG TRACE
+-- check [--any-cut] [--settled] [--ended] [--progress] CONFIG TRACE
 abbrev pub check_words : App
-check_words = with_rule (with_rule (with_rule (with_rule (new_app (codes "check")) (word_rule (codes "CONFIG") true)) (word_rule (codes "TRACE") true)) (flag_rule (codes "any-cut"))) (flag_rule (codes "progress"))
+check_words = with_rule (with_rule (with_rule (with_rule (with_rule (with_rule (new_app (codes "check")) (word_rule (codes "CONFIG") true)) (word_rule (codes "TRACE") true))
+    (flag_rule (codes "any-cut"))) (flag_rule (codes "settled"))) (flag_rule (codes "ended"))) (flag_rule (codes "progress"))
 
 -- record CONFIG SCRIPT
 abbrev pub record_words : App
@@ -34,14 +35,15 @@ IsFlag (Some text) flag = (text ≡ codes "true" → flag ≡ true) × (text ≡
 
 -- a command has what the parser found under the names of its words
 abbrev pub HasWords : List Row → Command → Type 0
-HasWords rows (Check config trace any_cut progress) = (first_of (codes "CONFIG") rows ≡ Some config.now) × (first_of (codes "TRACE") rows ≡ Some trace.now)
-    × IsFlag (one_of (codes "any-cut") rows) any_cut × IsFlag (one_of (codes "progress") rows) progress
+HasWords rows (Check config trace asked progress) = (first_of (codes "CONFIG") rows ≡ Some config.now) × (first_of (codes "TRACE") rows ≡ Some trace.now)
+    × IsFlag (one_of (codes "any-cut") rows) asked.any_cut × IsFlag (one_of (codes "settled") rows) asked.settled
+    × IsFlag (one_of (codes "ended") rows) asked.ended × IsFlag (one_of (codes "progress") rows) progress
 HasWords rows (Record config script) = (first_of (codes "CONFIG") rows ≡ Some config.now) × (first_of (codes "SCRIPT") rows ≡ Some script.now)
 HasWords rows (Picture trace events) = (first_of (codes "TRACE") rows ≡ Some trace.now) × IsFlag (one_of (codes "events") rows) events
 
 -- the first word of a command
 abbrev pub name_of : Command → Text
-name_of (Check config trace any_cut progress) = codes "check"
+name_of (Check config trace asked progress) = codes "check"
 name_of (Record config script) = codes "record"
 name_of (Picture trace events) = codes "picture"
 

@@ -1,5 +1,6 @@
 pub mod Checked
 pub mod CommandLine
 pub mod Recorded
+pub mod Standards
 pub mod Told
 pub mod inside

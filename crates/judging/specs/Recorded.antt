@@ -5,7 +5,7 @@ use Rattle.script.specs.declared.ScriptFault.TheVariants.{BadLine as BadScriptLi
 use Rattle.script_runs.specs.declared.faults.Error.TheVariants.{Startup as RunStartup, Unreadable as RunUnreadable, Script as RunScript}
 use Rattle.script_runs.specs.Runs.{IsRunFault, IsTextOf}
 use Rattle.judging.specs.declared.faults.Error.{Error}
-use Rattle.judging.specs.declared.faults.Error.TheVariants.{Usage, Startup, TraceUnreadable, ScriptUnreadable, BadLine, Script, OutputFailed, NoMemory}
+use Rattle.judging.specs.declared.faults.Error.TheVariants.{Usage, Startup, TraceUnreadable, ScriptUnreadable, BadLine, NoLabel, Readings, Script, OutputFailed, NoMemory}
 
 -- what is written of a script: the labels of the steps of its lines, from the stack that its settings start
 abbrev pub IsRecordOf : Option (List ℕ) → Option (List ℕ) → List ℕ → Type 0
@@ -18,6 +18,8 @@ IsRecordFault config script (Startup fault) = IsRunFault config script (RunStart
 IsRecordFault config script TraceUnreadable = ⊥
 IsRecordFault config script ScriptUnreadable = IsRunFault config script RunUnreadable
 IsRecordFault config script (BadLine line column) = ⊥
+IsRecordFault config script NoLabel = ⊥
+IsRecordFault config script (Readings line readings) = ⊥
 IsRecordFault config script (Script (BadScriptLine line)) = IsRunFault config script (RunScript (BadScriptLine line))
 IsRecordFault config script (Script WantOfMemory) = IsRunFault config script (RunScript WantOfMemory)
 IsRecordFault config script (Script PrintFailed) = ⊥

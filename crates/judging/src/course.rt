@@ -1,53 +1,53 @@
 //! What the lines of a trace come to, as far as it was read.
 
-ghost use Rattle.std.specs.Prelude.{◌≡◌, [], IfErr, IfOk};
-ghost use Rattle.judging.specs.Checked.{is_call, is_start};
-ghost use Rattle.judging.specs.inside.Course.{GoesByLabel, GoesOn, HasTried, IsOpening, Tallies, Tries, with_bad};
+ghost use Rattle.std.specs.Prelude.{◌≡◌, [], IfErr, IfOk, MatchOption, OnOk, length, string_bytes};
+ghost use Rattle.std.specs.Io.KnownBytes.{Appends};
+ghost use Rattle.judging.specs.Checked.{IsInTable, IsOutputFault, is_call, is_start, partition_of, refused_line};
+ghost use Rattle.judging.specs.inside.Course.{GoesByLine, GoesOn, HasTried, IsAbsent, IsCounted, IsOpening, IsStop, IsStopByLine, IsStopOf, SaysRefused, Tallies, Tries, unjudged};
 ghost use Rattle.judging.specs.declared.faults.Error.TheVariants.{NoMemory};
 
 use crate::Error;
+use crate::left::Calls;
+use crate::misstep::Misstep;
 use crate::opened::{Standard, arrays_of, rules_of};
 use crate::progress::Progress;
 use crate::told::Told;
+use crate::words::asked::Asked;
+use judge::NoVerdict;
 use judge::stepwise::{Judge, Refusal};
-use judge::{Machine, Rule};
 use machine::Label;
 use srb::DeviceLabel;
 use std::alloc::{AllocError, Global};
+use std::io;
 use std::io::Write;
+use trace_line::Line;
 
 /// What the lines of a trace come to, as far as it was read.
 #[derive(Debug, Drop)]
 pub(crate) enum Course {
-    /// The labels of the lines are a run.
+    /// They are a run.
     Legal(Trial),
-    /// No step of the machine allows one of the labels.
-    Broken(Stop),
-    /// The first bad line, which is to tell a label and tells none, has this number. Reading it stopped at the word
-    /// that begins in this column.
-    Bad { line: u64, column: u64 },
-    /// A line is not UTF-8.
-    NotText,
+    /// One of them was refused, and that is written.
+    Refused(Stop),
 }
 
-/// The labels of lines that are a run.
+/// Lines that are a run.
 #[derive(Debug, Drop)]
 pub(crate) struct Trial {
     /// The judge that has taken them.
     pub judge: Judge,
-    /// The counts of these labels.
+    /// The counts of their labels.
     pub tally: Tally,
+    /// Their calls that have no answer yet.
+    pub calls: Calls,
 }
 
-/// The first label that no step of the machine allows.
-#[derive(Debug, Drop)]
+/// The first line that is refused.
+#[derive(Debug, Clone, Copy)]
 pub(crate) struct Stop {
-    /// The number of its line, from 1.
+    /// Its number, from 1.
     pub line: u64,
-    /// A rule that it breaks.
-    pub rule: Rule,
-    /// The rule in words, with what was open and out there.
-    pub sentence: String,
+    pub misstep: Misstep,
 }
 
 /// How many labels there are, and how many of them are calls and starts of pieces.
@@ -85,8 +85,40 @@ fn is_start(label: &Label) -> bool
     matches!(label, Label::Device(DeviceLabel::Start { .. }))
 }
 
+/// The partition of a call, if the label is one and its handle is open.
+fn partition_of(label: &Label) -> Option<u8>
+    ensures { result ≡ partition_of label.now }
+{
+    match label {
+        Label::Call { request, .. } => request.partition,
+        _ => None,
+    }
+}
+
+/// The partition of a call that none of so many is, if the label is one.
+#[tactic(auto, using(crate::proofs::Trying::below_none, crate::proofs::Trying::below_some))]
+fn absent_of(label: &Label, count: u64) -> Option<u8>
+    ensures { MatchOption result (IsInTable count label.now) (IsAbsent count label.now) }
+{
+    let Some(partition) = partition_of(label) else {
+        return None;
+    };
+    if (partition as u64) < count {
+        return None;
+    }
+    Some(partition)
+}
+
+/// The number of partitions.
+fn count_of(judge: &Judge) -> u64
+    ensures { result ≡ length judge.now.rules.partitions }
+{
+    let rules = judge.rules();
+    rules.partitions.len() as u64
+}
+
 impl Trial {
-    /// A trial that has taken no label.
+    /// A trial that has taken no line.
     fn opening(alloc: Global, standard: &Standard) -> Result<Trial, Error>
         ensures none { IfOk result (HasTried standard.now []) }
         ensures fault { IfErr result (λ fault. fault ≡ NoMemory) }
@@ -101,33 +133,106 @@ impl Trial {
             calls: 0,
             starts: 0,
         };
-        Ok(Trial { judge, tally })
+        let calls = Calls::new(alloc);
+        Ok(Trial {
+            judge,
+            tally,
+            calls,
+        })
     }
 
-    /// What comes of one label more, of a line with this number.
-    fn with(mut self, alloc: Global, label: &Label, line: u64) -> Result<Course, Error>
-        ensures tries { IfOk result (Tries self label.now line) }
-        ensures fault { IfErr result (λ fault. fault ≡ NoMemory) }
+    /// What comes of one line more, of this number.
+    #[tactic(auto, using(crate::proofs::Trying::output_stops))]
+    fn with<O: Write>(
+        mut self,
+        alloc: Global,
+        line: &Line,
+        number: u64,
+        out: &mut O,
+    ) -> Result<Course, Error>
+        ensures tries { IfOk result (Tries self line.now number (O.contents out.old) (O.contents out.new)) }
+        ensures fault { IfErr result (IsStopByLine self number (O.contents out.old) (O.contents out.new)) }
     {
-        match self.judge.take(alloc, label) {
+        let count = count_of(&self.judge);
+        if let Some(partition) = absent_of(&line.label, count) {
+            let misstep = Misstep::NoPartition { partition, count };
+            self.say_refused(alloc, number, misstep, out)?;
+            return Ok(Course::Refused(Stop {
+                line: number,
+                misstep,
+            }));
+        }
+        match self.judge.take_line(alloc, line) {
             Ok(()) => {
-                let tally = self.tally.with(label);
-                Ok(Course::Legal(Trial {
-                    judge: self.judge,
-                    tally,
-                }))
+                self.count(&line.label, number)?;
+                Ok(Course::Legal(self))
             }
             Err(Refusal::Breaks(rule)) => {
-                let sentence = sentence_of(alloc, &self.judge, rule)?;
-                let stop = Stop {
-                    line,
-                    rule,
-                    sentence,
-                };
-                Ok(Course::Broken(stop))
+                let misstep = Misstep::Breaks(rule);
+                self.say_refused(alloc, number, misstep, out)?;
+                Ok(Course::Refused(Stop {
+                    line: number,
+                    misstep,
+                }))
             }
-            Err(Refusal::NoVerdict(_)) => Err(Error::NoMemory),
+            Err(Refusal::NoVerdict(why)) => Err(no_verdict(number, why)),
         }
+    }
+
+    /// Counts a label that the judge has taken, of the line of this number.
+    fn count(&mut self, label: &Label, number: u64) -> Result<(), Error>
+        ensures counted { OnOk result (IsCounted self.old label.now self.new) }
+        ensures fault { IfErr result (λ fault. fault ≡ NoMemory) }
+    {
+        self.calls.note(label, number)?;
+        self.tally = self.tally.with(label);
+        Ok(())
+    }
+
+    /// Writes why the line of this number is refused, and flushes it.
+    fn say_refused<O: Write>(
+        &self,
+        alloc: Global,
+        number: u64,
+        misstep: Misstep,
+        out: &mut O,
+    ) -> Result<(), Error>
+        ensures said { OnOk result (SaysRefused number (O.contents out.old) (O.contents out.new)) }
+        ensures fault { IfErr result IsOutputFault }
+    {
+        let sentence = self.sentence_of(alloc, misstep)?;
+        write_refused(out, number, &sentence)?;
+        out.flush()?;
+        Ok(())
+    }
+
+    /// Why a line is refused, in words, and what is open and out before it.
+    fn sentence_of(&self, alloc: Global, misstep: Misstep) -> Result<String, AllocError> {
+        let mut sentence = format!(in alloc; "{misstep}")?;
+        self.tell_left(alloc, &mut sentence)?;
+        Ok(sentence)
+    }
+
+    /// Tells what is open and out.
+    fn tell_left(&self, alloc: Global, text: &mut String) -> Result<(), AllocError> {
+        match self.judge.machines().first() {
+            Some(machine) => self.calls.tell(alloc, machine, text),
+            None => Ok(()),
+        }
+    }
+
+    /// What is open and out, and what should have gone before, if that is asked for.
+    pub fn left(&self, alloc: Global, asked: Asked) -> Result<String, AllocError> {
+        let mut text = String::new(alloc);
+        self.tell_left(alloc, &mut text)?;
+        if !asked.settled {
+            return Ok(text);
+        }
+        if let Some(undone) = self.judge.undone() {
+            let line = format!(in alloc; "\nundone: {undone}")?;
+            text.push_str(line.as_str())?;
+        }
+        Ok(text)
     }
 }
 
@@ -143,74 +248,61 @@ impl Course {
 
     /// Says how many labels are a run, where one more is told.
     pub fn say<W: Write>(&self, told: &Told, progress: &mut Progress<W>) {
-        if let (Course::Legal(trial), Told::Label(_)) = (self, told) {
+        if let (Course::Legal(trial), Told::Line(_)) = (self, told) {
             progress.say(trial.tally.labels);
         }
     }
 
     /// The course with one line more, which has this number and tells this.
-    pub fn after(self, alloc: Global, told: Told, line: u64) -> Result<Course, Error>
-        ensures goes { IfOk result (GoesOn self told line) }
-        ensures fault { IfErr result (λ fault. fault ≡ NoMemory) }
+    pub fn after<O: Write>(
+        self,
+        alloc: Global,
+        told: Told,
+        line: u64,
+        out: &mut O,
+    ) -> Result<Course, Error>
+        ensures goes { IfOk result (GoesOn self told line (O.contents out.old) (O.contents out.new)) }
+        ensures fault { IfErr result (IsStop self told line (O.contents out.old) (O.contents out.new)) }
     {
         match told {
-            Told::Label(label) => self.with(alloc, &label, line),
+            Told::Line(told) => self.with(alloc, &told, line, out),
             Told::Nothing => Ok(self),
-            Told::BadWord { column } => Ok(self.blaming(line, column)),
-            Told::NotUtf8 => Ok(Course::NotText),
+            Told::BadWord { column } => Err(Error::BadLine { line, column }),
         }
     }
 
     /// The course with a line that tells a label.
-    fn with(self, alloc: Global, label: &Label, line: u64) -> Result<Course, Error>
-        ensures goes { IfOk result (GoesByLabel self label.now line) }
-        ensures fault { IfErr result (λ fault. fault ≡ NoMemory) }
+    fn with<O: Write>(
+        self,
+        alloc: Global,
+        line: &Line,
+        number: u64,
+        out: &mut O,
+    ) -> Result<Course, Error>
+        ensures goes { IfOk result (GoesByLine self line.now number (O.contents out.old) (O.contents out.new)) }
+        ensures fault { IfErr result (IsStopOf self number (O.contents out.old) (O.contents out.new)) }
     {
         match self {
-            Course::Legal(trial) => trial.with(alloc, label, line),
-            other => Ok(other),
-        }
-    }
-
-    /// The course with a bad line.
-    fn blaming(self, line: u64, column: u64) -> Course
-        ensures { result ≡ with_bad self line column }
-    {
-        match self {
-            Course::Legal(_) => Course::Bad { line, column },
-            Course::Broken(_) => Course::Bad { line, column },
-            other => other,
+            Course::Legal(trial) => trial.with(alloc, line, number, out),
+            Course::Refused(stop) => Ok(Course::Refused(stop)),
         }
     }
 }
 
-/// A rule in words, with the requests that are open and the pieces that are out.
-fn sentence_of(alloc: Global, judge: &Judge, rule: Rule) -> Result<String, AllocError> {
-    let mut sentence = format!(in alloc; "{rule}")?;
-    if let Some(machine) = judge.machines().first() {
-        tell_open(alloc, machine, &mut sentence)?;
+/// Why there is no verdict on the line of this number.
+fn no_verdict(line: u64, why: NoVerdict) -> Error
+    ensures { result ≡ unjudged line why }
+{
+    match why {
+        NoVerdict::Readings { readings } => Error::Readings { line, readings },
+        NoVerdict::NoMemory => Error::NoMemory,
     }
-    Ok(sentence)
 }
 
-/// Adds a line for each request that is open, and for each piece that is out.
-fn tell_open(alloc: Global, machine: &Machine, sentence: &mut String) -> Result<(), AllocError> {
-    for request in machine.requests() {
-        let number = request.number();
-        let state = if request.is_started() {
-            "begun"
-        } else {
-            "waiting"
-        };
-        let line = format!(in alloc; "\nopen: request {number}, {state}")?;
-        sentence.push_str(line.as_str())?;
-    }
-    for piece in machine.pieces() {
-        let number = piece.number();
-        let tag = piece.tag();
-        let owner = piece.owner();
-        let line = format!(in alloc; "\nout: piece {number} of request {owner}, on tag {tag}")?;
-        sentence.push_str(line.as_str())?;
-    }
-    Ok(())
+/// Writes why the line of this number is refused.
+fn write_refused<O: Write>(out: &mut O, number: u64, sentence: &String) -> io::Result<()>
+    ensures { OnOk result (Appends (O.contents out.old) (O.contents out.new) (refused_line number (string_bytes sentence.now))) }
+{
+    let sentence = sentence.as_str();
+    writeln!(out, "line {number}: {sentence}")
 }

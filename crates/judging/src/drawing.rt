@@ -46,13 +46,12 @@ fn taken<B: BufRead>(alloc: Global, input: &mut B) -> Result<Picture, Error> {
         next_line(input, &mut line)?;
         let told = told_by(alloc, without_end(line.as_slice()))?;
         match told {
-            Told::Label(label) => picture.take(index + 1, &label)?,
+            Told::Line(line) => picture.take(index + 1, &line.label)?,
             Told::Nothing => {}
             Told::BadWord { column } => {
                 let line = index + 1;
                 bad = bad.or(Some(Error::BadLine { line, column }));
             }
-            Told::NotUtf8 => bad = Some(Error::BadLine { line: 1, column: 1 }),
         }
         if !is_ended(line.as_slice()) {
             return match bad {

@@ -21,9 +21,13 @@ pub enum Error {
     TraceUnreadable,
     /// The script can't be opened, or can't be read to its end.
     ScriptUnreadable,
-    /// The line of a trace, counted from 1, tells no label: reading stopped at the word that begins in this column.
-    /// Line 1, column 1 where the trace is not UTF-8.
+    /// The line of a trace, counted from 1, tells no label: reading stopped at the word that begins in this column. A
+    /// line that is not UTF-8 is bad in column 1.
     BadLine { line: u64, column: u64 },
+    /// The trace has no label.
+    NoLabel,
+    /// The starts before this line of a trace can be read in so many ways, which are more than are followed.
+    Readings { line: u64, readings: u64 },
     /// The script has a bad line, or its text could not be printed whole.
     Script(ScriptFault),
     /// The writer failed.
@@ -50,8 +54,8 @@ impl fmt::Display for Error {
     fn fmt<W: fmt::Write>(&self, f: &mut fmt::Formatter<W>) -> fmt::Result {
         match self {
             Error::Usage => f.write_str(
-                "usage: stackjudge check [--any-cut] CONFIG TRACE | stackjudge record CONFIG SCRIPT \
-                | stackjudge picture [--events] TRACE",
+                "usage: stackjudge check [--any-cut] [--settled] [--ended] CONFIG TRACE \
+                | stackjudge record CONFIG SCRIPT | stackjudge picture [--events] TRACE",
             ),
             Error::Startup(fault) => write!(f, "stackjudge: {fault}"),
             Error::TraceUnreadable => f.write_str("stackjudge: cannot read TRACE"),
@@ -60,6 +64,14 @@ impl fmt::Display for Error {
                 write!(
                     f,
                     "stackjudge: trace line {line}: bad word in column {column}"
+                )
+            }
+            Error::NoLabel => f.write_str("stackjudge: the trace has no label"),
+            Error::Readings { line, readings } => {
+                write!(
+                    f,
+                    "stackjudge: trace line {line}: the starts before it have {readings} readings, \
+                    and 1024 are the most: write the request of each start behind it, as of 1"
                 )
             }
             Error::Script(fault) => write!(f, "stackjudge: {fault}"),

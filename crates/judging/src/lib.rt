@@ -3,16 +3,18 @@
 //!
 //! It promises to the program:
 //!
-//! - [`checking::check`] (`printed`, `fault`): `legal` is printed exactly where the lines of a trace spell labels that
-//!   are a run of the settings' machine. Else the number of the first line is printed that no step of the machine
-//!   allows, and its label breaks a rule. The settings or a line are blamed only where that fault is there.
-//! - [`checking::check_any_cut`]: the same, of a machine that takes any cut.
+//! - [`opened::read_standard`] (`read`, `fault`): what a trace is judged by is the settings of an input, whose
+//!   partitions a stack can be started with; else the settings are blamed, or their partitions.
+//! - [`checking::check`] (`printed`, `fault`, `told`): `legal` is printed exactly where the lines of a trace are a run of
+//!   the settings' machine, in the partitions that are there. It has passed exactly where that run leaves what is asked
+//!   for. Else the number of the first line is printed that no step of the machine allows, and it breaks a rule; or
+//!   that is a call in no partition. Where the trace is blamed nothing else is printed.
 //! - [`scripts::record_script`] (`text`, `fault`): what is written of a script is just the lines of the labels of its
 //!   steps, from the stack that its settings start.
 //! - [`words::command`] (`asked`, `fault`): the paths and flags are those that the parser of the command line found
 //!   under their names, and only words that ask for no command are refused.
 //!
-//! The words of the rule, and of what was open and at the adapter, are only tested, and so are what [`drawing::draw`]
+//! The words of the rule, and of what is open, at the adapter or undone, are only tested, and so are what [`drawing::draw`]
 //! draws and the lines of [`progress::Progress`]. It does not promise what a file holds, nor that there is memory.
 #![tactic(auto)]
 
@@ -20,7 +22,9 @@ pub mod checking;
 mod course;
 pub mod drawing;
 mod faults;
-mod opened;
+mod left;
+mod misstep;
+pub mod opened;
 pub mod progress;
 mod reading;
 pub mod scripts;
@@ -28,3 +32,4 @@ mod told;
 pub mod words;
 
 pub use faults::Error;
+pub use misstep::Misstep;

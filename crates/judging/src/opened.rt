@@ -1,23 +1,61 @@
 //! The machine that settings describe, before its first label.
 
-ghost use Rattle.std.specs.Prelude.{◌≡◌, IfOk, map, replicate};
+ghost use Rattle.std.specs.Prelude.{◌≡◌, IfErr, IfOk, OnOk, map, replicate};
+ghost use Rattle.machine.specs.Map.{IsMap};
+ghost use Rattle.settings.specs.InRange.{AreInRange};
 ghost use Rattle.judge.specs.Views.{rules_of};
 ghost use Rattle.settings.specs.Medium.{extent_of, extents_of, zeros};
 ghost use Rattle.judging.specs.Checked.{arrays_of, rules_by};
+ghost use Rattle.judging.specs.Standards.{IsStandard, IsStandardFault, IsTableFault};
 
-use compose::{LAST_BUSY_RETURN, LONGEST_REQUEST};
+use crate::Error;
+use crate::words::asked::Asked;
+use compose::{LAST_BUSY_RETURN, LONGEST_REQUEST, StartFault};
 use judge::{MachineRules, Sectors};
 use sector::{Bytes, Extent};
-use settings::{Config, Partition};
+use settings::{Config, Partition, table_sector};
+use startup::read_settings;
 use std::alloc::{AllocError, Global};
+use std::io::Read;
 
 /// What a trace is judged by.
 #[derive(Debug, Drop)]
 pub struct Standard {
     /// The settings of a machine.
     pub config: Config,
-    /// Whether any cut will do: a piece may begin at any place of its request, and start again without end.
-    pub any_cut: bool,
+    pub asked: Asked,
+}
+
+/// Reads the settings by which a trace is judged, and looks at their partitions as a start does.
+///
+/// # Errors
+///
+/// [`Error::Startup`]: the settings can't be read, or are refused; or what is wrong with their partitions.
+/// [`Error::NoMemory`].
+pub fn read_standard<C: Read + Drop>(
+    alloc: Global,
+    config: C,
+    asked: Asked,
+) -> Result<Standard, Error>
+    ensures read { IfOk result (IsStandard asked (C.remaining config)) }
+    ensures fault { IfErr result (IsStandardFault (C.remaining config)) }
+{
+    let config = read_settings(alloc, config)?;
+    check_table(alloc, &config)?;
+    Ok(Standard { config, asked })
+}
+
+/// Looks at the partition table of the settings' disk.
+fn check_table(alloc: Global, config: &Config) -> Result<(), Error>
+    requires { AreInRange config.now }
+    ensures map { OnOk result (IsMap config.now.sectors (extents_of config.now)) }
+    ensures fault { IfErr result (IsTableFault config.now) }
+{
+    let sector = table_sector(alloc, config)?;
+    match mbr::parse(sector.as_slice(), config.sectors) {
+        Ok(_) => Ok(()),
+        Err(fault) => Err(Error::Startup(startup::Error::Start(StartFault::Mbr(fault)))),
+    }
 }
 
 /// The rules of the stack that the settings start, but for how it cuts requests.
@@ -36,7 +74,7 @@ pub(crate) fn rules_of(alloc: Global, standard: &Standard) -> Result<MachineRule
         window: Some(config.window as u64),
         one_piece: false,
         busy_limit: LAST_BUSY_RETURN as u64,
-        any_cut: standard.any_cut,
+        any_cut: standard.asked.any_cut,
         faithful: true,
     })
 }

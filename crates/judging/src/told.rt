@@ -1,25 +1,24 @@
 //! What a line of a trace tells.
 
-ghost use Rattle.std.specs.Prelude.{◌≡◌, IfErr, IfOk};
+ghost use Rattle.std.specs.Prelude.{◌≡◌, IfErr, IfOk, IsUtf8};
 ghost use Rattle.judging.specs.inside.Telling.{Tells};
 ghost use Rattle.judging.specs.declared.faults.Error.TheVariants.{NoMemory};
 
 use crate::Error;
 use label_text::{LineFault, is_told, read_line};
-use machine::Label;
 use std::alloc::Global;
+use trace_line::Line;
 
 /// What a line tells.
 #[derive(Debug, Drop)]
 pub(crate) enum Told {
-    /// A label.
-    Label(Label),
+    /// A label, and whose piece starts where it says so.
+    Line(Line),
     /// The line tells nothing: it is empty, or begins with #.
     Nothing,
-    /// The line is to tell a label and tells none: reading stopped at the word that begins in this column.
+    /// The line is to tell a label and tells none: reading stopped at the word that begins in this column. A line that
+    /// is not UTF-8 is bad in column 1.
     BadWord { column: u64 },
-    /// The line is not UTF-8.
-    NotUtf8,
 }
 
 /// What a line tells. It is given without its end.
@@ -33,12 +32,13 @@ pub(crate) fn told_by(alloc: Global, line: &[u8]) -> Result<Told, Error>
 {
     match std::str::from_utf8(line) {
         Ok(text) => told_by_text(alloc, text),
-        Err(_) => Ok(Told::NotUtf8),
+        Err(_) => Ok(Told::BadWord { column: 1 }),
     }
 }
 
 /// What a line tells that is UTF-8.
 fn told_by_text(alloc: Global, line: &str) -> Result<Told, Error>
+    requires { IsUtf8 line.now }
     ensures told { IfOk result (Tells line.now) }
     ensures fault { IfErr result (λ fault. fault ≡ NoMemory) }
 {
@@ -46,7 +46,7 @@ fn told_by_text(alloc: Global, line: &str) -> Result<Told, Error>
         return Ok(Told::Nothing);
     }
     match read_line(alloc, line) {
-        Ok(line) => Ok(Told::Label(line.label)),
+        Ok(line) => Ok(Told::Line(line)),
         Err(LineFault::BadWord { column }) => Ok(Told::BadWord { column }),
         Err(LineFault::NoMemory) => Err(Error::NoMemory),
     }

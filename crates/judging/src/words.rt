@@ -10,7 +10,7 @@ ghost use Rattle.judging.specs.declared.words.asked.Command.{Command};
 ghost use Rattle.judging.specs.CommandLine.{AsksForNothing, HasWords, IsAsked, name_of};
 
 use crate::faults::Error;
-use crate::words::asked::Command;
+use crate::words::asked::{Asked, Command};
 use clap::ArgMatches;
 use command_line::{Parser, Refusal, flag, read, subcommand, word};
 use std::alloc::{AllocError, Global};
@@ -44,6 +44,8 @@ impl<'a> Parser<'a> for Command<'a> {
             .arg(word(alloc, "CONFIG", true))?
             .arg(word(alloc, "TRACE", true))?
             .arg(flag(alloc, "any-cut"))?
+            .arg(flag(alloc, "settled"))?
+            .arg(flag(alloc, "ended"))?
             .arg(flag(alloc, "progress"))?;
         let records = clap::Command::new(alloc, "record")
             .arg(word(alloc, "CONFIG", true))?
@@ -83,11 +85,18 @@ fn check_of<'a>(words: &ArgMatches<'a>) -> Option<Command<'a>>
         return None;
     };
     let any_cut = words.get_flag("any-cut");
+    let settled = words.get_flag("settled");
+    let ended = words.get_flag("ended");
     let progress = words.get_flag("progress");
+    let asked = Asked {
+        any_cut,
+        settled,
+        ended,
+    };
     Some(Command::Check {
         config,
         trace,
-        any_cut,
+        asked,
         progress,
     })
 }

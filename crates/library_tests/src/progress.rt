@@ -2,7 +2,9 @@
 
 use crate::expect::same;
 use judging::checking::check;
+use judging::opened::read_standard;
 use judging::progress::Progress;
+use judging::words::asked::Asked;
 use startup::Verdict;
 use std::alloc::Global;
 use std::test::Fail;
@@ -22,8 +24,15 @@ fn said(alloc: Global, every: u64) -> Option<Vec<u8>> {
         out: Vec::new(alloc),
         every,
     };
-    let (config, trace) = (CONFIG.as_bytes(), TRACE.as_bytes());
-    match check(alloc, config, trace, &mut out, &mut progress) {
+    let asked = Asked {
+        any_cut: false,
+        settled: false,
+        ended: false,
+    };
+    let Ok(standard) = read_standard(alloc, CONFIG.as_bytes(), asked) else {
+        return None;
+    };
+    match check(alloc, &standard, TRACE.as_bytes(), &mut out, &mut progress) {
         Ok(Verdict::Failed) => Some(progress.out),
         _ => None,
     }

@@ -1,14 +1,15 @@
 //! This program says whether a trace is a run of the machine that some settings describe, writes the trace of a script,
 //! or draws a trace.
 //!
-//! The crates `judging` ([`command`], [`check`], [`record_script`], [`Error`]) and `startup` ([`ended`]) promise what
+//! The crates `judging` ([`command`], [`read_standard`], [`check`], [`record_script`], [`Error`]) and `startup` ([`ended`]) promise what
 //! its words ask for, what is printed (but no picture), and which line and exit status a fault has. This crate has only
 //! its arguments, files and output, of which nothing is promised: no contract says what a file holds.
 #![tactic(auto)]
 
 use judging::Error;
-use judging::checking::{check, check_any_cut};
+use judging::checking::check;
 use judging::drawing::draw;
+use judging::opened::{Standard, read_standard};
 use judging::progress::Progress;
 use judging::scripts::record_script;
 use judging::words::asked::Command;
@@ -35,18 +36,15 @@ fn run(rt: &HostRuntime) -> Result<Verdict, Error> {
         Command::Check {
             config,
             trace,
-            any_cut,
+            asked,
             progress,
         } => {
             let mut progress = Progress {
                 out: rt.stderr(),
                 every: if progress { EVERY } else { 0 },
             };
-            if any_cut {
-                judge_any_cut(rt, config, trace, &mut progress)
-            } else {
-                judge(rt, config, trace, &mut progress)
-            }
+            let standard = read_standard(alloc, open_input(rt, config), asked)?;
+            judge(rt, &standard, trace, &mut progress)
         }
         Command::Record { config, script } => write_trace(rt, config, script),
         Command::Picture { trace, events } => draw_trace(rt, trace, events),
@@ -56,43 +54,16 @@ fn run(rt: &HostRuntime) -> Result<Verdict, Error> {
 /// Judges the trace at a path, or the one on standard input.
 fn judge<W: Write>(
     rt: &HostRuntime,
-    config: &str,
+    standard: &Standard,
     trace: &str,
     progress: &mut Progress<W>,
 ) -> Result<Verdict, Error> {
     let alloc = rt.alloc();
-    let config = open_input(rt, config);
     if trace == "-" {
-        return check(alloc, config, rt.stdin(), &mut rt.stdout(), progress);
+        return check(alloc, standard, rt.stdin(), &mut rt.stdout(), progress);
     }
-    check(
-        alloc,
-        config,
-        open_input(rt, trace),
-        &mut rt.stdout(),
-        progress,
-    )
-}
-
-/// Judges a trace as [`check`] does, by any cut.
-fn judge_any_cut<W: Write>(
-    rt: &HostRuntime,
-    config: &str,
-    trace: &str,
-    progress: &mut Progress<W>,
-) -> Result<Verdict, Error> {
-    let alloc = rt.alloc();
-    let config = open_input(rt, config);
-    if trace == "-" {
-        return check_any_cut(alloc, config, rt.stdin(), &mut rt.stdout(), progress);
-    }
-    check_any_cut(
-        alloc,
-        config,
-        open_input(rt, trace),
-        &mut rt.stdout(),
-        progress,
-    )
+    let trace = open_input(rt, trace);
+    check(alloc, standard, trace, &mut rt.stdout(), progress)
 }
 
 /// Writes the trace of the script at a path, or of the one on standard input.

@@ -1,17 +1,24 @@
 -- How the lines of a trace are judged, one by one.
-use Rattle.std.specs.Prelude.{◌≡◌, ◌+◌, ◌-◌, ◌^◌, ℕ, min, Bool, List, [], Some, count_by, if◌then◌else◌, length, slice_get}
+use Rattle.std.specs.Prelude.{◌≡◌, ◌<◌, ◌≤◌, ◌+◌, ◌-◌, ◌^◌, ℕ, min, Bool, List, [], All, Option, Some, count_by, if◌then◌else◌, length}
+use Rattle.std.specs.Io.KnownBytes.{Appends}
 use Rattle.machine.specs.declared.Label.{Label}
-use Rattle.judge.specs.Following.{HasTaken, Refuses, Takes}
-use Rattle.judging.specs.Told.{AreTold, IsFirstBad}
-use Rattle.judging.specs.Checked.{IsFirstBroken, arrays_of, is_call, is_start, rules_by}
+use Rattle.trace_line.specs.declared.Line.{Line}
+use Rattle.judge.specs.Following.{HasTakenLines, RefusesLine, TakesLine}
+use Rattle.judge.specs.Refusals.{most_readings}
+use Rattle.judge.specs.declared.NoVerdict.{NoVerdict}
+use Rattle.judge.specs.declared.NoVerdict.TheVariants.{NoMemory as WantOfMemory, Readings as TooMany}
+use Rattle.judging.specs.Checked.{IsFirstRefused, IsInTable, IsOutputFault, arrays_of, count_of, is_call, is_start, partition_of, refused_line, rules_by}
 use Rattle.judging.specs.declared.course.Course.{Course}
-use Rattle.judging.specs.declared.course.Course.TheVariants.{Legal, Broken, Bad, NotText}
-use Rattle.judging.specs.declared.course.Stop.{Stop}
+use Rattle.judging.specs.declared.course.Course.TheVariants.{Legal, Refused}
 use Rattle.judging.specs.declared.course.Tally.{Tally}
 use Rattle.judging.specs.declared.course.Trial.{Trial}
+use Rattle.judging.specs.declared.faults.Error.{Error}
+use Rattle.judging.specs.declared.faults.Error.TheVariants.{BadLine, Readings, OutputFailed, NoMemory}
+use Rattle.judging.specs.declared.misstep.Misstep.{Misstep}
+use Rattle.judging.specs.declared.misstep.Misstep.TheVariants.{Breaks, NoPartition}
 use Rattle.judging.specs.declared.opened.Standard.{Standard}
 use Rattle.judging.specs.declared.told.Told.{Told}
-use Rattle.judging.specs.declared.told.Told.TheVariants.{Label as TellsLabel, Nothing, BadWord, NotUtf8}
+use Rattle.judging.specs.declared.told.Told.TheVariants.{Line as TellsLine, Nothing, BadWord}
 
 -- a count with one more, where this is so and it isn't full
 abbrev pub one_more : ℕ → Bool → ℕ
@@ -23,65 +30,86 @@ pub record Tallies (old : Tally) (label : Label) (new : Tally) : Type 0 where
   pub calls_are : new.calls ≡ one_more old.calls (is_call label)
   pub starts_are : new.starts ≡ one_more old.starts (is_start label)
 
--- the judge takes one label more of a line with this number, or refuses it
-abbrev pub Tries : Trial → Label → ℕ → Course → Type 0
-Tries old label number (Legal new) = (new.judge.rules ≡ old.judge.rules) × Takes old.judge label new.judge × Tallies old.tally label new.tally
-Tries old label number (Broken stop) = (stop.line ≡ number) × Refuses old.judge label stop.rule
-Tries old label number (Bad line column) = ⊥
-Tries old label number NotText = ⊥
+-- the call is in a partition that none of so many is
+abbrev pub IsAbsent : ℕ → Label → ℕ → Type 0
+IsAbsent count label partition = (partition_of label ≡ Some partition) × (count ≤ partition)
 
--- one label more is judged
-abbrev pub GoesByLabel : Course → Label → ℕ → Course → Type 0
-GoesByLabel (Legal trial) label number new = Tries trial label number new
-GoesByLabel (Broken stop) label number new = new ≡ Broken stop
-GoesByLabel (Bad line column) label number new = new ≡ Bad line column
-GoesByLabel NotText label number new = new ≡ NotText
+-- why the judge of a trial refuses a line
+abbrev pub IsRefusedFor : Trial → Line → Misstep → Type 0
+IsRefusedFor trial line (Breaks rule) = RefusesLine trial.judge line rule
+IsRefusedFor trial line (NoPartition partition most) =
+    (partition_of line.label ≡ Some partition) × (most ≡ length trial.judge.rules.partitions) × (most ≤ partition)
 
--- one bad line more is read; the first bad one is told
-abbrev pub with_bad : Course → ℕ → ℕ → Course
-with_bad (Legal trial) number column = Bad number column
-with_bad (Broken stop) number column = Bad number column
-with_bad (Bad line first) number column = Bad line first
-with_bad NotText number column = NotText
+-- the refusal of the line of this number is written
+pub record SaysRefused (number : ℕ) (a b : Option (List ℕ)) : Type 0 where
+  pub sentence : List ℕ
+  pub appends : Appends a b (refused_line number sentence)
 
--- one line more is judged, which has this number and tells this
-abbrev pub GoesOn : Course → Told → ℕ → Course → Type 0
-GoesOn old (TellsLabel label) number new = GoesByLabel old label number new
-GoesOn old Nothing number new = new ≡ old
-GoesOn old (BadWord column) number new = new ≡ with_bad old number column
-GoesOn old NotUtf8 number new = new ≡ NotText
+-- one label more is counted
+pub record IsCounted (old : Trial) (label : Label) (new : Trial) : Type 0 where
+  pub same_judge : new.judge ≡ old.judge
+  pub counted : Tallies old.tally label new.tally
 
--- the judge has taken these labels over the settings' machine, and they are counted
-pub record HasTried (standard : Standard) (labels : List Label) (trial : Trial) : Type 0 where
+-- the fault of a line on which there is no verdict
+abbrev pub unjudged : ℕ → NoVerdict → Error
+unjudged line (TooMany readings) = Readings line readings
+unjudged line WantOfMemory = NoMemory
+
+-- one line more is taken, and nothing is written
+pub record IsTaken (old : Trial) (line : Line) (a b : Option (List ℕ)) (new : Trial) : Type 0 where
+  pub same_rules : new.judge.rules ≡ old.judge.rules
+  pub takes : TakesLine old.judge line new.judge
+  pub tallies : Tallies old.tally line.label new.tally
+  pub in_table : IsInTable (length old.judge.rules.partitions) line.label
+  pub untold : b ≡ a
+
+-- one line more is taken, or refused
+abbrev pub Tries : Trial → Line → ℕ → Option (List ℕ) → Option (List ℕ) → Course → Type 0
+Tries old line number a b (Legal new) = IsTaken old line a b new
+Tries old line number a b (Refused stop) = (stop.line ≡ number) × IsRefusedFor old line stop.misstep × SaysRefused number a b
+
+-- why a line is neither: the judge has more readings than it follows, or what it is can't be told
+abbrev pub IsStopByLine : Trial → ℕ → Option (List ℕ) → Option (List ℕ) → Error → Type 0
+IsStopByLine trial number a b (Readings line readings) = (line ≡ number) × (readings ≡ length trial.judge.states) × (most_readings < readings) × (b ≡ a)
+IsStopByLine trial number a b OutputFailed = Unit {0}
+IsStopByLine trial number a b NoMemory = Unit {0}
+IsStopByLine trial number a b _ = ⊥
+
+-- one line more is judged
+abbrev pub GoesByLine : Course → Line → ℕ → Option (List ℕ) → Option (List ℕ) → Course → Type 0
+GoesByLine (Legal trial) line number a b new = Tries trial line number a b new
+GoesByLine (Refused stop) line number a b new = (new ≡ Refused stop) × (b ≡ a)
+
+abbrev pub IsStopOf : Course → ℕ → Option (List ℕ) → Option (List ℕ) → Error → Type 0
+IsStopOf (Legal trial) number a b fault = IsStopByLine trial number a b fault
+IsStopOf (Refused stop) number a b fault = ⊥
+
+-- one line more is read, which has this number and tells this
+abbrev pub GoesOn : Course → Told → ℕ → Option (List ℕ) → Option (List ℕ) → Course → Type 0
+GoesOn old (TellsLine line) number a b new = GoesByLine old line number a b new
+GoesOn old Nothing number a b new = (new ≡ old) × (b ≡ a)
+GoesOn old (BadWord column) number a b new = ⊥
+
+abbrev pub IsStop : Course → Told → ℕ → Option (List ℕ) → Option (List ℕ) → Error → Type 0
+IsStop old (TellsLine line) number a b fault = IsStopOf old number a b fault
+IsStop old Nothing number a b fault = ⊥
+IsStop old (BadWord column) number a b fault = (fault ≡ BadLine number column) × (b ≡ a)
+
+-- the judge has taken these lines over the settings' machine, and they are counted
+pub record HasTried (standard : Standard) (lines : List Line) (trial : Trial) : Type 0 where
   pub rules_are : trial.judge.rules ≡ rules_by standard
-  pub taken : HasTaken trial.judge (arrays_of standard.config) labels
-  pub labels_are : trial.tally.labels ≡ length labels
-  pub calls_are : trial.tally.calls ≡ count_by is_call labels
-  pub starts_are : trial.tally.starts ≡ count_by is_start labels
+  pub taken : HasTakenLines trial.judge (arrays_of standard.config) lines
+  pub in_table : All (λ line. IsInTable (count_of standard) line.label) lines
+  pub labels_are : trial.tally.labels ≡ length lines
+  pub calls_are : trial.tally.calls ≡ count_by (λ line. is_call line.label) lines
+  pub starts_are : trial.tally.starts ≡ count_by (λ line. is_start line.label) lines
 
--- no label is taken yet
+-- no line is taken yet
 abbrev pub IsOpening : Standard → Course → Type 0
 IsOpening standard (Legal trial) = HasTried standard [] trial
-IsOpening standard (Broken stop) = ⊥
-IsOpening standard (Bad line column) = ⊥
-IsOpening standard NotText = ⊥
+IsOpening standard (Refused stop) = ⊥
 
--- one of these labels, which stand in lines with these numbers, is the first that is broken
-pub record HasStopped (standard : Standard) (labels : List Label) (numbers : List ℕ) (stop : Stop) : Type 0 where
-  pub at : ℕ
-  pub first : IsFirstBroken (rules_by standard) (arrays_of standard.config) labels at stop.rule
-  pub there : slice_get numbers at ≡ Some stop.line
-
--- these are the labels of the lines, with their numbers, and P holds of them
-pub record AreLabels (lines : List (List ℕ)) (P : List Label → List ℕ → Type 0) : Type 0 where
-  pub labels : List Label
-  pub numbers : List ℕ
-  pub told : AreTold lines labels numbers
-  pub so : P labels numbers
-
--- what the lines of a trace are, where this holds if one is not UTF-8
-abbrev pub IsCourse : Standard → Type 0 → List (List ℕ) → Course → Type 0
-IsCourse standard Never lines (Legal trial) = AreLabels lines (λ labels numbers. HasTried standard labels trial)
-IsCourse standard Never lines (Broken stop) = AreLabels lines (λ labels numbers. HasStopped standard labels numbers stop)
-IsCourse standard Never lines (Bad line column) = IsFirstBad lines line
-IsCourse standard Never lines NotText = Never
+-- what these lines come to
+abbrev pub IsCourse : Standard → List Line → List ℕ → Option (List ℕ) → Option (List ℕ) → Course → Type 0
+IsCourse standard lines numbers a b (Legal trial) = HasTried standard lines trial × (b ≡ a)
+IsCourse standard lines numbers a b (Refused stop) = IsFirstRefused standard lines numbers stop.line stop.misstep × SaysRefused stop.line a b

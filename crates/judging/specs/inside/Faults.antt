@@ -9,15 +9,18 @@ use Rattle.script_runs.specs.declared.faults.Error.{Error as RunError}
 use Rattle.script_runs.specs.declared.faults.Error.TheVariants.{Startup as RunStartup, Unreadable as RunUnreadable, Script as RunScript}
 use Rattle.startup.specs.Texts.{text_of as startup_text}
 use Rattle.judging.specs.declared.faults.Error.{Error}
-use Rattle.judging.specs.declared.faults.Error.TheVariants.{Usage, Startup, TraceUnreadable, ScriptUnreadable, BadLine, Script, OutputFailed, NoMemory}
+use Rattle.judging.specs.declared.faults.Error.TheVariants.{Usage, Startup, TraceUnreadable, ScriptUnreadable, BadLine, NoLabel, Readings, Script, OutputFailed, NoMemory}
 
 -- the line of a fault, without its end
 abbrev pub line_of : Error → List ℕ
-line_of Usage = codes "usage: stackjudge check [--any-cut] CONFIG TRACE | stackjudge record CONFIG SCRIPT | stackjudge picture [--events] TRACE"
+line_of Usage = codes "usage: stackjudge check [--any-cut] [--settled] [--ended] CONFIG TRACE | stackjudge record CONFIG SCRIPT | stackjudge picture [--events] TRACE"
 line_of (Startup fault) = codes "stackjudge: " ++ startup_text fault
 line_of TraceUnreadable = codes "stackjudge: cannot read TRACE"
 line_of ScriptUnreadable = codes "stackjudge: cannot read SCRIPT"
 line_of (BadLine line column) = codes "stackjudge: trace line " ++ (decimal line ++ (codes ": bad word in column " ++ decimal column))
+line_of NoLabel = codes "stackjudge: the trace has no label"
+line_of (Readings line readings) = codes "stackjudge: trace line " ++ (decimal line ++ (codes ": the starts before it have " ++ (decimal readings
+    ++ codes " readings, and 1024 are the most: write the request of each start behind it, as of 1")))
 line_of (Script fault) = codes "stackjudge: " ++ script_text fault
 line_of OutputFailed = codes "stackjudge: output failed"
 line_of NoMemory = codes "stackjudge: no memory"

@@ -3,12 +3,12 @@
 /// What the program is asked to do.
 #[derive(Debug, Clone, Copy, PartialEq, Eq)]
 pub enum Command<'a> {
-    /// Judges a trace, given the paths of the settings and of the trace. Pieces are cut as this stack cuts them, or
-    /// anywhere where `any_cut` is set. With `progress` the check tells how far it came.
+    /// Judges a trace, given the paths of the settings and of the trace, by what is asked of it. With `progress` the
+    /// check tells how far it came.
     Check {
         config: &'a str,
         trace: &'a str,
-        any_cut: bool,
+        asked: Asked,
         progress: bool,
     },
     /// Writes the trace of a script, given the paths of the settings and of the script.
@@ -21,4 +21,15 @@ pub enum Command<'a> {
         trace: &'a str,
         events: bool,
     },
+}
+
+/// What is asked of a trace.
+#[derive(Debug, Clone, Copy, PartialEq, Eq)]
+pub struct Asked {
+    /// Whether any cut will do: a piece may begin at any place of its request, and start again without end.
+    pub any_cut: bool,
+    /// Whether it has to leave nothing undone.
+    pub settled: bool,
+    /// Whether it has to leave no request open and no piece at the adapter.
+    pub ended: bool,
 }

@@ -16,12 +16,14 @@ returns c =
         sym (c.in-Some.ensures ∙ first_value-rows found (codes "CONFIG")),
         sym (c.in-Some-get_str.ensures ∙ first_value-rows found (codes "TRACE")),
         flag_is found (codes "any-cut") c.get_flag-any_cut.result c.get_flag-any_cut.ensures.none c.get_flag-any_cut.ensures.value c.get_flag-any_cut.ensures.other,
+        flag_is found (codes "settled") c.get_flag-settled.result c.get_flag-settled.ensures.none c.get_flag-settled.ensures.value c.get_flag-settled.ensures.other,
+        flag_is found (codes "ended") c.get_flag-ended.result c.get_flag-ended.ensures.none c.get_flag-ended.ensures.value c.get_flag-ended.ensures.other,
         flag_is found (codes "progress") c.get_flag-progress.result c.get_flag-progress.ensures.none c.get_flag-progress.ensures.value c.get_flag-progress.ensures.other,
       ),
     )
 
 no_config : (rows : List Row) (command : Command) → name_of command ≡ codes "check" → ◌≡◌ {A = Option Text} None (first_of (codes "CONFIG") rows) → HasWords rows command → ⊥
-no_config rows (Check config trace any_cut progress) name none has =
+no_config rows (Check config trace asked progress) name none has =
     let both : ◌≡◌ {A = Option Text} None (Some config.now) = none ∙ has.0 in
     absurd (cc)
 no_config rows (Record config script) name none has =
@@ -30,7 +32,7 @@ no_config rows (Record config script) name none has =
 no_config rows (Picture trace events) name none has = absurd (cc (name))
 
 no_trace : (rows : List Row) (command : Command) → name_of command ≡ codes "check" → ◌≡◌ {A = Option Text} None (first_of (codes "TRACE") rows) → HasWords rows command → ⊥
-no_trace rows (Check config trace any_cut progress) name none has =
+no_trace rows (Check config trace asked progress) name none has =
     let both : ◌≡◌ {A = Option Text} None (Some trace.now) = none ∙ has.1 in
     absurd (cc)
 no_trace rows (Record config other) name none has = absurd (cc (name))

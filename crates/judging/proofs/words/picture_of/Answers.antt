@@ -19,7 +19,7 @@ returns-in-Some c =
     )
 
 no_trace : (rows : List Row) (command : Command) → name_of command ≡ codes "picture" → ◌≡◌ {A = Option Text} None (first_of (codes "TRACE") rows) → HasWords rows command → ⊥
-no_trace rows (Check config other any_cut progress) name none has = absurd (cc (name))
+no_trace rows (Check config other asked progress) name none has = absurd (cc (name))
 no_trace rows (Record config other) name none has = absurd (cc (name))
 no_trace rows (Picture trace events) name none has =
     let both : ◌≡◌ {A = Option Text} None (Some trace.now) = none ∙ has.0 in

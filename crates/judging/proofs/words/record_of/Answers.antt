@@ -15,7 +15,7 @@ returns c =
     )
 
 no_config : (rows : List Row) (command : Command) → name_of command ≡ codes "record" → ◌≡◌ {A = Option Text} None (first_of (codes "CONFIG") rows) → HasWords rows command → ⊥
-no_config rows (Check config trace any_cut progress) name none has =
+no_config rows (Check config trace asked progress) name none has =
     let both : ◌≡◌ {A = Option Text} None (Some config.now) = none ∙ has.0 in
     absurd (cc)
 no_config rows (Record config script) name none has =
@@ -24,7 +24,7 @@ no_config rows (Record config script) name none has =
 no_config rows (Picture trace events) name none has = absurd (cc (name))
 
 no_script : (rows : List Row) (command : Command) → name_of command ≡ codes "record" → ◌≡◌ {A = Option Text} None (first_of (codes "SCRIPT") rows) → HasWords rows command → ⊥
-no_script rows (Check config other any_cut progress) name none has = absurd (cc (name))
+no_script rows (Check config other asked progress) name none has = absurd (cc (name))
 no_script rows (Picture other events) name none has = absurd (cc (name))
 no_script rows (Record config script) name none has =
     let both : ◌≡◌ {A = Option Text} None (Some script.now) = none ∙ has.1 in

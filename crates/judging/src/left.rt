@@ -1,0 +1,96 @@
+//! What is open and at the adapter, in words.
+
+use judge::{Machine, OpenRequest, Started};
+use machine::Label;
+use std::alloc::{AllocError, Global};
+
+/// A call that has no answer yet.
+#[derive(Debug, Clone, Copy)]
+struct Call {
+    /// The number of its request.
+    number: u64,
+    /// The number of its line, from 1.
+    line: u64,
+}
+
+/// The calls of a trace that have no answer yet.
+#[derive(Debug, Drop)]
+pub(crate) struct Calls {
+    calls: Vec<Call>,
+}
+
+impl Calls {
+    pub fn new(alloc: Global) -> Calls {
+        Calls {
+            calls: Vec::new(alloc),
+        }
+    }
+
+    /// Notes a label, of the line of this number.
+    pub fn note(&mut self, label: &Label, line: u64) -> Result<(), AllocError> {
+        match label {
+            Label::Call { number, .. } => self.add(*number, line),
+            Label::Answer { number, .. } => {
+                self.remove(*number);
+                Ok(())
+            }
+            _ => Ok(()),
+        }
+    }
+
+    fn add(&mut self, number: u64, line: u64) -> Result<(), AllocError> {
+        self.calls.push(Call { number, line })?;
+        Ok(())
+    }
+
+    fn remove(&mut self, number: u64) {
+        self.calls.retain(|call| call.number != number);
+    }
+
+    /// The number of the line of a request's call; 0 where there is none.
+    fn line_of(&self, number: u64) -> u64 {
+        for call in self.calls.as_slice() {
+            if call.number == number {
+                return call.line;
+            }
+        }
+        0
+    }
+
+    /// Tells what is open and at the adapter in a machine, each on a line of its own, in the order of their numbers.
+    /// Each line has its end before it.
+    pub fn tell(
+        &self,
+        alloc: Global,
+        machine: &Machine,
+        text: &mut String,
+    ) -> Result<(), AllocError> {
+        for request in machine.requests() {
+            let line = self.open_line(alloc, request)?;
+            text.push_str(line.as_str())?;
+        }
+        for piece in machine.pieces() {
+            let line = out_line(alloc, piece)?;
+            text.push_str(line.as_str())?;
+        }
+        Ok(())
+    }
+
+    fn open_line(&self, alloc: Global, request: &OpenRequest) -> Result<String, AllocError> {
+        let number = request.number();
+        let line = self.line_of(number);
+        let state = if request.is_started() {
+            "begun"
+        } else {
+            "waiting"
+        };
+        format!(in alloc; "\nopen: request {number} of line {line}, {state}")
+    }
+}
+
+fn out_line(alloc: Global, piece: &Started) -> Result<String, AllocError> {
+    let number = piece.number();
+    let tag = piece.tag();
+    let owner = piece.owner();
+    format!(in alloc; "\nout: piece {number} of request {owner}, on tag {tag}")
+}
