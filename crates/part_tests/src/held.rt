@@ -1,44 +1,25 @@
 //! A client of a filter: what a filter has beside the calls of a layer.
 
 ghost use Rattle.std.specs.Prelude.{◌≡◌, ◌≤◌, false};
-ghost use Rattle.linked.specs.Queue.{VisitsAtMost};
-ghost use Rattle.part_tests.specs.Known.{IsKnown, Keeps};
+ghost use Rattle.part_tests.specs.Known.{IsKnown};
 
 use crate::session::Session;
 use crate::steps::Step;
-use device::{Device, Hold, Shown};
+use device::{Device, Hold};
 use hold_filter::Filter;
 use irp::Driver;
 use sector::Extent;
 use std::alloc::{AllocError, Global};
 use std::process::Abort;
 
-/// Cancels what is at a spot, with at most three visits of the queue. Returns whether it was held there.
-fn cancel_held<D: Device>(filter: &mut Filter<D>, spot: usize, number: u64) -> bool
-    ensures keeps { Keeps (⟦<Filter<D> as Shown>⟧.view filter.old) (⟦<Filter<D> as Shown>⟧.view filter.new) }
-    ensures visits { VisitsAtMost 3 filter.old.queue_visits filter.new.queue_visits }
-{
-    let held = filter.held();
-    filter.cancel_at(spot, number as u128);
-    filter.held() < held
-}
-
-/// A layer that tells how many packets it holds, and finds one by its spot.
+/// A layer that tells how many packets it holds.
 pub(crate) trait Holds: Hold {
     fn count_held(&self) -> usize;
-
-    /// Cancels what is at a spot, and returns whether it was held there.
-    fn cancel_at_spot(&mut self, spot: usize, number: u64) -> bool
-        ensures keeps { Keeps (Self.view self.old) (Self.view self.new) };
 }
 
 impl<D: Device> Holds for Filter<D> {
     fn count_held(&self) -> usize {
         self.held()
-    }
-
-    fn cancel_at_spot(&mut self, spot: usize, number: u64) -> bool {
-        cancel_held(self, spot, number)
     }
 }
 
@@ -65,11 +46,6 @@ impl<'a, D: Holds> Session<'a, D> {
         true
     }
 
-    fn cancel_held(&mut self, of: u64, number: u64) -> bool {
-        let spot = self.spots[(of % 65) as usize];
-        self.device.cancel_at_spot(spot, number)
-    }
-
     /// Takes one step, and returns whether it answered what it must.
     fn carry_out_held(
         &mut self,
@@ -78,7 +54,6 @@ impl<'a, D: Holds> Session<'a, D> {
         step: &Step,
     ) -> Result<bool, AllocError> {
         match step {
-            Step::CancelHeld(of, number, want) => Ok(self.cancel_held(*of, *number) == *want),
             Step::Holds(count) => Ok(self.device.count_held() == *count),
             Step::Pause => Ok(self.pause()),
             Step::Resume => Ok(self.resume(rt)),

@@ -33,26 +33,16 @@ mod layers;
 #[cfg(test)]
 mod links;
 #[cfg(test)]
-mod maps;
-#[cfg(test)]
 mod marks;
 #[cfg(test)]
 mod numbers;
 #[cfg(test)]
 mod packets;
 #[cfg(test)]
-mod pieces;
-#[cfg(test)]
 mod probes;
-#[cfg(test)]
-mod queues;
 #[cfg(test)]
 mod session;
 #[cfg(test)]
 mod steps;
 #[cfg(test)]
 mod tables;
-#[cfg(test)]
-mod turnstiles;
-#[cfg(test)]
-mod windows;

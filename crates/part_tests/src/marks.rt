@@ -3,7 +3,7 @@
 ghost use Rattle.std.specs.Prelude.{◌≡◌, IfOk};
 ghost use Rattle.cancel_marks.specs.Marks.{fresh, standing, starting};
 
-use crate::expect::same;
+use crate::expect::prints;
 use cancel_marks::{Marking, Marks, NoMemory, Seat};
 use std::alloc::Global;
 use std::test::Fail;
@@ -42,10 +42,10 @@ fn in_turn(
     marks.arm(owner, 0, 9);
     let late = marks.mark(other, 0, 5);
     let unmarked = marks.look(owner, 0);
-    let empty = marks.mark(other, 1, 0);
+    let past = marks.mark(other, 1, 1 << 62);
     let none = marks.look(owner, 1);
     (
-        [wrong, hit, again, retired, late, empty],
+        [wrong, hit, again, retired, late, past],
         [marked, unmarked, none],
     )
 }
@@ -64,37 +64,10 @@ fn marks_only_the_number_in_the_slot(rt: HostRuntime) -> Result<(), Fail> {
     ];
     assert!(rt; answers == want);
     assert!(rt; looks == [Some((5, true)), Some((9, false)), None]);
-    Ok(())
-}
-
-#[test]
-fn numbers_end_below_two_to_the_62nd(rt: HostRuntime) -> Result<(), Fail> {
-    let last = (1 << 62) - 1;
-    let (marks, mut owner, mut other) = two(rt.alloc())?;
-    marks.arm(&mut owner, 1, last);
-    let missed = [
-        marks.mark(&mut other, 1, 0),
-        marks.mark(&mut other, 1, last - 1),
-        marks.mark(&mut other, 1, last + 1),
-        marks.mark(&mut other, 1, u64::MAX),
-    ];
-    assert!(rt; missed == [Marking::Gone; 4]);
-    assert!(rt; marks.look(&mut owner, 1) == Some((last, false)));
-    assert!(rt; marks.mark(&mut owner, 1, last) == Marking::Marked);
-    assert!(rt; marks.look(&mut owner, 1) == Some((last, true)));
-    Ok(())
-}
-
-#[test]
-fn makes_tables_of_any_size_in_memory(rt: HostRuntime) -> Result<(), Fail> {
     let Err(fault) = Marks::new(rt.alloc(), 1 << 61, 1) else {
         panic!(rt; "more words than there is memory")
     };
-    let text = format!(in rt.alloc(); "{fault}")?;
-    same(&rt, &text.as_str(), &"no memory");
-    let (_, seats) = Marks::new(rt.alloc(), 0, 0)?;
-    assert!(rt; seats.is_empty());
-    Ok(())
+    prints(&rt, rt.alloc(), &fault, "no memory")
 }
 
 // Marks the number in the first slot.

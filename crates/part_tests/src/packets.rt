@@ -83,37 +83,6 @@ fn bytes_of(rt: &impl Abort, payload: Payload) -> Bytes {
     }
 }
 
-/// What partition, filter and class ask for, whether the packet is cancelled, its status, and whose routines are called.
-type Row = (Asked, Asked, Asked, bool, NtStatus, &'static [Driver]);
-
-const CLIMBS: [Row; 4] = [
-    (
-        ON_BOTH,
-        ON_BOTH,
-        ON_ERROR,
-        false,
-        NtStatus::Success,
-        &[Driver::Filter, Driver::Partition],
-    ),
-    (
-        ON_BOTH,
-        ON_BOTH,
-        ON_ERROR,
-        false,
-        NtStatus::IoDeviceError,
-        &[Driver::Class, Driver::Filter, Driver::Partition],
-    ),
-    (
-        NEVER,
-        NEVER,
-        ON_CANCEL,
-        true,
-        NtStatus::Success,
-        &[Driver::Class],
-    ),
-    (NEVER, NEVER, ON_CANCEL, false, NtStatus::Success, &[]),
-];
-
 /// Has a packet climb, and checks which routines it meets and how it ends.
 fn climbs(rt: &impl Abort, irp: Irp, status: NtStatus, called: &[Driver]) {
     let mut climb = complete(irp, status, 512);
@@ -132,31 +101,15 @@ fn climbs(rt: &impl Abort, irp: Irp, status: NtStatus, called: &[Driver]) {
 
 #[test]
 fn packets_climb_to_the_routines_that_ask(rt: HostRuntime) -> Result<(), Fail> {
-    for (partition, filter, class, cancelled, status, called) in CLIMBS {
-        let payload = Payload::Buffer(Bytes::new([0xA5, 0x5A].to_vec(rt.alloc())?));
-        let mut irp = packet_at_port(payload, partition, filter, class);
-        if cancelled {
-            irp.mark_cancelled();
-        }
-        climbs(&rt, irp, status, called);
-    }
+    let payload = Payload::Buffer(Bytes::new([0xA5, 0x5A].to_vec(rt.alloc())?));
+    let irp = packet_at_port(payload, ON_BOTH, ON_BOTH, ON_ERROR);
+    let all = [Driver::Class, Driver::Filter, Driver::Partition];
+    climbs(&rt, irp, NtStatus::IoDeviceError, &all);
+    let payload = Payload::Buffer(Bytes::new([0xA5, 0x5A].to_vec(rt.alloc())?));
+    let mut irp = packet_at_port(payload, NEVER, NEVER, ON_CANCEL);
+    irp.mark_cancelled();
+    climbs(&rt, irp, NtStatus::Success, &[Driver::Class]);
     Ok(())
-}
-
-#[test]
-fn a_packet_that_was_kept_completes_later(rt: HostRuntime) {
-    let payload = Payload::Buffer(Bytes::new(Vec::new(rt.alloc())));
-    let irp = packet_at_port(payload, ON_ERROR, NEVER, ON_BOTH);
-    let (reached, kept) = routine_of(&rt, complete(irp, NtStatus::Success, 512));
-    same(&rt, &reached, &Driver::Class);
-    same_at(
-        &rt,
-        &kept.locations.len(),
-        &3,
-        &"the class driver's own location is the last",
-    );
-    let (reached, _kept) = routine_of(&rt, complete(kept, NtStatus::DeviceBusy, 0));
-    same(&rt, &reached, &Driver::Partition);
 }
 
 #[test]

@@ -7,7 +7,6 @@ use crate::asked::{Form, assert_askable, packet_for};
 use crate::steps::{Step, Told, is_told, is_up, request_of};
 use device::{Device, Kind, Request, Shown};
 use irp::Driver;
-use ntstatus::NtStatus;
 use sector::Extent;
 use std::alloc::{AllocError, Global};
 use std::marker::Model;
@@ -22,7 +21,7 @@ pub(crate) struct Session<'a, D: Shown> {
     /// The next number to be given.
     next: u64,
     /// The spot of each packet's room, by the packet's number.
-    pub(crate) spots: [usize; 65],
+    spots: [usize; 65],
     pub(crate) paused: bool,
     pub(crate) removed: bool,
 }
@@ -181,71 +180,12 @@ impl<'a, D: Device> Session<'a, D> {
             && self.device.most() == most
     }
 
-    fn have_one_spot(&self, of: u64, other: u64) -> bool {
-        self.spots[(of % 65) as usize] == self.spots[(other % 65) as usize]
-    }
-
-    /// Has the piece on tag 0 come back busy this many times, and checks that it is sent again each time.
-    fn sends_again(&mut self, count: u8) -> bool {
-        for before in 0..count {
-            let piece = u128::from(before) + 1;
-            let labels = [Told::Busy(piece), Told::Starts(piece + 1, 0)];
-            if !(self.finish(0, true) && self.tells(&labels) && self.comes_up(&Step::NoneDone)) {
-                return false;
-            }
-        }
-        true
-    }
-
-    /// Checks that a read is started on tag 0, acts and comes up.
-    fn serves_one(&mut self, piece: u128, number: u128) -> bool {
-        self.tells(&[Told::Starts(piece, 0)])
-            && self.act(0, true)
-            && self.tells(&[Told::Acts(piece)])
-            && self.finish(0, true)
-            && self.tells(&[Told::Good(piece)])
-            && self.comes_up(&Step::Done(number, NtStatus::Success))
-    }
-
-    fn serves(&mut self, piece: u8, first: u8, count: u8) -> bool {
-        for n in 0..count {
-            let further = u128::from(n);
-            if !self.serves_one(u128::from(piece) + further, u128::from(first) + further) {
-                return false;
-            }
-        }
-        true
-    }
-
-    /// Sends four requests down, of which want of memory may turn one away.
-    fn submit_four(&mut self, rt: &impl Abort, alloc: Global, request: &Request, byte: u8) -> bool {
-        for _ in 0..4 {
-            let _ = self.submit(rt, alloc, request, byte);
-        }
-        self.next >= 4
-    }
-
-    fn submit_reads(
-        &mut self,
-        rt: &impl Abort,
-        alloc: Global,
-        count: u8,
-    ) -> Result<bool, AllocError> {
-        let read = request_of(0, Kind::Read, 0, 1);
-        for _ in 0..count {
-            self.submit(rt, alloc, &read, 0xA5)?;
-        }
-        Ok(true)
-    }
-
     /// Takes a step that ends packets or looks at what there is, and returns whether it answered what it must.
     fn ends(&mut self, step: &Step) -> bool {
         match step {
             Step::Cancel(number) => self.cancel(*number),
             Step::CancelAt(of, number) => self.cancel_at(*of, *number),
-            Step::HaveOneSpot(of, other) => self.have_one_spot(*of, *other),
             Step::Drain => self.drain(),
-            Step::FourthDone(_) => self.next < 5 || self.comes_up(step),
             Step::Sizes(volumes, sectors, longest, most) => {
                 self.has_sizes(*volumes, sectors, *longest, *most)
             }
@@ -261,8 +201,6 @@ impl<'a, D: Device> Session<'a, D> {
             Step::Reset(want) => self.reset() && self.tells(want),
             Step::Tells(want) => self.tells(want),
             Step::Forget => self.forget(),
-            Step::SendsAgain(count) => self.sends_again(*count),
-            Step::Serve(piece, first, count) => self.serves(*piece, *first, *count),
             step => self.ends(step),
         }
     }
@@ -280,11 +218,6 @@ impl<'a, D: Device> Session<'a, D> {
                 self.submit(rt, alloc, &request, *byte)?;
                 Ok(true)
             }
-            Step::SubmitFour(volume, kind, first, count, byte) => {
-                let request = request_of(*volume, *kind, *first, *count);
-                Ok(self.submit_four(rt, alloc, &request, *byte))
-            }
-            Step::SubmitReads(count) => self.submit_reads(rt, alloc, *count),
             Step::Reserve(volume, kind, first, count) => {
                 self.reserve(rt, &request_of(*volume, *kind, *first, *count))?;
                 Ok(true)

@@ -7,7 +7,6 @@ use sector::Extent;
 use srb::{Class, DeviceLabel};
 
 /// A label that the adapter recorded, by the number of its piece.
-#[derive(Clone, Copy)]
 pub(crate) enum Told<'a> {
     /// A start on this tag.
     Starts(u128, u8),
@@ -22,15 +21,12 @@ pub(crate) enum Told<'a> {
 }
 
 /// What is done, and what must follow. Where labels stand, just these are recorded.
-#[derive(Clone, Copy)]
 pub(crate) enum Step<'a> {
     /// The volumes, the sectors of the first three numbers, the longest request in sectors, and how many requests there
     /// may be.
     Sizes(u8, [u64; 3], u64, u128),
     /// A request goes down: its volume, its kind, its first sector, its number of sectors, and the byte of its data.
     Submit(u8, Kind, u64, u64, u8),
-    /// Four such requests, of which want of memory may turn one away.
-    SubmitFour(u8, Kind, u64, u64, u8),
     /// Room is made for such a request, and given back.
     Reserve(u8, Kind, u64, u64),
     /// The piece of a tag is carried out; without a label there is none that did nothing yet.
@@ -44,32 +40,17 @@ pub(crate) enum Step<'a> {
     Cancel(u64),
     /// The packet of the second number is cancelled at the spot of the first number's packet.
     CancelAt(u64, u64),
-    /// The packet of the first number and that of the second have the same spot.
-    HaveOneSpot(u64, u64),
     Drain,
     /// A packet comes up: its number and its status.
     Done(u128, NtStatus),
-    /// The fourth packet comes up with this status, if it was given.
-    FourthDone(NtStatus),
     /// A packet comes up that moved one sector for each byte, full of that byte.
     Moved(u128, NtStatus, &'a [u8]),
-    /// A packet comes up, and all its data are this byte.
-    Filled(u128, NtStatus, u8),
     /// No packet comes up.
     NoneDone,
-    /// The piece on tag 0 comes back busy this many times, first as piece 1, and is sent again each time.
-    SendsAgain(u8),
-    /// This many reads of the first sector go down.
-    SubmitReads(u8),
-    /// Reads are started, act and come up, one behind the other. The numbers are the first piece, the first packet, and
-    /// how many reads.
-    Serve(u8, u8, u8),
     /// This many packets are held.
     Holds(usize),
     Pause,
     Resume,
-    /// A cancel as in `CancelAt`, if the packet is held.
-    CancelHeld(u64, u64, bool),
 }
 
 /// A request of these sectors.
@@ -118,18 +99,12 @@ pub(crate) fn is_up(climb: Climb, takes_srb: bool, step: &Step) -> bool {
 fn is_done(irp: &Irp, takes_srb: bool, step: &Step) -> bool {
     match step {
         Step::Done(number, status) => irp.number == *number && irp.io_status.status == *status,
-        Step::FourthDone(status) => irp.number == 4 && irp.io_status.status == *status,
         Step::Moved(number, status, sectors) => {
             irp.number == *number
                 && irp.io_status.status == *status
                 && irp.io_status.information % 512 == 0
                 && irp.io_status.information / 512 == sectors.len() as u64
                 && are_sectors(bytes_of(&irp.payload, takes_srb), *status, sectors)
-        }
-        Step::Filled(number, status, byte) => {
-            irp.number == *number
-                && irp.io_status.status == *status
-                && bytes_of(&irp.payload, takes_srb).is_some_and(|bytes| is_full(bytes, *byte))
         }
         _ => false,
     }
