@@ -1,11 +1,11 @@
 -- An act on the sector is an event that may come, and any other act makes none; either leaves what a state shows of it in order.
-use Rattle.std.proofs.Common.{◌≡◌, ◌≢◌, ◌<◌, ◌≤◌, ◌⊎◌, inl, inr, ℕ, ◌+◌, ◌-◌, Bool, true, false, cond, List, [], ◌∷◌, Option, Some, None, refl, sym, ◌∙◌, ap, subst, arith, length, get_or, take, drop, length-take, length-drop}
+use Rattle.std.proofs.Common.{◌≡◌, ◌<◌, ◌≤◌, ◌⊎◌, inl, inr, ℕ, ◌+◌, ◌-◌, Bool, true, false, cond, List, [], ◌∷◌, Option, Some, None, refl, sym, ◌∙◌, ap, subst, arith, length, get_or, take, drop, length-take, length-drop}
 use Rattle.std.specs.Prelude.{IsNone, IsTrue, IsPermutation, All, Contains, is_none, unwrap_or, slice_get, slice_range, count_by}
 use Rattle.std.specs.List.{remove}
 use Rattle.std.proofs.lemmas.Bool.{cases_lt, cases_eq}
 use Rattle.std.proofs.lemmas.List.{get_or_default, get_or-take, get_or-drop}
 use Rattle.std.proofs.lemmas.List.Sums.{sum_by-cons}
-use Rattle.std.proofs.lemmas.List.Sorted.{IsPermutation-sym, IsPermutation-remove, All-permutation, Contains-permutation}
+use Rattle.std.proofs.lemmas.List.Sorted.{IsPermutation-remove, All-permutation, Contains-permutation}
 use Rattle.std.proofs.lemmas.List.Elements.{All-nil, All-head, All-tail, All-cons, All-contains, Contains-get_or}
 use Rattle.std.proofs.lemmas.Option.{slice_get-get_or}
 use Rattle.sector.specs.declared.Extent.{Extent}
@@ -25,7 +25,7 @@ use Rattle.machine.proofs.Placed.{covers_inside, first_alone, IsCovered-permutat
 use Rattle.machine_laws.specs.Sectors.{sector_at, bytes_for}
 use Rattle.machine_laws.proofs.Acted.{moves_faithfully}
 use Rattle.machine_laws.proofs.Chunks.{chunk, concat_chunk, range_chunk}
-use Rattle.machine_laws.proofs.Sectors.{bytes_are, Hits, act_writes, act_sector}
+use Rattle.machine_laws.proofs.Sectors.{bytes_are, act_writes, act_sector}
 use Rattle.machine_laws.proofs.Serving.{act_inside}
 use Rattle.machine_laws.proofs.Sound.{Anything, nothing, IsSound}
 use Rattle.history_laws.specs.Schedules.{Event, Effect, value_after, IsAt, IsNoEffect, Moves, TakesEffect}

@@ -1,5 +1,5 @@
 -- A call is an event, and leaves what a state shows of a sector in order.
-use Rattle.std.proofs.Common.{◌≡◌, ◌≢◌, ◌<◌, ◌≤◌, inl, inr, ℕ, ◌+◌, ◌/◌, ◌==◌, ◌&&◌, Bool, true, false, not, List, [], ◌∷◌, Option, Some, None, refl, sym, ◌∙◌, ap, subst, arith, length, get_or, replicate}
+use Rattle.std.proofs.Common.{◌≡◌, ◌<◌, ℕ, ◌+◌, ◌/◌, ◌==◌, ◌&&◌, Bool, true, false, not, List, [], ◌∷◌, Option, Some, None, refl, sym, ◌∙◌, ap, subst, arith, length, get_or, replicate}
 use Rattle.std.specs.Prelude.{IsNone, All, is_none, if◌then◌else◌}
 use Rattle.std.proofs.Math.Nat.{zero-div}
 use Rattle.std.proofs.lemmas.Bool.{not-false, and_parts, eqb-true}
@@ -16,11 +16,10 @@ use Rattle.machine.specs.declared.Label.TheVariants.{Call}
 use Rattle.machine.specs.Rules.{Rules, is_transfer, is_in_bounds, place_count}
 use Rattle.machine.specs.State.{Untouched, OpenRequest, Piece, State}
 use Rattle.machine.specs.Calling.{refusal, is_full, new_request, Admits, Calls}
-use Rattle.machine.specs.Numbers.{IsGiven, AreDistinct}
+use Rattle.machine.specs.Numbers.{IsGiven}
 use Rattle.machine.proofs.Places.{IsTakenIn, taken_in}
 use Rattle.machine_laws.specs.EndLaws.{HasOtherNumber}
-use Rattle.machine_laws.proofs.Serving.{PieceFits}
-use Rattle.machine_laws.proofs.Sound.{Anything, IsSound}
+use Rattle.machine_laws.proofs.Sound.{IsSound}
 use Rattle.history_laws.specs.Schedules.{Event, Seen, IsAt, IsNoAnswer, IsNoEffect, IsOpen}
 use Rattle.history_laws.proofs.Mirroring.{IsMarkFor, IsMirrored, IsFateOf, IsFollowed, IsBelow, Mirrors, Mirrors-same, newest, below_more, below_no_answer, below_no_effect, requests_seen, pieces_seen, none_owed}
 

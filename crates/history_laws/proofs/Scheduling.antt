@@ -10,14 +10,14 @@ use Rattle.machine.specs.Rules.{Rules}
 use Rattle.machine.specs.State.{State, opening}
 use Rattle.machine.specs.Sending.{array_at}
 use Rattle.machine.specs.Pieces.{ArePlaced}
-use Rattle.machine.specs.Step.{Step, Run}
+use Rattle.machine.specs.Step.{Run}
 use Rattle.machine.proofs.Placed.{ArePlaced-opening, ArePlaced-Step}
 use Rattle.machine_laws.specs.Reached.{AreWhole}
 use Rattle.machine_laws.specs.NumberLaws.{AreFrom, call_numbers}
 use Rattle.machine_laws.proofs.Awaiting.{calls_rise}
 use Rattle.machine_laws.proofs.Sound.{IsSound, IsSound-Step, IsSound-opening}
-use Rattle.history_laws.specs.History.{history_of, IsOfService, of_service, IsExplained}
-use Rattle.history_laws.specs.Schedules.{Event, Seen, Effect, labels_of, value_after, IsAt, TakesEffect, TookEffect, IsAnswer, MayFollow, IsScheduled}
+use Rattle.history_laws.specs.History.{history_of, IsOfService, of_service}
+use Rattle.history_laws.specs.Schedules.{Event, Seen, Effect, labels_of, IsAt, TookEffect, IsAnswer, MayFollow}
 use Rattle.history_laws.specs.Laws.{ExplainedAreScheduled, ExplainedAreNumbered}
 use Rattle.history_laws.proofs.Mirroring.{IsMirrored, IsFollowed, IsBelow, Mirrors}
 use Rattle.history_laws.proofs.Sending.{Mirrors-Starts, Mirrors-Faults, Mirrors-Returns, Mirrors-Cancels}

@@ -1,5 +1,5 @@
 -- Starts, faults, returns and cancels make no event, and keep what a state shows of a sector.
-use Rattle.std.proofs.Common.{◌≡◌, ◌≢◌, ◌<◌, ◌≤◌, ℕ, ◌+◌, ◌-◌, List, [], ◌∷◌, sym, ◌∙◌, ap, subst, arith, map, length, get_or, take, drop, replicate, length-take, length-drop}
+use Rattle.std.proofs.Common.{◌≡◌, ◌≢◌, ◌<◌, ◌≤◌, ℕ, ◌+◌, ◌-◌, List, [], ◌∷◌, ◌∙◌, ap, subst, arith, length, get_or, take, drop, replicate, length-take, length-drop}
 use Rattle.std.specs.Prelude.{IsNone, IsPermutation, All, slice_range}
 use Rattle.std.proofs.lemmas.List.{length-map, length-replicate, get_or-map, get_or-replicate, get_or-take, get_or-drop}
 use Rattle.std.proofs.lemmas.List.Sorted.{All-permutation}
@@ -15,7 +15,7 @@ use Rattle.machine.specs.Sending.{IsUnsent, Starts, Faults, LeavesMarks, Returns
 use Rattle.machine.specs.Holding.{Cancels, as_cancelled}
 use Rattle.machine.specs.Numbers.{request_number, AreDistinct}
 use Rattle.machine.proofs.Permuting.{All-changed, distinct_first}
-use Rattle.machine_laws.proofs.Serving.{Fills, HoldsPlaces, PieceFits, IsSized, leaves_right}
+use Rattle.machine_laws.proofs.Serving.{HoldsPlaces, PieceFits, IsSized, leaves_right}
 use Rattle.machine_laws.proofs.Sound.{Anything, IsSound}
 use Rattle.history_laws.specs.Schedules.{Event, IsAt, IsNoEffect}
 use Rattle.history_laws.proofs.Mirroring.{IsMarkFor, IsFateFor, IsMirrored, IsFateOf, IsFollowed, Mirrors, Mirrors-same, with_requests}

@@ -1,16 +1,14 @@
 -- A schedule holds where calls are seen earlier and answers later.
-use Rattle.std.proofs.Common.{◌≡◌, ◌≢◌, ◌<◌, ℕ, zero, suc, ◌+◌, List, [], ◌∷◌, ◌++◌, refl, sym, ◌∙◌, ap, subst, arith, length}
+use Rattle.std.proofs.Common.{◌≡◌, ℕ, zero, suc, List, [], ◌∷◌, ◌++◌, refl, sym, ◌∙◌, ap, subst, arith}
 use Rattle.std.specs.Prelude.{All, Contains}
 use Rattle.std.proofs.lemmas.List.Elements.{All-head, All-tail, All-cons}
 use Rattle.ntstatus.specs.declared.NtStatus.{NtStatus}
-use Rattle.ntstatus.specs.declared.NtStatus.TheVariants.{Success}
-use Rattle.srb.specs.declared.Kind.{Kind}
 use Rattle.machine.specs.declared.ClientRequest.{ClientRequest}
 use Rattle.machine.specs.declared.Label.{Label}
 use Rattle.machine.specs.declared.Label.TheVariants.{Call, Device, Answer, Cancel, Pause, Resume, Remove, Surprise, Removed}
 use Rattle.machine.specs.Rules.{Rules}
 use Rattle.machine_laws.specs.NumberLaws.{IsNoAnswerOf}
-use Rattle.history_laws.specs.Schedules.{Event, Seen, Effect, labels_of, value_after, IsAt, IsNoAnswer, IsNoEffect, IsOpen, Moves, TakesEffect, TookEffect, IsAnswer, May, MayFollow, IsScheduled}
+use Rattle.history_laws.specs.Schedules.{Event, Seen, Effect, labels_of, value_after, IsNoAnswer, IsNoEffect, Moves, TookEffect, IsAnswer, May, MayFollow}
 use Rattle.history_laws.specs.Widening.{CallsMoveUp, AnswersMoveDown}
 use Rattle.history_laws.proofs.Mirroring.{further}
 

@@ -1,7 +1,7 @@
 -- What the clients of a service saw, and what explains it.
 use Rattle.std.specs.Prelude.{◌≡◌, ℕ, true, false, List, [], ◌∷◌, Option, None, All}
 use Rattle.machine.specs.declared.Label.{Label}
-use Rattle.machine.specs.declared.Label.TheVariants.{Call, Device, Answer, Cancel, Pause, Resume, Remove, Surprise, Removed}
+use Rattle.machine.specs.declared.Label.TheVariants.{Call, Device, Answer, Cancel}
 use Rattle.machine.specs.Rules.{Rules}
 use Rattle.machine.specs.State.{State, opening}
 use Rattle.machine.specs.Step.{Run}

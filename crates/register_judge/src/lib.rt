@@ -1,0 +1,44 @@
+//! A judge of one register: it says of what was seen of it, calls and answers, whether some schedule explains them.
+//!
+//! `judge` passes only what some schedule explains, and refuses only what none does (`right`): `Refused` tells how many of
+//! the sights suffice for that. It keeps each state that the register may have, and gives up at too many (`Undecided`).
+#![tactic(auto)]
+
+mod keeping;
+mod states;
+#[cfg(test)]
+mod tests;
+
+ghost use Rattle.std.specs.Prelude.{IfOk};
+ghost use Rattle.register_judge.specs.Verdicts.{IsRight};
+
+use keeping::Register;
+use register::Sight;
+use std::alloc::{AllocError, Global};
+
+/// What the judge says of some sights.
+#[derive(Debug, Clone, Copy, PartialEq, Eq)]
+pub enum Verdict {
+    /// Some schedule explains them.
+    Passed,
+    /// The first so many have no schedule.
+    Refused { sights: usize },
+    /// Too many operations are open, the register may have too many states, numbers don't rise, or what isn't open ends.
+    Undecided,
+}
+
+/// Judges what was seen of a register that had this value at the start.
+pub fn judge(alloc: Global, start: u64, sights: &[Sight]) -> Result<Verdict, AllocError>
+    ensures right { IfOk result (λ verdict. IsRight start sights.now verdict) }
+{
+    let mut register = Register::new(alloc, start)?;
+    for (index, sight) in sights.iter().enumerate() {
+        if !register.see(alloc, sight)? {
+            return Ok(Verdict::Undecided);
+        }
+        if register.has_none() {
+            return Ok(Verdict::Refused { sights: index + 1 });
+        }
+    }
+    Ok(Verdict::Passed)
+}
