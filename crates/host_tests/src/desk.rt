@@ -4,11 +4,10 @@ ghost use Rattle.std.specs.Prelude.{◌≡◌, ◌≤◌, ◌∷◌, [], ◌+◌
 ghost use Rattle.host.specs.Clients.{AreNumbered};
 ghost use Rattle.host.specs.Opening.{IsDiskFor};
 
-use crate::bench::Bench;
-use crate::disks::TWO;
-use crate::expect::{same, same_at};
+use crate::expect::same;
 use crate::opening::{Ready, open_host};
-use crate::replaying::replay;
+use crate::orders::{client_of, order_of, tag_of};
+use crate::replaying::{compare_acts, compare_rows, places_of, replay};
 use crate::texts;
 use crate::user::{Deed, User};
 use compose::{Refusal as Why, Reply};
@@ -16,30 +15,32 @@ use disk::Medium;
 use host::{Client, Closed, Host, Keeper, Naming};
 use lanes::{Desk, Step};
 use machine::Label;
-use sector_journal::Entered;
-use srb::DeviceLabel;
+use script::Order;
+use sector_journal::{OfArmings, OfEntries};
 use std::alloc::{AllocError, Global};
 use std::process::Abort;
 use std::sync::Wait;
 use traced::TraceEntry;
 
-/// What is asked of a host itself.
-#[derive(Debug, Clone, Copy)]
-pub(crate) enum Drive {
-    Act(u8),
-    Finish(u8),
-    Reset,
-    QueryRemove,
-    CancelRemove,
-    Remove,
-    SurpriseRemove,
+/// A host, with what each call of it is passed.
+#[derive(Drop)]
+pub(crate) struct Bench<'a, M: Medium, N: Naming, R>
+where
+    OfArmings<N>: chronicle::Naming,
+    OfEntries<N>: chronicle::Naming,
+{
+    pub rt: &'a R,
+    pub alloc: Global,
+    pub host: &'a Host<M, N>,
 }
 
 /// One row of a test, with its outcome.
-#[derive(Debug, Clone, Copy)]
+#[derive(Clone, Copy)]
 pub(crate) enum Row<'a> {
+    /// A line of a script. Client 0 has handle 1, and client 1 handle 2.
+    Line(&'a str, &'a str),
+    /// What a client does.
     By(usize, Deed, &'a str),
-    Host(Drive, &'a str),
     /// A tag's lane does what it has to do.
     Lane(u8, Step),
 }
@@ -51,50 +52,42 @@ struct Users<N: Naming> {
     second: User<N>,
 }
 
-/// What is wanted of a client: the places of its calls, of the answers that it was told of, and of its row.
-#[derive(Debug, Clone, Copy)]
-pub(crate) struct Part<'a> {
-    pub calls: &'a [usize],
-    pub answers: &'a [usize],
-    pub row: &'a [usize],
-}
-
-/// What is wanted of a test.
-#[derive(Debug, Clone, Copy)]
+/// The rows of a test, and the whole trace.
+#[derive(Clone, Copy)]
 pub(crate) struct Run<'a> {
     pub rows: &'a [Row<'a>],
     pub trace: &'a str,
-    pub first: Part<'a>,
-    pub second: Part<'a>,
 }
 
+/// What a client told of itself: its number, and the places of its calls and of the answers that it was told of.
+type Told = (usize, Vec<usize>, Vec<usize>);
+
 // Takes a step that is no client's.
-fn step<M: Medium, N: Naming, R: Wait>(
+fn step<M: Medium, N: Naming, R: Wait + Abort>(
     rt: &R,
     host: &Host<M, N>,
     keeper: &mut Keeper<N>,
-    drive: Drive,
+    order: Order,
 ) -> Reply {
-    match drive {
-        Drive::Act(tag) => host.act(rt, tag),
-        Drive::Finish(tag) => host.finish(rt, tag),
-        Drive::Reset => host.reset(rt),
-        Drive::QueryRemove => host.query_remove(rt, keeper),
-        Drive::CancelRemove => host.cancel_remove(rt, keeper),
-        Drive::Remove => host.remove(rt, keeper),
-        Drive::SurpriseRemove => host.surprise_remove(rt, keeper),
+    match order {
+        Order::Act { tag } => host.act(rt, tag_of(tag)),
+        Order::Finish { tag } => host.finish(rt, tag_of(tag)),
+        Order::Reset => host.reset(rt),
+        Order::QueryRemove => host.query_remove(rt, keeper),
+        Order::CancelRemove => host.cancel_remove(rt, keeper),
+        Order::Remove => host.remove(rt, keeper),
+        Order::SurpriseRemove => host.surprise_remove(rt, keeper),
+        _ => panic!(rt; "no step of a host"),
     }
 }
 
-// Takes a step that is no client's, and checks its reply.
-fn go<M: Medium, N: Naming, R: Wait + Abort>(
+// Takes such a step, and returns its reply as text.
+fn drive<M: Medium, N: Naming, R: Wait + Abort>(
     bench: &Bench<M, N, R>,
     keeper: &mut Keeper<N>,
-    drive: Drive,
-    want: &str,
-) -> Result<(), AllocError> {
-    let (rt, alloc) = (bench.rt, bench.alloc);
-    let reply = step(rt, bench.host, keeper, drive);
+    order: Order,
+) -> Result<String, AllocError> {
+    let reply = step(bench.rt, bench.host, keeper, order);
     if let Reply::Refused {
         refusal: Why::InsufficientResources,
         ..
@@ -102,8 +95,7 @@ fn go<M: Medium, N: Naming, R: Wait + Abort>(
     {
         return Err(AllocError);
     }
-    same_at(rt, &texts::reply(alloc, &reply)?.as_str(), &want, &drive);
-    Ok(())
+    texts::reply(bench.alloc, &reply)
 }
 
 // Takes a lane's step.
@@ -119,26 +111,68 @@ fn serve<D: Desk, R: Wait + Abort>(rt: &R, desk: &D, tag: u8, want: Step) {
     }
 }
 
-// Carries the rows of a test out one by one.
+// Has a client do something.
+fn act<M: Medium, N: Naming, R: Wait + Abort>(
+    bench: &Bench<M, N, R>,
+    users: &mut Users<N>,
+    client: usize,
+    deed: Deed,
+) -> Result<String, AllocError>
+    ensures first { users.new.first.client ≡ users.old.first.client }
+    ensures second { users.new.second.client ≡ users.old.second.client }
+{
+    if client == 0 {
+        users.first.act(bench, deed)
+    } else {
+        users.second.act(bench, deed)
+    }
+}
+
+// Carries a row out, and checks its outcome.
+fn go<M: Medium, N: Naming, R: Wait + Abort>(
+    bench: &Bench<M, N, R>,
+    keeper: &mut Keeper<N>,
+    users: &mut Users<N>,
+    row: Row<'_>,
+) -> Result<(), AllocError>
+    ensures first { users.new.first.client ≡ users.old.first.client }
+    ensures second { users.new.second.client ≡ users.old.second.client }
+{
+    let (text, want) = match row {
+        Row::Line(line, want) => {
+            let order = order_of(bench.rt, bench.alloc, line)?;
+            match client_of(order) {
+                Some(client) => (act(bench, users, client, Deed::Call(order))?, want),
+                None => (drive(bench, keeper, order)?, want),
+            }
+        }
+        Row::By(client, deed, want) => (act(bench, users, client, deed)?, want),
+        Row::Lane(tag, want) => {
+            serve(bench.rt, bench.host, tag, want);
+            return Ok(());
+        }
+    };
+    same(bench.rt, &text.as_str(), &want);
+    Ok(())
+}
+
+// Carries the rows of a test out one by one. Returns what both clients were told.
 fn play<M: Medium, N: Naming, R: Wait + Abort>(
     bench: &Bench<M, N, R>,
     keeper: &mut Keeper<N>,
     users: &mut Users<N>,
     rows: &[Row],
-) -> Result<(), AllocError>
+) -> Result<[Told; 2], AllocError>
     ensures first { users.new.first.client ≡ users.old.first.client }
     ensures second { users.new.second.client ≡ users.old.second.client }
 {
-    let (rt, alloc, host) = (bench.rt, bench.alloc, bench.host);
     for row in rows {
-        match *row {
-            Row::By(0, deed, want) => users.first.go(rt, alloc, host, deed, want)?,
-            Row::By(_, deed, want) => users.second.go(rt, alloc, host, deed, want)?,
-            Row::Host(drive, want) => go(bench, keeper, drive, want)?,
-            Row::Lane(tag, want) => serve(rt, host, tag, want),
-        }
+        go(bench, keeper, users, *row)?;
     }
-    Ok(())
+    Ok([
+        users.first.told(bench.alloc)?,
+        users.second.told(bench.alloc)?,
+    ])
 }
 
 /// Two clients, in order.
@@ -154,26 +188,6 @@ pub(crate) fn two_of<N: Naming>(rt: &impl Abort, clients: Vec<Client<N>>) -> (Cl
         (Some(first), Some(second)) => (first, second),
         _ => panic!(rt; "not two clients"),
     }
-}
-
-// Carries the rows of a test out, and checks that both clients were told what is wanted.
-fn play_and_compare<M: Medium, N: Naming, R: Wait + Abort>(
-    bench: &Bench<M, N, R>,
-    keeper: &mut Keeper<N>,
-    users: &mut Users<N>,
-    run: &Run,
-) -> Result<(), AllocError>
-    ensures first { users.new.first.client ≡ users.old.first.client }
-    ensures second { users.new.second.client ≡ users.old.second.client }
-{
-    play(bench, keeper, users, run.rows)?;
-    users
-        .first
-        .compare(bench.rt, 0, run.first.calls, run.first.answers);
-    users
-        .second
-        .compare(bench.rt, 1, run.second.calls, run.second.answers);
-    Ok(())
 }
 
 /// Both clients, at places that were made for them.
@@ -198,9 +212,9 @@ fn play_by_two<M: Medium, N: Naming, R: Wait + Abort>(
     keeper: &mut Keeper<N>,
     clients: Vec<Client<N>>,
     run: &Run,
-) -> Result<Vec<Client<N>>, AllocError>
+) -> Result<(Vec<Client<N>>, [Told; 2]), AllocError>
     requires two { AreNumbered 2 clients.items }
-    ensures two { IfOk result (λ back. AreNumbered 2 back.items) }
+    ensures two { IfOk result (λ r. AreNumbered 2 r.0.items) }
 {
     let back = Vec::with_capacity(bench.alloc, 2)?;
     let (first, second) = two_of(bench.rt, clients);
@@ -208,11 +222,10 @@ fn play_by_two<M: Medium, N: Naming, R: Wait + Abort>(
         first: User::new(first),
         second: User::new(second),
     };
-    let played = play_and_compare(bench, keeper, &mut users, run);
+    let played = play(bench, keeper, &mut users, run.rows);
     let Users { first, second } = users;
     let back = given_back(back, first.into_client(), second.into_client());
-    played?;
-    Ok(back)
+    Ok((back, played?))
 }
 
 // Plays the rows on a host of two clients, and closes it.
@@ -221,7 +234,7 @@ fn play_and_close<M: Medium, N: Naming, R: Wait + Abort>(
     alloc: Global,
     ready: Ready<M>,
     run: &Run,
-) -> Result<(Closed<N>, M), AllocError>
+) -> Result<(Closed<N>, M, [Told; 2]), AllocError>
     requires named { ready.opened ≡ record { rules = N.rules; opening = N.start; partitions = N.partitions; handles = N.handles; marks = N.marks; slots = N.slots; table = N.table; name = N.name; parts = N.parts; gate = N.gate } }
     requires histories { ready.histories ≡ record { armings = N.armings; entries = N.entries } }
     requires sectors { (M.view ready.medium).sectors ≡ N.opening }
@@ -237,23 +250,30 @@ fn play_and_close<M: Medium, N: Naming, R: Wait + Abort>(
         alloc,
         host: &host,
     };
-    let back = play_by_two(&bench, &mut keeper, clients, run)?;
-    Ok(host.close(keeper, back))
+    let (back, told) = play_by_two(&bench, &mut keeper, clients, run)?;
+    let (closed, medium) = host.close(keeper, back);
+    Ok((closed, medium, told))
 }
 
-/// The acts of a trace are of all entries, in order.
-pub(crate) fn compare_acts(rt: &impl Abort, trace: &[TraceEntry], entries: &[Entered]) {
-    let mut entries = entries.iter();
-    for entry in trace {
-        if let Label::Device(DeviceLabel::Act { piece, bytes }) = &entry.label {
-            let Some(entered) = entries.next() else {
-                panic!(rt; "more acts than entries")
-            };
-            assert!(rt; *piece == entered.entry.piece);
-            assert!(rt; bytes.as_slice() == entered.entry.bytes.as_slice());
+// The places of the calls in a trace that a client made, and of the answers to them.
+fn calls_and_answers(
+    alloc: Global,
+    trace: &[TraceEntry],
+    client: usize,
+) -> Result<Told, AllocError> {
+    let (mut calls, mut answers) = (Vec::new(alloc), Vec::new(alloc));
+    for place in places_of(alloc, trace, client)? {
+        match trace.get(place) {
+            Some(
+                TraceEntry {
+                    label: Label::Call { .. },
+                    ..
+                },
+            ) => calls.push(place)?,
+            _ => answers.push(place)?,
         }
     }
-    assert!(rt; entries.next().is_none(), "more entries than acts");
+    Ok((client, calls, answers))
 }
 
 /// A host of two clients carries the rows out.
@@ -271,25 +291,26 @@ pub(crate) fn carry_out<M: Medium, N: Naming, R: Wait + Abort>(
     requires partitions { length N.partitions ≡ 2 }
     requires parts { N.parts ≡ length N.partitions + 1 }
 {
-    let (closed, mut medium) = play_and_close::<M, N, R>(rt, alloc, ready, run)?;
+    let (closed, medium, told) = play_and_close::<M, N, R>(rt, alloc, ready, run)?;
     let Closed {
         trace,
         rows,
         entries,
         receipts: _,
     } = closed;
-    replay(rt, alloc, TWO, &mut medium, entries.as_slice())?;
+    replay(rt, alloc, medium, entries.as_slice())?;
     compare_acts(rt, trace.as_slice(), entries.as_slice());
     same(
         rt,
         &texts::trace(alloc, trace.as_slice())?.as_str(),
         &run.trace,
     );
-    let mut rows = rows;
-    let (Some(second), Some(first), None) = (rows.pop(), rows.pop(), rows.pop()) else {
-        panic!(rt; "not two rows")
-    };
-    assert!(rt; first.into_places().as_slice() == run.first.row);
-    assert!(rt; second.into_places().as_slice() == run.second.row);
-    Ok(())
+    for (client, told) in told.iter().enumerate() {
+        same(
+            rt,
+            told,
+            &calls_and_answers(alloc, trace.as_slice(), client)?,
+        );
+    }
+    compare_rows(rt, alloc, trace.as_slice(), rows)
 }

@@ -2,6 +2,7 @@
 
 ghost use Rattle.std.specs.Prelude.{◌≡◌, ◌≤◌, IfOk, IsFalse, Some};
 ghost use Rattle.machine.specs.Map.{IsMap};
+ghost use Rattle.machine.specs.State.{opening};
 ghost use Rattle.host.specs.Opening.{IsDiskFor};
 ghost use Rattle.probe.specs.Exchange.{IsIdle};
 ghost use Rattle.traced.specs.Opening.{IsNew};
@@ -15,42 +16,33 @@ use std::alloc::{AllocError, Global};
 use std::process::Abort;
 use traced::StackSizes;
 
-/// An entry of a table: its type, its first sector and the number of its sectors.
-pub(crate) type Entry = (u8, u32, u32);
-
 /// The sectors of every disk here.
-pub(crate) const SECTORS: u64 = 4096;
+const SECTORS: u64 = 4096;
 
-/// Sector 0 with these entries in its table. Entries have sixteen bytes each, from byte 446 on. The type of an entry is
-/// byte 4 of it, its first sector stands in the bytes from 8 on, and its count in those from 12 on, the lowest byte
-/// first.
-pub(crate) fn sector_0(entries: &[Entry]) -> [u8; 512] {
+/// Sector 0 with a table of two partitions, of the sectors 2,048 to 3,071 and 3,072 to 4,095. Entries have sixteen bytes
+/// each, from byte 446 on. The type of an entry is byte 4 of it, its first sector stands in the bytes from 8 on, and its
+/// count in those from 12 on, the lowest byte first.
+fn sector_0() -> [u8; 512] {
     let mut bytes = [0; 512];
-    for n in 0..4_usize {
-        if let Some((kind, first, count)) = entries.get(n) {
-            let entry = 446 + 16 * n;
-            bytes[entry + 4] = *kind;
-            bytes[entry + 8..entry + 12].copy_from_slice(&first.to_le_bytes());
-            bytes[entry + 12..entry + 16].copy_from_slice(&count.to_le_bytes());
-        }
+    for n in 0..2_u32 {
+        let entry = 446 + 16 * n as usize;
+        bytes[entry + 4] = 7;
+        bytes[entry + 8..entry + 12].copy_from_slice(&(2048 + 1024 * n).to_le_bytes());
+        bytes[entry + 12..entry + 16].copy_from_slice(&1024_u32.to_le_bytes());
     }
     bytes[510] = 0x55;
     bytes[511] = 0xAA;
     bytes
 }
 
-/// Two partitions, of the sectors 2,048 to 3,071 and 3,072 to 4,095.
-pub(crate) const TWO: &[Entry] = &[(7, 2048, 1024), (7, 3072, 1024)];
-
 fn no_memory(_refused: NoMemory) -> AllocError {
     AllocError
 }
 
-/// A disk with this table.
-pub(crate) fn disk(alloc: Global, table: &[Entry]) -> Result<VecDisk, AllocError> {
-    VecDisk::starting_with(alloc, 512, SECTORS, &sector_0(table), Vec::new(alloc)).map_err(
-        no_memory,
-    )
+/// A disk of two partitions, in which the sectors of the list are bad.
+pub(crate) fn disk(alloc: Global, bad: &[u64]) -> Result<VecDisk, AllocError> {
+    let bad = Vec::from_slice(alloc, bad)?;
+    VecDisk::starting_with(alloc, 512, SECTORS, &sector_0(), bad).map_err(no_memory)
 }
 
 /// An adapter of this many tags without sectors, which moves 64 at most.
@@ -60,7 +52,7 @@ fn adapter(alloc: Global, depth: u8) -> Result<BookedAdapter, AllocError>
     ensures idle { IfOk result (λ a. IsIdle a.shown) }
     ensures unasked { IfOk result (λ a. a.shown.accepted ≡ 0) }
 {
-    let first = Vec::from_slice(alloc, &sector_0(TWO))?;
+    let first = Vec::from_slice(alloc, &sector_0())?;
     BookedAdapter::new(alloc, first, SECTORS, 64, depth).map_err(no_memory)
 }
 
@@ -75,6 +67,7 @@ fn start_over<A: Adapter>(
     requires idle { IsIdle (A.view adapter) }
     requires unasked { (A.view adapter).accepted ≡ 0 }
     ensures new { IfOk result (λ r. IsNew r.0) }
+    ensures opens { IfOk result (λ r. r.0.state ≡ opening r.0.state.arrays) }
     ensures apart { IfOk result (λ r. IsFalse r.0.adapter.faithful) }
     ensures sizes { IfOk result (λ r. (r.1 ≡ sizes_of r.0.rules) × AreSizes r.1) }
     ensures slots { IfOk result (λ r. r.0.rules.open_requests ≡ Some 64) }
@@ -109,6 +102,7 @@ pub(crate) fn start(
     requires deep { 1 ≤ depth }
     requires shallow { depth ≤ 32 }
     ensures new { IfOk result (λ r. IsNew r.0) }
+    ensures opens { IfOk result (λ r. r.0.state ≡ opening r.0.state.arrays) }
     ensures apart { IfOk result (λ r. IsFalse r.0.adapter.faithful) }
     ensures sizes { IfOk result (λ r. (r.1 ≡ sizes_of r.0.rules) × AreSizes r.1) }
     ensures slots { IfOk result (λ r. r.0.rules.open_requests ≡ Some 64) }

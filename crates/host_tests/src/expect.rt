@@ -7,13 +7,3 @@ use std::process::Abort;
 pub(crate) fn same<T: PartialEq + Debug>(rt: &impl Abort, got: &T, wanted: &T) {
     assert_eq!(rt; got, wanted);
 }
-
-/// Compares as `same` does, and names the case.
-pub(crate) fn same_at<T: PartialEq + Debug>(
-    rt: &impl Abort,
-    got: &T,
-    wanted: &T,
-    case: &impl Debug,
-) {
-    assert_eq!(rt; got, wanted, "at {case:?}");
-}

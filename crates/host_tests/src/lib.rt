@@ -1,10 +1,13 @@
-//! Tests of a host over two locks: in one thread, and with lanes of its own.
+//! Tests of a book beside its journal, and of a host over both: in one thread, and with lanes of its own. The traces that
+//! they make are worked by hand.
 #![tactic(auto)]
 
 #[cfg(test)]
-mod bench;
-#[cfg(test)]
 mod beside;
+#[cfg(test)]
+mod book_desk;
+#[cfg(test)]
+mod book_rows;
 #[cfg(test)]
 mod desk;
 #[cfg(test)]
@@ -12,13 +15,13 @@ mod disks;
 #[cfg(test)]
 mod expect;
 #[cfg(test)]
-mod full_queue;
-#[cfg(test)]
 mod holding;
+#[cfg(test)]
+mod opened;
 #[cfg(test)]
 mod opening;
 #[cfg(test)]
-mod replayed;
+mod orders;
 #[cfg(test)]
 mod replaying;
 #[cfg(test)]

@@ -5,37 +5,25 @@ ghost use Rattle.lanes.specs.Queue.{issued};
 ghost use Rattle.host.specs.Clients.{AreNumbered};
 ghost use Rattle.host.specs.Opening.{IsDiskFor};
 
-use crate::bench::Bench;
-use crate::beside::Open;
-use crate::desk::{compare_acts, given_back, two_of};
-use crate::disks::TWO;
+use crate::beside::{Scene, play};
+use crate::desk::{Bench, given_back, two_of};
+use crate::expect::same;
+use crate::holding::Holding;
 use crate::opening::{Ready, open_host};
-use crate::replaying::replay;
+use crate::replaying::{compare_acts, replay};
 use crate::texts;
 use disk::Medium;
 use host::{Client, Closed, Host, Keeper, Naming};
-use lanes::{Completions, Pass, Turnstile};
+use lanes::{Completions, Desk, Pass, Step, Turnstile, Woken};
 use rounds::{Lanes, remove, start_lanes};
-use sector_journal::Entered;
+use sector_journal::{OfArmings, OfEntries};
 use std::alloc::{AllocError, Global};
 use std::process::Abort;
 use std::sync::Wait;
 use std::thread;
 use std::thread::Threads;
-
-/// What two clients do while lanes serve them, and what they see.
-pub(crate) trait Scene {
-    ghost use Rattle.std.specs.Prelude.{◌≡◌};
-
-    fn play<M: Medium, N: Naming, R: Wait>(
-        &self,
-        bench: &Bench<M, N, R>,
-        first: &mut Client<N>,
-        second: &mut Client<N>,
-    ) -> Result<String, AllocError>
-        ensures first { first.new.client ≡ first.old.client }
-        ensures second { second.new.client ≡ second.old.client };
-}
+use std::time::Clock;
+use traced::TraceEntry;
 
 /// The keeper of a host and both its clients.
 #[derive(Drop)]
@@ -45,11 +33,75 @@ struct Company<N: Naming> {
     second: Client<N>,
 }
 
-/// A scene, and the turnstile that its lanes pass.
+/// What is held of a thread that comes to a turnstile.
+#[derive(Clone, Copy)]
+pub(crate) enum Held {
+    Nobody,
+    Tag0,
+    Anyone,
+}
+
+/// A turnstile that holds the first thread that it is to hold.
 #[derive(Drop)]
-pub(crate) struct Setting<'a, S, T> {
-    pub scene: &'a S,
-    pub turnstile: &'a T,
+struct Gate<'a, C: Clock> {
+    holding: &'a Holding<'a, C>,
+    held: Held,
+}
+
+impl<'a, C: Clock> Turnstile for Gate<'a, C> {
+    fn pass<R: Wait>(&self, rt: &R, tag: u8) {
+        match self.held {
+            Held::Anyone => self.holding.hold(rt),
+            Held::Tag0 if tag == 0 => self.holding.hold(rt),
+            _ => {}
+        }
+    }
+}
+
+/// A scene, where its threads are held, and who is held there: of the lanes, and of the worker.
+#[derive(Drop)]
+pub(crate) struct Setting<'a, C: Clock> {
+    pub scene: Scene,
+    pub holding: &'a Holding<'a, C>,
+    pub at_lanes: Held,
+    pub at_worker: Held,
+}
+
+/// A host as the desk of its lanes and of a worker, where a finish lets the worker go if it is held.
+#[derive(Drop)]
+struct LetsGo<'a, 'b, M: Medium, N: Naming, C: Clock>
+where
+    OfArmings<N>: chronicle::Naming,
+    OfEntries<N>: chronicle::Naming,
+{
+    host: &'a Host<M, N>,
+    holding: &'b Holding<'b, C>,
+    at_worker: Held,
+}
+
+impl<'a, 'b, M: Medium, N: Naming, C: Clock> Desk for LetsGo<'a, 'b, M, N, C> {
+    fn next<R: Wait>(&self, rt: &R, tag: u8) -> Step {
+        Desk::next(self.host, rt, tag)
+    }
+
+    fn act<R: Wait>(&self, rt: &R, tag: u8) {
+        Desk::act(self.host, rt, tag);
+    }
+
+    fn finish<R: Wait>(&self, rt: &R, tag: u8) {
+        Desk::finish(self.host, rt, tag);
+        if let Held::Anyone = self.at_worker {
+            self.holding.let_go(rt);
+        }
+    }
+
+    fn ring<R: Wait>(&self, rt: &R) {
+        Desk::ring(self.host, rt);
+    }
+
+    fn rest<R: Wait>(&self, rt: &R, heard: u64) -> Woken {
+        Desk::rest(self.host, rt, heard)
+    }
 }
 
 /// The queue from the lanes to the worker, with the passes of both.
@@ -58,83 +110,95 @@ struct Queue<'a> {
     passes: Vec<Pass>,
 }
 
-// Plays the scene, and removes the device.
-fn play_and_remove<M: Medium, N: Naming, S: Scene, R: Wait>(
+// Plays the scene, and removes the device. Nobody is held any more then.
+fn play_and_remove<M: Medium, N: Naming, R: Wait, C: Clock>(
     bench: &Bench<M, N, R>,
     company: &mut Company<N>,
-    scene: &S,
+    setting: &Setting<'_, C>,
     has_lanes: bool,
 ) -> Result<String, AllocError>
     ensures first { company.new.first.client ≡ company.old.first.client }
     ensures second { company.new.second.client ≡ company.old.second.client }
 {
     let seen = if has_lanes {
-        scene.play(bench, &mut company.first, &mut company.second)
+        play(bench, setting, &mut company.first, &mut company.second)
     } else {
         Err(AllocError)
     };
+    setting.holding.let_go(bench.rt);
     remove(bench.rt, bench.host, &mut company.keeper);
     seen
 }
 
-// Two lanes and the worker, the two clients, and the removal.
+// Four lanes and the worker, the two clients, and the removal.
 fn run_threads<
     M: Medium + Send,
     N: Naming + Send + Sync,
-    S: Scene + Sync,
-    T: Turnstile + Sync,
     R: Threads + Wait + Sync,
+    C: Clock + Sync,
 >(
     bench: &Bench<M, N, R>,
     queue: Queue<'_>,
     company: Company<N>,
-    setting: Setting<'_, S, T>,
+    setting: &Setting<'_, C>,
 ) -> (Company<N>, Result<String, AllocError>)
-    requires { queue.passes.items ≡ issued queue.completions.now.id 2 }
+    requires { queue.passes.items ≡ issued queue.completions.now.id 4 }
     ensures first { result.0.first.client ≡ company.first.client }
     ensures second { result.0.second.client ≡ company.second.client }
 {
-    let open = Open;
     let Queue {
         completions,
         passes,
     } = queue;
-    let Setting { scene, turnstile } = setting;
+    let desk = LetsGo {
+        host: bench.host,
+        holding: setting.holding,
+        at_worker: setting.at_worker,
+    };
+    let (at_lanes, at_worker) = (
+        Gate {
+            holding: setting.holding,
+            held: setting.at_lanes,
+        },
+        Gate {
+            holding: setting.holding,
+            held: setting.at_worker,
+        },
+    );
     thread::scope(
         thread::scope_env(),
         bench.rt,
         |scope| -> (Company<N>, Result<String, AllocError>)
-            requires { passes.items ≡ issued completions.now.id 2 }
+            requires { passes.items ≡ issued completions.now.id 4 }
             ensures first { result.0.first.client ≡ company.first.client }
             ensures second { result.0.second.client ≡ company.second.client }
         {
             let mut company = company;
             let lanes = Lanes {
-                desk: bench.host,
+                desk: &desk,
                 completions,
-                turnstile,
-                at_worker: &open,
+                turnstile: &at_lanes,
+                at_worker: &at_worker,
             };
-            let has_lanes = start_lanes(bench.rt, scope, lanes, passes, 2);
-            let seen = play_and_remove(bench, &mut company, scene, has_lanes);
+            let has_lanes = start_lanes(bench.rt, scope, lanes, passes, 4);
+            let seen = play_and_remove(bench, &mut company, setting, has_lanes);
             (company, seen)
         },
     )
 }
 
-// The threads, with places for the pieces of each lane; then the host is closed.
+// The threads, with one place in the queue; then the host is closed.
 fn play_and_close<
     M: Medium + Send,
     N: Naming + Send + Sync,
-    S: Scene + Sync,
-    T: Turnstile + Sync,
     R: Threads + Wait + Sync + Abort,
+    C: Clock + Sync,
 >(
     rt: &R,
     alloc: Global,
     host: Host<M, N>,
     company: Company<N>,
-    setting: Setting<'_, S, T>,
+    setting: &Setting<'_, C>,
 ) -> Result<(String, Closed<N>, M), AllocError>
     requires first { company.first.client ≡ 0 }
     requires second { company.second.client ≡ 1 }
@@ -142,7 +206,7 @@ fn play_and_close<
     requires parts { N.parts ≡ length N.partitions + 1 }
 {
     let back = Vec::with_capacity(alloc, 2)?;
-    let Ok((completions, passes)) = Completions::new(alloc, 1, 2) else {
+    let Ok((completions, passes)) = Completions::new(alloc, 1, 4) else {
         return Err(AllocError);
     };
     let bench = Bench {
@@ -165,30 +229,16 @@ fn play_and_close<
     Ok((seen?, closed, medium))
 }
 
-/// What is wanted of a scene: what its clients see, the trace, and the number of entries.
-#[derive(Debug, Clone, Copy)]
+/// What is wanted of a scene: what its clients see, the trace where threads don't race, and the number of entries.
+#[derive(Clone, Copy)]
 pub(crate) struct Want<'a> {
     pub seen: &'a str,
-    pub trace: &'a str,
+    pub trace: Option<&'a str>,
     pub entries: usize,
 }
 
-// The entries replay to the sectors of the medium, and the acts of the trace are of them.
-fn compare_entries<M: Medium>(
-    rt: &impl Abort,
-    alloc: Global,
-    medium: M,
-    trace: &[traced::TraceEntry],
-    entries: &[Entered],
-) -> Result<(), AllocError> {
-    let mut medium = medium;
-    replay(rt, alloc, TWO, &mut medium, entries)?;
-    compare_acts(rt, trace, entries);
-    Ok(())
-}
-
 // A trace as text. A device is pulled out where its removal wants memory.
-fn trace_of(alloc: Global, trace: &[traced::TraceEntry]) -> Result<String, AllocError> {
+fn trace_of(alloc: Global, trace: &[TraceEntry]) -> Result<String, AllocError> {
     let text = texts::trace(alloc, trace)?;
     if text.as_str().ends_with("surprise / removed") {
         return Err(AllocError);
@@ -200,14 +250,13 @@ fn trace_of(alloc: Global, trace: &[traced::TraceEntry]) -> Result<String, Alloc
 pub(crate) fn play_scene<
     M: Medium + Send,
     N: Naming + Send + Sync,
-    S: Scene + Sync,
-    T: Turnstile + Sync,
     R: Threads + Wait + Sync + Abort,
+    C: Clock + Sync,
 >(
     rt: &R,
     alloc: Global,
     ready: Ready<M>,
-    setting: Setting<'_, S, T>,
+    setting: &Setting<'_, C>,
     want: &Want,
 ) -> Result<(), AllocError>
     requires named { ready.opened ≡ record { rules = N.rules; opening = N.start; partitions = N.partitions; handles = N.handles; marks = N.marks; slots = N.slots; table = N.table; name = N.name; parts = N.parts; gate = N.gate } }
@@ -218,7 +267,7 @@ pub(crate) fn play_scene<
     requires partitions { length N.partitions ≡ 2 }
     requires parts { N.parts ≡ length N.partitions + 1 }
 {
-    let (host, keeper, clients) = open_host::<M, N>(alloc, ready, 2)?;
+    let (host, keeper, clients) = open_host::<M, N>(alloc, ready, 4)?;
     let (first, second) = two_of(rt, clients);
     let company = Company {
         keeper,
@@ -227,14 +276,12 @@ pub(crate) fn play_scene<
     };
     let (seen, closed, medium) = play_and_close(rt, alloc, host, company, setting)?;
     let trace = trace_of(alloc, closed.trace.as_slice())?;
-    assert_eq!(rt; seen.as_str(), want.seen);
-    assert_eq!(rt; trace.as_str(), want.trace);
-    assert!(rt; closed.entries.len() == want.entries);
-    compare_entries(
-        rt,
-        alloc,
-        medium,
-        closed.trace.as_slice(),
-        closed.entries.as_slice(),
-    )
+    same(rt, &seen.as_str(), &want.seen);
+    if let Some(wanted) = want.trace {
+        same(rt, &trace.as_str(), &wanted);
+    }
+    same(rt, &closed.entries.len(), &want.entries);
+    replay(rt, alloc, medium, closed.entries.as_slice())?;
+    compare_acts(rt, closed.trace.as_slice(), closed.entries.as_slice());
+    Ok(())
 }

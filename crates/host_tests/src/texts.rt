@@ -1,22 +1,29 @@
-//! Traces, and what a host says, as text.
+//! Traces, and what a book or a host says, as text.
 
 use compose::{Answer, Reply};
 use host::{Answered, Reason, Refusal};
+use label_text::write_short_line;
 use machine::Label;
-use sector::Bytes;
-use srb::DeviceLabel;
 use std::alloc::{AllocError, Global};
 use traced::TraceEntry;
 
-/// A trace, as `call 1 of 0 / start 1 through / act 1 / return 1 / answer 1 SUCCESS of 0`. A call and an answer tell
-/// their row, and a start tells whether its block has FUA.
+// The line of a label.
+fn line(alloc: Global, label: &Label) -> Result<String, AllocError> {
+    let mut line = Vec::new(alloc);
+    write_short_line(&mut line, label).map_err(|_| AllocError)?;
+    line.pop();
+    String::from_utf8(line).map_err(|_| AllocError)
+}
+
+/// A trace, label by label, as `call 1 flush of 0 / start 1 tag 0 35000000000000000000 / act 1`. A call and an answer
+/// tell their row.
 pub(crate) fn trace(alloc: Global, entries: &[TraceEntry]) -> Result<String, AllocError> {
     let mut text = String::new(alloc);
     for entry in entries {
         if !text.is_empty() {
             write!(text, " / ")?;
         }
-        tell(&mut text, &entry.label)?;
+        write!(text, "{}", line(alloc, &entry.label)?)?;
         if let Some(row) = entry.row {
             write!(text, " of {row}")?;
         }
@@ -24,78 +31,22 @@ pub(crate) fn trace(alloc: Global, entries: &[TraceEntry]) -> Result<String, All
     Ok(text)
 }
 
-fn tell(text: &mut String, label: &Label) -> Result<(), AllocError> {
-    match label {
-        Label::Call { number, .. } => write!(text, "call {number}"),
-        Label::Device(label) => tell_device(text, label),
-        Label::Answer { number, status, .. } => write!(text, "answer {number} {status}"),
-        Label::Cancel { number } => write!(text, "cancel {number}"),
-        Label::Pause => write!(text, "pause"),
-        Label::Resume => write!(text, "resume"),
-        Label::Remove => write!(text, "remove"),
-        Label::Surprise => write!(text, "surprise"),
-        Label::Removed => write!(text, "removed"),
-    }
-}
-
-fn tell_device(text: &mut String, label: &DeviceLabel) -> Result<(), AllocError> {
-    match label {
-        DeviceLabel::Start { piece, block, .. } => {
-            write!(text, "start {piece}")?;
-            tell_through(text, block.as_slice())
-        }
-        DeviceLabel::Act { piece, .. } => write!(text, "act {piece}"),
-        DeviceLabel::Fault { piece } => write!(text, "fault {piece}"),
-        DeviceLabel::Return { piece, .. } => write!(text, "return {piece}"),
-    }
-}
-
-/// SBC, READ and WRITE: FUA is bit 3 of byte 1.
-fn tell_through(text: &mut String, block: &[u8]) -> Result<(), AllocError> {
-    match block {
-        [_, flags, ..] if flags & 0x08 != 0 => write!(text, " through"),
-        _ => Ok(()),
-    }
-}
-
-/// An answer, as `1 SUCCESS 512 a5*512`.
-fn tell_answer(text: &mut String, answer: &Answer) -> Result<(), AllocError> {
-    write!(
-        text,
-        "{} {} {} ",
-        answer.number, answer.status, answer.information
-    )?;
-    tell_bytes(text, &answer.bytes)
-}
-
-/// An answer, as `1 SUCCESS 512 00*512`.
-pub(crate) fn answer(alloc: Global, answer: &Answer) -> Result<String, AllocError> {
-    let mut text = String::new(alloc);
-    tell_answer(&mut text, answer)?;
-    Ok(text)
-}
-
-/// Bytes in runs, as `a5*512,00*512`, none as `none`.
-fn tell_bytes(text: &mut String, bytes: &Bytes) -> Result<(), AllocError> {
-    let Some(first) = bytes.as_slice().first() else {
-        return write!(text, "none");
+/// An answer, as `answer 1 SUCCESS 512 00*512`.
+pub(crate) fn answer(alloc: Global, answer: Answer) -> Result<String, AllocError> {
+    let label = Label::Answer {
+        number: answer.number,
+        status: answer.status,
+        information: answer.information,
+        bytes: answer.bytes,
     };
-    let (mut of, mut count) = (*first, 0_usize);
-    for byte in bytes.as_slice() {
-        if *byte != of {
-            write!(text, "{of:02x}*{count},")?;
-            of = *byte;
-            count = 0;
-        }
-        count = count.saturating_add(1);
-    }
-    write!(text, "{of:02x}*{count}")
+    line(alloc, &label)
 }
 
-/// A ticket, as `request 1`.
-pub(crate) fn ticket(alloc: Global, number: u64) -> Result<String, AllocError> {
-    let mut text = String::new(alloc);
-    write!(text, "request {number}")?;
+/// An answer with its places, as `answer 1 SUCCESS 512 00*512 at 0, 9`.
+pub(crate) fn answered(alloc: Global, answered: Answered) -> Result<String, AllocError> {
+    let places = answered.places;
+    let mut text = answer(alloc, answered.answer)?;
+    write!(text, " at {}, {}", places.call, places.answer)?;
     Ok(text)
 }
 
@@ -113,23 +64,16 @@ pub(crate) fn refusal(alloc: Global, refusal: &Refusal) -> Result<String, AllocE
     Ok(text)
 }
 
-/// An answer, as `answer 1 SUCCESS 512 00*512 at 0, 9`, with the number of bytes transferred, and the bytes of a read.
-pub(crate) fn answered(alloc: Global, answered: &Answered) -> Result<String, AllocError> {
-    let mut text = String::new(alloc);
-    let places = answered.places;
-    write!(text, "answer ")?;
-    tell_answer(&mut text, &answered.answer)?;
-    write!(text, " at {}, {}", places.call, places.answer)?;
-    Ok(text)
-}
-
-/// A reply, as `ok`.
+/// A reply, as `request 1 at 0` with its slot, or `refused InvalidParameter 512`.
 pub(crate) fn reply(alloc: Global, reply: &Reply) -> Result<String, AllocError> {
     let mut text = String::new(alloc);
     match reply {
         Reply::Ok => write!(text, "ok")?,
         Reply::Ignored => write!(text, "ignored")?,
-        Reply::Refused { refusal, .. } => write!(text, "{refusal:?}")?,
+        Reply::Request(id) => write!(text, "request {} at {}", id.number, id.slot)?,
+        Reply::Refused { refusal, bytes } => {
+            write!(text, "refused {refusal:?} {}", bytes.as_slice().len())?
+        }
         _ => write!(text, "another reply")?,
     }
     Ok(text)

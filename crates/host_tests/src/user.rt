@@ -2,30 +2,28 @@
 
 ghost use Rattle.std.specs.Prelude.{◌≡◌};
 
-use crate::expect::same_at;
+use crate::desk::Bench;
+use crate::orders::bytes;
 use crate::texts;
 use compose::Refusal as Why;
 use disk::Medium;
-use host::{Call, Client, Host, Naming, Reason, Ticket};
-use sector::Bytes;
+use host::{Call, Client, Naming, Reason, Ticket};
+use script::Order;
 use std::alloc::{AllocError, Global};
 use std::marker::Model;
 use std::process::Abort;
 use std::sync::Wait;
 
-/// What a client does. A call leaves a ticket, which a mark looks at and a wait spends.
-#[derive(Debug, Clone, Copy)]
+/// What a client does.
+#[derive(Clone, Copy)]
 pub(crate) enum Deed {
-    /// A read of this many bytes at this offset.
-    Read(u64, usize),
-    /// A write of this many equal bytes at this offset.
-    Write(u64, usize, u8),
-    /// A write of this many equal bytes at this offset, past volatile caches.
-    WriteThrough(u64, usize, u8),
-    Flush,
+    /// Issues the call of an order. It leaves a ticket, which a mark looks at and a wait spends.
+    Call(Order),
     /// Sixty-four reads of a sector each, from the first on. The ticket of the last one is left.
     Fill,
+    /// Marks the request of the last call.
     Mark,
+    /// Waits for the answer to the last call.
     Wait,
 }
 
@@ -47,25 +45,6 @@ impl<N: Naming> Model for User<N> {
     ghost invariant = { λ u. IfSome u.ticket (λ t. (t.client ≡ u.client.client) × (0 < u.client.pass.holds)) };
 }
 
-fn bytes(alloc: Global, byte: u8, length: usize) -> Result<Bytes, AllocError> {
-    Ok(Bytes::new(vec![in alloc; byte; length]?))
-}
-
-fn write(
-    alloc: Global,
-    offset: u64,
-    length: usize,
-    byte: u8,
-    through: bool,
-) -> Result<Call, AllocError> {
-    let bytes = bytes(alloc, byte, length)?;
-    Ok(Call::Write {
-        offset,
-        bytes,
-        through,
-    })
-}
-
 impl<N: Naming> User<N> {
     pub(crate) fn new(client: Client<N>) -> User<N>
         ensures { result ≡ client }
@@ -85,132 +64,110 @@ impl<N: Naming> User<N> {
     // Issues a call.
     fn issue<M: Medium, R: Wait>(
         &mut self,
-        rt: &R,
-        alloc: Global,
-        host: &Host<M, N>,
+        bench: &Bench<M, N, R>,
         call: Call,
     ) -> Result<String, AllocError>
         ensures { self.new.client ≡ self.old.client }
     {
-        match self.client.issue(rt, host, call) {
+        match self.client.issue(bench.rt, bench.host, call) {
             Ok(ticket) => {
                 let number = ticket.number();
                 self.ticket = Some(ticket);
-                texts::ticket(alloc, number)
+                format!(in bench.alloc; "request {number}")
             }
             Err(refusal) => match refusal.reason {
                 Reason::Refused(Why::InsufficientResources) => Err(AllocError),
-                _ => texts::refusal(alloc, &refusal),
+                _ => texts::refusal(bench.alloc, &refusal),
             },
         }
     }
 
-    fn fill<M: Medium, R: Wait>(
-        &mut self,
-        rt: &R,
-        alloc: Global,
-        host: &Host<M, N>,
-    ) -> Result<String, AllocError>
+    fn fill<M: Medium, R: Wait>(&mut self, bench: &Bench<M, N, R>) -> Result<String, AllocError>
         ensures { self.new.client ≡ self.old.client }
     {
-        let mut text = String::new(alloc);
+        let mut text = String::new(bench.alloc);
         for n in 0..64_u64 {
             let offset = n * 512;
-            let buffer = bytes(alloc, 0, 512)?;
-            text = self.issue(rt, alloc, host, Call::Read { offset, buffer })?;
+            let buffer = bytes(bench.alloc, 0, 512)?;
+            text = self.issue(bench, Call::Read { offset, buffer })?;
         }
         Ok(text)
     }
 
-    // Waits for the answer to the last call.
     fn wait<M: Medium, R: Wait + Abort>(
         &mut self,
-        rt: &R,
-        alloc: Global,
-        host: &Host<M, N>,
+        bench: &Bench<M, N, R>,
     ) -> Result<String, AllocError>
         ensures { self.new.client ≡ self.old.client }
     {
         let Some(ticket) = self.ticket.take() else {
-            panic!(rt; "no ticket")
+            panic!(bench.rt; "no ticket")
         };
-        let answered = self.client.wait(rt, host, ticket);
-        texts::answered(alloc, &answered)
+        let answered = self.client.wait(bench.rt, bench.host, ticket);
+        texts::answered(bench.alloc, answered)
     }
 
-    // Marks the request of the last call.
-    fn mark<M: Medium>(
-        &mut self,
-        rt: &impl Abort,
-        alloc: Global,
-        host: &Host<M, N>,
-    ) -> Result<String, AllocError>
+    fn mark<M: Medium, R: Abort>(&mut self, bench: &Bench<M, N, R>) -> Result<String, AllocError>
         ensures { self.new.client ≡ self.old.client }
     {
         let Some(ticket) = &self.ticket else {
-            panic!(rt; "no ticket")
+            panic!(bench.rt; "no ticket")
         };
-        let marking = self.client.mark_cancel(host, ticket);
-        let mut text = String::new(alloc);
-        write!(text, "{marking:?}")?;
-        Ok(text)
+        let marking = self.client.mark_cancel(bench.host, ticket);
+        format!(in bench.alloc; "{marking:?}")
     }
 
-    fn act_on<M: Medium, R: Wait + Abort>(
+    fn call<M: Medium, R: Wait + Abort>(
         &mut self,
-        rt: &R,
-        alloc: Global,
-        host: &Host<M, N>,
+        bench: &Bench<M, N, R>,
+        order: Order,
+    ) -> Result<String, AllocError>
+        ensures { self.new.client ≡ self.old.client }
+    {
+        let call = match order {
+            Order::Read { offset, length, .. } => Call::Read {
+                offset,
+                buffer: bytes(bench.alloc, 0, length)?,
+            },
+            Order::Write {
+                offset,
+                length,
+                byte,
+                through,
+                ..
+            } => Call::Write {
+                offset,
+                bytes: bytes(bench.alloc, byte, length)?,
+                through,
+            },
+            Order::Flush { .. } => Call::Flush,
+            _ => panic!(bench.rt; "no call"),
+        };
+        self.issue(bench, call)
+    }
+
+    pub(crate) fn act<M: Medium, R: Wait + Abort>(
+        &mut self,
+        bench: &Bench<M, N, R>,
         deed: Deed,
     ) -> Result<String, AllocError>
         ensures { self.new.client ≡ self.old.client }
     {
         match deed {
-            Deed::Read(offset, length) => {
-                let buffer = bytes(alloc, 0, length)?;
-                self.issue(rt, alloc, host, Call::Read { offset, buffer })
-            }
-            Deed::Write(offset, length, byte) => {
-                let call = write(alloc, offset, length, byte, false)?;
-                self.issue(rt, alloc, host, call)
-            }
-            Deed::WriteThrough(offset, length, byte) => {
-                let call = write(alloc, offset, length, byte, true)?;
-                self.issue(rt, alloc, host, call)
-            }
-            Deed::Flush => self.issue(rt, alloc, host, Call::Flush),
-            Deed::Fill => self.fill(rt, alloc, host),
-            Deed::Mark => self.mark(rt, alloc, host),
-            Deed::Wait => self.wait(rt, alloc, host),
+            Deed::Call(order) => self.call(bench, order),
+            Deed::Fill => self.fill(bench),
+            Deed::Mark => self.mark(bench),
+            Deed::Wait => self.wait(bench),
         }
     }
 
-    /// Does a deed, and checks that it has just this outcome.
-    pub(crate) fn go<M: Medium, R: Wait + Abort>(
-        &mut self,
-        rt: &R,
-        alloc: Global,
-        host: &Host<M, N>,
-        deed: Deed,
-        want: &str,
-    ) -> Result<(), AllocError>
-        ensures { self.new.client ≡ self.old.client }
-    {
-        let text = self.act_on(rt, alloc, host, deed)?;
-        same_at(rt, &text.as_str(), &want, &deed);
-        Ok(())
-    }
-
-    /// Compares the client's number, and the places of its calls and of the answers that it was told of.
-    pub(crate) fn compare(
+    /// The client's number, and the places of its calls and of the answers that it was told of.
+    pub(crate) fn told(
         &self,
-        rt: &impl Abort,
-        number: usize,
-        calls: &[usize],
-        answers: &[usize],
-    ) {
-        assert!(rt; self.client.client() == number);
-        assert!(rt; self.client.calls() == calls);
-        assert!(rt; self.client.answers() == answers);
+        alloc: Global,
+    ) -> Result<(usize, Vec<usize>, Vec<usize>), AllocError> {
+        let calls = Vec::from_slice(alloc, self.client.calls())?;
+        let answers = Vec::from_slice(alloc, self.client.answers())?;
+        Ok((self.client.client(), calls, answers))
     }
 }

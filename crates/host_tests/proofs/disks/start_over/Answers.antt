@@ -2,6 +2,7 @@ use Rattle.std.proofs.Common.{◌≡◌, ◌<◌, ℕ, false, inl, inr, ◌∙�
 use Rattle.std.specs.Prelude.{◌⊎◌}
 use Rattle.machine.specs.Map.{IsMap}
 use Rattle.machine.specs.Rules.{Rules}
+use Rattle.machine.specs.State.{State, opening}
 use Rattle.traced.specs.declared.sizes.StackSizes.{StackSizes}
 use Rattle.traced.specs.Sizes.{sizes_of}
 use Rattle.host_tests.proofs.disks.start_over.Goals as goal
@@ -55,3 +56,8 @@ pub returns-in-Ok-clause-map : goal.returns-in-Ok-clause-map
 returns-in-Ok-clause-map g c =
     let first = c.in-Ok.ensures.view in
     subst (λ (r : Rules). IsMap r.disk_sectors r.partitions) (sym first.rules) first.told.is_map
+
+pub returns-in-Ok-clause-opens : goal.returns-in-Ok-clause-opens
+returns-in-Ok-clause-opens g c =
+    let state = c.in-Ok.ensures.view.state in
+    state ∙ ap opening (sym (ap (λ (s : State). s.arrays) state))

@@ -1,5 +1,5 @@
 use Rattle.std.proofs.Common.{[], ◌∷◌}
-use Rattle.book_tests.proofs.rows.run_on.Given as goal
+use Rattle.host_tests.proofs.book_rows.run_on.Given as goal
 
 -- the stack that was just started, its marks, its history and its ledger
 abbrev pub ghosts-carry_out-N-Naming-2 : goal.ghosts-carry_out-N-Naming-2

@@ -1,6 +1,6 @@
 use Rattle.std.proofs.Common.{◌<◌, length, refl, arith}
 use Rattle.std.proofs.lemmas.Option.{slice_get_read}
-use Rattle.book_tests.proofs.desk.carry_out.Goals as goal
+use Rattle.host_tests.proofs.book_desk.carry_out.Goals as goal
 
 pub new-first-requires-clause-handle : goal.new-first-requires-clause-handle
 new-first-requires-clause-handle g c =

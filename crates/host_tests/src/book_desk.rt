@@ -1,24 +1,29 @@
 //! A book of two clients beside its journal, and what its threads do, row by row.
 
-ghost use Rattle.std.specs.Prelude.{◌≡◌, ◌≤◌, ◌∷◌, [], IfErr, IsFalse, length};
+ghost use Rattle.std.specs.Prelude.{◌≡◌, ◌≤◌, ◌∷◌, [], IfErr, IsFalse, None, Some, false, length};
+ghost use Rattle.book.specs.Book.{call_handle};
 ghost use Rattle.cancel_marks.specs.Marks.{standing, starting};
 ghost use Rattle.machine.specs.State.{opening};
 ghost use Rattle.srb.specs.declared.Class.TheVariants.{Bad};
 ghost use Rattle.srb.specs.Fate.{class_of};
+ghost use Rattle.traced.specs.Serving.{is_handle_event};
 ghost use Rattle.traced.specs.Opening.{AreClientsOf, AreHandlesOf, IsFirst};
 ghost use Rattle.traced.specs.Sizes.{AreSizes, sizes_of};
 ghost use Rattle.traced.specs.Sound.{IsNamed};
 
 use crate::expect::same;
 use crate::opened::Opened as Ready;
-use crate::orders::{Order, step};
+use crate::orders::{bytes, client_of, order_of, tag_of};
+use crate::replaying::{compare_acts, compare_rows, places_of, replay};
 use crate::texts;
 use book::{Beside, Book, Naming, Records};
 use cancel_marks::{Marks, Seat};
 use chronicle::{History, Opened};
-use compose::{Refusal, Reply};
+use compose::{Event, Handle, Id, Refusal, Reply};
 use disk::Medium;
+use machine::Label;
 use miniport::BookedAdapter;
+use script::Order;
 use sector_journal::{Journal, OfArmings, OfEntries};
 use srb::Completion;
 use std::alloc::{AllocError, Global};
@@ -28,10 +33,10 @@ use std::sync::{Mutex, Wait};
 use traced::{Owned, Share, TraceEntry, Traced};
 
 /// One row of a test.
-#[derive(Debug, Clone, Copy)]
+#[derive(Clone, Copy)]
 pub(crate) enum Row<'a> {
-    /// An order by a client, and its reply.
-    Step(usize, Order, &'a str),
+    /// A line of a script, and its reply. Client 0 has handle 1, and client 1 handle 2.
+    Line(&'a str, &'a str),
     /// A lane has the piece of a tag act in the journal: it makes the entry of this number.
     Lane(u8, u64),
     /// A lane has the piece of a tag act, which fails, and hands the failure to the book, whose reply is this.
@@ -103,6 +108,86 @@ fn is_refused_for_memory(reply: &Reply) -> bool {
     )
 }
 
+// A read, a write or a flush on a client's handle.
+fn call<M: Medium, N: Naming, R: Wait>(
+    rt: &R,
+    desk: &mut Desk<M, N>,
+    share: &mut Share<N>,
+    event: Event,
+) -> Reply
+    requires no_handle { is_handle_event event ≡ false }
+    requires call { call_handle event ≡ Some share.old.handle }
+{
+    desk.book.step(rt, &desk.beside, Some(share), event)
+}
+
+// Any other event.
+fn other<M: Medium, N: Naming, R: Wait>(rt: &R, desk: &mut Desk<M, N>, event: Event) -> Reply
+    requires no_handle { is_handle_event event ≡ false }
+    requires no_call { call_handle event ≡ None }
+{
+    desk.book.step(rt, &desk.beside, Share::none(), event)
+}
+
+// A step on a client's handle.
+fn step<M: Medium, N: Naming, R: Wait + Abort>(
+    rt: &R,
+    desk: &mut Desk<M, N>,
+    share: &mut Share<N>,
+    order: Order,
+) -> Result<Reply, AllocError> {
+    let alloc = desk.alloc;
+    let handle = share.handle();
+    Ok(match order {
+        Order::Read { offset, length, .. } => {
+            let buffer = bytes(alloc, 0, length)?;
+            let event = Event::Read {
+                handle,
+                offset,
+                buffer,
+            };
+            call(rt, desk, share, event)
+        }
+        Order::Write {
+            offset,
+            length,
+            byte,
+            through,
+            ..
+        } => {
+            let bytes = bytes(alloc, byte, length)?;
+            let event = Event::Write {
+                handle,
+                offset,
+                bytes,
+                through,
+            };
+            call(rt, desk, share, event)
+        }
+        Order::Flush { .. } => call(rt, desk, share, Event::Flush { handle }),
+        order => other_step(rt, desk, handle, order),
+    })
+}
+
+// A step that is no call.
+fn other_step<M: Medium, N: Naming, R: Wait + Abort>(
+    rt: &R,
+    desk: &mut Desk<M, N>,
+    handle: Handle,
+    order: Order,
+) -> Reply {
+    match order {
+        Order::Cancel { request, .. } => {
+            let target = request.map(|number| Id { slot: 0, number });
+            other(rt, desk, Event::CancelIoEx { handle, target })
+        }
+        Order::Act { tag } => other(rt, desk, Event::Act { tag: tag_of(tag) }),
+        Order::Finish { tag } => other(rt, desk, Event::Finish { tag: tag_of(tag) }),
+        Order::Reset => other(rt, desk, Event::Reset),
+        _ => panic!(rt; "no order of a book's client"),
+    }
+}
+
 // Checks that a step has just this reply. Where it was refused for want of memory, the trace has not grown, and what
 // was reserved for it was given back.
 fn go<M: Medium, N: Naming, R: Wait + Abort>(
@@ -147,8 +232,14 @@ pub(crate) fn play<M: Medium, N: Naming, R: Wait + Abort>(
     let (first, second) = shares;
     for row in rows {
         match *row {
-            Row::Step(0, order, want) => go(rt, desk, first, order, want)?,
-            Row::Step(_, order, want) => go(rt, desk, second, order, want)?,
+            Row::Line(line, want) => {
+                let order = order_of(rt, desk.alloc, line)?;
+                if client_of(order) == Some(1) {
+                    go(rt, desk, second, order, want)?;
+                } else {
+                    go(rt, desk, first, order, want)?;
+                }
+            }
             Row::Lane(tag, number) => {
                 assert!(rt; act(rt, desk, tag) == Ok(number), "tag {tag}");
             }
@@ -162,18 +253,11 @@ pub(crate) fn play<M: Medium, N: Naming, R: Wait + Abort>(
     Ok(())
 }
 
-/// What is wanted of a test: its rows, the whole trace and all entries once the book has them all, and the places of
-/// each client's calls and answers. Of request 1 also where its answer stands and what it transferred.
-#[derive(Debug, Clone, Copy)]
+/// The rows of a test, and the whole trace once the book has all entries.
+#[derive(Clone, Copy)]
 pub(crate) struct Run<'a> {
     pub rows: &'a [Row<'a>],
     pub trace: &'a str,
-    pub entries: &'a str,
-    pub first: &'a [usize],
-    pub second: &'a [usize],
-    pub answered: Option<usize>,
-    /// How many bytes request 1 transferred, and 0 where it was answered at once.
-    pub transferred: u64,
 }
 
 // The label at a place was claimed, and stands there.
@@ -185,31 +269,10 @@ fn claim_first<N: Naming>(book: &mut Book<N>, history: &History<TraceEntry, N>) 
     book.check(history, &mut claims);
 }
 
-// Checks what is told of request 1, and of the rows so far.
-fn ask<N: Naming>(rt: &impl Abort, book: &mut Book<N>, run: &Run)
-    requires { N.partitions ≡ 0 ∷ 0 ∷ [] }
-{
-    assert!(rt; book.answer_place(1) == run.answered);
-    let transferred = match book.take_answer(1) {
-        Some(answer) => answer.information,
-        None => 0,
-    };
-    assert!(rt; transferred == run.transferred);
-    assert!(rt; book.row(0) == run.first);
-    assert!(rt; book.row(1) == run.second);
-}
-
 // Books what is left of the entries.
-fn book_rest<M: Medium, N: Naming, R: Wait + Abort>(
-    rt: &R,
-    desk: &mut Desk<M, N>,
-    want: &str,
-) -> Result<(), AllocError> {
+fn book_rest<M: Medium, N: Naming, R: Wait>(rt: &R, desk: &mut Desk<M, N>) {
     let mut journal = desk.beside.journal.lock(rt);
     desk.book.book_rest(&desk.beside.records, &mut journal);
-    let entries = texts::entries(desk.alloc, journal.entries())?;
-    same(rt, &entries.as_str(), &want);
-    Ok(())
 }
 
 /// What a book of two clients and its journal are made of beside a stack, which has no name yet: the history of the
@@ -282,36 +345,60 @@ pub(crate) fn carry_out<M: Medium, N: Naming, R: Wait + Abort>(
         words: &words,
     };
     play(rt, &mut desk, (&mut first, &mut second), run.rows)?;
-    book_rest(rt, &mut desk, run.entries)?;
+    book_rest(rt, &mut desk);
     let Desk { mut book, .. } = desk;
     claim_first(&mut book, &history);
     all.merge(first.into_part());
     all.merge(second.into_part());
     book.audit(&mut all);
-    compare(rt, alloc, book, run)
+    let (medium, entries) = journal.into_inner().into_parts();
+    let trace = compare(rt, alloc, book, run)?;
+    compare_acts(rt, trace.as_slice(), entries.as_slice());
+    replay(rt, alloc, medium, entries.as_slice())
 }
 
-// What is told of request 1, the trace and the rows of a book are those that are wanted.
+// Where the answer to request 1 stands in a trace, and how many bytes it tells; nowhere and 0 where there is none.
+fn first_answer(trace: &[TraceEntry]) -> (Option<usize>, u64) {
+    for (place, entry) in trace.iter().enumerate() {
+        if let Label::Answer {
+            number: 1,
+            information,
+            ..
+        } = &entry.label
+        {
+            return (Some(place), *information);
+        }
+    }
+    (None, 0)
+}
+
+// Returns the trace of a book, which is the one that is wanted. Its rows, and what is told of request 1, are those of
+// that trace.
 fn compare<N: Naming>(
     rt: &impl Abort,
     alloc: Global,
     book: Book<N>,
     run: &Run,
-) -> Result<(), AllocError>
+) -> Result<Vec<TraceEntry>, AllocError>
     requires { N.partitions ≡ 0 ∷ 0 ∷ [] }
 {
     let mut book = book;
-    ask(rt, &mut book, run);
-    let (trace, mut rows, _receipts) = book.into_rows();
+    let told = [
+        Vec::from_slice(alloc, book.row(0))?,
+        Vec::from_slice(alloc, book.row(1))?,
+    ];
+    let place = book.answer_place(1);
+    let transferred = book.take_answer(1).map_or(0, |answer| answer.information);
+    let (trace, rows, _receipts) = book.into_rows();
     same(
         rt,
         &texts::trace(alloc, trace.as_slice())?.as_str(),
         &run.trace,
     );
-    let (Some(second), Some(first), None) = (rows.pop(), rows.pop(), rows.pop()) else {
-        panic!(rt; "not two rows")
-    };
-    assert!(rt; first.into_places().as_slice() == run.first);
-    assert!(rt; second.into_places().as_slice() == run.second);
-    Ok(())
+    same(rt, &(place, transferred), &first_answer(trace.as_slice()));
+    for (row, told) in told.iter().enumerate() {
+        same(rt, told, &places_of(alloc, trace.as_slice(), row)?);
+    }
+    compare_rows(rt, alloc, trace.as_slice(), rows)?;
+    Ok(trace)
 }
