@@ -6,6 +6,7 @@ use Rattle.srb.specs.declared.Srb.{Srb}
 use Rattle.srb.specs.declared.Completion.{Completion}
 use Rattle.srb.specs.declared.DeviceLabel.{DeviceLabel}
 use Rattle.srb.specs.declared.DeviceLabel.TheVariants.{Fault}
+use Rattle.srb.specs.Bare.{in_memory}
 use Rattle.srb.specs.Fate.{Fate, Fresh, Acted, Faulted, is_fresh, class_of}
 use Rattle.adapter.specs.View.{TagInUse, AdapterView, IsFree, IsOn, ActsOn, FaultsOn, ReturnsOn, MovesByAll, NotesReset, IsSpoiled}
 
@@ -91,10 +92,12 @@ pub record Resets (old new : AdapterView) : Type 0 where
   pub moves : MovesByAll old (map fault_of fresh) all_faulted
   pub noted : NotesReset all_faulted new
 
--- the earliest label leaves
+-- the earliest label leaves, as memory has it
 pub record LeavesFirst (old : AdapterView) (label : DeviceLabel) (new : AdapterView) : Type 0 where
+  pub told : DeviceLabel
   pub rest : List DeviceLabel
-  pub first : old.labels ≡ label ∷ rest
+  pub first : old.labels ≡ told ∷ rest
+  pub shown : label ≡ in_memory old.keeps_bytes told
   pub after : new ≡ record old { labels = rest }
 
 -- there is no label, and nothing changes

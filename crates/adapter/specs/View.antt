@@ -35,6 +35,8 @@ pub record AdapterView : Type 0 where
   pub sectors : List (List ℕ)
   -- whether its acts move these sectors; if not, its sectors stand elsewhere, and these never change
   pub faithful : Bool
+  -- whether the bytes of its labels stand in memory, in the rooms that SRBs bring; if not, contracts alone read them
+  pub keeps_bytes : Bool
   -- sectors of the longest transfer
   pub max_transfer : ℕ
   pub depth : ℕ

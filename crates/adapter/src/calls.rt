@@ -9,7 +9,7 @@ use std::alloc::AllocError;
 /// A label that isn't taken yet has a place in the record of labels, which has 64; callers keep the places that a call
 /// asks for.
 pub trait Adapter: Drop {
-    ghost use Rattle.std.specs.Prelude.{◌≡◌, ◌⊎◌, ◌<◌, ◌≤◌, ◌^◌, ◌+◌, ℕ, [], length, Any, IsOk, OnOk, MatchBool, MatchOption};
+    ghost use Rattle.std.specs.Prelude.{◌≡◌, ◌⊎◌, ◌<◌, ◌≤◌, ◌^◌, ◌+◌, ℕ, [], length, Any, IsTrue, IsOk, OnOk, MatchBool, MatchOption};
     ghost use Rattle.adapter.specs.View.{AdapterView, HasTag, IsFree, IsInOrder, IsReserved, IsWritable, ReservesMore, ReservesNear, Accepts};
     ghost use Rattle.adapter.specs.Calls.{ActsOrFaults, ActsNot, Finishes, FinishesNot, Resets, LeavesFirst, HasNoLabel, HasNoneFresh};
     ghost use Rattle.adapter.specs.Booking.{IsArmed, Books, handed};
@@ -40,6 +40,10 @@ pub trait Adapter: Drop {
     fn is_faithful(&self) -> bool
         ensures { result ≡ (view self.now).faithful };
 
+    /// Whether the bytes of its labels stand in memory, in the rooms that SRBs bring. If not, contracts alone read them.
+    fn keeps_bytes(&self) -> bool
+        ensures { result ≡ (view self.now).keeps_bytes };
+
     /// The failures counted so far: at most one more than twice the pieces accepted.
     fn failures(&self) -> u128
         ensures exact { result ≡ (view self.now).failures }
@@ -65,13 +69,13 @@ pub trait Adapter: Drop {
         ensures exact { MatchBool result (Any (HasTag tag) (view self.now).tags) (IsFree (view self.now) tag) }
         ensures order { IsInOrder (view self.now) };
 
-    /// Puts a piece on a free tag below the depth, and records its start. Its room for the label holds its data; a
-    /// write that lies in the disk has its sectors reserved.
+    /// Puts a piece on a free tag below the depth, and records its start. Where labels keep their bytes, its room for the
+    /// label holds its data; a write that lies in the disk has its sectors reserved.
     fn accept(&mut self, tag: u8, piece: u128, srb: Srb)
         requires below { tag < (view self.old).depth }
         requires free { IsFree (view self.old) tag }
         requires writable { IsWritable (view self.old) srb }
-        requires buffers { length srb.data ≤ srb.for_label }
+        requires buffers { IsTrue (view self.old).keeps_bytes → length srb.data ≤ srb.for_label }
         requires few { (view self.old).accepted < 2 ^ 100 }
         requires place { length (view self.old).labels < 64 }
         ensures accepts { Accepts (view self.old) tag piece srb (view self.new) }
@@ -109,7 +113,8 @@ pub trait Adapter: Drop {
         ensures resets { Resets (view self.old) (view self.new) }
         ensures order { IsInOrder (view self.new) };
 
-    /// Takes the earliest label that was recorded and not taken.
+    /// Takes the earliest label that was recorded and not taken, as memory has it: where labels don't keep their bytes,
+    /// that of an act has none.
     fn take_label(&mut self) -> Option<DeviceLabel>
         ensures takes { MatchOption result (HasNoLabel (view self.old) (view self.new)) (λ label. LeavesFirst (view self.old) label (view self.new)) }
         ensures order { IsInOrder (view self.new) };

@@ -1,6 +1,6 @@
 -- The SRB of a request of a whole disk asks for all of it.
 use Rattle.split.specs.Pieces.{piece_of}
-use Rattle.std.proofs.Common.{◌≤◌, ◌≡◌, ◌⊎◌, inl, inr, ℕ, ◌+◌, ◌*◌, ◌/◌, true, List, [], ◌∷◌, Option, Some, None, refl, sym, ◌∙◌, ap, subst, arith, length}
+use Rattle.std.proofs.Common.{◌≤◌, ◌≡◌, ◌⊎◌, inl, inr, ℕ, ◌+◌, ◌*◌, ◌/◌, true, IsTrue, List, [], ◌∷◌, Option, Some, None, refl, sym, ◌∙◌, ap, subst, arith, length}
 use Rattle.std.specs.Prelude.{slice_get, if◌then◌else◌}
 use Rattle.std.proofs.Math.Nat.{mul-div_cancel}
 use Rattle.sector.specs.declared.Extent.{Extent}
@@ -49,7 +49,7 @@ module _ (disk_sectors : ℕ) (rules : Rules) (r : Request) (whole : IsWholeDisk
   command_is Flush same = ap flush_command whole.as_many
 
 pub asks_for : (disk_sectors : ℕ) (rules : Rules) (r : Request) (srb : Srb) → IsWholeDisk disk_sectors rules → r.volume ≡ 0 → srb.function ≡ ExecuteScsi → srb.flags.0 ≡ direction r.kind
-    → Means srb.block (disk_command disk_sectors r r.kind) → IsPlain srb.block (disk_command disk_sectors r r.kind) → srb.sense ≡ None → length srb.data ≡ transfer_length rules r → transfer_length rules r ≤ srb.for_label → AsksFor rules r srb
+    → Means srb.block (disk_command disk_sectors r r.kind) → IsPlain srb.block (disk_command disk_sectors r r.kind) → srb.sense ≡ None → length srb.data ≡ transfer_length rules r → (IsTrue rules.keeps_bytes → transfer_length rules r ≤ srb.for_label) → AsksFor rules r srb
 asks_for disk_sectors rules r srb whole top function flags means plain sense data_length label_length = record {
   function = function;
   flags = flags;

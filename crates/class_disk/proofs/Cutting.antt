@@ -137,6 +137,7 @@ can_cut v sizes r port order are b =
         sector_size = are.sector_size;
         max_transfer = are.max_transfer;
         whole = record { as_many = are.whole.as_many; one_disk = are.whole.one_disk; some_bytes = are.whole.some_bytes };
+        keeps_bytes = are.keeps_bytes;
       };
       cuttable = record { some = some; fits = let i = b.inside in omega arith };
       count = few_parts v.rules sizes.max_transfer r.volume r.extent r.through r.kind some short;

@@ -42,9 +42,9 @@ whole_disk : (rules : Rules) (partitions : List Extent) → partitions ≡ recor
 whole_disk rules partitions is = ap (λ (ps : List Extent). sectors_of (record rules { partitions = ps }) (Some 0)) is
 
 hand_fresh : (v : DeviceView) (sizes : Sizes) (places : ℕ) → v.rooms ≡ [] → IsPort v.rules → IsOrderly (fresh v)
-    → sizes.sector_size ≡ v.rules.sector_size → sizes.max_transfer ≡ v.rules.longest → sizes.disk_sectors ≡ sectors_of v.rules (Some 0)
+    → sizes.sector_size ≡ v.rules.sector_size → sizes.max_transfer ≡ v.rules.longest → sizes.disk_sectors ≡ sectors_of v.rules (Some 0) → sizes.keeps_bytes ≡ v.rules.keeps_bytes
     → IsInHand (fresh v) (empty_books sizes places)
-hand_fresh v sizes places none port orderly size longest sectors =
+hand_fresh v sizes places none port orderly size longest sectors keeping =
     let s : State = opening v.state.arrays in
     let rules : Rules = class_rules v.rules in
     let some_bytes : 0 < v.rules.sector_size = elim orderly.adapter.sector_size [
@@ -100,6 +100,7 @@ hand_fresh v sizes places none port orderly size longest sectors =
             one_disk = port.one_disk;
             some_bytes = some_bytes;
           };
+          keeps_bytes = keeping;
         };
         in_hand = All-nil (IsHeld rules []);
         opens = All-nil (IsOpen rules []);
@@ -146,10 +147,10 @@ hand_fresh v sizes places none port orderly size longest sectors =
     }
 
 pub opens_in_hand : (v : DeviceView) (sizes : Sizes) (places : ℕ) (b : TableView) → IsFreshPort v → IsOrderly v → b ≡ empty_books sizes places
-    → sizes.sector_size ≡ v.rules.sector_size → sizes.max_transfer ≡ v.rules.longest → sizes.disk_sectors ≡ sectors_of v.rules (Some 0)
+    → sizes.sector_size ≡ v.rules.sector_size → sizes.max_transfer ≡ v.rules.longest → sizes.disk_sectors ≡ sectors_of v.rules (Some 0) → sizes.keeps_bytes ≡ v.rules.keeps_bytes
     → IsInHand v b
-opens_in_hand v sizes places b f orderly empty size longest sectors =
+opens_in_hand v sizes places b f orderly empty size longest sectors keeping =
     let v_is : v ≡ fresh v = fresh_is v f.state f.packets f.submitted in
     subst (λ (x : TableView). IsInHand v x) (sym empty)
     (subst (λ (x : DeviceView). IsInHand x (empty_books sizes places)) (sym v_is)
-    (hand_fresh v sizes places f.rooms f.port (subst IsOrderly v_is orderly) size longest sectors))
+    (hand_fresh v sizes places f.rooms f.port (subst IsOrderly v_is orderly) size longest sectors keeping))

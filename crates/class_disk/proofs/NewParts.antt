@@ -40,12 +40,12 @@ part_kind limit r k = by (is_transfer r.kind)
 
 -- what a part was asked for with the table as it was then
 pub asked_now : (was now : Sizes) (r asked : Request) (k : ℕ) (part : Part)
-    → was ≡ now → asked ≡ part_request_of was.max_transfer r k → (only : Bool) → only ≡ goes_whole now.max_transfer r → IsNewPart only was.sector_size asked part
-    → IsNewPart (goes_whole now.max_transfer r) now.sector_size (part_request_of now.max_transfer r k) part
+    → was ≡ now → asked ≡ part_request_of was.max_transfer r k → (only : Bool) → only ≡ goes_whole now.max_transfer r → IsNewPart was.keeps_bytes only was.sector_size asked part
+    → IsNewPart now.keeps_bytes (goes_whole now.max_transfer r) now.sector_size (part_request_of now.max_transfer r k) part
 asked_now was now r asked k part same is only whole h =
-    subst (λ x. IsNewPart x now.sector_size (part_request_of now.max_transfer r k) part) whole
-    (subst (λ (s : Sizes). IsNewPart only s.sector_size (part_request_of s.max_transfer r k) part) same
-    (subst (λ q. IsNewPart only was.sector_size q part) is h))
+    subst (λ x. IsNewPart now.keeps_bytes x now.sector_size (part_request_of now.max_transfer r k) part) whole
+    (subst (λ (s : Sizes). IsNewPart s.keeps_bytes only s.sector_size (part_request_of s.max_transfer r k) part) same
+    (subst (λ q. IsNewPart was.keeps_bytes only was.sector_size q part) is h))
 
 -- and its kind
 pub kind_now : (was : Sizes) (r asked : Request) (k : ℕ) → asked ≡ part_request_of was.max_transfer r k → r.kind ≡ asked.kind
@@ -58,7 +58,7 @@ module _ (sizes : Sizes) (r : Request) where
   -- one part more
   pub one_made : (count : ℕ) (items front : List Part) (part : Part) → items ≡ front ++ part ∷ []
       → AreNewParts sizes r count front
-      → IsNewPart (goes_whole sizes.max_transfer r) sizes.sector_size (part_request_of sizes.max_transfer r count) part
+      → IsNewPart sizes.keeps_bytes (goes_whole sizes.max_transfer r) sizes.sector_size (part_request_of sizes.max_transfer r count) part
       → AreNewParts sizes r (count + 1) items
   one_made count items front part is h new = subst (AreNewParts sizes r (count + 1)) (sym is) (record {
     long = let l = h.long in let e = length_push front part in omega arith;
@@ -66,8 +66,8 @@ module _ (sizes : Sizes) (r : Request) where
       | inl before ↦ h.are k x before
       | inr last ↦
           let at : count ≡ k = let l = h.long in let e = last.0 in omega arith in
-          subst (λ n. IsNewPart (goes_whole sizes.max_transfer r) sizes.sector_size (part_request_of sizes.max_transfer r n) x) at
-          (subst (IsNewPart (goes_whole sizes.max_transfer r) sizes.sector_size (part_request_of sizes.max_transfer r count)) last.1 new)
+          subst (λ n. IsNewPart sizes.keeps_bytes (goes_whole sizes.max_transfer r) sizes.sector_size (part_request_of sizes.max_transfer r n) x) at
+          (subst (IsNewPart sizes.keeps_bytes (goes_whole sizes.max_transfer r) sizes.sector_size (part_request_of sizes.max_transfer r count)) last.1 new)
     ];
   })
 
@@ -83,14 +83,15 @@ module _ (sizes : Sizes) (r : Request) where
         (new.first, subst IsReadyBy (sym new.is_ready) tt))
 
     -- each has its buffers
-    pub new_buffered : (rules : Rules) → sizes.sector_size ≡ rules.sector_size → sizes.max_transfer ≡ rules.max_transfer → All (IsBuffered rules (goes_whole rules.max_transfer r)) parts
-    new_buffered rules same limits = all_from_get (IsBuffered rules (goes_whole rules.max_transfer r)) parts (λ k part is.
+    pub new_buffered : (rules : Rules) → sizes.sector_size ≡ rules.sector_size → sizes.max_transfer ≡ rules.max_transfer → sizes.keeps_bytes ≡ rules.keeps_bytes → All (IsBuffered rules (goes_whole rules.max_transfer r)) parts
+    new_buffered rules same limits keeping = all_from_get (IsBuffered rules (goes_whole rules.max_transfer r)) parts (λ k part is.
         let new = h.are k part is in
-        let own : HasBuffers (goes_whole sizes.max_transfer r) rules.sector_size part.request new.place =
-        subst (λ n. HasBuffers (goes_whole sizes.max_transfer r) n part.request new.place) same
-        (subst (λ q. HasBuffers (goes_whole sizes.max_transfer r) sizes.sector_size q new.place) (sym new.asks) new.buffers) in
+        let own : HasBuffers sizes.keeps_bytes (goes_whole sizes.max_transfer r) rules.sector_size part.request new.place =
+        subst (λ n. HasBuffers sizes.keeps_bytes (goes_whole sizes.max_transfer r) n part.request new.place) same
+        (subst (λ q. HasBuffers sizes.keeps_bytes (goes_whole sizes.max_transfer r) sizes.sector_size q new.place) (sym new.asks) new.buffers) in
         subst (IsBufferedBy rules (goes_whole rules.max_transfer r) part.request) (sym new.is_ready)
-        (subst (λ n. HasBuffers (goes_whole n r) rules.sector_size part.request new.place) limits own))
+        (subst (λ k. HasBuffers k (goes_whole rules.max_transfer r) rules.sector_size part.request new.place) keeping
+        (subst (λ n. HasBuffers sizes.keeps_bytes (goes_whole n r) rules.sector_size part.request new.place) limits own)))
 
     -- they ask for what the request is cut into
     pub new_requests : (limit : ℕ) → sizes.max_transfer ≡ limit → count ≡ part_count_of limit r
@@ -121,7 +122,7 @@ module _ (sizes : Sizes) (r : Request) where
       parts_are = new_requests _ held.parts h rules.max_transfer are.max_transfer (ap (λ n. part_count_of n r) are.max_transfer);
     });
     here = new_here _ held.parts h;
-    buffered = λ whole. subst (λ q. All (IsBuffered rules (goes_whole rules.max_transfer q)) held.parts) (sym is) (new_buffered _ held.parts h rules are.sector_size are.max_transfer);
+    buffered = λ whole. subst (λ q. All (IsBuffered rules (goes_whole rules.max_transfer q)) held.parts) (sym is) (new_buffered _ held.parts h rules are.sector_size are.max_transfer are.keeps_bytes);
     owned = owned;
     ready = λ whole. new_ready _ held.parts h;
   }

@@ -167,8 +167,9 @@ module _ {v : DeviceView}
             (λ is. subst (λ n. bytes_from b.sizes.sector_size r (part_request_of limit r k) + data_length b.sizes.sector_size (part_request_of limit r k) ≤ n)
             (sym bytes)
             (lies_inside limit r.volume r.extent r.through k some_limit short fits r.kind b.sizes.sector_size low' (sym (part_kind limit r k) ∙ is)));
-        buffers = subst (λ t. HasBuffers t b.sizes.sector_size part.request place) (ap (λ n. n == 1) (sym long))
-            (subst (λ n. HasBuffers only n part.request place) (sym size) buffered);
+        buffers = subst (λ t. HasBuffers b.sizes.keeps_bytes t b.sizes.sector_size part.request place) (ap (λ n. n == 1) (sym long))
+            (subst (λ w. HasBuffers w only b.sizes.sector_size part.request place) (sym h.sizes.keeps_bytes)
+            (subst (λ n. HasBuffers v.rules.keeps_bytes only n part.request place) (sym size) buffered));
         whole = λ one. own ∙ only_part limit r k some_limit (sym long ∙ one) low';
         long = bytes;
       }

@@ -90,6 +90,7 @@ sizes_below sizes rules h = record {
   sector_size = h.sector_size;
   max_transfer = h.max_transfer;
   whole = record { as_many = h.whole.as_many; one_disk = h.whole.one_disk; some_bytes = h.whole.some_bytes };
+  keeps_bytes = h.keeps_bytes;
 }
 
 module _ {takes : Bool} (v : DeviceView) (b : TableView) (brought : TransferPacket) (climb : Climb) (v' : DeviceView)

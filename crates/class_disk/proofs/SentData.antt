@@ -1,6 +1,6 @@
 -- The data that a part takes along.
 use Rattle.std.specs.Prelude.{slice_get, slice_set, slice_range, vec_capacity, if◌then◌else◌}
-use Rattle.std.proofs.Common.{◌≡◌, ◌≤◌, true, take, drop, ℕ, zero, suc, ◌+◌, ◌-◌, ◌*◌, ◌==◌, List, [], ◌∷◌, Some, refl, sym, ◌∙◌, ap, subst, arith, length, get_or}
+use Rattle.std.proofs.Common.{◌≡◌, ◌≤◌, true, IsTrue, take, drop, ℕ, zero, suc, ◌+◌, ◌-◌, ◌*◌, ◌==◌, List, [], ◌∷◌, Some, refl, sym, ◌∙◌, ap, subst, arith, length, get_or}
 use Rattle.std.proofs.lemmas.Option.{get_or_from_slice_get}
 use Rattle.std.proofs.lemmas.List.{length-drop, length-take-le}
 use Rattle.irp.specs.declared.Payload.TheVariants.{Srb as Packed}
@@ -119,9 +119,9 @@ can_take sizes o k h sent = record {
 
 -- a part that goes below with these data
 pub sends_with : (sizes : Sizes) (o o' : Opened) (k number : ℕ) (part : Part) (place : Place) (bytes : List ℕ) (srb : Srb) (packet : TransferPacket)
-    → IsDataOf sizes.sector_size (payload_bytes o.irp.payload) o.request part.request bytes → HasBuffers (length o.parts == 1) sizes.sector_size part.request place
+    → IsDataOf sizes.sector_size (payload_bytes o.irp.payload) o.request part.request bytes → HasBuffers sizes.keeps_bytes (length o.parts == 1) sizes.sector_size part.request place
     → srb.«data» ≡ bytes
-    → ((rules : Rules) → IsWholeDisk sizes.disk_sectors rules → length bytes ≡ transfer_length rules part.request → transfer_length rules part.request ≤ place.for_label → AsksFor rules part.request srb)
+    → ((rules : Rules) → IsWholeDisk sizes.disk_sectors rules → length bytes ≡ transfer_length rules part.request → (IsTrue rules.keeps_bytes → transfer_length rules part.request ≤ place.for_label) → AsksFor rules part.request srb)
     → IsOwnPacket number part.request (Packed srb) packet.irp.value → AsksInLocation true part.request packet.irp.value → packet.room ≡ place.packet.room
     → o' ≡ sent_opened k (sent_part number place.packet.room.spot part) o
     → SendsAs sizes o k number part place packet o'
@@ -130,8 +130,9 @@ sends_with sizes o o' k number part place bytes srb packet d h same asks own ask
   own = own;
   asks = asks_in;
   carries = λ rules are.
-      let room_for : place.for_label ≡ transfer_length rules part.request = same_length rules sizes.sector_size part.request place.for_label h.for_label are.sector_size in
-      asks rules are.whole (same_length rules sizes.sector_size part.request (length bytes) d.long are.sector_size) (omega (arith, room_for));
+      asks rules are.whole (same_length rules sizes.sector_size part.request (length bytes) d.long are.sector_size)
+      (λ kept. let room_for : place.for_label ≡ transfer_length rules part.request = same_length rules sizes.sector_size part.request place.for_label (h.for_label (are.keeps_bytes ∙ kept)) are.sector_size in
+      omega (arith, room_for));
   brings = subst (IsDataOf sizes.sector_size (payload_bytes o.irp.payload) o.request part.request) (sym same) d;
   room = room;
   after = after;

@@ -1,6 +1,6 @@
 //! The packet of a part, and its SRB.
 
-ghost use Rattle.std.specs.Prelude.{◌≡◌, ◌<◌, ◌≤◌, ◌*◌, ◌^◌, ◌-◌, None, true, length};
+ghost use Rattle.std.specs.Prelude.{◌≡◌, ◌<◌, ◌≤◌, ◌*◌, ◌^◌, ◌-◌, None, true, IsTrue, length};
 ghost use Rattle.machine.specs.Rules.{Rules};
 ghost use Rattle.machine.specs.Sending.{fits_ten, read_command, write_command, flush_command};
 ghost use Rattle.device.specs.View.{AsksFor, AsksInLocation, direction as direction_of, transfer_length};
@@ -147,7 +147,8 @@ pub(crate) fn srb_for(
     ensures data { result.data ≡ «data» }
     ensures sense { result.sense ≡ None }
     ensures asks { (rules : Rules) → IsWholeDisk disk_sectors rules → length «data»
-        ≡ transfer_length rules request.now → transfer_length rules request.now ≤ for_label
+        ≡ transfer_length rules request.now
+        → (IsTrue rules.keeps_bytes → transfer_length rules request.now ≤ for_label)
         → AsksFor rules request.now result }
 {
     Srb {

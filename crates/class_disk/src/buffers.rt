@@ -1,6 +1,6 @@
 //! The buffers of parts, and the bytes of a request that they carry.
 
-ghost use Rattle.std.specs.Prelude.{◌≡◌, ◌<◌, ◌≤◌, ◌+◌, ℕ, true, false, List, [], IfOk, slice_range};
+ghost use Rattle.std.specs.Prelude.{◌≡◌, ◌<◌, ◌≤◌, ◌+◌, ℕ, true, false, List, [], IfOk, IsTrue, slice_range};
 ghost use Rattle.std.specs.Prelude.{length as list_length, vec_capacity, if◌then◌else◌};
 ghost use Rattle.irp.specs.declared.Payload.TheVariants.{Buffer};
 ghost use Rattle.class_disk.specs.inside.Parts.{IsBufferOf, AreLeft, joined_of};
@@ -10,7 +10,7 @@ ghost use Rattle.class_disk.specs.inside.TableCalls.{joined_up, payload_up};
 use crate::parts::Part;
 use device::Kind;
 use irp::Payload;
-use sector::Bytes;
+use sector::{Bytes, LabelRoom};
 use std::alloc::{AllocError, Global};
 use std::mem;
 
@@ -41,6 +41,21 @@ pub(crate) fn data_buffer(alloc: Global, kind: Kind, length: usize) -> Result<Ve
         Kind::Read => zeros(alloc, length),
         Kind::Write => Vec::with_capacity(alloc, length),
         Kind::Flush => Vec::with_capacity(alloc, 0),
+    }
+}
+
+/// Room for as many bytes in a label, where labels keep their bytes.
+///
+/// # Errors
+///
+/// [`AllocError`] where memory was refused.
+pub(crate) fn label_room(alloc: Global, keeps: bool, length: usize) -> Result<LabelRoom, AllocError>
+    ensures { IfOk result (λ room. IsTrue keeps → room ≡ length) }
+{
+    if keeps {
+        LabelRoom::new(alloc, length)
+    } else {
+        Ok(LabelRoom::none(alloc))
     }
 }
 

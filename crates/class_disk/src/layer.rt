@@ -34,6 +34,7 @@ impl<D: Device> Disk<D> {
             sector_size,
             max_transfer: device.longest(),
             disk_sectors: device.sectors(0),
+            keeps_bytes: device.keeps_bytes(),
         };
         Disk {
             extension: Extension {
@@ -79,6 +80,10 @@ impl<D: Device> Device for Disk<D> {
     fn longest(&self) -> u64 {
         let _extension = &self.extension;
         LONGEST
+    }
+
+    fn keeps_bytes(&self) -> bool {
+        self.extension.device.keeps_bytes()
     }
 
     fn most(&self) -> u128 {

@@ -36,6 +36,8 @@ pub struct Sizes {
     pub max_transfer: u64,
     /// Sectors of the disk.
     pub disk_sectors: u64,
+    /// Whether the bytes of labels stand in memory.
+    pub keeps_bytes: bool,
 }
 
 /// The layer below and the requests (WDK: DeviceExtension), which are in order between two calls of the class driver

@@ -49,7 +49,7 @@ pub(crate) struct Place {
     /// A read's is as long as its data. A write's is empty, with room for its data. The only part of a request has
     /// none.
     pub data: Vec<u8>,
-    /// Room for as many bytes as its data.
+    /// Room for as many bytes as its data, where labels keep their bytes.
     pub for_label: LabelRoom,
 }
 

@@ -31,11 +31,10 @@ ghost use Rattle.class_disk.specs.inside.DuringACall.{CanCut, MakesNone, MakesRo
 
 use crate::Extension;
 use crate::blocks::{byte_count, part_count, part_request};
-use crate::buffers::{data_buffer, own_bytes};
+use crate::buffers::{data_buffer, label_room, own_bytes};
 use crate::parts::{Ended, Outcome, Part, PartId, Place, Progress, TransferPacket};
 use device::{Climb, Device, Request};
 use irp::{Irp, Payload};
-use sector::LabelRoom;
 use std::alloc::AllocError;
 
 /// The packet that is finished: one of the class driver's own has no completion routine above (the WDK's has one, which
@@ -101,7 +100,7 @@ impl<D: Device> Extension<D> {
         requires bounded { IsBounded (D.view self.old.device).rules request.now }
         requires small { request.now.extent.count * self.old.table.sizes.sector_size < 2 ^ 64 }
         ensures table { self.new.table ≡ record self.old.table { owners = self.new.table.owners } }
-        ensures part { IfOk result (λ part. IsNewPart is_only self.old.table.sizes.sector_size request.now part) }
+        ensures part { IfOk result (λ part. IsNewPart self.old.table.sizes.keeps_bytes is_only self.old.table.sizes.sector_size request.now part) }
         ensures refused { OnErr result (MakesNone (D.view self.old.device) self.old.table.owners.items
             (D.view self.new.device) self.new.table.owners.items) }
         ensures makes { IfOk result (λ part. MakesParts (D.view self.old.device)
@@ -113,7 +112,7 @@ impl<D: Device> Extension<D> {
     {
         let length = byte_count(&self.table.sizes, request);
         let data = data_buffer(self.alloc, request.kind, own_bytes(is_only, length))?;
-        let for_label = LabelRoom::new(self.alloc, length)?;
+        let for_label = label_room(self.alloc, self.table.sizes.keeps_bytes, length)?;
         let packet = self.reserve_packet(request, id)?;
         let place = Place {
             packet,

@@ -68,9 +68,9 @@ module _ (disk v : AdapterView) (settings : Settings) (in_range : AreInRange set
       })
 
       -- what the probe and the adapter tell are the limits of a manager over them
-      pub limits_for : IsInOrder v → (limits : Limits) → limits.sector_size ≡ probed.sector_size → limits.max_transfer ≡ v.max_transfer → limits.depth ≡ v.depth → limits.open_requests ≡ settings.open_requests
+      pub limits_for : IsInOrder v → (limits : Limits) → limits.sector_size ≡ probed.sector_size → limits.max_transfer ≡ v.max_transfer → limits.depth ≡ v.depth → limits.keeps_bytes ≡ v.keeps_bytes → limits.open_requests ≡ settings.open_requests
           → AreFirsts limits.first_sectors probed.partitions.items → AreFor t limits
-      limits_for order limits sector_size max_transfer depth open_requests firsts =
+      limits_for order limits sector_size max_transfer depth keeps_bytes open_requests firsts =
           let some_transfer : 1 ≤ v.max_transfer = order.max_transfer.0 in
           let some_open : 1 ≤ settings.open_requests = in_range.open_requests.0 in
           let few_open : settings.open_requests ≤ 64 = in_range.open_requests.1 in
@@ -79,6 +79,7 @@ module _ (disk v : AdapterView) (settings : Settings) (in_range : AreInRange set
             max_transfer = max_transfer;
             some_transfer = omega arith;
             depth = depth;
+            keeps_bytes = keeps_bytes;
             firsts = firsts;
             some_open = (omega arith, omega arith);
           })
@@ -97,6 +98,7 @@ module _ (disk v : AdapterView) (settings : Settings) (in_range : AreInRange set
                 let sectors : length v.sectors ≡ length disk.sectors = ap length same.sectors in
                 let depth = same.depth in
                 let faithful = same.faithful in
+                let keeps_bytes = same.keeps_bytes in
                 h.rules ∙ cc;
             state = h.state ∙ ap (λ (xs : List (List ℕ)). opening (map (sectors_in xs) probed.partitions.items)) same.sectors;
             same_disk = subst (λ (a : AdapterView). IsSameDisk (asked_by_probe disk) disk a) (sym h.adapter) same;

@@ -4,7 +4,7 @@ use Rattle.machine.specs.declared.Label.{Label}
 use Rattle.io_manager.specs.declared.Answer.{Answer}
 use Rattle.io_manager.specs.declared.Reply.{Reply}
 use Rattle.io_manager.specs.Shown.{ManagerView}
-use Rattle.io_manager.specs.Right.{TakesLabel, TakesAnswer, TakesAnswerOf}
+use Rattle.io_manager.specs.Right.{TakesLabel, TakesShown, TakesAnswer, TakesAnswerOf}
 use Rattle.compose.specs.declared.Event.{Event}
 use Rattle.compose.specs.declared.Event.TheVariants.{Open, Close, Read, Write, Flush, CancelIoEx, Mark, QueryRemove}
 use Rattle.compose.specs.declared.Event.TheVariants.{CancelRemove, Remove, SurpriseRemove, Act, Finish, Reset}
@@ -25,6 +25,26 @@ step_keeps old SurpriseRemove reply new h = h.by.same_keeps
 step_keeps old (Act tag) reply new h = h.by.same_keeps
 step_keeps old (Finish tag) reply new h = h.by.same_keeps
 step_keeps old Reset reply new h = h.1.by.same_keeps
+
+pub step_same_rules : (old : ManagerView) (event : Event) (reply : Reply) (new : ManagerView) → IsRight old event reply new → new.rules ≡ old.rules
+step_same_rules old (Open partition) reply new h = h.by.same_rules
+step_same_rules old (Close handle) reply new h = h.by.same_rules
+step_same_rules old (Read handle offset buffer) reply new h = h.by.same_rules
+step_same_rules old (Write handle offset bytes through) reply new h = h.by.same_rules
+step_same_rules old (Flush handle) reply new h = h.by.same_rules
+step_same_rules old (CancelIoEx handle target) reply new h = h.by.same_rules
+step_same_rules old (Mark number) reply new h = h.by.same_rules
+step_same_rules old QueryRemove reply new h = h.by.same_rules
+step_same_rules old CancelRemove reply new h = h.by.same_rules
+step_same_rules old Remove reply new h = h.by.same_rules
+step_same_rules old SurpriseRemove reply new h = h.by.same_rules
+step_same_rules old (Act tag) reply new h = h.by.same_rules
+step_same_rules old (Finish tag) reply new h = h.by.same_rules
+step_same_rules old Reset reply new h = h.1.by.same_rules
+
+pub shown_keeps : (old : ManagerView) (found : Option Label) (new : ManagerView) → TakesShown old found new → new.keeps ≡ old.keeps
+shown_keeps old None new h = ap (λ (v : ManagerView). v.keeps) h.1
+shown_keeps old (Some label) new h = ap (λ (v : ManagerView). v.keeps) h.4
 
 pub label_keeps : (old : ManagerView) (found : Option Label) (new : ManagerView) → TakesLabel old found new → new.keeps ≡ old.keeps
 label_keeps old None new h = ap (λ (v : ManagerView). v.keeps) h.1

@@ -44,6 +44,7 @@ first_rules disk settings partitions = record {
   busy_limit = last_busy_return;
   any_cut = false;
   faithful = disk.faithful;
+  keeps_bytes = disk.keeps_bytes;
 }
 
 -- what a stack over this disk shows before its first event

@@ -111,12 +111,14 @@ pub(crate) fn run<D: Hold>(
 ) -> Result<Vec<Shown>, RunStopped>
     requires taken { manager.old.labels ≡ [] }
     requires kept { IsTrue manager.old.keeps }
+    requires bytes { IsTrue manager.old.rules.keeps_bytes }
     ensures carries { MatchResult result (λ shown. CarriesAll manager.old events.items shown.items manager.new)
         (λ stopped. StopsAfter manager.old events.items stopped manager.new) }
     ensures lawful { MatchResult result (λ shown. IsLawful manager.old shown.items manager.new)
         (λ stopped. IsLawful manager.old stopped.shown.items manager.new) }
     ensures taken { manager.new.labels ≡ [] }
     ensures kept { IsTrue manager.new.keeps }
+    ensures bytes { IsTrue manager.new.rules.keeps_bytes }
     ensures settled { Settled manager.new.rules manager.new.state }
     ensures finished { IsFinished manager.new.state }
     ensures whole { FitsTogether manager.new }
@@ -140,10 +142,12 @@ fn carry_all<D: Hold>(
 ) -> Result<Vec<Shown>, RunStopped>
     requires taken { manager.old.labels ≡ [] }
     requires kept { IsTrue manager.old.keeps }
+    requires bytes { IsTrue manager.old.rules.keeps_bytes }
     ensures carries { MatchResult result (λ shown. CarriesAll manager.old events.items shown.items manager.new)
         (λ stopped. StopsAfter manager.old events.items stopped manager.new) }
     ensures taken { manager.new.labels ≡ [] }
     ensures kept { IsTrue manager.new.keeps }
+    ensures bytes { IsTrue manager.new.rules.keeps_bytes }
 {
     if events.is_empty() {
         return Ok(Vec::new(alloc));
@@ -175,9 +179,11 @@ fn carry_out<D: Hold>(
     requires empty { spare.items ≡ [] }
     requires places { 256 ≤ deque_capacity spare }
     requires kept { IsTrue manager.old.keeps }
+    requires bytes { IsTrue manager.old.rules.keeps_bytes }
     ensures carries { Carries manager.old event result manager.new }
     ensures taken { manager.new.labels ≡ [] }
     ensures kept { IsTrue manager.new.keeps }
+    ensures bytes { IsTrue manager.new.rules.keeps_bytes }
 {
     let reply = step(manager, alloc, event);
     let labels = manager.take_labels(spare);

@@ -1,6 +1,6 @@
 //! The stack over an adapter: what its user calls.
 
-ghost use Rattle.std.specs.Prelude.{◌≡◌, [], IfOk, IfErr, MatchOption, MatchResult, Some};
+ghost use Rattle.std.specs.Prelude.{◌≡◌, [], IfOk, IfErr, IsTrue, MatchOption, MatchResult, Some};
 ghost use Rattle.adapter.specs.View.{IsInOrder};
 ghost use Rattle.adapter.specs.Calls.{HasNoneFresh};
 ghost use Rattle.adapter.specs.Booking.{IsArmed, handed};
@@ -9,7 +9,7 @@ ghost use Rattle.machine.specs.Settled.{Settled, IsFinished};
 ghost use Rattle.machine_laws.specs.Reached.{IsReached};
 ghost use Rattle.probe.specs.Exchange.{IsIdle};
 ghost use Rattle.io_manager.specs.Right.{BooksPiece, FitsTogether, TakesAnswer, TakesAnswerOf};
-ghost use Rattle.io_manager.specs.Right.{TakesLabel as TakesFirst};
+ghost use Rattle.io_manager.specs.Right.{TakesShown, TakesLabel as TakesFirst};
 ghost use Rattle.compose.specs.Right.{IsRight, StepsUntraced, opened_by};
 ghost use Rattle.compose.specs.Opening.{IsFirstView, IsSpent};
 ghost use Rattle.compose.specs.Runs.{CarriesAll, IsLawful, StopsAfter};
@@ -155,8 +155,17 @@ impl<A: Adapter> Stack<A> {
         self.manager.shows_whole()
     }
 
-    /// Takes the earliest label of the last step that was not taken yet.
+    /// Takes the earliest label of the last step that was not taken yet, as memory has it: its bytes are there where
+    /// labels keep theirs, and else none.
+    pub fn take_shown(&mut self) -> Option<Label>
+        ensures { TakesShown self.old result self.new }
+    {
+        self.manager.take_shown()
+    }
+
+    /// Takes the earliest label of the last step that was not taken yet, with its bytes.
     pub fn take_label(&mut self) -> Option<Label>
+        requires bytes { IsTrue self.old.rules.keeps_bytes }
         ensures { TakesFirst self.old result self.new }
     {
         self.manager.take_label()
@@ -177,8 +186,8 @@ impl<A: Adapter> Stack<A> {
         self.manager.take_answer_of(number)
     }
 
-    /// Carries out events one after another, and gives the reply and the labels of each, which are then taken. All
-    /// labels of the step before have to be taken.
+    /// Carries out events one after another, and gives the reply and the labels of each, with their bytes, which are
+    /// then taken. All labels of the step before have to be taken.
     ///
     /// # Errors
     ///
@@ -186,6 +195,7 @@ impl<A: Adapter> Stack<A> {
     /// all; the others are dropped, with their bytes.
     pub fn run(&mut self, alloc: Global, events: Vec<Event>) -> Result<Vec<Shown>, RunStopped>
         requires taken { self.old.labels ≡ [] }
+        requires bytes { IsTrue self.old.rules.keeps_bytes }
         ensures carries { MatchResult result (λ shown. CarriesAll self.old events.items shown.items self.new)
             (λ stopped. StopsAfter self.old events.items stopped self.new) }
         ensures lawful { MatchResult result (λ shown. IsLawful self.old shown.items self.new)

@@ -113,6 +113,7 @@ pub(crate) fn manager_over<A: Adapter>(
     let probed = prepare(alloc, &mut adapter, settings)?;
     let max_transfer = adapter.max_transfer();
     let depth = adapter.depth();
+    let keeps_bytes = adapter.keeps_bytes();
     let first_sectors = first_sectors_of(probed.partitions.as_slice());
     let port = Port::new(alloc, adapter)?;
     let disk = Disk::new(alloc, port, probed.sector_size as u32);
@@ -123,6 +124,7 @@ pub(crate) fn manager_over<A: Adapter>(
         max_transfer,
         depth,
         open_requests: settings.open_requests,
+        keeps_bytes,
         first_sectors,
     };
     let manager = IoManager::new(alloc, partitions, limits)?;

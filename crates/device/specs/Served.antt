@@ -8,6 +8,7 @@ use Rattle.srb.specs.declared.Completion.{Completion}
 use Rattle.srb.specs.declared.Entry.{Entry}
 use Rattle.srb.specs.declared.DeviceLabel.{DeviceLabel}
 use Rattle.srb.specs.declared.DeviceLabel.TheVariants.{Start, Act, Fault, Return}
+use Rattle.srb.specs.Bare.{in_memory}
 use Rattle.srb.specs.Fate.{Fresh, is_fresh}
 use Rattle.adapter.specs.View.{AdapterView, ReservesMore, ReservesNear as AdapterReservesNear, MovesByAll, NotesReset}
 use Rattle.adapter.specs.Calls.{IsBooked}
@@ -296,11 +297,17 @@ pub record HandsUpNone (old new : DeviceView) : Type 0 where
   pub settled : Settled old.rules old.state
   pub same : new ≡ old
 
+-- a label is the first of these, as memory has it
+pub record IsFirst (keeps : Bool) (labels : List DeviceLabel) (label : DeviceLabel) (rest : List DeviceLabel) : Type 0 where
+  pub told : DeviceLabel
+  pub is : labels ≡ told ∷ rest
+  pub shown : label ≡ in_memory keeps told
+
 -- the earliest label of the adapter is taken
 abbrev pub TakesLabel : DeviceView → Option DeviceLabel → DeviceView → Type 0
 TakesLabel old None new = (old.adapter.labels ≡ []) × (new ≡ old)
 TakesLabel old (Some label) new =
-    (rest : List DeviceLabel) × (old.adapter.labels ≡ label ∷ rest)
+    (rest : List DeviceLabel) × IsFirst old.rules.keeps_bytes old.adapter.labels label rest
     × (new ≡ record old { adapter = record old.adapter { labels = rest } })
 
 -- none of the adapter's labels is left, and nothing else changes

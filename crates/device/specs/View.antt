@@ -138,14 +138,14 @@ direction Write = 0x80
 direction Flush = 0
 
 -- an SRB asks for all of a request: its block is the one that does, its data have the request's length, it has room for
--- a label, and no sense data
+-- a label where labels keep their bytes, and no sense data
 pub record AsksFor (rules : Rules) (r : Request) (srb : Srb) : Type 0 where
   pub function : srb.function ≡ ExecuteScsi
   pub flags : srb.flags.0 ≡ direction r.kind
   pub asks : Means srb.block (whole_command rules r)
   pub plain : IsPlain srb.block (whole_command rules r)
   pub data_length : length srb.data ≡ transfer_length rules r
-  pub label_length : transfer_length rules r ≤ srb.for_label
+  pub label_length : IsTrue rules.keeps_bytes → transfer_length rules r ≤ srb.for_label
   pub sense : srb.sense ≡ None
 
 -- what a packet carries for its request: an SRB where the layer takes one, else a buffer of its length

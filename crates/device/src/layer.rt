@@ -78,6 +78,10 @@ pub trait Device: Shown {
     fn longest(&self) -> u64
         ensures { result ≡ (Self.view self.now).rules.longest };
 
+    /// Whether the bytes of the adapter's labels stand in memory. If not, contracts alone read them.
+    fn keeps_bytes(&self) -> bool
+        ensures { result ≡ (Self.view self.now).rules.keeps_bytes };
+
     /// How many requests may be submitted in all.
     fn most(&self) -> u128
         ensures { result ≡ (Self.view self.now).most };
@@ -170,7 +174,7 @@ pub trait Device: Shown {
         ensures hands_up { MatchOption result (HandsUpNone (Self.view self.old) (Self.view self.new))
             (λ done. HandsUp Self.takes_srb (Self.view self.old) done.0 done.1.spot (Self.view self.new)) };
 
-    /// Takes the earliest label that the adapter recorded and that nobody took yet.
+    /// Takes the earliest label that the adapter recorded and that nobody took yet, as memory has it.
     fn take_label(&mut self) -> Option<DeviceLabel>
         ensures takes { TakesLabel (Self.view self.old) result (Self.view self.new) };
 

@@ -51,6 +51,10 @@ impl<D: Device> Device for Filter<D> {
         self.parts.device.longest()
     }
 
+    fn keeps_bytes(&self) -> bool {
+        self.parts.device.keeps_bytes()
+    }
+
     fn most(&self) -> u128 {
         self.parts.device.most()
     }

@@ -51,7 +51,7 @@ cases_held old new slot item updates other there h = elim (cases_eq other slot) 
   | inr apart ↦ inr (apart, sym (updates.others other apart) ∙ h)
 ]
 
-held_still : (old new : Slab OpenRequest) (slot : ℕ) (entry : OpenRequest) → get old slot ≡ None → SlabUpdates old new slot (Some entry) → (o : OpenBelow) → IsHeldAt old o → IsHeldAt new o
+held_still : {w : Bool} (old new : Slab OpenRequest) (slot : ℕ) (entry : OpenRequest) → get old slot ≡ None → SlabUpdates old new slot (Some entry) → (o : OpenBelow) → IsHeldAt w old o → IsHeldAt w new o
 held_still old new slot entry free updates o h = record {
   slot = h.slot;
   request = h.request;
@@ -64,7 +64,7 @@ held_still old new slot entry free updates o h = record {
 }
 
 -- the numbers in the table were given
-was_given : (requests : Slab OpenRequest) (below : List OpenBelow) (next : ℕ) → All (IsGiven next) below → AreHeld requests below → (slot : ℕ) (request : OpenRequest) → get requests slot ≡ Some request
+was_given : {w : Bool} (requests : Slab OpenRequest) (below : List OpenBelow) (next : ℕ) → All (IsGiven next) below → AreHeld w requests below → (slot : ℕ) (request : OpenRequest) → get requests slot ≡ Some request
     → request.number < next
 was_given requests below next given h slot request there =
     All-contains (λ n. n < next) (map request_number below) request.number (All-map (λ n. n < next) request_number below given) (h.is_open slot request there)
@@ -96,15 +96,15 @@ AreSpotted-more old new slot entry packet packets updates before number spot h =
     }
 
 -- one more request is open below and in the table
-AreHeld-more : (old new : Slab OpenRequest) (slot : ℕ) (entry : OpenRequest) (opened : OpenBelow) (below : List OpenBelow) (next : ℕ) → get old slot ≡ None → SlabUpdates old new slot (Some entry)
-    → slab_len new ≡ slab_len old + 1 → entry.number ≡ opened.number → entry.kind ≡ opened.request.kind → entry.cancelled ≡ opened.cancelled → is_some opened.request.partition ≡ true → (opened.request.kind ≡ Read → opened.request.length ≤ entry.label_bytes)
-    → All (IsGiven next) below → next ≤ entry.number → AreHeld old below → AreHeld new (opened ∷ below)
+AreHeld-more : {w : Bool} (old new : Slab OpenRequest) (slot : ℕ) (entry : OpenRequest) (opened : OpenBelow) (below : List OpenBelow) (next : ℕ) → get old slot ≡ None → SlabUpdates old new slot (Some entry)
+    → slab_len new ≡ slab_len old + 1 → entry.number ≡ opened.number → entry.kind ≡ opened.request.kind → entry.cancelled ≡ opened.cancelled → is_some opened.request.partition ≡ true → (IsTrue w → opened.request.kind ≡ Read → opened.request.length ≤ entry.label_bytes)
+    → All (IsGiven next) below → next ≤ entry.number → AreHeld w old below → AreHeld w new (opened ∷ below)
 AreHeld-more old new slot entry opened below next free updates counted number kind cancelled partition label_bytes given later h =
     record {
       held =
-          All-cons (IsHeldAt new) opened below
+          All-cons (IsHeldAt _ new) opened below
           (record { slot = slot; request = entry; there = updates.changed; same_number = number; same_kind = kind; same_cancelled = cancelled; has_partition = partition; label_bytes = label_bytes })
-          (All-weaker (IsHeldAt old) (IsHeldAt new) (held_still old new slot entry free updates) below h.held);
+          (All-weaker (IsHeldAt _ old) (IsHeldAt _ new) (held_still old new slot entry free updates) below h.held);
       is_open = λ other request there. elim (cases_held old new slot entry updates other request there) [
         | inl (same, is) ↦ at_first (map request_number below) (sym (ap (λ (e : OpenRequest). e.number) is) ∙ number)
         | inr (apart, before) ↦ Contains-cons opened.number request.number (map request_number below) (h.is_open other request before)
@@ -188,7 +188,7 @@ module _ (limits : Limits) (below : DeviceView) (tables : Tables) (q : ClientReq
         };
       }
 
-  pub admitted_sound : (handle : Handle) (copies : LabelBytes) (spot slot : ℕ) (tables1 : Tables) (buffer : List ℕ) (below1 : DeviceView) → AreDistinct below.state → IsOpenIn tables.handles handle.slot handle.number → HasLabelBytes tables.labels.keeps q.kind buffer copies → q.length ≡ length buffer
+  pub admitted_sound : (handle : Handle) (copies : LabelBytes) (spot slot : ℕ) (tables1 : Tables) (buffer : List ℕ) (below1 : DeviceView) → AreDistinct below.state → IsOpenIn tables.handles handle.slot handle.number → HasLabelBytes tables.labels.keeps tables.labels.keeps_bytes q.kind buffer copies → q.length ≡ length buffer
       → deque_len tables.untaken + (slab_len tables.requests + 1) ≤ deque_capacity tables.untaken → Admits tables handle q copies spot slot tables1
       → SendsDown below tables.next_request spot (request_of limits.sector_size q) buffer below1 → IsSound limits below1 tables1
   admitted_sound handle copies spot slot tables1 buffer below1 distinct is_open buffers same_length place admits sends =
@@ -242,12 +242,14 @@ module _ (limits : Limits) (below : DeviceView) (tables : Tables) (q : ClientReq
                 (record below.state { next_request = sends.packet.number + 1; requests = new_request below.rules below.state sends.packet.number asked ∷ below.state.requests }) sends.submits.opened
                 (asks_same _ _ (KeepsAsked-same _ _ (IsSame-sym _ _ sends.submits.opens.after)))
                 (AreHeld-more tables.requests tables1.requests slot _ (new_request below.rules below.state sends.packet.number asked) below.state.requests below.state.next_request admits.was_free admits.holds counted (sym number) refl refl refl
-                (λ reads. subst (λ n. n ≤ copies.label_bytes) (sym same_length ∙ asks.length_is) (let e : copies.label_bytes ≡ length buffer = buffers.label_bytes ∙ ap (λ kind. answer_room_of kind (length buffer)) reads in omega (arith, e))) distinct.given h.numbers.rising h.held);
+                (λ kept reads. subst (λ n. n ≤ copies.label_bytes) (sym same_length ∙ asks.length_is) (let e : copies.label_bytes ≡ length buffer = buffers.label_bytes (h.places.label_bytes ∙ kept) ∙ ap (λ kind. answer_room_of kind (length buffer)) reads in omega (arith, e))) distinct.given h.numbers.rising h.held);
             few = omega arith;
             places = record {
               labels = subst (λ capacity. 256 ≤ capacity) (sym labels) h.places.labels;
               answered = h.places.answered;
               alike = h.places.alike ∙ sym admits.label_places.1;
+              label_bytes = admits.label_places.2 ∙ h.places.label_bytes;
+              answer_bytes = h.places.answer_bytes;
               untaken = subst (λ count. deque_len tables.untaken + count ≤ deque_capacity tables.untaken) (sym counted) place;
               handles = h.places.handles;
               requests = slots ∙ h.places.requests;

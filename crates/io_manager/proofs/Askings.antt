@@ -1,5 +1,5 @@
 -- What steps leave of a machine's open requests: their numbers, what they ask, and whether they are cancelled.
-use Rattle.std.proofs.Common.{◌≡◌, inl, inr, false, List, [], ◌∷◌, refl, sym, ◌∙◌, ap, subst, map, length}
+use Rattle.std.proofs.Common.{◌≡◌, inl, inr, Bool, false, List, [], ◌∷◌, refl, sym, ◌∙◌, ap, subst, map, length}
 use Rattle.std.specs.Prelude.{IsPermutation, All}
 use Rattle.std.proofs.lemmas.List.Sorted.{IsPermutation-sym, IsPermutation-trans, IsPermutation-map, All-permutation, Contains-permutation, length_permutation}
 use Rattle.std.proofs.lemmas.List.Elements.{All-nil, All-head, All-tail, All-cons, All-map, All-weaker}
@@ -108,17 +108,17 @@ as_many s s' keeps = sym (length-map s'.requests asked) ∙ sym (length_permutat
 
 -- WHAT THE TABLES SAY OF THEM
 
-entry_of_asked : (requests : Slab OpenEntry) (o : OpenRequest) → IsHeldAt requests o → IsHeldAt requests (asked o)
+entry_of_asked : {w : Bool} (requests : Slab OpenEntry) (o : OpenRequest) → IsHeldAt w requests o → IsHeldAt w requests (asked o)
 entry_of_asked requests o h = record { slot = h.slot; request = h.request; there = h.there; same_number = h.same_number; same_kind = h.same_kind; same_cancelled = h.same_cancelled; has_partition = h.has_partition; label_bytes = h.label_bytes }
 
-entry_of : (requests : Slab OpenEntry) (o : OpenRequest) → IsHeldAt requests (asked o) → IsHeldAt requests o
+entry_of : {w : Bool} (requests : Slab OpenEntry) (o : OpenRequest) → IsHeldAt w requests (asked o) → IsHeldAt w requests o
 entry_of requests o h = record { slot = h.slot; request = h.request; there = h.there; same_number = h.same_number; same_kind = h.same_kind; same_cancelled = h.same_cancelled; has_partition = h.has_partition; label_bytes = h.label_bytes }
 
-entries_of : (requests : Slab OpenEntry) (xs : List OpenRequest) → All (IsHeldAt requests) (map asked xs) → All (IsHeldAt requests) xs
-entries_of requests [] h = All-nil (IsHeldAt requests)
+entries_of : {w : Bool} (requests : Slab OpenEntry) (xs : List OpenRequest) → All (IsHeldAt w requests) (map asked xs) → All (IsHeldAt w requests) xs
+entries_of requests [] h = All-nil (IsHeldAt _ requests)
 entries_of requests (o ∷ xs) h =
-    All-cons (IsHeldAt requests) o xs (entry_of requests o (All-head (IsHeldAt requests) (asked o) (map asked xs) h))
-    (entries_of requests xs (All-tail (IsHeldAt requests) (asked o) (map asked xs) h))
+    All-cons (IsHeldAt _ requests) o xs (entry_of requests o (All-head (IsHeldAt _ requests) (asked o) (map asked xs) h))
+    (entries_of requests xs (All-tail (IsHeldAt _ requests) (asked o) (map asked xs) h))
 
 numbers_asked : (xs : List OpenRequest) → map request_number (map asked xs) ≡ map request_number xs
 numbers_asked [] = refl
@@ -129,12 +129,12 @@ same_numbers s s' h =
     subst (λ ns. IsPermutation ns (map request_number s.requests)) (numbers_asked s'.requests)
     (subst (λ ns. IsPermutation (map request_number (map asked s'.requests)) ns) (numbers_asked s.requests) (IsPermutation-map request_number _ _ h.requests))
 
-pub AreHeld-along : (requests : Slab OpenEntry) (s s' : State) → AsksSame s s' → AreHeld requests s.requests → AreHeld requests s'.requests
+pub AreHeld-along : {w : Bool} (requests : Slab OpenEntry) (s s' : State) → AsksSame s s' → AreHeld w requests s.requests → AreHeld w requests s'.requests
 AreHeld-along requests s s' keeps h = record {
   held =
       entries_of requests s'.requests
-      (All-permutation (IsHeldAt requests) _ _ (IsPermutation-sym _ _ keeps.requests)
-      (All-map (IsHeldAt requests) asked s.requests (All-weaker (IsHeldAt requests) (λ o. IsHeldAt requests (asked o)) (entry_of_asked requests) s.requests h.held)));
+      (All-permutation (IsHeldAt _ requests) _ _ (IsPermutation-sym _ _ keeps.requests)
+      (All-map (IsHeldAt _ requests) asked s.requests (All-weaker (IsHeldAt _ requests) (λ o. IsHeldAt _ requests (asked o)) (entry_of_asked requests) s.requests h.held)));
   is_open = λ slot request there. Contains-permutation _ _ request.number (IsPermutation-sym _ _ (same_numbers s s' keeps)) (h.is_open slot request there);
   one_slot = h.one_slot;
   counted =

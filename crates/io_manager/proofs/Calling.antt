@@ -59,6 +59,8 @@ reserved_sound limits below tables below' tables' h reserves keeps =
         labels = h.places.labels;
         answered = h.places.answered;
         alike = h.places.alike;
+        label_bytes = h.places.label_bytes;
+        answer_bytes = h.places.answer_bytes;
         untaken =
             let count : deque_len tables'.untaken ≡ deque_len tables.untaken = keeps.same_count in
             let more : deque_capacity tables.untaken ≤ deque_capacity tables'.untaken = keeps.answer_places in
@@ -161,7 +163,7 @@ module _ (limits : Limits) (below : DeviceView) (tables : Tables) (handle : Hand
   told_is = ap (λ (r : ClientRequest). record r { bytes = bytes_called q.kind buffer }) is_call
 
   module _ (below' : DeviceView) (tables' : Tables) (copies : LabelBytes) (spot slot : ℕ) (below1 : DeviceView) (tables1 : Tables) (reserves : Reserves below below') (near : ReservesNear below (request_of limits.sector_size q) below') (unless_write : q.kind ≢ Write → below'.adapter ≡ below.adapter) (keeps : KeepsAnswers tables tables')
-      (buffers : HasLabelBytes tables'.labels.keeps q.kind buffer copies) (admits' : Admits tables' handle q copies spot slot tables1) (sends' : SendsDown below' tables'.next_request spot (request_of limits.sector_size q) buffer below1) where
+      (buffers : HasLabelBytes tables'.labels.keeps tables'.labels.keeps_bytes q.kind buffer copies) (admits' : Admits tables' handle q copies spot slot tables1) (sends' : SendsDown below' tables'.next_request spot (request_of limits.sector_size q) buffer below1) where
     abbrev reserved_below : DeviceView
     reserved_below = record below { rooms = below'.rooms; adapter = record below.adapter { reserved = below'.adapter.reserved } }
 
@@ -301,7 +303,7 @@ module _ (limits : Limits) (below : DeviceView) (tables : Tables) (old : Manager
       )
 
   pub admitted_kept : (below1 : DeviceView) (tables1 : Tables) (copies : LabelBytes) (spot : ℕ) (below2 : DeviceView) (tables2 : Tables) (limits' : Limits) (below3 : DeviceView) (tables3 : Tables) (id : Id)
-      → Reserves below below1 → ReservesNear below (request_of limits.sector_size q) below1 → (q.kind ≢ Write → below1.adapter ≡ below.adapter) → KeepsAnswers tables tables1 → HasLabelBytes tables1.labels.keeps q.kind buffer copies
+      → Reserves below below1 → ReservesNear below (request_of limits.sector_size q) below1 → (q.kind ≢ Write → below1.adapter ≡ below.adapter) → KeepsAnswers tables tables1 → HasLabelBytes tables1.labels.keeps tables1.labels.keeps_bytes q.kind buffer copies
       → IsSent below1 tables1 handle q (request_of limits.sector_size q) copies buffer spot id.slot below2 tables2 → id.number ≡ tables1.next_request
       → limits' ≡ limits → IsSound limits' below3 tables3 → Collects below2 tables2 below3 tables3
       → IsRight (CallReplies old handle (call_on old handle q.kind q.offset buffer q.through) buffer (Requested id) (view_of limits' below3 tables3)) old (view_of limits' below3 tables3) × ManagerKept limits' below3 tables3

@@ -67,6 +67,8 @@ closed_sound limits below tables tables' slot number h is_open none_left closes 
         labels = h.places.labels;
         answered = h.places.answered;
         alike = h.places.alike;
+        label_bytes = h.places.label_bytes;
+        answer_bytes = h.places.answer_bytes;
         untaken = h.places.untaken;
         handles = rw closes.slots h.places.handles;
         requests = h.places.requests;
@@ -123,7 +125,7 @@ module _ (limits : Limits) (below : DeviceView) (tables : Tables) (old : Manager
   -- the entry of an open request
   entry_is : (o : OpenBelow) (slot : ℕ) (r : OpenRequest) → Contains below.state.requests o → get tables.requests slot ≡ Some r → r.number ≡ o.number → r.cancelled ≡ o.cancelled
   entry_is o slot r is_open there number =
-      let h : IsHeldAt tables.requests o = All-contains (IsHeldAt tables.requests) below.state.requests o kept.sound.held.held is_open in
+      let h : IsHeldAt _ tables.requests o = All-contains (IsHeldAt _ tables.requests) below.state.requests o kept.sound.held.held is_open in
       let same : h.slot ≡ slot = kept.sound.held.one_slot h.slot slot h.request r h.there there (h.same_number ∙ sym number) in
       let e : Some h.request ≡ Some r = sym h.there ∙ ap (get tables.requests) same ∙ there in
       let is : h.request ≡ r = cc (e) in
@@ -365,7 +367,7 @@ module _ (limits : Limits) (below : DeviceView) (tables : Tables) (old : Manager
   mark_ignored number none =
       unmoved_right (λ v new told. MarkReplies v number Ignored new told) (
         record { nothing = refl; same_state = refl; same_adapter = refl },
-        All-weaker (IsHeldAt tables.requests) (HasOtherNumber number) (λ o h same. none h.slot h.request h.there (h.same_number ∙ same)) below.state.requests kept.sound.held.held,
+        All-weaker (IsHeldAt _ tables.requests) (HasOtherNumber number) (λ o h same. none h.slot h.request h.there (h.same_number ∙ same)) below.state.requests kept.sound.held.held,
         record { handles = refl; next_handle = refl },
       )
 

@@ -44,8 +44,8 @@ handed takes_srb old new climb irp spot e h = subst (λ x. HandsUp takes_srb old
 
 -- THE REQUEST OF THE PACKET
 
-module _ (takes_srb : Bool) (old new : DeviceView) (spot : ℕ) (irp : Box Irp) (done : Done) (left : done ≡ done_of irp.value) (requests : Slab OpenRequest) (h : HandsUp takes_srb old (Finished irp) spot new)
-    (k : AreHeld requests old.state.requests) where
+module _ {w : Bool} (takes_srb : Bool) (old new : DeviceView) (spot : ℕ) (irp : Box Irp) (done : Done) (left : done ≡ done_of irp.value) (requests : Slab OpenRequest) (h : HandsUp takes_srb old (Finished irp) spot new)
+    (k : AreHeld w requests old.state.requests) where
   -- what is left of it is the packet as it was completed
   pub number_left : done.number ≡ h.packet.number
   number_left = ap (λ (d : Done). d.number) left ∙ h.climbs.number_is
@@ -59,8 +59,8 @@ module _ (takes_srb : Bool) (old new : DeviceView) (spot : ℕ) (irp : Box Irp) 
   pub is_ended : h.answers.request.number ≡ done.number
   is_ended = h.answers.is_number ∙ sym number_left
 
-  pub held_at : IsHeldAt requests h.answers.request
-  held_at = All-head (IsHeldAt requests) h.answers.request h.answers.others (All-permutation (IsHeldAt requests) _ _ h.answers.is_open k.held)
+  pub held_at : IsHeldAt w requests h.answers.request
+  held_at = All-head (IsHeldAt _ requests) h.answers.request h.answers.others (All-permutation (IsHeldAt _ requests) _ _ h.answers.is_open k.held)
 
   pub is_at : (slot : ℕ) × IsAt requests done.number slot
   is_at = (held_at.slot, record { request = held_at.request; there = held_at.there; same_number = held_at.same_number ∙ is_ended })
@@ -79,8 +79,8 @@ module _ (takes_srb : Bool) (old new : DeviceView) (spot : ℕ) (irp : Box Irp) 
       let e : Some held_at.request ≡ Some x = sym held_at.there ∙ ap (λ s. get requests s) same ∙ there in
       cc (e)
 
-  pub are_filled : AreFilled requests done
-  are_filled slot x there number is_read succeeded =
+  pub are_filled : AreFilled w requests done
+  are_filled slot x there number kept is_read succeeded =
       let same : held_at.request ≡ x = only_there slot x there number in
       let kind : held_at.request.kind ≡ Read = ap (λ r. r.kind) same ∙ is_read in
       let below : h.answers.request.request.kind ≡ Read = sym held_at.same_kind ∙ kind in
@@ -88,7 +88,7 @@ module _ (takes_srb : Bool) (old new : DeviceView) (spot : ℕ) (irp : Box Irp) 
       let success : h.status ≡ Success = sym status_left ∙ succeeded in
       let as_asked : h.answers.request.request.length ≡ length (payload_bytes done.payload) =
       ap (λ q. q.length) h.is_request ∙ sym (h.filled asked success) ∙ ap length (sym (h.brings asked success)) ∙ ap (λ p. length (payload_bytes p)) (sym payload_left) in
-      subst (λ r. length (payload_bytes done.payload) ≤ r.label_bytes) same (subst (λ n. n ≤ held_at.request.label_bytes) as_asked (held_at.label_bytes below))
+      subst (λ r. length (payload_bytes done.payload) ≤ r.label_bytes) same (subst (λ n. n ≤ held_at.request.label_bytes) as_asked (held_at.label_bytes kept below))
 
   some_held : 0 < slab_len requests
   some_held =
@@ -124,7 +124,7 @@ room_takes Read Success bytes room fits = fits refl refl
 room_takes Read status bytes room fits = omega arith
 
 -- so for the open request in a slot, where it is that of the packet
-pub filled_at : (requests : Slab OpenRequest) (done : Done) (slot : ℕ) (request : OpenRequest) → AreFilled requests done → IsAt requests done.number slot → get requests slot ≡ Some request → IsFilled request done
+pub filled_at : {w : Bool} (requests : Slab OpenRequest) (done : Done) (slot : ℕ) (request : OpenRequest) → AreFilled w requests done → IsAt requests done.number slot → get requests slot ≡ Some request → IsFilled w request done
 filled_at requests done slot request filled at there =
     let is : Some at.request ≡ Some request = sym at.there ∙ there in
     let same : at.request ≡ request = cc (is) in
@@ -132,7 +132,7 @@ filled_at requests done slot request filled at there =
 
 -- THE TABLE WITHOUT IT
 
-module _ (old new : Tables) (done : Done) (c : Closes old done new) (below : List OpenBelow) (k : AreHeld old.requests below) where
+module _ {w : Bool} (old new : Tables) (done : Done) (c : Closes old done new) (below : List OpenBelow) (k : AreHeld w old.requests below) where
   -- a slot in use is another's
   pub kept_slot : (slot : ℕ) (x : OpenRequest) → get new.requests slot ≡ Some x → (slot ≢ c.slot) × (get old.requests slot ≡ Some x)
   kept_slot slot x there =
@@ -144,7 +144,7 @@ module _ (old new : Tables) (done : Done) (c : Closes old done new) (below : Lis
       let kept : (slot ≢ c.slot) × (get old.requests slot ≡ Some x) = kept_slot slot x there in
       kept.0 (k.one_slot slot c.slot x c.request kept.1 c.there (same ∙ sym c.same_number))
 
-  held_still : (o : OpenBelow) → o.number ≢ done.number → IsHeldAt old.requests o → IsHeldAt new.requests o
+  held_still : (o : OpenBelow) → o.number ≢ done.number → IsHeldAt w old.requests o → IsHeldAt w new.requests o
   held_still o other h =
       let apart : h.slot ≢ c.slot = λ same.
       let e : Some h.request ≡ Some c.request = sym h.there ∙ ap (λ s. get old.requests s) same ∙ c.there in
@@ -166,10 +166,10 @@ module _ (old new : Tables) (done : Done) (c : Closes old done new) (below : Lis
   single n m (suc i, low, is) = absurd (omega arith)
 
   -- the request that ended is taken from those below
-  pub AreHeld-less : (o : OpenBelow) (others : List OpenBelow) → o.number ≡ done.number → IsPermutation below (o ∷ others) → All (λ (x : OpenBelow). x.number ≢ o.number) others → AreHeld new.requests others
+  pub AreHeld-less : (o : OpenBelow) (others : List OpenBelow) → o.number ≡ done.number → IsPermutation below (o ∷ others) → All (λ (x : OpenBelow). x.number ≢ o.number) others → AreHeld w new.requests others
   AreHeld-less o others number p differ =
-      let first : All (IsHeldAt old.requests) (o ∷ others) = All-permutation (IsHeldAt old.requests) _ _ p k.held in
-      let rest : All (IsHeldAt old.requests) others = All-tail (IsHeldAt old.requests) o others first in
+      let first : All (IsHeldAt _ old.requests) (o ∷ others) = All-permutation (IsHeldAt _ old.requests) _ _ p k.held in
+      let rest : All (IsHeldAt _ old.requests) others = All-tail (IsHeldAt _ old.requests) o others first in
       let count : length (o ∷ others) ≡ length below = length_permutation _ _ p in
       record {
         held = λ i d low. held_still _ (λ same. differ i d low (same ∙ sym number)) (rest i d low);

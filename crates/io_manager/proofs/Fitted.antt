@@ -17,6 +17,7 @@ FitsBelow-same limits below below' rules most h = record {
   max_transfer = h.max_transfer ∙ ap (λ (r : Rules). r.max_transfer) (sym rules);
   some_transfer = h.some_transfer;
   depth = h.depth ∙ ap (λ (r : Rules). r.depth) (sym rules);
+  keeps_bytes = h.keeps_bytes ∙ ap (λ (r : Rules). r.keeps_bytes) (sym rules);
   firsts = subst (λ (r : Rules). AreFirsts limits.first_sectors r.partitions) (sym rules) h.firsts;
   ends = subst (λ (r : Rules). All EndsInRange r.partitions) (sym rules) h.ends;
   some_open = h.some_open;

@@ -46,8 +46,8 @@ use Rattle.io_manager.proofs.Fitted.{FitsBelow-same, no_length, IsInState-fewer}
 use Rattle.io_manager.proofs.NoneToStart.{handed_still}
 use Rattle.io_manager.proofs.Ordering.{Run-collected, inserted_is, inserted_rises}
 
-module _ (takes_srb : Bool) (old new : DeviceView) (spot : ℕ) (irp : Box Irp) (done : Done) (left : done ≡ done_of irp.value) (t t' : Tables) (h : HandsUp takes_srb old (Finished irp) spot new)
-    (k : AreHeld t.requests old.state.requests) (c : Closes t done t') where
+module _ {w : Bool} (takes_srb : Bool) (old new : DeviceView) (spot : ℕ) (irp : Box Irp) (done : Done) (left : done ≡ done_of irp.value) (t t' : Tables) (h : HandsUp takes_srb old (Finished irp) spot new)
+    (k : AreHeld w t.requests old.state.requests) (c : Closes t done t') where
   -- THE STEP
 
   bytes_are : h.bytes ≡ (answer_for c.request done).bytes
@@ -102,7 +102,7 @@ module _ (takes_srb : Bool) (old new : DeviceView) (spot : ℕ) (irp : Box Irp) 
   number_is : h.answers.request.number ≡ done.number
   number_is = is_ended takes_srb old new spot irp done left t.requests h k
 
-  held_after : AreDistinct old.state → AreHeld t'.requests new.state.requests
+  held_after : AreDistinct old.state → AreHeld w t'.requests new.state.requests
   held_after distinct =
       let differ : All (λ (x : OpenBelow). x.number ≢ h.answers.request.number) h.answers.others = distinct_first request_number old.state.requests h.answers.request h.answers.others distinct.requests h.answers.is_open in
       AreHeld-along t'.requests (record old.state { requests = h.answers.others }) new.state (asks_same _ _ keeps)
@@ -147,6 +147,8 @@ module _ (takes_srb : Bool) (old new : DeviceView) (spot : ℕ) (irp : Box Irp) 
         labels = rw c.same_labels p.labels;
         answered = omega arith;
         alike = c.places.answered.1 ∙ p.alike ∙ sym (ap (λ (q : QueueView Label). q.keeps) c.same_labels);
+        label_bytes = ap (λ (q : QueueView Label). q.keeps_bytes) c.same_labels ∙ p.label_bytes;
+        answer_bytes = c.places.answered.2 ∙ p.answer_bytes;
         untaken = omega arith;
         handles = rw c.same_handles p.handles;
         requests = rw c.places.requests p.requests;
@@ -185,8 +187,8 @@ module _ (takes_srb : Bool) (old new : DeviceView) (spot : ℕ) (irp : Box Irp) 
       subst (λ hs. AreChained hs t'.requests t'.next_handle t'.chains) (sym c.same_handles)
       (subst (λ n. AreChained t.handles t'.requests n t'.chains) (sym c.same_next_handle) (AreChained-ended t t' done c old.state.requests k chained))
 
-  pub sound_after : (put_by : List Answer) (limits : Limits) → AreDistinct old.state → IsSoundWith put_by limits old t → (rooms : List (Option Reserved)) → IsSoundWith t'.answered.items limits (record new { rooms = rooms }) t'
-  sound_after put_by limits distinct s rooms = record {
+  pub sound_after : (put_by : List Answer) (limits : Limits) → w ≡ limits.keeps_bytes → AreDistinct old.state → IsSoundWith put_by limits old t → (rooms : List (Option Reserved)) → IsSoundWith t'.answered.items limits (record new { rooms = rooms }) t'
+  sound_after put_by limits same distinct s rooms = record {
     fits = FitsBelow-same limits old (record new { rooms = rooms }) h.moves.same_rules h.moves.same_most s.fits;
     numbers = record {
       requests = rw c.same_next_request s.numbers.requests;
@@ -194,7 +196,7 @@ module _ (takes_srb : Bool) (old new : DeviceView) (spot : ℕ) (irp : Box Irp) 
       rising = rw (c.same_next_request, keeps.next_request) s.numbers.rising;
       submitted = rw (c.same_next_request, h.moves.same_submitted) s.numbers.submitted;
     };
-    held = held_after distinct;
+    held = subst (λ (b : Bool). AreHeld b t'.requests new.state.requests) same (held_after distinct);
     few = let n : slab_len t'.requests + 1 ≡ slab_len t.requests = c.fewer in let m : slab_len t.requests ≤ limits.open_requests = s.few in omega arith;
     places = places_after limits s.places;
     on_map = rw (c.same_handles, h.moves.same_rules) s.on_map;
@@ -214,8 +216,8 @@ module _ (takes_srb : Bool) (old new : DeviceView) (spot : ℕ) (irp : Box Irp) 
 
 SamePlaces-trans : (a b c : Tables) → SamePlaces a b → SamePlaces b c → SamePlaces a c
 SamePlaces-trans a b c p q = record {
-  labels = (q.labels.0 ∙ p.labels.0, q.labels.1 ∙ p.labels.1);
-  answered = (q.answered.0 ∙ p.answered.0, q.answered.1 ∙ p.answered.1);
+  labels = (q.labels.0 ∙ p.labels.0, q.labels.1 ∙ p.labels.1, q.labels.2 ∙ p.labels.2);
+  answered = (q.answered.0 ∙ p.answered.0, q.answered.1 ∙ p.answered.1, q.answered.2 ∙ p.answered.2);
   untaken = q.untaken ∙ p.untaken;
   handles = q.handles ∙ p.handles;
   requests = q.requests ∙ p.requests;
@@ -238,7 +240,7 @@ gathers_none below tables none = record {
   same_next_handle = refl;
   same_next_request = refl;
   same_state = refl;
-  places = record { labels = (refl, refl); answered = (refl, refl); untaken = refl; handles = refl; requests = refl };
+  places = record { labels = (refl, refl, refl); answered = (refl, refl, refl); untaken = refl; handles = refl; requests = refl };
   quiet = λ still. (refl, still);
 }
   where
@@ -250,7 +252,7 @@ all_left : {X : Type 0} (P : X → Type 0) (xs ys : List X) → All P (xs ++ ys)
 all_left P [] ys h = All-nil P
 all_left P (x ∷ xs) ys h = All-cons P x xs (All-head P x (xs ++ ys) h) (all_left P xs ys (All-tail P x (xs ++ ys) h))
 
-module _ (below mid new : DeviceView) (first t t' : Tables) (g : Gathers below first mid t) (e : TakesEnded mid t new t') (k : AreHeld t.requests mid.state.requests) where
+module _ {w : Bool} (below mid new : DeviceView) (first t t' : Tables) (g : Gathers below first mid t) (e : TakesEnded mid t new t') (k : AreHeld w t.requests mid.state.requests) where
   -- its slot alone loses its holder
   one_gone : (slot : ℕ) → option_map holder_of (get t'.requests slot) ≡ unless_answered (answer_for e.closes.request e.done ∷ []) (option_map holder_of (get t.requests slot))
   one_gone slot = by_test (nat_eq slot e.closes.slot) refl
@@ -329,14 +331,14 @@ module _ (below mid new : DeviceView) (first t t' : Tables) (g : Gathers below f
 -- WHAT IS TOLD OF IT
 
 -- nothing is open below where nothing is in the table
-none_open : (requests : Slab OpenRequest) (below : List OpenBelow) → AreHeld requests below → slab_len requests ≡ 0 → below ≡ []
+none_open : {w : Bool} (requests : Slab OpenRequest) (below : List OpenBelow) → AreHeld w requests below → slab_len requests ≡ 0 → below ≡ []
 none_open requests below h none = no_length below (sym h.counted ∙ none)
 
-none_held : (requests : Slab OpenRequest) (below : List OpenBelow) → AreHeld requests below → below ≡ [] → slab_len requests ≡ 0
+none_held : {w : Bool} (requests : Slab OpenRequest) (below : List OpenBelow) → AreHeld w requests below → below ≡ [] → slab_len requests ≡ 0
 none_held requests below h none = h.counted ∙ ap length none
 
 -- a removal ends just where nothing is open
-pub removal_of : (mid new : DeviceView) (t t' t'' : Tables) → new ≡ unlabelled mid → t' ≡ record t { labels = t'.labels; answered = t'.answered } → (e : EndsRemoval t' t'') → AreHeld t.requests mid.state.requests
+pub removal_of : {w : Bool} (mid new : DeviceView) (t t' t'' : Tables) → new ≡ unlabelled mid → t' ≡ record t { labels = t'.labels; answered = t'.answered } → (e : EndsRemoval t' t'') → AreHeld w t.requests mid.state.requests
     → EndsIf e.ends t.state new.state t''.state
 removal_of mid new t t' t'' taken kept e held =
     let state_is : t'.state ≡ t.state = ap (λ (x : Tables). x.state) kept in
@@ -356,7 +358,7 @@ module _ (below mid new : DeviceView) (first t t' t'' : Tables) (g : Gathers bel
   requests_are : t''.requests ≡ t.requests
   requests_are = ap (λ (x : Tables). x.requests) e.after ∙ ap (λ (x : Tables). x.requests) kept
 
-  pub collects : Settled mid.rules mid.state → AreHeld t.requests mid.state.requests
+  pub collects : {w : Bool} → Settled mid.rules mid.state → AreHeld w t.requests mid.state.requests
       → SameQueue t.labels t'.labels → SameQueue t.answered t'.answered
       → t'.labels.items ≡ (t.labels.items ++ map as_label mid.adapter.labels) ++ map as_answer t.answered.items → Collects below first new t''
   collects settled held label_places answer_places labels = record {
@@ -379,8 +381,8 @@ module _ (below mid new : DeviceView) (first t t' t'' : Tables) (g : Gathers bel
     same_next_request = ap (λ (x : Tables). x.next_request) e.after ∙ ap (λ (x : Tables). x.next_request) kept ∙ g.same_next_request;
     places =
         SamePlaces-trans first t t'' g.places (record {
-          labels = (e.label_places.0 ∙ label_places.0, e.label_places.1 ∙ label_places.1);
-          answered = (ap (λ (x : Tables). x.answered.places) e.after ∙ answer_places.0, ap (λ (x : Tables). x.answered.keeps) e.after ∙ answer_places.1);
+          labels = (e.label_places.0 ∙ label_places.0, e.label_places.1 ∙ label_places.1, e.label_places.2 ∙ label_places.2);
+          answered = (ap (λ (x : Tables). x.answered.places) e.after ∙ answer_places.0, ap (λ (x : Tables). x.answered.keeps) e.after ∙ answer_places.1, ap (λ (x : Tables). x.answered.keeps_bytes) e.after ∙ answer_places.2);
           untaken = ap (λ (x : Tables). deque_capacity x.untaken) e.after ∙ ap (λ (x : Tables). deque_capacity x.untaken) kept;
           handles = ap (λ (x : Tables). x.handles.capacity) e.after ∙ ap (λ (x : Tables). x.handles.capacity) kept;
           requests = ap (λ (x : Tables). x.requests.capacity) e.after ∙ ap (λ (x : Tables). x.requests.capacity) kept;
@@ -411,6 +413,8 @@ told_sound limits mid new t t' t'' taken s kept none e removal label_places answ
         labels = subst (λ n. 256 ≤ n) (sym (e.label_places.0 ∙ label_places.0)) s.places.labels;
         answered = subst (λ n. 64 ≤ n) (sym answer_places.0) s.places.answered;
         alike = answer_places.1 ∙ s.places.alike ∙ sym (e.label_places.1 ∙ label_places.1);
+        label_bytes = e.label_places.2 ∙ label_places.2 ∙ s.places.label_bytes;
+        answer_bytes = answer_places.2 ∙ s.places.answer_bytes;
         untaken = s.places.untaken;
         handles = s.places.handles;
         requests = s.places.requests;

@@ -73,6 +73,8 @@ given_sound limits below old handles counts partition slot h free in_range count
         labels = h.places.labels;
         answered = h.places.answered;
         alike = h.places.alike;
+        label_bytes = h.places.label_bytes;
+        answer_bytes = h.places.answer_bytes;
         untaken = h.places.untaken;
         handles = slots ∙ h.places.handles;
         requests = h.places.requests;

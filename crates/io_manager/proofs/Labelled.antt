@@ -99,7 +99,7 @@ module _ (below : DeviceView) (tables : Tables) (below' : DeviceView) (tables' :
     same_next_request = ap (λ (x : Tables). x.next_request) t.after;
     places = record {
       labels = t.label_places;
-      answered = (ap (λ (x : Tables). x.answered.places) t.after, ap (λ (x : Tables). x.answered.keeps) t.after);
+      answered = (ap (λ (x : Tables). x.answered.places) t.after, ap (λ (x : Tables). x.answered.keeps) t.after, ap (λ (x : Tables). x.answered.keeps_bytes) t.after);
       untaken = ap (λ (x : Tables). deque_capacity x.untaken) t.after;
       handles = ap (λ (x : Tables). x.handles.capacity) t.after;
       requests = ap (λ (x : Tables). x.requests.capacity) t.after;
@@ -127,6 +127,8 @@ module _ (below : DeviceView) (tables : Tables) (below' : DeviceView) (tables' :
           labels = subst (λ n. 256 ≤ n) (sym t.label_places.0) s.places.labels;
           answered = s.places.answered;
           alike = s.places.alike ∙ sym t.label_places.1;
+          label_bytes = t.label_places.2 ∙ s.places.label_bytes;
+          answer_bytes = s.places.answer_bytes;
           untaken = s.places.untaken;
           handles = s.places.handles;
           requests = s.places.requests;

@@ -1,5 +1,5 @@
-mod Walks
 pub mod Ordering
+pub mod InMemory
 pub mod Inserting
 pub mod Chaining
 pub mod Linked

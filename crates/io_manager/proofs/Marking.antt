@@ -55,10 +55,10 @@ pub record IsBelow (below : List OpenBelow) (request : OpenRequest) : Type 0 whe
   pub same_number : open'.number ≡ request.number
   pub same_cancelled : open'.cancelled ≡ request.cancelled
 
-pub held_below : (requests : Slab OpenRequest) (below : List OpenBelow) → AreHeld requests below → (slot : ℕ) (request : OpenRequest) → get requests slot ≡ Some request → IsBelow below request
+pub held_below : {w : Bool} (requests : Slab OpenRequest) (below : List OpenBelow) → AreHeld w requests below → (slot : ℕ) (request : OpenRequest) → get requests slot ≡ Some request → IsBelow below request
 held_below requests below h slot request there =
     let o : (o : OpenBelow) × Contains below o × (o.number ≡ request.number) = Contains-there request_number below request.number (h.is_open slot request there) in
-    let held : IsHeldAt requests o.0 = All-contains (IsHeldAt requests) below o.0 h.held o.1 in
+    let held : IsHeldAt _ requests o.0 = All-contains (IsHeldAt _ requests) below o.0 h.held o.1 in
     let same : held.slot ≡ slot = h.one_slot held.slot slot held.request request held.there there (held.same_number ∙ o.2) in
     let is : held.request ≡ request = same_item held.request request (sym held.there ∙ ap (get requests) same ∙ there) in
     record { open' = o.0; is_open = o.1; same_number = o.2; same_cancelled = sym held.same_cancelled ∙ ap (λ (r : OpenRequest). r.cancelled) is }
@@ -127,7 +127,7 @@ module _ (old new : Slab OpenRequest) (slot : ℕ) (request : OpenRequest) (ther
     | inr apart ↦ inl (updates.others other apart ∙ at)
   ]
 
-  other_held : (o : OpenBelow) → o.number ≢ request.number → IsHeldAt old o → IsHeldAt new o
+  other_held : {w : Bool} (o : OpenBelow) → o.number ≢ request.number → IsHeldAt w old o → IsHeldAt w new o
   other_held o apart h = record {
     slot = h.slot;
     request = h.request;
@@ -144,16 +144,16 @@ module _ (old new : Slab OpenRequest) (slot : ℕ) (request : OpenRequest) (ther
           let is : h.request ≡ request = same_item h.request request (sym h.there ∙ ap (get old) same ∙ there) in
           apart (sym h.same_number ∙ ap (λ (r : OpenRequest). r.number) is)
 
-  held_marked : slab_len new ≡ slab_len old → (below : List OpenBelow) (o : OpenBelow) (others : List OpenBelow) → IsPermutation below (o ∷ others) → o.number ≡ request.number → All (λ (x : OpenBelow). x.number ≢ o.number) others
-      → AreHeld old below → AreHeld new (as_cancelled o ∷ others)
+  held_marked : {w : Bool} → slab_len new ≡ slab_len old → (below : List OpenBelow) (o : OpenBelow) (others : List OpenBelow) → IsPermutation below (o ∷ others) → o.number ≡ request.number → All (λ (x : OpenBelow). x.number ≢ o.number) others
+      → AreHeld w old below → AreHeld w new (as_cancelled o ∷ others)
   held_marked counted below o others p number differ h =
-      let all : All (IsHeldAt old) (o ∷ others) = All-permutation (IsHeldAt old) _ _ p h.held in
-      let mine : IsHeldAt old o = All-head (IsHeldAt old) o others all in
+      let all : All (IsHeldAt _ old) (o ∷ others) = All-permutation (IsHeldAt _ old) _ _ p h.held in
+      let mine : IsHeldAt _ old o = All-head (IsHeldAt _ old) o others all in
       let at : mine.slot ≡ slot = h.one_slot mine.slot slot mine.request request mine.there there (mine.same_number ∙ number) in
       let is : mine.request ≡ request = same_item mine.request request (sym mine.there ∙ ap (get old) at ∙ there) in
       record {
         held =
-            All-cons (IsHeldAt new) (as_cancelled o) others
+            All-cons (IsHeldAt _ new) (as_cancelled o) others
             (record {
               slot = slot;
               request = as_marked request;
@@ -162,9 +162,9 @@ module _ (old new : Slab OpenRequest) (slot : ℕ) (request : OpenRequest) (ther
               same_kind = ap (λ (r : OpenRequest). r.kind) (sym is) ∙ mine.same_kind;
               same_cancelled = refl;
               has_partition = mine.has_partition;
-              label_bytes = λ reads. subst (λ (r : OpenRequest). o.request.length ≤ r.label_bytes) is (mine.label_bytes reads);
+              label_bytes = λ kept reads. subst (λ (r : OpenRequest). o.request.length ≤ r.label_bytes) is (mine.label_bytes kept reads);
             })
-            (λ k d low. other_held _ (λ same. differ k d low (same ∙ sym number)) (All-tail (IsHeldAt old) o others all k d low));
+            (λ k d low. other_held _ (λ same. differ k d low (same ∙ sym number)) (All-tail (IsHeldAt _ old) o others all k d low));
         is_open = λ other x there'.
             let before : (y : OpenRequest) × (get old other ≡ Some y) × ((x ≡ y) ⊎ ((other ≡ slot) × (x ≡ as_marked y))) = held_before other x there' in
             subst (Contains (map request_number (as_cancelled o ∷ others))) (sym (number_before x before.0 other before.2))
@@ -262,6 +262,8 @@ marked_sound limits below below' tables tables' slot place h distinct m cancels 
         labels = subst (λ n. 256 ≤ n) (sym m.label_places.0) h.places.labels;
         answered = h.places.answered;
         alike = h.places.alike ∙ sym m.label_places.1;
+        label_bytes = m.label_places.2 ∙ h.places.label_bytes;
+        answer_bytes = h.places.answer_bytes;
         untaken = subst (λ n. deque_len tables.untaken + n ≤ deque_capacity tables.untaken) (sym m.counted) h.places.untaken;
         handles = h.places.handles;
         requests = rw m.slots h.places.requests;
@@ -345,14 +347,14 @@ cancels_none below tables handle = record {
   slots = refl;
   same_holders = refl;
   tells = sym (append-nil tables.labels.items);
-  label_places = (refl, refl);
+  label_places = (refl, refl, refl);
   after = refl;
   run = IsSame-refl below.state;
   beside = record { same_rules = refl; same_packets = IsPermutation-refl _; same_rooms = λ spot. refl; same_submitted = refl; same_most = refl; same_adapter = refl };
 }
 
-module _ (below0 : DeviceView) (tables0 : Tables) (handle : ℕ) (below : DeviceView) (tables : Tables) (h : CancelsAll below0 tables0 handle below tables) (slot : ℕ) (low : IsLowestToMark tables.requests handle slot)
-    (below' : DeviceView) (tables' : Tables) (c : CancelsSlot below tables slot below' tables') (held : AreHeld tables.requests below.state.requests) (free : IsNone below.state.owed) where
+module _ {w : Bool} (below0 : DeviceView) (tables0 : Tables) (handle : ℕ) (below : DeviceView) (tables : Tables) (h : CancelsAll below0 tables0 handle below tables) (slot : ℕ) (low : IsLowestToMark tables.requests handle slot)
+    (below' : DeviceView) (tables' : Tables) (c : CancelsSlot below tables slot below' tables') (held : AreHeld w tables.requests below.state.requests) (free : IsNone below.state.owed) where
   abbrev n : ℕ
   n = low.request.number
 
@@ -453,7 +455,7 @@ module _ (below0 : DeviceView) (tables0 : Tables) (handle : ℕ) (below : Device
     slots = c.marks.slots ∙ h.slots;
     same_holders = holders_same tables.requests tables'.requests slot c.marks.request c.marks.there c.marks.slots_are ∙ h.same_holders;
     tells = told_more;
-    label_places = (c.marks.label_places.0 ∙ h.label_places.0, c.marks.label_places.1 ∙ h.label_places.1);
+    label_places = (c.marks.label_places.0 ∙ h.label_places.0, c.marks.label_places.1 ∙ h.label_places.1, c.marks.label_places.2 ∙ h.label_places.2);
     after = c.marks.after ∙ ap (λ (t : Tables). record t { requests = tables'.requests; chains = tables'.chains; labels = tables'.labels }) h.after;
     run = run_more;
     beside = IsBeside-trans below0 below below' h.beside c.beside;

@@ -107,6 +107,7 @@ module _ (limits : Limits) (below : DeviceView) (tables : Tables) (orderly : IsO
     max_transfer = for.max_transfer;
     some_transfer = for.some_transfer;
     depth = for.depth;
+    keeps_bytes = for.keeps_bytes;
     firsts = for.firsts;
     ends = ends;
     some_open = for.some_open;
@@ -121,9 +122,9 @@ module _ (limits : Limits) (below : DeviceView) (tables : Tables) (orderly : IsO
     submitted = let e = unasked.none_submitted in omega (arith, e);
   }
 
-  held : AreHeld tables.requests below.state.requests
+  held : AreHeld limits.keeps_bytes tables.requests below.state.requests
   held = record {
-    held = at_first (λ (s : State). All (IsHeldAt tables.requests) s.requests) (All-nil (IsHeldAt tables.requests));
+    held = at_first (λ (s : State). All (IsHeldAt limits.keeps_bytes tables.requests) s.requests) (All-nil (IsHeldAt limits.keeps_bytes tables.requests));
     is_open = λ slot request there. absurd (none_there tables.requests slot request empty.no_requests there);
     one_slot = λ slot other request same there there' number. absurd (none_there tables.requests slot request empty.no_requests there);
     counted = none_counted tables.requests empty.no_requests ∙ at_first (λ (s : State). 0 ≡ length s.requests) refl;

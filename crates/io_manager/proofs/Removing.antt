@@ -178,6 +178,8 @@ beside_sound limits below below' tables tables1 p label h beside asks in_state m
         labels = subst (λ n. 256 ≤ n) (sym moved.label_places.0) h.places.labels;
         answered = h.places.answered;
         alike = h.places.alike ∙ sym moved.label_places.1;
+        label_bytes = moved.label_places.2 ∙ h.places.label_bytes;
+        answer_bytes = h.places.answer_bytes;
         untaken = h.places.untaken;
         handles = h.places.handles;
         requests = h.places.requests;

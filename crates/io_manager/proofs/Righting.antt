@@ -65,8 +65,8 @@ IsSound-moves limits below tables labels below' h moves =
     }
 
 -- each open request is on a partition
-pub have_partitions : (requests : Slab OpenEntry) (below : List OpenRequest) → AreHeld requests below → All HasPartition below
-have_partitions requests below h = All-weaker (IsHeldAt requests) HasPartition (λ o held. held.has_partition) below h.held
+pub have_partitions : {w : Bool} (requests : Slab OpenEntry) (below : List OpenRequest) → AreHeld w requests below → All HasPartition below
+have_partitions requests below h = All-weaker (IsHeldAt _ requests) HasPartition (λ o held. held.has_partition) below h.held
 
 -- A RIGHT STEP
 

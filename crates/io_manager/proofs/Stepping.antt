@@ -42,7 +42,7 @@ abbrev IsTagBelow : ℕ → OnTag → Type 0
 IsTagBelow depth on = on.tag < depth
 
 module _ (limits : Limits) (below : DeviceView) (tables : Tables) (sound : IsSound limits below tables) where
-  has_slot : (o : OpenRequest) → IsHeldAt tables.requests o → HasSlot (holders_of tables.requests) o
+  has_slot : (o : OpenRequest) → IsHeldAt limits.keeps_bytes tables.requests o → HasSlot (holders_of tables.requests) o
   has_slot o h = (h.slot, holder_of h.request, shown_at tables.requests h.slot ∙ ap (option_map holder_of) h.there, h.same_number)
 
   pub holder_is : (slot : ℕ) (holder : Holder) → slice_index_or (holders_of tables.requests) slot None ≡ Some holder
@@ -81,7 +81,7 @@ module _ (limits : Limits) (below : DeviceView) (tables : Tables) (sound : IsSou
   FitsTogether-view order read = record {
     read = read_over _ below.rules tables.next_request (is_gone tables.state) below.state below.adapter read;
     on_tags = on_tags order read;
-    has_slot = All-weaker (IsHeldAt tables.requests) (HasSlot (holders_of tables.requests)) has_slot below.state.requests sound.held.held;
+    has_slot = All-weaker (IsHeldAt _ tables.requests) (HasSlot (holders_of tables.requests)) has_slot below.state.requests sound.held.held;
     has_request = λ slot holder there.
         let at : (request : OpenEntry) × (get tables.requests slot ≡ Some request) × (holder_of request ≡ holder) = holder_is slot holder there in
         subst (λ (held : Holder). Contains (map request_number below.state.requests) held.number) at.2 (sound.held.is_open slot at.0 at.1);

@@ -1,5 +1,5 @@
 -- One of the answers that wait is taken out, or the earliest label.
-use Rattle.std.proofs.Common.{◌≡◌, ◌≤◌, ℕ, zero, suc, List, [], ◌∷◌, None, sym, ap, ◌∙◌, subst, arith, map}
+use Rattle.std.proofs.Common.{◌≡◌, ◌≤◌, ℕ, zero, suc, Bool, IsTrue, refl, List, [], ◌∷◌, None, sym, ap, ◌∙◌, subst, arith, map}
 use Rattle.std.specs.Prelude.{All, Option, Some, OnSome, remove}
 use Rattle.std.specs.VecDeque.{deque_len, deque_capacity}
 use Rattle.std.proofs.lemmas.List.Elements.{All-head, All-tail, All-cons, All-nil}
@@ -9,11 +9,13 @@ use Rattle.io_manager.specs.declared.Answer.{Answer}
 use Rattle.io_manager.specs.declared.Limits.{Limits}
 use Rattle.io_manager.specs.declared.tables.OpenRequest.{OpenRequest}
 use Rattle.io_manager.specs.declared.tables.Tables.{Tables}
+use Rattle.machine.specs.Bare.{in_memory}
 use Rattle.machine.specs.declared.Label.{Label}
 use Rattle.io_manager.specs.Shown.{ManagerView}
+use Rattle.io_manager.proofs.InMemory.{whole_label}
 use Rattle.io_manager.specs.inside.Ordering.{HasOtherNumber}
 use Rattle.io_manager.specs.inside.Queue.{QueueView, SameQueue, TakesFirst}
-use Rattle.io_manager.specs.Right.{AreRising, IsAbove, TakesLabel, answer_number}
+use Rattle.io_manager.specs.Right.{AreRising, IsAbove, TakesLabel, TakesShown, answer_number}
 use Rattle.io_manager.specs.inside.Sound.{WasGiven, AreApart, ManagerKept, view_of}
 
 all_but : {X : Type 0} (P : X → Type 0) (xs : List X) (at : ℕ) → All P xs → All P (remove xs at)
@@ -55,6 +57,8 @@ with_fewer limits below tables other at kept items shorter same =
           labels = k.places.labels;
           answered = k.places.answered;
           alike = k.places.alike;
+          label_bytes = k.places.label_bytes;
+          answer_bytes = k.places.answer_bytes;
           untaken = (let room = k.places.untaken in omega arith);
           handles = k.places.handles;
           requests = k.places.requests;
@@ -84,11 +88,19 @@ of_some found x P is h = subst (λ (o : Option _). OnSome o P) is h
 
 -- THE EARLIEST LABEL
 
-first_taken : (v : ManagerView) (queue : QueueView Label) (found : Option Label) → TakesFirst v.labels found queue.items → queue.keeps ≡ v.keeps → TakesLabel v found (record v { labels = queue.items; keeps = queue.keeps })
-first_taken v queue None takes keeps = (takes.0, ap (λ items. record v { labels = items; keeps = queue.keeps }) takes.1 ∙ ap (λ kept. record v { keeps = kept }) keeps)
-first_taken v queue (Some label) takes keeps = (queue.items, takes, ap (λ kept. record v { labels = queue.items; keeps = kept }) keeps)
+first_taken : (v : ManagerView) (queue : QueueView Label) (k : Bool) (found : Option Label) → k ≡ v.rules.keeps_bytes → TakesFirst (in_memory k) v.labels found queue.items → queue.keeps ≡ v.keeps
+    → TakesShown v found (record v { labels = queue.items; keeps = queue.keeps })
+first_taken v queue k None is takes keeps = (takes.0, ap (λ items. record v { labels = items; keeps = queue.keeps }) takes.1 ∙ ap (λ kept. record v { keeps = kept }) keeps)
+first_taken v queue k (Some shown) is takes keeps = (queue.items, takes.0, takes.1, takes.2 ∙ ap (λ b. in_memory b takes.0) is, ap (λ kept. record v { labels = queue.items; keeps = kept }) keeps)
 
 pub shown_first : (limits : Limits) (below : DeviceView) (tables : Tables) (queue : QueueView Label) (found : Option Label) (old : ManagerView) → view_of limits below tables ≡ old
-    → TakesFirst tables.labels.items found queue.items → SameQueue tables.labels queue → TakesLabel old found (view_of limits below (record tables { labels = queue }))
-shown_first limits below tables queue found old shown takes same =
-    subst (λ v. TakesLabel v found (view_of limits below (record tables { labels = queue }))) shown (first_taken (view_of limits below tables) queue found takes same.1)
+    → tables.labels.keeps_bytes ≡ below.rules.keeps_bytes → TakesFirst (in_memory tables.labels.keeps_bytes) tables.labels.items found queue.items → SameQueue tables.labels queue
+    → TakesShown old found (view_of limits below (record tables { labels = queue }))
+shown_first limits below tables queue found old shown bytes takes same =
+    subst (λ v. TakesShown v found (view_of limits below (record tables { labels = queue }))) shown (first_taken (view_of limits below tables) queue tables.labels.keeps_bytes found bytes takes same.1)
+
+pub taken_whole : (old : ManagerView) (found : Option Label) (new : ManagerView) → IsTrue old.rules.keeps_bytes → TakesShown old found new → TakesLabel old found new
+taken_whole old None new is takes = takes
+taken_whole old (Some shown) new is takes =
+    let whole : shown ≡ takes.1 = takes.3 ∙ whole_label old.rules.keeps_bytes takes.1 is in
+    (takes.0, takes.2 ∙ ap (λ label. label ∷ takes.0) (sym whole), takes.4)

@@ -42,6 +42,7 @@ pub record AreFor (below : DeviceView) (limits : Limits) : Type 0 where
   pub max_transfer : limits.max_transfer ≡ below.rules.max_transfer
   pub some_transfer : 0 < limits.max_transfer
   pub depth : limits.depth ≡ below.rules.depth
+  pub keeps_bytes : limits.keeps_bytes ≡ below.rules.keeps_bytes
   pub firsts : AreFirsts limits.first_sectors below.rules.partitions
   pub some_open : (1 ≤ limits.open_requests) × (limits.open_requests ≤ 64)
 

@@ -17,6 +17,7 @@ use Rattle.adapter.specs.Calls.{IsBooked}
 use Rattle.adapter.specs.Booking.{Books}
 use Rattle.srb.specs.declared.Kind.TheVariants.{Write}
 use Rattle.machine.specs.declared.ClientRequest.{ClientRequest}
+use Rattle.machine.specs.Bare.{in_memory}
 use Rattle.machine.specs.declared.Label.{Label}
 use Rattle.machine.specs.declared.Label.TheVariants.{Call, Answer as AnswerLabel, Cancel, Pause, Resume, Remove}
 use Rattle.machine.specs.declared.Label.TheVariants.{Surprise, Removed as RemovedLabel}
@@ -527,6 +528,12 @@ pub record FitsTogether (v : ManagerView) : Type 0 where
   -- nothing is paused while removing
   pub one_state : IsTrue v.state.removing → IsFalse v.state.paused
   pub removed_last : IsTrue v.state.removed → IsTrue v.state.removing
+
+-- the earliest label leaves, as memory has it
+abbrev pub TakesShown : ManagerView → Option Label → ManagerView → Type 0
+TakesShown old None new = (old.labels ≡ []) × (new ≡ old)
+TakesShown old (Some shown) new = (rest : List Label) × (label : Label) × (old.labels ≡ label ∷ rest)
+    × (shown ≡ in_memory old.rules.keeps_bytes label) × (new ≡ record old { labels = rest })
 
 -- the earliest label leaves
 abbrev pub TakesLabel : ManagerView → Option Label → ManagerView → Type 0

@@ -1,6 +1,6 @@
 //! How a call is answered at once, and what an admitted call opens: its packet, its pieces, its extent on the disk.
 
-ghost use Rattle.std.specs.Prelude.{◌≡◌, ◌<◌, ◌≤◌, ℕ, Option, false, length, option_map, IfOk};
+ghost use Rattle.std.specs.Prelude.{◌≡◌, ◌<◌, ◌≤◌, ℕ, Option, false, length, option_map, IfOk, IsTrue};
 ghost use Rattle.srb.specs.declared.Kind.TheVariants.{Read};
 ghost use Rattle.machine.specs.Rules.{Rules, home, is_transfer, is_in_bounds, place_count};
 ghost use Rattle.machine.specs.State.{State};
@@ -11,7 +11,7 @@ ghost use Rattle.io_manager.specs.Opening.{AreFirsts};
 ghost use Rattle.io_manager.specs.inside.Admitting.{asked_for, status_at_once, AreBoundsOf, IsKnown, request_of};
 ghost use Rattle.io_manager.specs.inside.Admitting.{HasLabelBytes, IsCopied, answer_room_of, first_location, IsOnTop};
 
-use crate::noted::Noted;
+use noted::Noted;
 use crate::{Limits, Refusal};
 use device::{ClientRequest, Kind, Request, major_for};
 use irp::{Control, Driver, Irp, LocationFlags, Payload, StackLocation};
@@ -205,8 +205,8 @@ pub(crate) fn request_below(sector_size: u64, request: &ClientRequest) -> Reques
 /// The bytes that are told of a call.
 #[derive(Drop)]
 pub(crate) struct CallBytes {
-    /// A copy, where labels are kept.
-    pub(crate) copy: Option<Bytes>,
+    /// A copy, where labels and their bytes are kept; else none.
+    pub(crate) copy: Bytes,
     pub(crate) told: Noted<u8>,
 }
 
@@ -237,7 +237,7 @@ fn copied_bytes(alloc: Global, kind: Kind, buffer: &Bytes) -> Result<Bytes, Allo
     Ok(Bytes::new(bytes))
 }
 
-/// The bytes that are told of a call, with a copy where labels are kept.
+/// The bytes that are told of a call, with a copy where labels and their bytes are kept.
 ///
 /// # Errors
 ///
@@ -246,20 +246,18 @@ fn call_bytes_for(
     alloc: Global,
     kind: Kind,
     buffer: &Bytes,
-    keeps: bool,
+    copies: bool,
 ) -> Result<CallBytes, AllocError>
     ensures told { IfOk result (λ bytes. bytes.told.items ≡ bytes_called kind buffer.now) }
-    ensures copied { IfOk result (IsCopied keeps) }
+    ensures copied { IfOk result (IsCopied copies) }
 {
     let told = told_bytes(kind, buffer);
-    if keeps {
-        let copy = copied_bytes(alloc, kind, buffer)?;
-        return Ok(CallBytes {
-            copy: Some(copy),
-            told,
-        });
-    }
-    Ok(CallBytes { copy: None, told })
+    let copy = if copies {
+        copied_bytes(alloc, kind, buffer)?
+    } else {
+        Bytes::new(Vec::new(alloc))
+    };
+    Ok(CallBytes { copy, told })
 }
 
 /// The room for the label of an answer: as many bytes as a read's buffer has.
@@ -273,6 +271,26 @@ fn answer_room(alloc: Global, kind: Kind, buffer: &Bytes) -> Result<LabelRoom, A
     match kind {
         Kind::Read => LabelRoom::new(alloc, buffer.len()),
         Kind::Write | Kind::Flush => Ok(LabelRoom::none(alloc)),
+    }
+}
+
+/// The room for the label of an answer, where labels keep their bytes; else none.
+///
+/// # Errors
+///
+/// [`AllocError`] where memory was refused.
+fn kept_answer_room(
+    alloc: Global,
+    kind: Kind,
+    buffer: &Bytes,
+    keeps_bytes: bool,
+) -> Result<LabelRoom, AllocError>
+    ensures { IfOk result (λ room. IsTrue keeps_bytes → room ≡ answer_room_of kind (length buffer.now)) }
+{
+    if keeps_bytes {
+        answer_room(alloc, kind, buffer)
+    } else {
+        Ok(LabelRoom::none(alloc))
     }
 }
 
@@ -294,11 +312,12 @@ pub(crate) fn label_bytes_for(
     kind: Kind,
     buffer: &Bytes,
     keeps: bool,
+    keeps_bytes: bool,
 ) -> Result<LabelBytes, AllocError>
-    ensures { IfOk result (λ copies. HasLabelBytes keeps kind buffer.now copies) }
+    ensures { IfOk result (λ copies. HasLabelBytes keeps keeps_bytes kind buffer.now copies) }
 {
-    let call_bytes = call_bytes_for(alloc, kind, buffer, keeps)?;
-    let label_bytes = answer_room(alloc, kind, buffer)?;
+    let call_bytes = call_bytes_for(alloc, kind, buffer, keeps && keeps_bytes)?;
+    let label_bytes = kept_answer_room(alloc, kind, buffer, keeps_bytes)?;
     Ok(LabelBytes {
         call_bytes,
         label_bytes,

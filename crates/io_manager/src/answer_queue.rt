@@ -1,14 +1,14 @@
 //! Queues of answers by rising numbers.
 
-ghost use Rattle.std.specs.Prelude.{◌≡◌, ◌<◌, ◌≤◌, ◌+◌, IsTrue, length, map};
+ghost use Rattle.std.specs.Prelude.{◌≡◌, ◌<◌, ◌≤◌, ◌+◌, [], IsTrue, length, map, if◌then◌else◌};
 ghost use Rattle.std.specs.VecDeque.{deque_len, deque_capacity};
 ghost use Rattle.io_manager.specs.inside.Ordering.{inserted, lower_first};
-ghost use Rattle.io_manager.specs.inside.Queue.{SameQueue};
+ghost use Rattle.io_manager.specs.inside.Queue.{SameQueue, answer_in_memory};
 ghost use Rattle.io_manager.specs.Right.{AreRising, answer_number};
 
 use crate::Answer;
 use crate::label_queue::LabelQueue;
-use sector::LabelRoom;
+use sector::{Bytes, LabelRoom};
 use std::collections::VecDeque;
 
 /// Returns how many of the answers, which stand by rising numbers, have lower numbers. It looks from the back, only at
@@ -44,21 +44,34 @@ pub(crate) fn insert_rising(answers: &mut VecDeque<Answer>, answer: Answer)
     answers.rotate_right(place);
 }
 
-/// Puts an answer behind those with lower numbers, in a queue that memory keeps.
-fn keep_rising(answered: &mut LabelQueue<Answer>, answer: Answer)
+/// Puts an answer behind those with lower numbers, in a queue of which memory keeps this.
+fn keep_rising(answered: &mut LabelQueue<Answer>, shown: Answer, answer: &Answer)
     requires kept { IsTrue answered.old.keeps }
+    requires shown { shown ≡ answer_in_memory answered.old.keeps_bytes answer.now }
     requires place { length answered.old.items < answered.old.places }
     requires rising { AreRising (map answer_number answered.old.items) }
-    ensures items { answered.new.items ≡ inserted answer answered.old.items }
+    ensures items { answered.new.items ≡ inserted answer.now answered.old.items }
     ensures same { SameQueue answered.old answered.new }
 {
-    insert_rising(&mut answered.queue, answer);
-    answered.told = answered.told.with(&answered.queue);
+    insert_rising(&mut answered.queue, shown);
+    answered.told = answered.told.with(answer);
 }
 
-/// Defers the label of an answer. Where labels are kept, its bytes are copied into the room for them.
+/// The bytes of an answer in its label, where they are kept; else none.
+fn shown_bytes(keeps_bytes: bool, answer: &Answer, room: LabelRoom) -> Bytes
+    requires room { IsTrue keeps_bytes → length answer.now.bytes ≤ room }
+    ensures { result ≡ (if keeps_bytes then answer.now.bytes else []) }
+{
+    if keeps_bytes {
+        room.filled(answer.bytes.as_slice())
+    } else {
+        room.filled(&[])
+    }
+}
+
+/// Defers the label of an answer. Where labels keep their bytes, these are copied into the room for them.
 pub(crate) fn put_by(answered: &mut LabelQueue<Answer>, answer: &Answer, room: LabelRoom)
-    requires room { length answer.now.bytes ≤ room }
+    requires room { IsTrue answered.old.keeps_bytes → length answer.now.bytes ≤ room }
     requires place { length answered.old.items < answered.old.places }
     requires rising { AreRising (map answer_number answered.old.items) }
     ensures items { answered.new.items ≡ inserted answer.now answered.old.items }
@@ -69,9 +82,9 @@ pub(crate) fn put_by(answered: &mut LabelQueue<Answer>, answer: &Answer, room: L
             number: answer.number,
             status: answer.status,
             information: answer.information,
-            bytes: room.filled(answer.bytes.as_slice()),
+            bytes: shown_bytes(answered.keeps_bytes(), answer, room),
         };
-        keep_rising(answered, copy);
+        keep_rising(answered, copy, answer);
     } else {
         answered.note(answer);
     }

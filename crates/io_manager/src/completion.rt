@@ -13,7 +13,7 @@ ghost use Rattle.machine.specs.Settled.{Settled};
 ghost use Rattle.io_manager.specs.Calls.{partition_of};
 ghost use Rattle.io_manager.specs.inside.Chains.{AreChained, AreNumbered, AreCounted};
 ghost use Rattle.io_manager.specs.inside.Completion.{IsAt, HasNone, done_of, AreFilled, CountsOut, Closes, EndsRemoval};
-ghost use Rattle.io_manager.specs.inside.Completion.{TakesEnded, Gathers, brought, unlabelled};
+ghost use Rattle.io_manager.specs.inside.Completion.{TakesEnded, Gathers, brought, shown_label, unlabelled};
 ghost use Rattle.io_manager.specs.Right.{as_answer, AreRising, answer_number};
 ghost use Rattle.io_manager.specs.inside.Queue.{SameQueue};
 ghost use Rattle.io_manager.specs.inside.Sound.{IsSound, IsSoundWith, TakesLabels, Collects};
@@ -28,7 +28,9 @@ use device::{Climb, Device, Kind, Label};
 use irp::{Done, Irp, Payload};
 use ntstatus::NtStatus;
 use sector::Bytes;
+use noted::Noted;
 use std::alloc::Global;
+use std::collections::VecDeque;
 
 /// The bytes that a packet brings back; none where it is at the adapter.
 fn bytes_of(alloc: Global, payload: Payload) -> Bytes
@@ -105,7 +107,7 @@ impl Tables {
         requires numbered { AreNumbered self.old.requests self.old.by_number }
         requires counted { AreCounted self.old.handles self.old.requests self.old.open_counts }
         requires held { (slot : ℕ) × IsAt self.old.requests done.number slot }
-        requires filled { AreFilled self.old.requests done }
+        requires filled { AreFilled self.old.answered.keeps_bytes self.old.requests done }
         requires answered_place { length self.old.answered.items < self.old.answered.places }
         requires untaken_place { deque_len self.old.untaken < deque_capacity self.old.untaken }
         requires answered_rising { AreRising (map answer_number self.old.answered.items) }
@@ -144,24 +146,22 @@ impl Tables {
     }
 }
 
-/// Moves the deferred answers to the end of the labels, which have places for them.
-fn move_answers(answered: &mut LabelQueue<Answer>, labels: &mut LabelQueue<Label>)
-    requires kept { IsTrue answered.old.keeps }
-    requires labels_kept { IsTrue labels.old.keeps }
-    requires places { length labels.old.items + length answered.old.items ≤ labels.old.places }
-    ensures told { labels.new.items ≡ labels.old.items ++ map as_answer answered.old.items }
+/// Moves answers to the end of labels, which have places for them.
+fn move_answers(answered: &mut VecDeque<Answer>, labels: &mut VecDeque<Label>)
+    requires places { length labels.old.items + length answered.old.items ≤ deque_capacity labels.old }
+    ensures moved { labels.new.items ≡ labels.old.items ++ map as_answer answered.old.items }
     ensures none_left { answered.new.items ≡ [] }
-    ensures labels { SameQueue labels.old labels.new }
-    ensures answered { SameQueue answered.old answered.new }
+    ensures label_places { deque_capacity labels.new ≡ deque_capacity labels.old }
+    ensures answer_places { deque_capacity answered.new ≡ deque_capacity answered.old }
 {
-    while let Some(answer) = answered.take_first() {
+    while let Some(answer) = answered.pop_front() {
         let Answer {
             number,
             status,
             information,
             bytes,
         } = answer;
-        labels.keep_one(Label::Answer {
+        labels.push_back_reserved(Label::Answer {
             number,
             status,
             information,
@@ -170,9 +170,26 @@ fn move_answers(answered: &mut LabelQueue<Answer>, labels: &mut LabelQueue<Label
     }
 }
 
+/// Moves the deferred answers to the end of the labels, which have places for them.
+fn keep_answers(answered: &mut LabelQueue<Answer>, labels: &mut LabelQueue<Label>)
+    requires kept { IsTrue answered.old.keeps }
+    requires labels_kept { IsTrue labels.old.keeps }
+    requires alike { answered.old.keeps_bytes ≡ labels.old.keeps_bytes }
+    requires places { length labels.old.items + length answered.old.items ≤ labels.old.places }
+    ensures told { labels.new.items ≡ labels.old.items ++ map as_answer answered.old.items }
+    ensures none_left { answered.new.items ≡ [] }
+    ensures labels { SameQueue labels.old labels.new }
+    ensures answered { SameQueue answered.old answered.new }
+{
+    labels.told = labels.told.with(&answered.told);
+    move_answers(&mut answered.queue, &mut labels.queue);
+    answered.told = Noted::none();
+}
+
 /// Tells the deferred answers behind the labels, which have places for them.
 fn tell_answers(answered: &mut LabelQueue<Answer>, labels: &mut LabelQueue<Label>)
     requires alike { answered.old.keeps ≡ labels.old.keeps }
+    requires bytes_alike { answered.old.keeps_bytes ≡ labels.old.keeps_bytes }
     requires places { length labels.old.items + length answered.old.items ≤ labels.old.places }
     ensures told { labels.new.items ≡ labels.old.items ++ map as_answer answered.old.items }
     ensures none_left { answered.new.items ≡ [] }
@@ -180,35 +197,48 @@ fn tell_answers(answered: &mut LabelQueue<Answer>, labels: &mut LabelQueue<Label
     ensures answered_place { SameQueue answered.old answered.new }
 {
     if labels.keeps() {
-        move_answers(answered, labels);
+        keep_answers(answered, labels);
     } else {
         note_answers(labels, answered);
         answered.forget();
     }
 }
 
-/// Moves all labels of the device to the end of these, which have places for them.
-fn move_labels<D: Device>(device: &mut D, labels: &mut LabelQueue<Label>)
+/// Moves all labels of the device, as memory has them, to the end of these, which have places for them.
+fn move_labels<D: Device>(device: &mut D, labels: &mut VecDeque<Label>)
+    requires places { length labels.old.items + length (D.view device.old).adapter.labels ≤ deque_capacity labels.old }
+    ensures moved { labels.new.items ≡ labels.old.items ++ map (shown_label (D.view device.old).rules.keeps_bytes) (D.view device.old).adapter.labels }
+    ensures taken { D.view device.new ≡ unlabelled (D.view device.old) }
+    ensures places { deque_capacity labels.new ≡ deque_capacity labels.old }
+{
+    while let Some(label) = device.take_label() {
+        labels.push_back_reserved(Label::Device(label));
+    }
+}
+
+/// Tells all labels of the device behind these, in a queue that memory keeps.
+fn keep_device_labels<D: Device>(device: &mut D, labels: &mut LabelQueue<Label>)
     requires kept { IsTrue labels.old.keeps }
+    requires alike { labels.old.keeps_bytes ≡ (D.view device.old).rules.keeps_bytes }
     requires places { length labels.old.items + length (D.view device.old).adapter.labels ≤ labels.old.places }
     ensures moved { labels.new.items ≡ labels.old.items ++ map as_label (D.view device.old).adapter.labels }
     ensures taken { D.view device.new ≡ unlabelled (D.view device.old) }
     ensures places { SameQueue labels.old labels.new }
 {
-    while let Some(label) = device.take_label() {
-        labels.keep_one(Label::Device(label));
-    }
+    labels.told = labels.told.with(device);
+    move_labels(device, &mut labels.queue);
 }
 
 /// Tells all labels of the device behind these, which have places for them.
 fn tell_labels<D: Device>(device: &mut D, labels: &mut LabelQueue<Label>)
+    requires alike { labels.old.keeps_bytes ≡ (D.view device.old).rules.keeps_bytes }
     requires places { length labels.old.items + length (D.view device.old).adapter.labels ≤ labels.old.places }
     ensures moved { labels.new.items ≡ labels.old.items ++ map as_label (D.view device.old).adapter.labels }
     ensures taken { D.view device.new ≡ unlabelled (D.view device.old) }
     ensures places { SameQueue labels.old labels.new }
 {
     if labels.keeps() {
-        move_labels(device, labels);
+        keep_device_labels(device, labels);
     } else {
         note_labels(labels, device);
         device.forget_labels();

@@ -52,6 +52,7 @@ impl<D: Device> IoManager<D> {
         requires empty { spare.items ≡ [] }
         requires places { 256 ≤ deque_capacity spare }
         requires kept { IsTrue self.old.keeps }
+        requires bytes { IsTrue self.old.rules.keeps_bytes }
         ensures labels { result.items ≡ self.old.labels }
         ensures taken { self.new ≡ record self.old { labels = [] } }
     {

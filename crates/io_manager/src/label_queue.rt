@@ -1,50 +1,70 @@
-//! Queues of what a step tells. Memory keeps it until it is taken, or contracts alone read it.
+//! Queues of what a step tells. Memory keeps it until it is taken, with its bytes or without, or contracts alone read it.
 
-ghost use Rattle.std.specs.Prelude.{◌≡◌, ◌<◌, ◌+◌, ◌++◌, ◌∷◌, [], true, List, length, IfOk, IsTrue, IsFalse};
+ghost use Rattle.std.specs.Prelude.{◌≡◌, ◌<◌, ◌+◌, ◌++◌, ◌∷◌, [], true, Bool, List, length, IfOk, IsTrue, IsFalse, map};
 ghost use Rattle.std.specs.VecDeque.{deque_capacity};
-ghost use Rattle.io_manager.specs.inside.Queue.{QueueView, SameQueue, TakesFirst};
+ghost use Rattle.machine.specs.Bare.{in_memory as label_in_memory};
+ghost use Rattle.io_manager.specs.inside.Queue.{QueueView, SameQueue, TakesFirst, answer_in_memory};
 
-use crate::noted::Noted;
+use crate::Answer;
+use device::Label;
+use noted::Noted;
 use std::alloc::{AllocError, Global};
 use std::collections::VecDeque;
 use std::marker::Model;
 use std::mem;
 
+/// What has bytes that memory may keep or not.
+pub(crate) trait Told: Drop {
+    /// What memory has of it.
+    ghost in_memory: { Bool → Self → Self };
+}
+
+impl Told for Label {
+    ghost in_memory = { label_in_memory };
+}
+
+impl Told for Answer {
+    ghost in_memory = { answer_in_memory };
+}
+
 /// What was told, in order. The queue holds it where memory keeps it, and else nothing.
 #[derive(Drop)]
-pub(crate) struct LabelQueue<T: Drop> {
+pub(crate) struct LabelQueue<T: Told> {
     pub(crate) queue: VecDeque<T>,
     pub(crate) keeps: bool,
+    /// Whether memory keeps the bytes of what it keeps.
+    pub(crate) keeps_bytes: bool,
     pub(crate) told: Noted<T>,
 }
 
-impl<T: Drop> Model for LabelQueue<T> {
-    ghost use Rattle.std.specs.Prelude.{◌≡◌, [], IsTrue, IsFalse};
+impl<T: Told> Model for LabelQueue<T> {
+    ghost use Rattle.std.specs.Prelude.{◌≡◌, [], IsTrue, IsFalse, map};
     ghost use Rattle.std.specs.VecDeque.{deque_capacity};
     ghost use Rattle.io_manager.specs.inside.Queue.{QueueView};
 
     ghost Value = { QueueView T };
 
-    ghost view = { λ q. record { items = q.told.items; places = deque_capacity q.queue; keeps = q.keeps } };
+    ghost view = { λ q. record { items = q.told.items; places = deque_capacity q.queue; keeps = q.keeps; keeps_bytes = q.keeps_bytes } };
 
     ghost invariant = { λ q. record {
-      kept : IsTrue q.keeps → q.queue.items ≡ q.told.items;
+      kept : IsTrue q.keeps → q.queue.items ≡ map (T.in_memory q.keeps_bytes) q.told.items;
       quiet : IsFalse q.keeps → q.queue.items ≡ [];
     } };
 }
 
-impl<T: Drop> LabelQueue<T> {
+impl<T: Told> LabelQueue<T> {
     /// A queue that keeps what is told, with this many places.
     ///
     /// # Errors
     ///
     /// [`AllocError`] where memory for these was refused.
-    pub(crate) fn new(alloc: Global, places: usize) -> Result<LabelQueue<T>, AllocError>
-        ensures { IfOk result (λ queue. queue ≡ record { items = []; places = places; keeps = true }) }
+    pub(crate) fn new(alloc: Global, places: usize, keeps_bytes: bool) -> Result<LabelQueue<T>, AllocError>
+        ensures { IfOk result (λ queue. queue ≡ record { items = []; places = places; keeps = true; keeps_bytes = keeps_bytes }) }
     {
         Ok(LabelQueue {
             queue: VecDeque::with_capacity(alloc, places)?,
             keeps: true,
+            keeps_bytes,
             told: Noted::none(),
         })
     }
@@ -56,6 +76,13 @@ impl<T: Drop> LabelQueue<T> {
         self.keeps
     }
 
+    /// Whether memory keeps the bytes of what it keeps.
+    pub(crate) fn keeps_bytes(&self) -> bool
+        ensures { result ≡ self.now.keeps_bytes }
+    {
+        self.keeps_bytes
+    }
+
     /// From now on memory keeps what is told, or contracts alone read it.
     pub(crate) fn keep(&mut self, keep: bool)
         requires empty { self.old.items ≡ [] }
@@ -65,9 +92,10 @@ impl<T: Drop> LabelQueue<T> {
         self.keeps = keep;
     }
 
-    /// Tells one more.
+    /// Tells one more, which has no bytes.
     pub(crate) fn tell(&mut self, item: T)
         requires place { length self.old.items < self.old.places }
+        requires plain { T.in_memory self.old.keeps_bytes item ≡ item }
         ensures tells { self.new.items ≡ self.old.items ++ item ∷ [] }
         ensures one_more { length self.new.items ≡ length self.old.items + 1 }
         ensures same { SameQueue self.old self.new }
@@ -78,16 +106,19 @@ impl<T: Drop> LabelQueue<T> {
         }
     }
 
-    /// Tells one more, which memory keeps.
-    pub(crate) fn keep_one(&mut self, item: T)
-        requires kept { IsTrue self.old.keeps }
+    /// Tells one more, of which memory gets this. The caller reads what is told off this and off what it lends.
+    pub(crate) fn tell_as<S>(&mut self, item: T, from: &S)
+        ghost told: { T }
         requires place { length self.old.items < self.old.places }
-        ensures tells { self.new.items ≡ self.old.items ++ item ∷ [] }
+        requires shown { IsTrue self.old.keeps → item ≡ T.in_memory self.old.keeps_bytes told }
+        ensures tells { self.new.items ≡ self.old.items ++ told ∷ [] }
         ensures one_more { length self.new.items ≡ length self.old.items + 1 }
         ensures same { SameQueue self.old self.new }
     {
-        self.told = self.told.with(&item);
-        self.queue.push_back_reserved(item);
+        self.told = self.told.with(from);
+        if self.keeps {
+            self.queue.push_back_reserved(item);
+        }
     }
 
     /// Makes what is told these items, in a queue of which memory keeps none. The caller reads them off what it lends.
@@ -100,14 +131,14 @@ impl<T: Drop> LabelQueue<T> {
         self.told = self.told.with(from);
     }
 
-    /// Takes the earliest item.
+    /// Takes the earliest item, as memory has it.
     pub(crate) fn take_first(&mut self) -> Option<T>
         requires kept { IsTrue self.old.keeps }
-        ensures takes { TakesFirst self.old.items result self.new.items }
+        ensures takes { TakesFirst (T.in_memory self.old.keeps_bytes) self.old.items result self.new.items }
         ensures same { SameQueue self.old self.new }
     {
         let first = self.queue.pop_front();
-        self.told = self.told.with(&self.queue);
+        self.told = self.told.with(&first);
         first
     }
 
@@ -115,7 +146,7 @@ impl<T: Drop> LabelQueue<T> {
     pub(crate) fn take_all(&mut self, spare: VecDeque<T>) -> Vec<T>
         requires kept { IsTrue self.old.keeps }
         requires empty { spare.items ≡ [] }
-        ensures all { result.items ≡ self.old.items }
+        ensures all { result.items ≡ map (T.in_memory self.old.keeps_bytes) self.old.items }
         ensures taken { self.new ≡ record self.old { items = []; places = deque_capacity spare } }
     {
         let all = mem::replace(&mut self.queue, spare);

@@ -19,7 +19,6 @@ mod completion;
 mod handover;
 mod label_queue;
 mod manager;
-mod noted;
 mod noting;
 mod opening;
 mod parts;
@@ -64,6 +63,8 @@ pub struct Limits {
     pub depth: u8,
     /// How many requests may be open at once, 1 to 64.
     pub open_requests: u32,
+    /// Whether labels keep their bytes in memory, as those of the adapter do.
+    pub keeps_bytes: bool,
     /// The sector of the disk where each partition begins, by the partition's number.
     pub first_sectors: [u64; 4],
 }

@@ -12,7 +12,7 @@ ghost use Rattle.io_manager.specs.Calls.{asked_on, call_on, without_bytes, opene
 ghost use Rattle.io_manager.specs.inside.Admitting.{asked_for, AreBoundsOf, Decides, IsAdmissible};
 ghost use Rattle.io_manager.specs.Right.{IsRight, IsRightReset, IsHandleOpen, CallReplies, OpenReplies};
 ghost use Rattle.io_manager.specs.Right.{CloseReplies, CancelReplies, MarkReplies, ActReplies, BooksPiece};
-ghost use Rattle.io_manager.specs.Right.{FinishReplies, FitsTogether, TakesAnswer, TakesLabel as TakesFirst};
+ghost use Rattle.io_manager.specs.Right.{FinishReplies, FitsTogether, TakesAnswer, TakesShown, TakesLabel as TakesFirst};
 
 use crate::admission::{Asked, Bounds, Decision, refusal_of, request_below, request_for};
 use crate::parts::Parts;
@@ -289,13 +289,23 @@ impl<D: Device> IoManager<D> {
         self.parts.tables.keep_labels(keep);
     }
 
-    /// Takes the earliest label of the last step that was not taken yet. Only while labels are kept
-    /// ([`IoManager::keep_labels`]).
-    pub fn take_label(&mut self) -> Option<Label>
+    /// Takes the earliest label of the last step that was not taken yet, as memory has it: its bytes are there where
+    /// labels keep theirs, and else none. Only while labels are kept ([`IoManager::keep_labels`]).
+    pub fn take_shown(&mut self) -> Option<Label>
         requires kept { IsTrue self.old.keeps }
-        ensures takes { TakesFirst self.old result self.new }
+        ensures takes { TakesShown self.old result self.new }
     {
         self.parts.tables.labels.take_first()
+    }
+
+    /// Takes the earliest label of the last step that was not taken yet. Only while labels are kept
+    /// ([`IoManager::keep_labels`]), with their bytes.
+    pub fn take_label(&mut self) -> Option<Label>
+        requires kept { IsTrue self.old.keeps }
+        requires bytes { IsTrue self.old.rules.keeps_bytes }
+        ensures takes { TakesFirst self.old result self.new }
+    {
+        self.take_shown()
     }
 
     /// Forgets all labels of the last step that were not taken.

@@ -55,8 +55,8 @@ impl Tables {
             chains: Chains::new(),
             by_number: Chains::new(),
             open_counts: [0; HANDLE_LIMIT],
-            labels: LabelQueue::new(alloc, LABEL_PLACES)?,
-            answered: LabelQueue::new(alloc, ANSWER_PLACES)?,
+            labels: LabelQueue::new(alloc, LABEL_PLACES, limits.keeps_bytes)?,
+            answered: LabelQueue::new(alloc, ANSWER_PLACES, limits.keeps_bytes)?,
             untaken: VecDeque::new(alloc),
         })
     }

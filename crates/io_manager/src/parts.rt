@@ -61,12 +61,19 @@ impl<D: Device> Parts<D> {
             → (D.view self.new.device).adapter ≡ (D.view self.old.device).adapter }
         ensures tables { KeepsAnswers self.old.tables self.new.tables }
         ensures copies { IfOk result
-            (λ made. HasLabelBytes self.new.tables.labels.keeps below.kind buffer.now made.copies) }
+            (λ made. HasLabelBytes self.new.tables.labels.keeps self.new.tables.labels.keeps_bytes below.kind buffer.now made.copies) }
         ensures place { OnOk result (deque_len self.new.tables.untaken + (slab_len self.new.tables.requests + 1)
             ≤ deque_capacity self.new.tables.untaken) }
     {
         self.tables.cover_answers()?;
-        let copies = label_bytes_for(alloc, below.kind, buffer, self.tables.labels.keeps())?;
+        let labels = &self.tables.labels;
+        let copies = label_bytes_for(
+            alloc,
+            below.kind,
+            buffer,
+            labels.keeps(),
+            labels.keeps_bytes(),
+        )?;
         let irp = Box::new(alloc, Irp::new(0, Payload::Sent))?;
         let room = self.device.reserve(&below)?;
         Ok(Prepared {
@@ -94,7 +101,7 @@ impl<D: Device> Parts<D> {
         requires untold { self.old.tables.labels.items ≡ [] }
         requires open { is_some (partition_of self.old.tables.handles.slots handle) ≡ true }
         requires admissible { IsAdmissible (view_of self.old.limits (D.view self.old.device) self.old.tables) request }
-        requires copies { HasLabelBytes self.old.tables.labels.keeps request.kind buffer prepared.copies }
+        requires copies { HasLabelBytes self.old.tables.labels.keeps self.old.tables.labels.keeps_bytes request.kind buffer prepared.copies }
         requires length { request.length ≡ length buffer }
         requires place { deque_len self.old.tables.untaken + (slab_len self.old.tables.requests + 1)
             ≤ deque_capacity self.old.tables.untaken }

@@ -1,6 +1,6 @@
 //! What the manager keeps beside the device: handles, open requests, the plug and play state, labels and answers.
 
-ghost use Rattle.std.specs.Prelude.{◌≡◌, ◌≤◌, ◌<◌, ◌+◌, ◌^◌, ◌++◌, ◌∷◌, [], true, false, length, is_some, OnOk};
+ghost use Rattle.std.specs.Prelude.{◌≡◌, ◌≤◌, ◌<◌, ◌+◌, ◌^◌, ◌++◌, ◌∷◌, ◌&&◌, [], true, false, length, is_some, OnOk};
 ghost use Rattle.std.specs.Prelude.{MatchBool};
 ghost use Rattle.std.specs.VecDeque.{deque_len, deque_capacity};
 ghost use Rattle.slab.specs.Slab.{HasRoomFor, slab_len};
@@ -11,12 +11,12 @@ ghost use Rattle.io_manager.specs.inside.Cancelling.{ClosesSlot, HasSome, HasNon
 ghost use Rattle.io_manager.specs.inside.Admitting.{AnswersAtOnce, KeepsAnswers, Admits, OpensHandle, status_at_once};
 ghost use Rattle.io_manager.specs.inside.Admitting.{reply_at_once, is_going, IsCopied};
 ghost use Rattle.io_manager.specs.inside.Queue.{SameQueue};
+ghost use Rattle.machine.specs.Bare.{in_memory};
 ghost use Rattle.machine.specs.declared.Label.TheVariants.{Call};
 
 use crate::admission::{AtOnce, CallBytes, LabelBytes};
 use crate::chains::{CHAIN_LIMIT, Chains, REQUEST_LIMIT};
 use crate::label_queue::LabelQueue;
-use crate::noted::Noted;
 use crate::{Answer, Handle, Id, OpenHandle, Refusal, Reply};
 use device::{ClientRequest, Kind, Label};
 use ntstatus::NtStatus;
@@ -97,35 +97,21 @@ pub(crate) fn refused_alone(alloc: Global, refusal: Refusal) -> Reply
     refused(refusal, Bytes::new(Vec::new(alloc)))
 }
 
-/// A call as contracts alone read it.
-#[derive(Drop)]
-struct NotedCall {
-    number: u64,
-    request: ClientRequest,
-    bytes: Noted<u8>,
-}
-
 /// Tells a call, with the bytes that are told of it.
 fn tell_call(labels: &mut LabelQueue<Label>, number: u64, request: ClientRequest, bytes: CallBytes)
     requires place { length labels.old.items < labels.old.places }
-    requires copied { IsCopied labels.old.keeps bytes }
+    requires copied { IsCopied (labels.old.keeps && labels.old.keeps_bytes) bytes }
     ensures tells { labels.new.items
         ≡ labels.old.items ++ Call number (record request { bytes = bytes.told.items }) ∷ [] }
     ensures one_more { length labels.new.items ≡ length labels.old.items + 1 }
     ensures same { SameQueue labels.old labels.new }
 {
     let CallBytes { copy, told } = bytes;
-    match copy {
-        Some(bytes) => {
-            let request = ClientRequest { bytes, ..request };
-            labels.tell(Label::Call { number, request });
-        }
-        None => labels.note(&NotedCall {
-            number,
-            request,
-            bytes: told,
-        }),
-    }
+    let request = ClientRequest {
+        bytes: copy,
+        ..request
+    };
+    labels.tell_as(Label::Call { number, request }, &told);
 }
 
 impl Tables {
@@ -154,6 +140,7 @@ impl Tables {
     /// Sets the PnP state and records its label.
     pub(crate) fn move_to(&mut self, state: State, label: Label)
         requires label_place { length self.old.labels.items < self.old.labels.places }
+        requires plain { in_memory self.old.labels.keeps_bytes label ≡ label }
         ensures tells { self.new.labels.items ≡ self.old.labels.items ++ label ∷ [] }
         ensures one_more { length self.new.labels.items ≡ length self.old.labels.items + 1 }
         ensures label_places { SameQueue self.old.labels self.new.labels }
@@ -294,7 +281,7 @@ impl Tables {
     ) -> u32
         requires numbers_last { are_used_up self.old.next_request ≡ false }
         requires label_place { length self.old.labels.items < self.old.labels.places }
-        requires copied { IsCopied self.old.labels.keeps copies.call_bytes }
+        requires copied { IsCopied (self.old.labels.keeps && self.old.labels.keeps_bytes) copies.call_bytes }
         requires free_slot { HasRoomFor self.old.requests 1 }
         requires slots { self.old.requests.capacity ≤ 64 }
         requires chained { AreChained self.old.handles self.old.requests self.old.next_handle self.old.chains }

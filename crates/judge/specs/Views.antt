@@ -1,5 +1,5 @@
 -- What the checker's own types say of the machine.
-use Rattle.std.specs.Prelude.{ℕ, Bool, false, nat_lt, nat_le, ◌||◌, List, Option, Some, None, map, count_by, slice_get}
+use Rattle.std.specs.Prelude.{ℕ, Bool, false, nat_lt, nat_le, ◌||◌, List, Option, Some, None, map, count_by, slice_get, true}
 use Rattle.std.specs.List.{concat}
 use Rattle.sector.specs.declared.Extent.{Extent}
 use Rattle.srb.specs.Fate.{Fate, Fresh, Acted, Faulted}
@@ -29,6 +29,7 @@ rules_of r = record {
   busy_limit = r.busy_limit;
   any_cut = r.any_cut;
   faithful = r.faithful;
+  keeps_bytes = true;
 }
 
 -- what has become of a place

@@ -14,3 +14,4 @@ pub mod Solo
 pub mod Pieces
 pub mod Marks
 pub mod Window
+pub mod Bare

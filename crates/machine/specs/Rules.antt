@@ -32,6 +32,8 @@ pub record Rules : Type 0 where
   pub any_cut : Bool
   -- acts read and write the arrays; else the sectors stand elsewhere, and the arrays never change
   pub faithful : Bool
+  -- the bytes of labels stand in memory; else contracts alone read them
+  pub keeps_bytes : Bool
 
 -- a read or a write
 abbrev pub is_transfer : Kind → Bool

@@ -24,6 +24,7 @@ small = record {
   busy_limit = 3;
   any_cut = false;
   faithful = true;
+  keeps_bytes = true;
 }
 
 -- a read of all three

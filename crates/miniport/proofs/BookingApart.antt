@@ -101,10 +101,10 @@ may_again size sectors bytes entry (Write16 lba count fua) h = (transfer_again s
 may_again size sectors bytes entry (Sync16 lba count) h = flush_again bytes lba count entry h
 may_again size sectors bytes entry (ReadCapacity16 allocation) h = absurd h
 
-booked_right : (m : MediumView) (f piece : ℕ) (on : OnTag) (what : Result Entry Completion) → SuitsPiece m.sector_size (length m.sectors) on piece what → on.progress ≡ Untouched → IsPieceRight m f on → IsPieceRight m f (booked_piece what on)
+booked_right : {w : Bool} (m : MediumView) (f piece : ℕ) (on : OnTag) (what : Result Entry Completion) → SuitsPiece m.sector_size (length m.sectors) on piece what → on.progress ≡ Untouched → IsPieceRight w m f on → IsPieceRight w m f (booked_piece what on)
 booked_right m f piece on (Ok entry) s untouched right = record {
   ready = right.ready;
-  buffers = λ e. subst (λ (n : ℕ). n ≤ on.srb.for_label) (sym (suits_long m.sector_size (length m.sectors) on.srb entry s.suits)) (right.buffers untouched);
+  buffers = λ e b. subst (λ (n : ℕ). n ≤ on.srb.for_label) (sym (suits_long m.sector_size (length m.sectors) on.srb entry s.suits)) (right.buffers untouched b);
   moved = λ e. absurd (cc (untouched, e));
   counted = right.counted;
   failed = right.failed;
@@ -140,7 +140,7 @@ kept_booked m longest t tag piece on what kept there untouched suits =
       sectors = kept.sectors;
       max_transfer = kept.max_transfer;
       depth = rw (length-set t.slots tag (Some after)) kept.depth;
-      pieces = pieces_set m t.failures t.slots tag after kept.pieces (booked_right m t.failures piece on what suits untouched (kept.pieces tag on there));
+      pieces = pieces_set t.keeps_bytes m t.failures t.slots tag after kept.pieces (booked_right m t.failures piece on what suits untouched (kept.pieces tag on there));
       accepted = kept.accepted;
       failures = omega (arith, left, was, same, kept.failures);
       medium_failures = kept.medium_failures;

@@ -1,5 +1,5 @@
 -- What the adapter in memory keeps, call by call: it stays in order as any adapter is.
-use Rattle.std.proofs.Common.{◌≡◌, ◌<◌, ◌≤◌, ◌^◌, ℕ, ◌+◌, Bool, true, false, List, [], ◌∷◌, ◌++◌, length, slice_set, sum_by, Option, Some, None, refl, ap, ◌∙◌, subst, arith, length-append, length-set, if◌then◌else◌}
+use Rattle.std.proofs.Common.{◌≡◌, ◌<◌, ◌≤◌, ◌^◌, ℕ, ◌+◌, Bool, IsTrue, true, false, List, [], ◌∷◌, ◌++◌, length, slice_set, sum_by, Option, Some, None, refl, sym, ap, ◌∙◌, subst, arith, length-append, length-set, if◌then◌else◌}
 use Rattle.std.proofs.lemmas.List.{length-map}
 use Rattle.std.specs.List.{concat, flat_map}
 use Rattle.srb.specs.declared.Srb.{Srb}
@@ -50,7 +50,7 @@ empty_slot m longest t tag free = none_at m.sector_size t.slots tag (piece_at t.
 
 -- ACCEPT
 
-new_right : (m : MediumView) (f piece : ℕ) (srb : Srb) → IsReady m srb → length srb.data ≤ srb.for_label → IsPieceRight m f (new_piece f piece srb)
+new_right : {w : Bool} (m : MediumView) (f piece : ℕ) (srb : Srb) → IsReady m srb → (IsTrue w → length srb.data ≤ srb.for_label) → IsPieceRight w m f (new_piece f piece srb)
 new_right m f piece srb ready buffers = record {
   ready = ready;
   buffers = λ e. buffers;
@@ -63,7 +63,7 @@ new_right m f piece srb ready buffers = record {
 }
 
 pub accept_kept : (m : MediumView) (longest : ℕ) (t : Table) (tag piece : ℕ) (srb : Srb) → AdapterKept m longest t → tag < length t.slots
-    → piece_at t.slots tag ≡ None → IsReady m srb → length srb.data ≤ srb.for_label → t.accepted < 2 ^ 100 → length t.labels < 64
+    → piece_at t.slots tag ≡ None → IsReady m srb → (IsTrue t.keeps_bytes → length srb.data ≤ srb.for_label) → t.accepted < 2 ^ 100 → length t.labels < 64
     → AdapterKept m longest (with_new tag piece srb t)
 accept_kept m longest t tag piece srb kept below none ready buffers few place =
     let left : sum_by failures_left (slice_set t.slots tag (Some (new_piece t.failures piece srb))) + failures_left (piece_at t.slots tag) ≡ sum_by failures_left t.slots + 2 =
@@ -73,7 +73,7 @@ accept_kept m longest t tag piece srb kept below none ready buffers few place =
       sectors = kept.sectors;
       max_transfer = kept.max_transfer;
       depth = rw (length-set t.slots tag (Some (new_piece t.failures piece srb))) kept.depth;
-      pieces = pieces_set m t.failures t.slots tag (new_piece t.failures piece srb) kept.pieces (new_right m t.failures piece srb ready buffers);
+      pieces = pieces_set t.keeps_bytes m t.failures t.slots tag (new_piece t.failures piece srb) kept.pieces (new_right m t.failures piece srb ready buffers);
       accepted = omega (arith, few);
       failures = omega (arith, left, kept.failures);
       medium_failures = kept.medium_failures;
@@ -100,9 +100,9 @@ moved_piece on bytes = record on { srb = emptied bytes on.srb; progress = Moved 
 abbrev pub failed_piece : OnTag → Completion → OnTag
 failed_piece on completion = record on { progress = Failed completion }
 
-moved_right : (m : MediumView) (sectors : List (List ℕ)) (f : ℕ) (on : OnTag) (bytes : List ℕ) → length sectors ≡ length m.sectors
-    → on.progress ≡ Untouched → concat (moved_by m.sector_size on.srb.block bytes) ≡ bytes → IsPieceRight m f on
-    → IsPieceRight (record m { sectors = sectors }) f (moved_piece on bytes)
+moved_right : {w : Bool} (m : MediumView) (sectors : List (List ℕ)) (f : ℕ) (on : OnTag) (bytes : List ℕ) → length sectors ≡ length m.sectors
+    → on.progress ≡ Untouched → concat (moved_by m.sector_size on.srb.block bytes) ≡ bytes → IsPieceRight w m f on
+    → IsPieceRight w (record m { sectors = sectors }) f (moved_piece on bytes)
 moved_right m sectors f on bytes long untouched whole right = record {
   ready = λ lba count fua means within. right.ready lba count fua means (subst (λ (n : ℕ). lba + count ≤ n) long within);
   buffers = λ e. absurd cc;
@@ -118,7 +118,7 @@ same_size_ready : (m : MediumView) (sectors : List (List ℕ)) → length sector
 same_size_ready m sectors long srb ready lba count fua means within = ready lba count fua means (subst (λ (n : ℕ). lba + count ≤ n) long within)
 
 -- what was left to a piece that is put back
-put_back : (m : MediumView) (t : Table) (tag : ℕ) (on after : OnTag) → ArePiecesRight m t.failures t.slots → tag < length t.slots → piece_at t.slots tag ≡ Some on
+put_back : {w : Bool} (m : MediumView) (t : Table) (tag : ℕ) (on after : OnTag) → ArePiecesRight w m t.failures t.slots → tag < length t.slots → piece_at t.slots tag ≡ Some on
     → on.progress ≡ Untouched → (after.progress ≡ Untouched → ⊥) → after.was_reset ≡ on.was_reset
     → sum_by failures_left (slice_set t.slots tag (Some after)) + 1 ≤ sum_by failures_left t.slots
 put_back m t tag on after pieces below there untouched touched same =
@@ -136,14 +136,14 @@ move_kept m longest t tag on bytes sectors kept below there untouched long whole
     let m' = record m { sectors = sectors } in
     let left : sum_by failures_left (slice_set t.slots tag (Some (moved_piece on bytes))) + 1 ≤ sum_by failures_left t.slots =
     put_back m t tag on (moved_piece on bytes) kept.pieces below there untouched (λ e. absurd cc) refl in
-    let others : ArePiecesRight m' t.failures t.slots =
+    let others : ArePiecesRight _ m' t.failures t.slots =
     pieces_along m m' t.failures t.failures t.slots (other_medium m m' t.failures refl long (same_size_ready m sectors long)) kept.pieces in
     record {
       sector_size = kept.sector_size;
       sectors = rw long kept.sectors;
       max_transfer = kept.max_transfer;
       depth = rw (length-set t.slots tag (Some (moved_piece on bytes))) kept.depth;
-      pieces = pieces_set m' t.failures t.slots tag (moved_piece on bytes) others
+      pieces = pieces_set t.keeps_bytes m' t.failures t.slots tag (moved_piece on bytes) others
           (moved_right m sectors t.failures on bytes long untouched whole (kept.pieces tag on there));
       accepted = kept.accepted;
       failures = omega (arith, left, kept.failures);
@@ -151,8 +151,8 @@ move_kept m longest t tag on bytes sectors kept below there untouched long whole
       labels = one_label t.labels _ place;
     }
 
-failed_right : (m : MediumView) (k f : ℕ) (on : OnTag) (completion : Completion) → class_of completion ≡ Bad completion → on.progress ≡ Untouched
-    → IsPieceRight m f on → IsPieceRight (record m { failures = k }) (f + 1) (failed_piece on completion)
+failed_right : {w : Bool} (m : MediumView) (k f : ℕ) (on : OnTag) (completion : Completion) → class_of completion ≡ Bad completion → on.progress ≡ Untouched
+    → IsPieceRight w m f on → IsPieceRight w (record m { failures = k }) (f + 1) (failed_piece on completion)
 failed_right m k f on completion bad untouched right = record {
   ready = right.ready;
   buffers = λ e. absurd cc;
@@ -171,7 +171,7 @@ fail_kept m longest t tag on completion k kept below there untouched bad counted
     let m' = record m { failures = k } in
     let left : sum_by failures_left (slice_set t.slots tag (Some (failed_piece on completion))) + 1 ≤ sum_by failures_left t.slots =
     put_back m t tag on (failed_piece on completion) kept.pieces below there untouched (λ e. absurd cc) refl in
-    let others : ArePiecesRight m' (t.failures + 1) t.slots =
+    let others : ArePiecesRight _ m' (t.failures + 1) t.slots =
     pieces_along m m' t.failures (t.failures + 1) t.slots
     (λ p right. more_failures m' t.failures (t.failures + 1) (omega arith) p (other_medium m m' t.failures refl refl (λ srb ready. ready) p right)) kept.pieces in
     record {
@@ -179,7 +179,7 @@ fail_kept m longest t tag on completion k kept below there untouched bad counted
       sectors = kept.sectors;
       max_transfer = kept.max_transfer;
       depth = rw (length-set t.slots tag (Some (failed_piece on completion))) kept.depth;
-      pieces = pieces_set m' (t.failures + 1) t.slots tag (failed_piece on completion) others
+      pieces = pieces_set t.keeps_bytes m' (t.failures + 1) t.slots tag (failed_piece on completion) others
           (failed_right m k t.failures on completion bad untouched (kept.pieces tag on there));
       accepted = kept.accepted;
       failures = omega (arith, left, kept.failures);
@@ -220,6 +220,33 @@ reset_kept m longest t kept places = record {
   medium_failures = omega (arith, kept.medium_failures);
   labels = omega (arith, length-append t.labels (flat_map labels_of_reset t.slots), few_labels t.slots, places);
 }
+
+-- BYTES OF LABELS NOTED
+
+quiet_piece : (w : Bool) (m : MediumView) (f : ℕ) (on : OnTag) → IsPieceRight w m f on → IsPieceRight false m f on
+quiet_piece w m f on right = record {
+  ready = right.ready;
+  buffers = λ e b. absurd (cc (b));
+  moved = right.moved;
+  counted = right.counted;
+  failed = right.failed;
+  met = right.met;
+  booked = right.booked;
+  failing = right.failing;
+}
+
+pub noting_kept : (m : MediumView) (longest : ℕ) (t t' : Table) → t' ≡ record t { keeps_bytes = false } → AdapterKept m longest t → AdapterKept m longest t'
+noting_kept m longest t t' e kept = subst (λ (u : Table). AdapterKept m longest u) (sym e) (record {
+  sector_size = kept.sector_size;
+  sectors = kept.sectors;
+  max_transfer = kept.max_transfer;
+  depth = kept.depth;
+  pieces = λ tag on there. quiet_piece t.keeps_bytes m t.failures on (kept.pieces tag on there);
+  accepted = kept.accepted;
+  failures = kept.failures;
+  medium_failures = kept.medium_failures;
+  labels = kept.labels;
+})
 
 -- FEWER LABELS
 

@@ -18,22 +18,22 @@ use Rattle.miniport.specs.inside.Slots.{piece_at, slot_after_reset, progress_aft
 use Rattle.miniport.specs.inside.Memory.{IsPieceRight, ArePiecesRight, failures_left, left_by}
 
 -- a slot that is set to something right
-pub pieces_set : (m : MediumView) (f : ℕ) (slots : List (Option OnTag)) (i : ℕ) (on : OnTag) → ArePiecesRight m f slots → IsPieceRight m f on
-    → ArePiecesRight m f (slice_set slots i (Some on))
-pieces_set m f slots i on all right j p e =
+pub pieces_set : (w : Bool) (m : MediumView) (f : ℕ) (slots : List (Option OnTag)) (i : ℕ) (on : OnTag) → ArePiecesRight w m f slots → IsPieceRight w m f on
+    → ArePiecesRight w m f (slice_set slots i (Some on))
+pieces_set w m f slots i on all right j p e =
     elim (eqb_tells j i) [
       | inl same ↦ elim (cases_lt i (length slots)) [
         | inr past ↦ all j p (sym (ap (λ (l : List (Option OnTag)). piece_at l j) (set_past slots i (Some on) past)) ∙ e)
         | inl below ↦
             let here : piece_at (slice_set slots i (Some on)) j ≡ Some on = ap (λ (k : ℕ). piece_at (slice_set slots i (Some on)) k) same.1 ∙ get_or-set_same slots i (Some on) None below in
             let k : on ≡ p = cc in
-            subst (λ (x : OnTag). IsPieceRight m f x) k right
+            subst (λ (x : OnTag). IsPieceRight w m f x) k right
       ]
       | inr differ ↦ all j p (sym (get_or-set_other slots i j (Some on) None differ.1) ∙ e)
     ]
 
 -- a slot that is emptied
-pub pieces_emptied : (m : MediumView) (f : ℕ) (slots : List (Option OnTag)) (i : ℕ) → ArePiecesRight m f slots → ArePiecesRight m f (slice_set slots i None)
+pub pieces_emptied : {w : Bool} (m : MediumView) (f : ℕ) (slots : List (Option OnTag)) (i : ℕ) → ArePiecesRight w m f slots → ArePiecesRight w m f (slice_set slots i None)
 pieces_emptied m f slots i all j p e =
     elim (eqb_tells j i) [
       | inl same ↦ elim (cases_lt i (length slots)) [
@@ -52,11 +52,11 @@ emptied_at slots i = elim (cases_lt i (length slots)) [
 ]
 
 -- of another medium, or with more failures
-pub pieces_along : (m m' : MediumView) (f f' : ℕ) (slots : List (Option OnTag)) → ((on : OnTag) → IsPieceRight m f on → IsPieceRight m' f' on)
-    → ArePiecesRight m f slots → ArePiecesRight m' f' slots
+pub pieces_along : {w : Bool} (m m' : MediumView) (f f' : ℕ) (slots : List (Option OnTag)) → ((on : OnTag) → IsPieceRight w m f on → IsPieceRight w m' f' on)
+    → ArePiecesRight w m f slots → ArePiecesRight w m' f' slots
 pieces_along m m' f f' slots along all i on e = along on (all i on e)
 
-pub more_failures : (m : MediumView) (f f' : ℕ) → f ≤ f' → (on : OnTag) → IsPieceRight m f on → IsPieceRight m f' on
+pub more_failures : {w : Bool} (m : MediumView) (f f' : ℕ) → f ≤ f' → (on : OnTag) → IsPieceRight w m f on → IsPieceRight w m f' on
 more_failures m f f' more on right = record {
   ready = right.ready;
   buffers = right.buffers;
@@ -69,8 +69,8 @@ more_failures m f f' more on right = record {
 }
 
 -- a medium of the same size on which the same is reserved
-pub other_medium : (m m' : MediumView) (f : ℕ) → m'.sector_size ≡ m.sector_size → length m'.sectors ≡ length m.sectors → ((srb : Srb) → IsReady m srb → IsReady m' srb)
-    → (on : OnTag) → IsPieceRight m f on → IsPieceRight m' f on
+pub other_medium : {w : Bool} (m m' : MediumView) (f : ℕ) → m'.sector_size ≡ m.sector_size → length m'.sectors ≡ length m.sectors → ((srb : Srb) → IsReady m srb → IsReady m' srb)
+    → (on : OnTag) → IsPieceRight w m f on → IsPieceRight w m' f on
 other_medium m m' f size long ready on right = record {
   ready = ready on.srb right.ready;
   buffers = right.buffers;
@@ -101,8 +101,8 @@ failed_so (Failed d) c e = inl e
 is_reset_class : class_of bus_reset ≡ Bad bus_reset
 is_reset_class = refl
 
-reset_piece_right : (m : MediumView) (f f' : ℕ) (on : OnTag) → f ≤ f' → (f < f') ⊎ (on.was_reset ≡ true) → IsPieceRight m f on
-    → IsPieceRight m f' (record on { progress = progress_after_reset on.progress; was_reset = true })
+reset_piece_right : {w : Bool} (m : MediumView) (f f' : ℕ) (on : OnTag) → f ≤ f' → (f < f') ⊎ (on.was_reset ≡ true) → IsPieceRight w m f on
+    → IsPieceRight w m f' (record on { progress = progress_after_reset on.progress; was_reset = true })
 reset_piece_right m f f' on more rose right =
     let before : on.failures_before < f' = elim rose [ inl up ↦ omega (arith, right.counted) | inr was ↦ omega (arith, (right.met was).0) ] in
     record {
@@ -130,8 +130,8 @@ rose_or_met : (f count : ℕ) (on : OnTag) → failures_of_reset (Some on) ≤ c
 rose_or_met f zero on few = inr (not_counted on.was_reset (omega arith))
 rose_or_met f (suc n) on few = inl (omega arith)
 
-pub pieces_reset : (m : MediumView) (f : ℕ) (slots : List (Option OnTag)) → ArePiecesRight m f slots
-    → ArePiecesRight m (f + sum_by failures_of_reset slots) (map slot_after_reset slots)
+pub pieces_reset : {w : Bool} (m : MediumView) (f : ℕ) (slots : List (Option OnTag)) → ArePiecesRight w m f slots
+    → ArePiecesRight w m (f + sum_by failures_of_reset slots) (map slot_after_reset slots)
 pieces_reset m f slots all i after e =
     elim (cases_lt i (length slots)) [
       | inr past ↦

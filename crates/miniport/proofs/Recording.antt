@@ -1,5 +1,5 @@
 -- What labels tell stays, while the pieces that acted stay on their tags.
-use Rattle.std.proofs.Common.{◌≡◌, ◌≢◌, ◌<◌, ◌≤◌, inl, inr, ℕ, List, [], ◌∷◌, ◌++◌, length, map, take, drop, get_or, slice_set, All, Option, Some, None, MatchOption, refl, sym, ap, ◌∙◌, subst, arith, add-one, append_assoc, set-set, true, ◌+◌}
+use Rattle.std.proofs.Common.{◌≡◌, ◌≢◌, ◌<◌, ◌≤◌, inl, inr, ℕ, Bool, IsTrue, IsFalse, List, [], ◌∷◌, ◌++◌, length, map, take, drop, get_or, slice_set, All, Option, Some, None, MatchOption, refl, sym, ap, ◌∙◌, subst, arith, add-one, append_assoc, set-set, true, ◌+◌}
 use Rattle.std.proofs.lemmas.List.{get_or-set_same, get_or-set_other, set_past, set-get_or, map-append, drop_all, take_all, take_more}
 use Rattle.std.proofs.Math.Seq.{drop-cons}
 use Rattle.std.proofs.lemmas.List.Elements.{All-nil, All-cons, All-head, All-tail, All-weaker, All-append, All-drop}
@@ -8,6 +8,7 @@ use Rattle.std.proofs.lemmas.Bool.{cases_lt}
 use Rattle.srb.specs.declared.Srb.{Srb}
 use Rattle.srb.specs.declared.Class.{Class}
 use Rattle.srb.specs.declared.Completion.{Completion}
+use Rattle.srb.specs.Bare.{in_memory}
 use Rattle.srb.specs.Fate.{class_of}
 use Rattle.srb.specs.declared.DeviceLabel.{DeviceLabel}
 use Rattle.srb.specs.declared.DeviceLabel.TheVariants.{Start, Act, Fault, Return}
@@ -15,9 +16,9 @@ use Rattle.miniport.specs.declared.on_tag.OnTag.{OnTag}
 use Rattle.miniport.specs.declared.on_tag.Progress.{Progress}
 use Rattle.miniport.specs.declared.on_tag.Progress.TheVariants.{Untouched, Moved}
 use Rattle.miniport.specs.declared.recorded.Recorded.{Recorded}
-use Rattle.miniport.specs.declared.recorded.Recorded.TheVariants.{Told, Acted}
-use Rattle.miniport.specs.inside.Recorded.{HasActed, IsTellable, data_of, told, told_of}
-use Rattle.miniport.specs.inside.Slots.{Table, ComesBack, completion_of, new_piece, piece_at, with_new, with_returned, with_slot}
+use Rattle.miniport.specs.declared.recorded.Recorded.TheVariants.{Told, Acted, Unkept}
+use Rattle.miniport.specs.inside.Recorded.{HasActed, IsKept, IsTellable, Tells, data_of, told, told_of}
+use Rattle.miniport.specs.inside.Slots.{Table, TakesFirst, ComesBack, completion_of, new_piece, piece_at, with_new, with_returned, with_slot}
 
 -- a piece that acted is there after too, with the same data
 abbrev pub Keeps : Option OnTag → Option OnTag → Type 0
@@ -57,6 +58,7 @@ record Still (slots slots' : List (Option OnTag)) (label : Recorded) : Type 0 wh
 
 still : (slots slots' : List (Option OnTag)) → KeepsAll slots slots' → (label : Recorded) → IsTellable slots label → Still slots slots' label
 still slots slots' keeps (Told label) h = record { tellable = tt; same = refl }
+still slots slots' keeps (Unkept piece bytes room) h = record { tellable = tt; same = refl }
 still slots slots' keeps (Acted piece tag room) (acted, fits) =
     let k = keeps tag acted in
     record {
@@ -74,14 +76,62 @@ told_still slots slots' keeps (label ∷ labels) all =
     let rest : map (told slots') labels ≡ map (told slots) labels = told_still slots slots' keeps labels (All-tail (IsTellable slots) label labels all) in
     cc (first, rest)
 
--- all labels with their bytes tell the same whatever the slots are
+told_once : (slots slots' : List (Option OnTag)) (label : Recorded) → told slots' (told_of slots label) ≡ told slots label
+told_once slots slots' (Told label) = refl
+told_once slots slots' (Acted piece tag room) = refl
+told_once slots slots' (Unkept piece bytes room) = refl
+
+once_told : (slots slots' : List (Option OnTag)) (label : Recorded) → IsTellable slots' (told_of slots label)
+once_told slots slots' (Told label) = tt
+once_told slots slots' (Acted piece tag room) = tt
+once_told slots slots' (Unkept piece bytes room) = tt
+
+-- all labels that need no tag tell the same whatever the slots are
 pub told_again : (slots slots' : List (Option OnTag)) (labels : List Recorded) → map (told slots') (map (told_of slots) labels) ≡ map (told slots) labels
 told_again slots slots' [] = refl
-told_again slots slots' (label ∷ labels) = ap (λ (l : List DeviceLabel). told slots label ∷ l) (told_again slots slots' labels)
+told_again slots slots' (label ∷ labels) =
+    ap (λ (l : DeviceLabel). l ∷ map (told slots') (map (told_of slots) labels)) (told_once slots slots' label)
+    ∙ ap (λ (l : List DeviceLabel). told slots label ∷ l) (told_again slots slots' labels)
 
 pub all_told : (slots slots' : List (Option OnTag)) (labels : List Recorded) → All (IsTellable slots') (map (told_of slots) labels)
 all_told slots slots' [] = All-nil (IsTellable slots')
-all_told slots slots' (label ∷ labels) = All-cons (IsTellable slots') (told_of slots label) (map (told_of slots) labels) tt (all_told slots slots' labels)
+all_told slots slots' (label ∷ labels) = All-cons (IsTellable slots') (told_of slots label) (map (told_of slots) labels) (once_told slots slots' label) (all_told slots slots' labels)
+
+-- LABELS WITH THEIR BYTES, OR WITHOUT
+
+kept_once : (slots : List (Option OnTag)) (keeps : Bool) (label : Recorded) → IsKept keeps label → IsKept keeps (told_of slots label)
+kept_once slots keeps (Told label) h = h
+kept_once slots keeps (Acted piece tag room) h = rw h refl
+kept_once slots keeps (Unkept piece bytes room) h = h
+
+pub all_kept : (slots : List (Option OnTag)) (keeps : Bool) (labels : List Recorded) → All (IsKept keeps) labels → All (IsKept keeps) (map (told_of slots) labels)
+all_kept slots keeps [] all = All-nil (IsKept keeps)
+all_kept slots keeps (label ∷ labels) all = All-cons (IsKept keeps) (told_of slots label) (map (told_of slots) labels)
+    (kept_once slots keeps label (All-head (IsKept keeps) label labels all)) (all_kept slots keeps labels (All-tail (IsKept keeps) label labels all))
+
+pub kept_so_far : (slots : List (Option OnTag)) (keeps : Bool) (labels labels' : List Recorded) → labels' ≡ map (told_of slots) labels → All (IsKept keeps) labels → All (IsKept keeps) labels'
+kept_so_far slots keeps labels labels' e all = subst (λ (l : List Recorded). All (IsKept keeps) l) (sym e) (all_kept slots keeps labels all)
+
+pub one_more_kept : (keeps : Bool) (labels labels' : List Recorded) (label : Recorded) → labels' ≡ labels ++ label ∷ [] → IsKept keeps label → All (IsKept keeps) labels → All (IsKept keeps) labels'
+one_more_kept keeps labels labels' label e h all = subst (λ (l : List Recorded). All (IsKept keeps) l) (sym e)
+    (All-append (IsKept keeps) labels (label ∷ []) all (All-cons (IsKept keeps) label [] h (All-nil (IsKept keeps))))
+
+pub one_more_tellable : (slots : List (Option OnTag)) (labels labels' : List Recorded) (label : Recorded) → labels' ≡ labels ++ label ∷ [] → IsTellable slots label → All (IsTellable slots) labels → All (IsTellable slots) labels'
+one_more_tellable slots labels labels' label e h all = subst (λ (l : List Recorded). All (IsTellable slots) l) (sym e)
+    (All-append (IsTellable slots) labels (label ∷ []) all (All-cons (IsTellable slots) label [] h (All-nil (IsTellable slots))))
+
+-- the label of an act, once its piece is back on its tag
+pub act_tells : (keeps : Bool) (old two : Table) (tag : ℕ) (on : OnTag) (recorded : Recorded) (bytes : List ℕ) (label : DeviceLabel) → two ≡ with_slot tag (Some on) old → tag < length old.slots
+    → on.progress ≡ Moved → on.srb.data ≡ bytes → keeps ≡ old.keeps_bytes
+    → ((slots : List (Option OnTag)) → HasActed (piece_at slots tag) → data_of (piece_at slots tag) ≡ bytes → Tells slots keeps recorded label)
+    → Tells two.slots two.keeps_bytes recorded label
+act_tells keeps old two tag on recorded bytes label is below moved same kept tells =
+    let there : piece_at two.slots tag ≡ Some on = ap (λ (t : Table). piece_at t.slots tag) is ∙ get_or-set_same old.slots tag (Some on) None below in
+    let told_now : Tells two.slots keeps recorded label = tells two.slots (subst HasActed (sym there) moved) (ap data_of there ∙ same) in
+    subst (λ (k : Bool). Tells two.slots k recorded label) (kept ∙ sym (ap (λ (t : Table). t.keeps_bytes) is)) told_now
+
+pub first_kept : (keeps : Bool) (labels : List Recorded) (label : Recorded) (rest : List Recorded) → labels ≡ label ∷ rest → All (IsKept keeps) labels → IsKept keeps label
+first_kept keeps labels label rest e all = All-head (IsKept keeps) label rest (subst (λ (l : List Recorded). All (IsKept keeps) l) e all)
 
 -- ONE LABEL MORE
 
@@ -129,50 +179,52 @@ all_so_far slots labels count whole =
 
 -- WHAT THE TABLE SHOWS
 
-abbrev pub table_of : List (Option OnTag) → ℕ → ℕ → List Recorded → Table
-table_of slots accepted failures labels = record { slots = slots; accepted = accepted; failures = failures; labels = map (told slots) labels }
+abbrev pub table_of : Bool → List (Option OnTag) → ℕ → ℕ → List Recorded → Table
+table_of keeps slots accepted failures labels = record { slots = slots; accepted = accepted; failures = failures; labels = map (told slots) labels; keeps_bytes = keeps }
 
 pub on_some : (Y X : Type 0) (r : Option OnTag) (on : OnTag) → r ≡ Some on → X → MatchOption r Y (λ _. X)
 on_some Y X None on e x = absurd (cc (e))
 on_some Y X (Some other) on e x = x
 
-module _ (slots : List (Option OnTag)) (accepted failures : ℕ) (labels : List Recorded) (old : Table) (shown : table_of slots accepted failures labels ≡ old) where
+module _ (bytes_kept : Bool) (slots : List (Option OnTag)) (accepted failures : ℕ) (labels : List Recorded) (old : Table) (shown : table_of bytes_kept slots accepted failures labels ≡ old) where
   pub view_set : All (IsTellable slots) labels → (slots' : List (Option OnTag)) (tag : ℕ) (slot : Option OnTag) → slots' ≡ slice_set slots tag slot → Keeps (piece_at old.slots tag) slot
-      → table_of slots' accepted failures labels ≡ with_slot tag slot old
+      → table_of bytes_kept slots' accepted failures labels ≡ with_slot tag slot old
   view_set all slots' tag slot e =
-      subst (λ (t : Table). Keeps (piece_at t.slots tag) slot → table_of slots' accepted failures labels ≡ with_slot tag slot t) shown (λ keeps.
-      ap (λ (s : List (Option OnTag)). table_of s accepted failures labels) e
-      ∙ ap (λ (l : List DeviceLabel). record (table_of slots accepted failures labels) { slots = slice_set slots tag slot; labels = l })
+      subst (λ (t : Table). Keeps (piece_at t.slots tag) slot → table_of bytes_kept slots' accepted failures labels ≡ with_slot tag slot t) shown (λ keeps.
+      ap (λ (s : List (Option OnTag)). table_of bytes_kept s accepted failures labels) e
+      ∙ ap (λ (l : List DeviceLabel). record (table_of bytes_kept slots accepted failures labels) { slots = slice_set slots tag slot; labels = l })
       (told_still slots (slice_set slots tag slot) (set_keeps slots tag slot keeps) labels all))
 
   pub view_accepted : All (IsTellable slots) labels → (labels' : List Recorded) (tag piece : ℕ) (srb : Srb) → labels' ≡ labels ++ Told (Start piece tag srb.block) ∷ [] → piece_at old.slots tag ≡ None
-      → table_of (slice_set slots tag (Some (new_piece failures piece srb))) (accepted + 1) failures labels' ≡ with_new tag piece srb old
+      → table_of bytes_kept (slice_set slots tag (Some (new_piece failures piece srb))) (accepted + 1) failures labels' ≡ with_new tag piece srb old
   view_accepted all labels' tag piece srb e =
       let slots' : List (Option OnTag) = slice_set slots tag (Some (new_piece failures piece srb)) in
-      subst (λ (t : Table). piece_at t.slots tag ≡ None → table_of slots' (accepted + 1) failures labels' ≡ with_new tag piece srb t) shown (λ none.
+      subst (λ (t : Table). piece_at t.slots tag ≡ None → table_of bytes_kept slots' (accepted + 1) failures labels' ≡ with_new tag piece srb t) shown (λ none.
       let keeps : KeepsAll slots slots' = set_keeps slots tag (Some (new_piece failures piece srb)) (keeps_none slots tag (Some (new_piece failures piece srb)) none) in
-      ap (λ (l : List Recorded). table_of slots' (accepted + 1) failures l) e
-      ∙ ap (λ (l : List DeviceLabel). record (with_new tag piece srb (table_of slots accepted failures labels)) { labels = l })
+      ap (λ (l : List Recorded). table_of bytes_kept slots' (accepted + 1) failures l) e
+      ∙ ap (λ (l : List DeviceLabel). record (with_new tag piece srb (table_of bytes_kept slots accepted failures labels)) { labels = l })
       (pushed slots slots' keeps labels all (Told (Start piece tag srb.block)) tt).same)
 
-  pub view_taken : (label : Recorded) (rest : List Recorded) (first : DeviceLabel) → labels ≡ label ∷ rest → first ≡ told slots label
-      → (x : List DeviceLabel) × (old.labels ≡ first ∷ x) × (table_of slots accepted failures rest ≡ record old { labels = x })
-  view_taken label rest first e is = (
-    map (told slots) rest,
-    ap (λ (t : Table). t.labels) (sym shown) ∙ ap (λ (l : List Recorded). map (told slots) l) e ∙ ap (λ (l : DeviceLabel). l ∷ map (told slots) rest) (sym is),
-    ap (λ (t : Table). record t { labels = map (told slots) rest }) shown,
-  )
+  pub view_taken : (label : Recorded) (rest : List Recorded) (first : DeviceLabel) → labels ≡ label ∷ rest → first ≡ in_memory bytes_kept (told slots label)
+      → TakesFirst old first (table_of bytes_kept slots accepted failures rest)
+  view_taken label rest first e is = record {
+    first = told slots label;
+    rest = map (told slots) rest;
+    is_first = ap (λ (t : Table). t.labels) (sym shown) ∙ ap (λ (l : List Recorded). map (told slots) l) e;
+    shown = is ∙ ap (λ (t : Table). in_memory t.keeps_bytes (told slots label)) shown;
+    after = ap (λ (t : Table). record t { labels = map (told slots) rest }) shown;
+  }
 
   -- a piece leaves whose label was told
-  view_told : (slots' : List (Option OnTag)) (labels' : List Recorded) → labels' ≡ map (told_of slots) labels → table_of slots' accepted failures labels' ≡ record old { slots = slots' }
+  view_told : (slots' : List (Option OnTag)) (labels' : List Recorded) → labels' ≡ map (told_of slots) labels → table_of bytes_kept slots' accepted failures labels' ≡ record old { slots = slots' }
   view_told slots' labels' e =
-      ap (λ (l : List Recorded). table_of slots' accepted failures l) e
-      ∙ ap (λ (l : List DeviceLabel). record (table_of slots accepted failures labels) { slots = slots'; labels = l }) (told_again slots slots' labels)
+      ap (λ (l : List Recorded). table_of bytes_kept slots' accepted failures l) e
+      ∙ ap (λ (l : List DeviceLabel). record (table_of bytes_kept slots accepted failures labels) { slots = slots'; labels = l }) (told_again slots slots' labels)
       ∙ ap (λ (t : Table). record t { slots = slots' }) shown
 
   pub nothing_finished : (slots' : List (Option OnTag)) (labels' : List Recorded) (tag : ℕ) (r : Option (Srb × Completion)) → r ≡ None → labels' ≡ map (told_of slots) labels
       → slots' ≡ slice_set slots tag None → piece_at slots tag ≡ None
-      → MatchOption r ((piece_at old.slots tag ≡ None) × (table_of slots' accepted failures labels' ≡ old)) (λ (back : Srb × Completion). ComesBack old tag back.0 back.1 (table_of slots' accepted failures labels'))
+      → MatchOption r ((piece_at old.slots tag ≡ None) × (table_of bytes_kept slots' accepted failures labels' ≡ old)) (λ (back : Srb × Completion). ComesBack old tag back.0 back.1 (table_of bytes_kept slots' accepted failures labels'))
   nothing_finished slots' labels' tag (Some back) e told_so after none = absurd (cc (e))
   nothing_finished slots' labels' tag None e told_so after none =
       let same : slots' ≡ slots = after ∙ subst (λ (s : Option OnTag). slice_set slots tag s ≡ slots) none (set-get_or slots tag None) in (
@@ -182,7 +234,7 @@ module _ (slots : List (Option OnTag)) (accepted failures : ℕ) (labels : List 
 
   pub finished : (slots' : List (Option OnTag)) (labels' labels'' : List Recorded) (tag : ℕ) (on : OnTag) (completion : Completion) (class : Class) → labels' ≡ map (told_of slots) labels
       → slots' ≡ slice_set slots tag None → piece_at slots tag ≡ Some on → labels'' ≡ labels' ++ Told (Return on.piece class) ∷ [] → class ≡ class_of completion → completion ≡ completion_of on
-      → ComesBack old tag (record on.srb { sense = completion.sense }) completion (table_of slots' accepted failures labels'')
+      → ComesBack old tag (record on.srb { sense = completion.sense }) completion (table_of bytes_kept slots' accepted failures labels'')
   finished slots' labels' labels'' tag on completion class told_so after there e is_class is =
       let label : DeviceLabel = Return on.piece (class_of (completion_of on)) in
       let last : Return on.piece class ≡ label = ap (λ (k : Class). Return on.piece k) (is_class ∙ ap class_of is) in
@@ -195,16 +247,16 @@ module _ (slots : List (Option OnTag)) (accepted failures : ℕ) (labels : List 
         was_there = subst (λ (t : Table). piece_at t.slots tag ≡ Some on) shown there;
         completion_is = is;
         comes_back = refl;
-        after = ap (λ (l : List Recorded). table_of slots' accepted failures l) all
-            ∙ ap (λ (l : List DeviceLabel). record (table_of slots accepted failures labels) { slots = slots'; labels = l }) tells
-            ∙ ap (λ (s : List (Option OnTag)). record (with_returned tag on (table_of slots accepted failures labels)) { slots = s }) after
+        after = ap (λ (l : List Recorded). table_of bytes_kept slots' accepted failures l) all
+            ∙ ap (λ (l : List DeviceLabel). record (table_of bytes_kept slots accepted failures labels) { slots = slots'; labels = l }) tells
+            ∙ ap (λ (s : List (Option OnTag)). record (with_returned tag on (table_of bytes_kept slots accepted failures labels)) { slots = s }) after
             ∙ ap (λ (t : Table). with_returned tag on t) shown;
       }
 
   pub marked : All (IsTellable slots) labels → (between slots' : List (Option OnTag)) (tag : ℕ) (progress : Progress) (found on : OnTag) → between ≡ slice_set slots tag None
       → slots' ≡ slice_set between tag (Some (record found { progress = progress; was_reset = true })) → Some found ≡ piece_at slots tag → piece_at old.slots tag ≡ Some on
       → ((x : OnTag) → piece_at old.slots tag ≡ Some x → x.progress ≡ Moved → progress ≡ Moved)
-      → table_of slots' accepted failures labels ≡ with_slot tag (Some (record on { progress = progress; was_reset = true })) old
+      → table_of bytes_kept slots' accepted failures labels ≡ with_slot tag (Some (record on { progress = progress; was_reset = true })) old
   marked all between slots' tag progress found on e f found_is there acted =
       let at : piece_at slots tag ≡ Some on = ap (λ (t : Table). piece_at t.slots tag) shown ∙ there in
       let same : found ≡ on = cc (found_is, at) in

@@ -68,16 +68,18 @@ labels_more s n below = rw (take_more s n None below)
     (flat_map-append labels_of_reset (take n s) (piece_at s n ∷ [])
     ∙ ap (λ (l : List DeviceLabel). flat_map labels_of_reset (take n s) ++ l) (append-nil (labels_of_reset (piece_at s n))))
 
-same_table : (a b : Table) → a.slots ≡ b.slots → a.accepted ≡ b.accepted → a.failures ≡ b.failures → a.labels ≡ b.labels → a ≡ b
-same_table a b s c f l =
+same_table : (a b : Table) → a.slots ≡ b.slots → a.accepted ≡ b.accepted → a.failures ≡ b.failures → a.labels ≡ b.labels → a.keeps_bytes ≡ b.keeps_bytes → a ≡ b
+same_table a b s c f l k =
     ap (λ (x : List (Option OnTag)). record a { slots = x }) s
     ∙ ap (λ (x : ℕ). record a { slots = b.slots; accepted = x }) c
     ∙ ap (λ (x : ℕ). record a { slots = b.slots; accepted = b.accepted; failures = x }) f
     ∙ ap (λ (x : List DeviceLabel). record a { slots = b.slots; accepted = b.accepted; failures = b.failures; labels = x }) l
+    ∙ ap (λ (x : Bool). record b { keeps_bytes = x }) k
 
 pub one_more : (t : Table) (n : ℕ) → n < length t.slots → with_reset_at n (with_first_reset n t) ≡ with_first_reset (n + 1) t
 one_more t n below = rw (get_first t.slots n below) (same_table _ _
     (set_first t.slots n below)
     refl
     (add_assoc t.failures _ _ ∙ ap (λ (k : ℕ). t.failures + k) (sym (sum_by_more failures_of_reset t.slots n None below)))
-    (append_assoc t.labels _ _ ∙ ap (λ (l : List DeviceLabel). t.labels ++ l) (sym (labels_more t.slots n below))))
+    (append_assoc t.labels _ _ ∙ ap (λ (l : List DeviceLabel). t.labels ++ l) (sym (labels_more t.slots n below)))
+    refl)

@@ -1,5 +1,5 @@
 -- What each call of the adapter in memory leaves, from what it shows before.
-use Rattle.std.proofs.Common.{◌≡◌, ◌<◌, ◌≤◌, ◌^◌, ℕ, ◌+◌, Bool, true, false, List, [], ◌∷◌, length, get_or, All, Option, Some, None, MatchBool, MatchOption, IfSome, is_some, refl, sym, ap, ◌∙◌, subst, arith}
+use Rattle.std.proofs.Common.{◌≡◌, ◌<◌, ◌≤◌, ◌^◌, ℕ, ◌+◌, Bool, IsTrue, true, false, List, [], ◌∷◌, length, get_or, All, Option, Some, None, MatchBool, MatchOption, IfSome, is_some, refl, sym, ap, ◌∙◌, subst, arith}
 use Rattle.std.specs.Prelude.{Any}
 use Rattle.srb.specs.declared.Srb.{Srb}
 use Rattle.srb.specs.declared.Completion.{Completion}
@@ -10,7 +10,7 @@ use Rattle.disk.specs.Medium.{MediumView, HasWholeSectors, Reserves as MediumRes
 use Rattle.miniport.specs.declared.on_tag.OnTag.{OnTag}
 use Rattle.adapter.specs.Calls.{ActsOrFaults, ActsNot, Finishes, FinishesNot, Resets}
 use Rattle.miniport.specs.Faults.{busy}
-use Rattle.miniport.specs.inside.Slots.{Table, ComesBack, piece_at, tags_of, completion_of, with_new, with_returned, with_reset}
+use Rattle.miniport.specs.inside.Slots.{TakesFirst, Table, ComesBack, piece_at, tags_of, completion_of, with_new, with_returned, with_reset}
 use Rattle.miniport.specs.Memory.{MemView, shown_of, view_of, Dues, SameDues, ActsByTable, ResetsAll}
 use Rattle.miniport.specs.inside.Memory.{AdapterKept, ActsIn, ActsNotIn}
 use Rattle.miniport.proofs.Acts.{LeftByAct, act_leaves, acts_not, is_below}
@@ -54,7 +54,7 @@ pub record AsksAccept (v : MemView) (tag : ℕ) (srb : Srb) : Type 0 where
   pub below : tag < v.shown.depth
   pub free : IsFree v.shown tag
   pub writable : IsWritable v.shown srb
-  pub buffers : length srb.data ≤ srb.for_label
+  pub buffers : IsTrue v.shown.keeps_bytes → length srb.data ≤ srb.for_label
   pub few : v.shown.accepted < 2 ^ 100
   pub place : length v.shown.labels < 64
 
@@ -247,12 +247,13 @@ reserved_below m longest p t v extent e reserved = subst (λ (u : MemView). IsRe
 -- TAKE A LABEL
 
 abbrev pub TakesLabel : Table → Option DeviceLabel → Table → Type 0
-TakesLabel t r t' = MatchOption r ((t.labels ≡ []) × (t' ≡ t)) (λ (label : DeviceLabel). (rest : List DeviceLabel) × (t.labels ≡ label ∷ rest) × (t' ≡ record t { labels = rest }))
+TakesLabel t r t' = MatchOption r ((t.labels ≡ []) × (t' ≡ t)) (λ (label : DeviceLabel). TakesFirst t label t')
 
 pub label_taken : (m : MediumView) (longest : ℕ) (t t' : Table) (r : Option DeviceLabel) → TakesLabel t r t' → AdapterKept m longest t → AdapterKept m longest t'
 label_taken m longest t t' None (none, same) kept = subst (λ (s : Table). AdapterKept m longest s) (sym same) kept
-label_taken m longest t t' (Some label) (rest, first, after) kept =
-    subst (λ (s : Table). AdapterKept m longest s) (sym after) (is_short m longest t rest (omega (arith, ap length first)) kept)
+label_taken m longest t t' (Some label) h kept =
+    let long = ap (λ (l : List DeviceLabel). length l) h.is_first in
+    subst (λ (s : Table). AdapterKept m longest s) (sym h.after) (is_short m longest t h.rest (omega (arith, long)) kept)
 
 -- all labels leave
 pub labels_forgotten : (m : MediumView) (longest : ℕ) (t t' : Table) → t' ≡ record t { labels = [] } → AdapterKept m longest t → AdapterKept m longest t'

@@ -69,7 +69,7 @@ accepts_due m longest p t tag piece srb = due_set m longest p (with_new tag piec
 pub untouched_is_fresh : (size : ℕ) (tag : ℕ) (on : OnTag) → on.progress ≡ Untouched → (in_use_of size tag on).fate ≡ Fresh
 untouched_is_fresh size tag on e = ap (λ (p : Progress). fate_of size on.srb p) e
 
-not_met : (m : MediumView) (f : ℕ) (on : OnTag) (b : Bool) → IsPieceRight m f on → on.progress ≡ Untouched → on.was_reset ≡ b → b ≡ false
+not_met : {w : Bool} (m : MediumView) (f : ℕ) (on : OnTag) (b : Bool) → IsPieceRight w m f on → on.progress ≡ Untouched → on.was_reset ≡ b → b ≡ false
 not_met m f on false right untouched e = refl
 not_met m f on true right untouched e = absurd ((right.met e).1 untouched)
 
@@ -131,8 +131,8 @@ faults m longest t tag on completion k below there untouched = record {
 completion_unmet : (on : OnTag) → on.was_reset ≡ false → slot_completion (Some on) ≡ Some (completion_by on.progress)
 completion_unmet on e = ap (λ (b : Bool). Some (if b then bus_reset else completion_by on.progress)) e
 
-pub acts_by_table : (m : MediumView) (longest : ℕ) (p : Bool) (t : Table) (tag : ℕ) (on : OnTag) (command : Cdb) (bytes : List ℕ) (sectors : List (List ℕ))
-    → IsPieceRight m t.failures on → piece_at t.slots tag ≡ Some on → on.progress ≡ Untouched → Means on.srb.block command
+pub acts_by_table : {w : Bool} (m : MediumView) (longest : ℕ) (p : Bool) (t : Table) (tag : ℕ) (on : OnTag) (command : Cdb) (bytes : List ℕ) (sectors : List (List ℕ))
+    → IsPieceRight w m t.failures on → piece_at t.slots tag ≡ Some on → on.progress ≡ Untouched → Means on.srb.block command
     → fault_of (disk_of m p) on.srb (Ok command) ≡ None
     → ActsOn (shown_of m longest t) tag on.piece bytes (shown_of (record m { sectors = sectors }) longest (with_moved tag (moved_piece on bytes) t))
     → ActsByTable (view_of m longest p t) tag (view_of (record m { sectors = sectors }) longest p (with_moved tag (moved_piece on bytes) t))
@@ -152,8 +152,8 @@ acts_by_table m longest p t tag on command bytes sectors right there untouched m
     }
 
 -- a piece that fails counts once, and its completion is due
-pub fails_by : (m : MediumView) (longest : ℕ) (p : Bool) (t : Table) (tag : ℕ) (on : OnTag) (completion : Completion) (k : ℕ)
-    → IsPieceRight m t.failures on → on.progress ≡ Untouched
+pub fails_by : {w : Bool} (m : MediumView) (longest : ℕ) (p : Bool) (t : Table) (tag : ℕ) (on : OnTag) (completion : Completion) (k : ℕ)
+    → IsPieceRight w m t.failures on → on.progress ≡ Untouched
     → FaultsOn (shown_of m longest t) tag on.piece (shown_of (record m { failures = k }) longest (with_failed tag (failed_piece on completion) t))
     → EndsBy (view_of m longest p t) tag on.piece (Some completion) (view_of (record m { failures = k }) longest p (with_failed tag (failed_piece on completion) t))
 fails_by m longest p t tag on completion k right untouched act =
@@ -164,8 +164,8 @@ fails_by m longest p t tag on completion k right untouched act =
           (Some (failed_piece on completion)) (Some completion) refl (completion_unmet (failed_piece on completion) unmet),
     )
 
-pub faults_by_table : (m : MediumView) (longest : ℕ) (p : Bool) (t : Table) (tag : ℕ) (on : OnTag) (completion : Completion) (k : ℕ) (decoded : Result Cdb CdbFault)
-    → IsPieceRight m t.failures on → piece_at t.slots tag ≡ Some on → on.progress ≡ Untouched → Decodes on.srb.block decoded
+pub faults_by_table : {w : Bool} (m : MediumView) (longest : ℕ) (p : Bool) (t : Table) (tag : ℕ) (on : OnTag) (completion : Completion) (k : ℕ) (decoded : Result Cdb CdbFault)
+    → IsPieceRight w m t.failures on → piece_at t.slots tag ≡ Some on → on.progress ≡ Untouched → Decodes on.srb.block decoded
     → fault_of (disk_of m p) on.srb decoded ≡ Some completion
     → FaultsOn (shown_of m longest t) tag on.piece (shown_of (record m { failures = k }) longest (with_failed tag (failed_piece on completion) t))
     → ActsByTable (view_of m longest p t) tag (view_of (record m { failures = k }) longest p (with_failed tag (failed_piece on completion) t))
@@ -180,7 +180,7 @@ faults_by_table m longest p t tag on completion k decoded right there untouched 
 
 -- FINISH
 
-may_return : (size : ℕ) (m : MediumView) (failures : ℕ) (tag : ℕ) (on : OnTag) (b : Bool) (p : Progress) → IsPieceRight m failures on → on.was_reset ≡ b → on.progress ≡ p
+may_return : {w : Bool} (size : ℕ) (m : MediumView) (failures : ℕ) (tag : ℕ) (on : OnTag) (b : Bool) (p : Progress) → IsPieceRight w m failures on → on.was_reset ≡ b → on.progress ≡ p
     → MayReturn failures (in_use_of size tag on) (class_of (if b then bus_reset else completion_by p))
 may_return size m failures tag on true p right e f = ((right.met e).0, refl, λ h. refl)
 may_return size m failures tag on false Untouched right e f = (untouched_is_fresh size tag on f, e)
@@ -190,7 +190,7 @@ may_return size m failures tag on false (Failed c) right e f =
     let known : MayReturn failures (in_use_of size tag on) (Bad c) = ((right.failed c f).1, bad, λ h. absurd cc) in
     rw bad known
 
-holds_moved : (size : ℕ) (m : MediumView) (f : ℕ) (on : OnTag) (p : Progress) (moved : List (List ℕ)) → m.sector_size ≡ size → IsPieceRight m f on → on.progress ≡ p
+holds_moved : {w : Bool} (size : ℕ) (m : MediumView) (f : ℕ) (on : OnTag) (p : Progress) (moved : List (List ℕ)) → m.sector_size ≡ size → IsPieceRight w m f on → on.progress ≡ p
     → fate_of size on.srb p ≡ Acted moved → on.srb.data ≡ concat moved
 holds_moved size m f on Untouched moved same right e h = absurd cc
 holds_moved size m f on (Failed c) moved same right e h = absurd cc
@@ -199,7 +199,7 @@ holds_moved size m f on Moved moved same right e h =
     let k : moved_by size on.srb.block on.srb.data ≡ moved = cc in
     sym whole ∙ ap concat k
 
-pub finishes : (m : MediumView) (longest : ℕ) (t : Table) (tag : ℕ) (on : OnTag) → IsPieceRight m t.failures on → piece_at t.slots tag ≡ Some on
+pub finishes : {w : Bool} (m : MediumView) (longest : ℕ) (t : Table) (tag : ℕ) (on : OnTag) → IsPieceRight w m t.failures on → piece_at t.slots tag ≡ Some on
     → Finishes (shown_of m longest t) tag (record on.srb { sense = (completion_of on).sense }) (completion_of on) (shown_of m longest (with_returned tag on t))
 finishes m longest t tag on right there =
     let use' = in_use_of m.sector_size tag on in
@@ -241,7 +241,7 @@ none_due zero = refl
 none_due (suc n) = ap (λ (l : List (Option Completion)). None ∷ l) (none_due n)
 
 abbrev pub new_table : ℕ → Table
-new_table n = record { slots = replicate n None; accepted = 0; failures = 0; labels = [] }
+new_table n = record { slots = replicate n None; accepted = 0; failures = 0; labels = []; keeps_bytes = true }
 
 pub shown_new : (m : MediumView) (longest n : ℕ) (p : Bool) → view_of m longest p (new_table n) ≡ new_view m longest n p
 shown_new m longest n p =

@@ -1,5 +1,5 @@
 -- An adapter in memory keeps all that it keeps from the first.
-use Rattle.std.proofs.Common.{◌≡◌, ◌≤◌, ◌^◌, ◌⊎◌, ℕ, zero, suc, ◌+◌, List, [], length, replicate, sum_by, Option, None, refl, sym, subst, arith}
+use Rattle.std.proofs.Common.{◌≡◌, ◌≤◌, ◌^◌, ◌⊎◌, ℕ, zero, suc, ◌+◌, true, List, [], length, replicate, sum_by, Option, None, refl, sym, subst, arith}
 use Rattle.std.proofs.lemmas.List.{length-replicate}
 use Rattle.std.proofs.lemmas.List.Sums.{sum_by-cons}
 use Rattle.disk.specs.Medium.{MediumView}
@@ -18,7 +18,7 @@ none_left zero = refl
 none_left (suc n) = omega (arith, sum_by-cons failures_left None (replicate n None), none_left n)
 
 abbrev bare : ℕ → Table
-bare n = record { slots = replicate n None; accepted = 0; failures = 0; labels = [] }
+bare n = record { slots = replicate n None; accepted = 0; failures = 0; labels = []; keeps_bytes = true }
 
 pub new_kept : (m : MediumView) (longest n : ℕ) (t : Table) → t ≡ bare n → (m.sector_size ≡ 512) ⊎ (m.sector_size ≡ 4096) → 1 ≤ length m.sectors → length m.sectors ≤ 2 ^ 40
     → 1 ≤ longest → longest ≤ 2 ^ 16 → 1 ≤ n → n ≤ 32 → m.failures ≡ 0 → AdapterKept m longest t

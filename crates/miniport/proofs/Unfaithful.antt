@@ -86,7 +86,7 @@ resets_apart old new h = record {
 
 pub takes_apart : (old new : AdapterView) (r : Option DeviceLabel) → MatchOption r (HasNoLabel old new) (λ label. LeavesFirst old label new) → MatchOption r (HasNoLabel (apart old) (apart new)) (λ label. LeavesFirst (apart old) label (apart new))
 takes_apart old new None h = record { no_label = h.no_label; same = ap apart h.same }
-takes_apart old new (Some label) h = record { rest = h.rest; first = h.first; after = ap apart h.after }
+takes_apart old new (Some label) h = record { told = h.told; rest = h.rest; first = h.first; shown = h.shown; after = ap apart h.after }
 
 pub armed_apart : (v : AdapterView) (tag : ℕ) (r : Option (ℕ × Bor Srb)) → MatchOption r (HasNoneFresh v tag) (λ found. IsArmed v tag found.0 found.1.now)
     → MatchOption r (HasNoneFresh (apart v) tag) (λ found. IsArmed (apart v) tag found.0 found.1.now)

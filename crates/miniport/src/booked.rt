@@ -98,6 +98,10 @@ impl Adapter for BookedAdapter {
         self.inner.reserve(extent)
     }
 
+    fn keeps_bytes(&self) -> bool {
+        self.inner.keeps_bytes()
+    }
+
     fn in_use(&self, tag: u8) -> bool {
         self.inner.in_use(tag)
     }

@@ -3,7 +3,7 @@
 ghost use Rattle.std.specs.Prelude.{◌≡◌, ◌⊎◌, ◌≤◌, ◌<◌, ◌^◌, ℕ, IfOk, length, MatchBool};
 ghost use Rattle.miniport.specs.declared.carrying.Outcome.{Outcome};
 ghost use Rattle.miniport.specs.declared.on_tag.Progress.TheVariants.{Untouched};
-ghost use Rattle.std.specs.Prelude.{◌==◌, true, Some, None};
+ghost use Rattle.std.specs.Prelude.{◌==◌, true, false, [], IsTrue, Some, None};
 ghost use Rattle.std.specs.Bool.{Decides};
 ghost use Rattle.adapter.specs.Booking.{handed_of};
 ghost use Rattle.miniport.specs.inside.Apart.{CanBook, CannotBook, BooksIn, ActsApartIn, EndsAsBooked, EndsUnbooked, SuitsPiece, failed_as, moved_as_booked as as_moved};
@@ -95,6 +95,15 @@ impl<M: Medium> MemAdapter<M> {
         })
     }
 
+    /// The same adapter, of whose labels contracts alone read the bytes. No label waits.
+    pub fn noting(mut self) -> MemAdapter<M>
+        requires { self.shown.labels ≡ [] }
+        ensures { result ≡ record self { shown = record self.shown { keeps_bytes = false } } }
+    {
+        self.table.note_bytes();
+        self
+    }
+
     /// Fails the tag's piece with this completion, whatever its command asks for. False where the tag has no piece, or
     /// its piece acted or failed before.
     pub(crate) fn fail(&mut self, tag: u8, completion: Completion) -> bool
@@ -168,6 +177,10 @@ impl<M: Medium> Adapter for MemAdapter<M> {
         true
     }
 
+    fn keeps_bytes(&self) -> bool {
+        self.table.keeps_bytes()
+    }
+
     /// The failures counted so far, at most twice the pieces accepted.
     fn failures(&self) -> u128
         ensures exact { result ≡ self.now.shown.failures }
@@ -197,7 +210,7 @@ impl<M: Medium> Adapter for MemAdapter<M> {
         requires below { tag < self.old.shown.depth }
         requires free { IsFree self.old.shown tag }
         requires writable { IsWritable self.old.shown srb }
-        requires buffers { length srb.data ≤ srb.for_label }
+        requires buffers { IsTrue self.old.shown.keeps_bytes → length srb.data ≤ srb.for_label }
         requires few { self.old.shown.accepted < 2 ^ 100 }
         requires place { length self.old.shown.labels < 64 }
         ensures accepts { Accepts self.old.shown tag piece srb self.new.shown }
@@ -277,7 +290,7 @@ fn carry_on<M: Medium>(
     on_tag: OnTag,
 )
     requires ready { IsReady (M.view medium.old) on_tag.srb }
-    requires room { length on_tag.srb.data ≤ on_tag.srb.for_label }
+    requires room { IsTrue table.old.keeps_bytes → length on_tag.srb.data ≤ on_tag.srb.for_label }
     requires countable { (M.view medium.old).failures < 2 ^ 120 }
     requires some { 1 ≤ length (M.view medium.old).sectors }
     requires below { tag < length table.old.slots }
@@ -349,7 +362,7 @@ fn move_on(table: &mut TagTable, tag: u8, on_tag: OnTag)
     requires below { tag < length table.old.slots }
     requires free { piece_at table.old.slots tag ≡ None }
     requires place { length table.old.labels < 64 }
-    requires room { length on_tag.srb.data ≤ on_tag.srb.for_label }
+    requires room { IsTrue table.old.keeps_bytes → length on_tag.srb.data ≤ on_tag.srb.for_label }
     ensures { table.new ≡ with_moved tag (as_moved on_tag) table.old }
 {
     let on_tag = OnTag {
@@ -377,7 +390,7 @@ fn fail_on(table: &mut TagTable, tag: u8, on_tag: OnTag, completion: Completion)
 /// Ends a piece of which nothing was booked: piece 0 is carried out, any other piece fails.
 fn end_unbooked<M: Medium>(medium: &mut M, table: &mut TagTable, tag: u8, on_tag: OnTag)
     requires ready { IsReady (M.view medium.old) on_tag.srb }
-    requires room { length on_tag.srb.data ≤ on_tag.srb.for_label }
+    requires room { IsTrue table.old.keeps_bytes → length on_tag.srb.data ≤ on_tag.srb.for_label }
     requires countable { (M.view medium.old).failures < 2 ^ 120 }
     requires some { 1 ≤ length (M.view medium.old).sectors }
     requires below { tag < length table.old.slots }
@@ -396,7 +409,7 @@ fn end_unbooked<M: Medium>(medium: &mut M, table: &mut TagTable, tag: u8, on_tag
 /// Ends a piece as it was booked.
 fn end_as_booked<M: Medium>(medium: &mut M, table: &mut TagTable, tag: u8, on_tag: OnTag)
     requires ready { IsReady (M.view medium.old) on_tag.srb }
-    requires room { length on_tag.srb.data ≤ on_tag.srb.for_label }
+    requires room { IsTrue table.old.keeps_bytes → length on_tag.srb.data ≤ on_tag.srb.for_label }
     requires countable { (M.view medium.old).failures < 2 ^ 120 }
     requires some { 1 ≤ length (M.view medium.old).sectors }
     requires below { tag < length table.old.slots }

@@ -1,6 +1,6 @@
 //! An adapter in memory that fails one act, whatever it asks for.
 
-ghost use Rattle.std.specs.Prelude.{◌≡◌, ◌≤◌, ◌<◌, ◌^◌, ◌+◌, ◌*◌, [], length, Some, None, Any, IsOk, OnOk, IfSome, MatchBool, MatchOption, get_or};
+ghost use Rattle.std.specs.Prelude.{◌≡◌, ◌≤◌, ◌<◌, ◌^◌, ◌+◌, ◌*◌, [], length, Some, None, Any, IsOk, OnOk, IfSome, IsTrue, MatchBool, MatchOption, get_or};
 ghost use Rattle.miniport.specs.Once.{OnceView};
 
 use crate::completion::{HARDWARE_ERROR, failed_with};
@@ -100,6 +100,10 @@ impl<M: Medium> Adapter for OnceAdapter<M> {
         self.inner.reserve(extent)
     }
 
+    fn keeps_bytes(&self) -> bool {
+        self.inner.keeps_bytes()
+    }
+
     fn in_use(&self, tag: u8) -> bool {
         self.inner.in_use(tag)
     }
@@ -108,7 +112,7 @@ impl<M: Medium> Adapter for OnceAdapter<M> {
         requires below { tag < self.old.inner.shown.depth }
         requires free { IsFree self.old.inner.shown tag }
         requires writable { IsWritable self.old.inner.shown srb }
-        requires buffers { length srb.data ≤ srb.for_label }
+        requires buffers { IsTrue self.old.inner.shown.keeps_bytes → length srb.data ≤ srb.for_label }
         requires few { self.old.inner.shown.accepted < 2 ^ 100 }
         requires place { length self.old.inner.shown.labels < 64 }
         ensures accepts { Accepts self.old.inner.shown tag piece srb self.new.inner.shown }

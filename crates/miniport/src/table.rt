@@ -1,18 +1,18 @@
 //! The tags of the adapter in memory, its counts and its record of labels.
 
-ghost use Rattle.std.specs.Prelude.{◌≡◌, ◌≤◌, ◌<◌, ◌^◌, ◌+◌, ◌++◌, ◌∷◌, [], List, ℕ, Some, None, is_some, IsTrue, IfOk, IfSome, length, replicate, get_or, slice_set, map, option_map, All, true, vec_len, Ok, MatchBool, MatchOption, if◌then◌else◌};
+ghost use Rattle.std.specs.Prelude.{◌≡◌, ◌≤◌, ◌<◌, ◌^◌, ◌+◌, ◌++◌, ◌∷◌, [], List, ℕ, Some, None, is_some, IsTrue, IfOk, IfSome, length, replicate, get_or, slice_set, map, option_map, All, true, false, vec_len, Ok, MatchBool, MatchOption, if◌then◌else◌};
 ghost use Rattle.std.specs.VecDeque.{deque_len, deque_capacity};
 ghost use Rattle.srb.specs.declared.DeviceLabel.{DeviceLabel};
 ghost use Rattle.miniport.specs.inside.Slots.{Table, ComesBack, Fails, HasNoneUntouched, piece_at, progress_after_reset, labels_by, with_slot, with_new, with_moved, with_failed, with_returned, with_reset, with_reset_at};
 ghost use Rattle.miniport.specs.declared.on_tag.OnTag.{OnTag};
 ghost use Rattle.miniport.specs.declared.on_tag.Progress.TheVariants.{Untouched, Moved};
 ghost use Rattle.miniport.specs.Carrying.{with_data};
-ghost use Rattle.miniport.specs.inside.Recorded.{IsTellable, told};
-ghost use Rattle.miniport.specs.inside.Slots.{Fits, MayBecome, booked_with, met_of};
+ghost use Rattle.miniport.specs.inside.Recorded.{IsKept, IsTellable, told};
+ghost use Rattle.miniport.specs.inside.Slots.{Fits, MayBecome, TakesFirst, booked_with, met_of};
 
 use crate::completion::met_reset;
 use crate::on_tag::{Booking, OnTag, Progress};
-use crate::recorded::{Recorded, tell, tell_all};
+use crate::recorded::{Recorded, recorded_act, tell, tell_all};
 use srb::{Booked, Completion, DeviceLabel, Entry, Kind, Srb};
 use std::alloc::{AllocError, Global};
 use std::collections::VecDeque;
@@ -116,21 +116,22 @@ pub(crate) struct TagTable {
     accepted: u128,
     failures: u128,
     labels: VecDeque<Recorded>,
+    keeps_bytes: bool,
 }
 
 impl Model for TagTable {
     ghost Value = { Table };
 
-    ghost view = { λ t. record { slots = t.slots.items; accepted = t.accepted; failures = t.failures; labels = map (told t.slots.items) t.labels.items } };
+    ghost view = { λ t. record { slots = t.slots.items; accepted = t.accepted; failures = t.failures; labels = map (told t.slots.items) t.labels.items; keeps_bytes = t.keeps_bytes } };
 
-    ghost invariant = { λ t. (vec_len t.slots ≤ 32) × (64 ≤ deque_capacity t.labels) × All (IsTellable t.slots.items) t.labels.items };
+    ghost invariant = { λ t. (vec_len t.slots ≤ 32) × (64 ≤ deque_capacity t.labels) × All (IsTellable t.slots.items) t.labels.items × All (IsKept t.keeps_bytes) t.labels.items };
 }
 
 impl TagTable {
     /// No piece on any of the tags.
     pub fn new(alloc: Global, depth: u8) -> Result<TagTable, AllocError>
         requires { depth ≤ 32 }
-        ensures { IfOk result (λ t. t ≡ record { slots = replicate depth None; accepted = 0; failures = 0; labels = [] }) }
+        ensures { IfOk result (λ t. t ≡ record { slots = replicate depth None; accepted = 0; failures = 0; labels = []; keeps_bytes = true }) }
     {
         let mut slots = Vec::with_capacity(alloc, depth as usize)?;
         for _ in 0..depth {
@@ -142,7 +143,23 @@ impl TagTable {
             accepted: 0,
             failures: 0,
             labels,
+            keeps_bytes: true,
         })
+    }
+
+    pub fn keeps_bytes(&self) -> bool
+        ensures { result ≡ self.now.keeps_bytes }
+    {
+        self.keeps_bytes
+    }
+
+    /// From now on contracts alone read the bytes of labels.
+    pub fn note_bytes(&mut self)
+        requires { self.old.labels ≡ [] }
+        ensures { self.new ≡ record self.old { keeps_bytes = false } }
+    {
+        self.labels.clear();
+        self.keeps_bytes = false;
     }
 
     pub fn depth(&self) -> u8
@@ -224,15 +241,15 @@ impl TagTable {
         requires below { tag < length self.old.slots }
         requires free { piece_at self.old.slots tag ≡ None }
         requires place { length self.old.labels < 64 }
-        requires room { length on_tag.srb.data ≤ on_tag.srb.for_label }
+        requires room { IsTrue self.old.keeps_bytes → length on_tag.srb.data ≤ on_tag.srb.for_label }
         requires acted { on_tag.progress ≡ Moved }
         ensures { self.new ≡ with_moved tag on_tag self.old }
     {
         let OnTag { mut srb, piece, .. } = on_tag;
         let room = srb.for_label.take();
+        let label = recorded_act(self.keeps_bytes, tag, piece, &srb.data, room);
         self.place(tag, OnTag { srb, ..on_tag });
-        self.labels
-            .push_back_reserved(Recorded::Acted { piece, tag, room });
+        self.labels.push_back_reserved(label);
     }
 
     /// Puts back on its tag a piece that failed.
@@ -365,9 +382,9 @@ impl TagTable {
         Progress::Failed(met_reset())
     }
 
-    /// Takes the earliest label.
+    /// Takes the earliest label, as memory has it.
     pub fn take_label(&mut self) -> Option<DeviceLabel>
-        ensures { MatchOption result ((self.old.labels ≡ []) × (self.new ≡ self.old)) (λ label. (rest : List DeviceLabel) × (self.old.labels ≡ label ∷ rest) × (self.new ≡ record self.old { labels = rest })) }
+        ensures { MatchOption result ((self.old.labels ≡ []) × (self.new ≡ self.old)) (λ label. TakesFirst self.old label self.new) }
     {
         let label = self.labels.pop_front()?;
         Some(tell(label, self.slots.as_slice()))

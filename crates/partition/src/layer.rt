@@ -76,6 +76,10 @@ impl<D: Device> Device for Partitions<D> {
         self.parts.device.longest()
     }
 
+    fn keeps_bytes(&self) -> bool {
+        self.parts.device.keeps_bytes()
+    }
+
     fn most(&self) -> u128 {
         self.parts.device.most()
     }

@@ -44,8 +44,8 @@ view_fresh v = record v { tags = []; labels = [] }
 fresh_is : (v : AdapterView) → IsFresh v → v ≡ view_fresh v
 fresh_is v h = ap (λ (x : List TagInUse). record v { tags = x }) h.tags ∙ ap (λ (x : List DeviceLabel). record v { tags = []; labels = x }) h.labels
 
-abbrev pub sizes_by : ℕ → ℕ → ℕ → ℕ → Bool → Sizes
-sizes_by sector_size sectors max_transfer depth faithful = record { sector_size = sector_size; sectors = sectors; max_transfer = max_transfer; depth = depth; faithful = faithful }
+abbrev pub sizes_by : ℕ → ℕ → ℕ → ℕ → Bool → Bool → Sizes
+sizes_by sector_size sectors max_transfer depth faithful keeps_bytes = record { sector_size = sector_size; sectors = sectors; max_transfer = max_transfer; depth = depth; faithful = faithful; keeps_bytes = keeps_bytes }
 
 hand_empty : (b : TableView) (v : AdapterView) → v.accepted ≤ 3 → length b.started ≡ v.depth → IsInOrder (view_fresh v) → IsInHand (books_empty b (sizes_of v)) (view_fresh v) []
 hand_empty b v few long order =
@@ -53,7 +53,7 @@ hand_empty b v few long order =
     let depth = order.depth.1 in
     in_hand (books_empty b (sizes_of v)) (view_fresh v) [] (record {
       adapter = order;
-      sizes = record { sector_size = refl; sectors = refl; max_transfer = refl; depth = refl; faithful = refl };
+      sizes = record { sector_size = refl; sectors = refl; max_transfer = refl; depth = refl; faithful = refl; keeps_bytes = refl };
       started = long;
       waiting = All-nil (IsWaiting rules (view_fresh v));
       in_turn = tt;
@@ -85,9 +85,10 @@ opens_seen b v sizes e h f =
     let v_is : v ≡ view_fresh v = fresh_is v f in
     ap (λ (x : TableView). view_of x v) (empty_is b (sizes_of v) h') ∙ ap (λ (x : AdapterView). view_of (books_empty b (sizes_of v)) x) v_is ∙ ap (λ (x : AdapterView). opening_view x) (sym v_is)
 
-pub sizes_are : (v : AdapterView) (sector_size sectors max_transfer depth : ℕ) (faithful : Bool) → sector_size ≡ v.sector_size → sectors ≡ length v.sectors → max_transfer ≡ v.max_transfer → depth ≡ v.depth
-    → faithful ≡ v.faithful → sizes_by sector_size sectors max_transfer depth faithful ≡ sizes_of v
-sizes_are v sector_size sectors max_transfer depth faithful a c d e f =
-    ap (λ (n : ℕ). sizes_by n sectors max_transfer depth faithful) a ∙ ap (λ (n : ℕ). sizes_by v.sector_size n max_transfer depth faithful) c
-    ∙ ap (λ (n : ℕ). sizes_by v.sector_size (length v.sectors) n depth faithful) d ∙ ap (λ (n : ℕ). sizes_by v.sector_size (length v.sectors) v.max_transfer n faithful) e
-    ∙ ap (λ (b : Bool). sizes_by v.sector_size (length v.sectors) v.max_transfer v.depth b) f
+pub sizes_are : (v : AdapterView) (sector_size sectors max_transfer depth : ℕ) (faithful keeps_bytes : Bool) → sector_size ≡ v.sector_size → sectors ≡ length v.sectors → max_transfer ≡ v.max_transfer → depth ≡ v.depth
+    → faithful ≡ v.faithful → keeps_bytes ≡ v.keeps_bytes → sizes_by sector_size sectors max_transfer depth faithful keeps_bytes ≡ sizes_of v
+sizes_are v sector_size sectors max_transfer depth faithful keeps_bytes a c d e f k =
+    ap (λ (n : ℕ). sizes_by n sectors max_transfer depth faithful keeps_bytes) a ∙ ap (λ (n : ℕ). sizes_by v.sector_size n max_transfer depth faithful keeps_bytes) c
+    ∙ ap (λ (n : ℕ). sizes_by v.sector_size (length v.sectors) n depth faithful keeps_bytes) d ∙ ap (λ (n : ℕ). sizes_by v.sector_size (length v.sectors) v.max_transfer n faithful keeps_bytes) e
+    ∙ ap (λ (b : Bool). sizes_by v.sector_size (length v.sectors) v.max_transfer v.depth b keeps_bytes) f
+    ∙ ap (λ (b : Bool). sizes_by v.sector_size (length v.sectors) v.max_transfer v.depth v.faithful b) k

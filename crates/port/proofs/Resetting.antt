@@ -236,7 +236,7 @@ hand_reset left b v tags' fresh failures rooms i p f space so order =
     let fits = tags_fit v k.adapter in
     in_hand b v' rooms (record {
       adapter = order;
-      sizes = record { sector_size = k.sizes.sector_size; sectors = k.sizes.sectors; max_transfer = k.sizes.max_transfer; depth = k.sizes.depth; faithful = k.sizes.faithful };
+      sizes = record { sector_size = k.sizes.sector_size; sectors = k.sizes.sectors; max_transfer = k.sizes.max_transfer; depth = k.sizes.depth; faithful = k.sizes.faithful; keeps_bytes = k.sizes.keeps_bytes };
       started = k.started;
       waiting = All-weaker (IsWaiting rules v) (IsWaiting rules v') (waiting_moves rules v v' (λ extent r. r)) b.waiting k.waiting;
       in_turn = k.in_turn;
@@ -298,7 +298,7 @@ hand_fewer b v rooms labels fewer order i =
     let x : AdapterView = record v { labels = labels } in
     in_hand b x rooms (record {
       adapter = order;
-      sizes = record { sector_size = k.sizes.sector_size; sectors = k.sizes.sectors; max_transfer = k.sizes.max_transfer; depth = k.sizes.depth; faithful = k.sizes.faithful };
+      sizes = record { sector_size = k.sizes.sector_size; sectors = k.sizes.sectors; max_transfer = k.sizes.max_transfer; depth = k.sizes.depth; faithful = k.sizes.faithful; keeps_bytes = k.sizes.keeps_bytes };
       started = k.started;
       waiting = All-weaker (IsWaiting rules v) (IsWaiting rules x) (waiting_moves rules v x (λ extent r. r)) b.waiting k.waiting;
       in_turn = k.in_turn;

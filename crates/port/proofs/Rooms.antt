@@ -53,7 +53,7 @@ kept_reserved b v reserved rooms order lasts k =
     let rules : Rules = rules_of b.sizes in
     record {
       adapter = order;
-      sizes = record { sector_size = k.sizes.sector_size; sectors = k.sizes.sectors; max_transfer = k.sizes.max_transfer; depth = k.sizes.depth; faithful = k.sizes.faithful };
+      sizes = record { sector_size = k.sizes.sector_size; sectors = k.sizes.sectors; max_transfer = k.sizes.max_transfer; depth = k.sizes.depth; faithful = k.sizes.faithful; keeps_bytes = k.sizes.keeps_bytes };
       started = k.started;
       waiting = All-weaker (IsWaiting rules v) (IsWaiting rules (with_reserved v reserved)) (waiting_moves rules v (with_reserved v reserved) lasts) b.waiting k.waiting;
       in_turn = k.in_turn;

@@ -1,5 +1,5 @@
 -- The packet that waited longest goes to a free tag.
-use Rattle.std.proofs.Common.{◌≡◌, ◌≢◌, ◌<◌, ◌≤◌, ◌⊎◌, inl, inr, ℕ, ◌+◌, Bool, true, false, List, [], ◌∷◌, ◌++◌, Option, Some, None, refl, sym, subst, ap, ◌∙◌, arith, add-one, map, length, get_or, replicate}
+use Rattle.std.proofs.Common.{◌≡◌, ◌≢◌, ◌<◌, ◌≤◌, ◌⊎◌, inl, inr, ℕ, ◌+◌, Bool, IsTrue, true, false, List, [], ◌∷◌, ◌++◌, Option, Some, None, refl, sym, subst, ap, ◌∙◌, arith, add-one, map, length, get_or, replicate}
 use Rattle.std.proofs.lemmas.Bool.{cases_lt}
 use Rattle.port.specs.inside.TableCalls as Calls
 use Rattle.std.specs.Prelude.{All, Any, IsTrue, IsPermutation, slice_set, slice_index}
@@ -258,7 +258,7 @@ kept_started b v rooms front rest tag srb packet tags' k is packs same low free 
     let inside : tag < length b.started = omega arith in
     record {
       adapter = order;
-      sizes = record { sector_size = k.sizes.sector_size; sectors = k.sizes.sectors; max_transfer = k.sizes.max_transfer; depth = k.sizes.depth; faithful = k.sizes.faithful };
+      sizes = record { sector_size = k.sizes.sector_size; sectors = k.sizes.sectors; max_transfer = k.sizes.max_transfer; depth = k.sizes.depth; faithful = k.sizes.faithful; keeps_bytes = k.sizes.keeps_bytes };
       started = length-set b.started tag (Some packet) ∙ k.started;
       waiting = All-weaker (IsWaiting rules v) (IsWaiting rules v') (waiting_moves rules v v' (λ extent h. h)) rest (All-tail (IsWaiting rules v) front rest waits);
       in_turn = (subst AreInTurn is k.in_turn).1;
@@ -402,7 +402,7 @@ releases_same b b' v h = subst (λ x. Releases b v x v) (sym h.same) (releases_n
 pub label_room : (b : TableView) (v : AdapterView) (rooms : List Request) (tag : ℕ) → PortKept b v rooms → IsFree v tag → tag < v.depth → length v.labels < 64
 label_room b v rooms tag k free low = let few = free_leaves v tag k.adapter free low in let l = k.labels in omega arith
 
-pub accepts_front : (b : TableView) (v : AdapterView) (rooms : List Request) (tag piece : ℕ) (srb : Srb) (b' : TableView) → PortKept b v rooms → Calls.Starts b tag piece srb b' → IsWritable v srb × (length srb.data ≤ srb.for_label)
+pub accepts_front : (b : TableView) (v : AdapterView) (rooms : List Request) (tag piece : ℕ) (srb : Srb) (b' : TableView) → PortKept b v rooms → Calls.Starts b tag piece srb b' → IsWritable v srb × (IsTrue v.keeps_bytes → length srb.data ≤ srb.for_label)
 accepts_front b v rooms tag piece srb b' k s =
     let h = front_waits b v rooms s.front s.rest srb k s.is_front s.is_srb in
-    (is_writable b.sizes v s.front.request srb (kept_sector_some b v rooms k) h.0 h.1, subst (λ n. n ≤ srb.for_label) (sym h.1.data_length) h.1.label_length)
+    (is_writable b.sizes v s.front.request srb (kept_sector_some b v rooms k) h.0 h.1, λ kept. subst (λ n. n ≤ srb.for_label) (sym h.1.data_length) (h.1.label_length (k.sizes.keeps_bytes ∙ kept)))

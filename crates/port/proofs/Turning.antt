@@ -95,7 +95,7 @@ module _ (b : TableView) (v : AdapterView) (tag : ℕ) (use' use'' : TagInUse) (
       let t' = length_permutation _ _ h.in_use in
       record {
         adapter = order;
-        sizes = record { sector_size = k.sizes.sector_size; sectors = k.sizes.sectors ∙ sym h.long; max_transfer = k.sizes.max_transfer; depth = k.sizes.depth; faithful = k.sizes.faithful };
+        sizes = record { sector_size = k.sizes.sector_size; sectors = k.sizes.sectors ∙ sym h.long; max_transfer = k.sizes.max_transfer; depth = k.sizes.depth; faithful = k.sizes.faithful; keeps_bytes = k.sizes.keeps_bytes };
         started = k.started;
         waiting = All-weaker (IsWaiting rules v) (IsWaiting rules v') (waiting_moves rules v v' (λ extent r. r)) b.waiting k.waiting;
         in_turn = k.in_turn;

@@ -16,7 +16,7 @@ pub record IsFresh (v : AdapterView) : Type 0 where
 
 -- the sizes of the adapter's disk
 abbrev pub sizes_of : AdapterView → Sizes
-sizes_of v = record { sector_size = v.sector_size; sectors = length v.sectors; max_transfer = v.max_transfer; depth = v.depth; faithful = v.faithful }
+sizes_of v = record { sector_size = v.sector_size; sectors = length v.sectors; max_transfer = v.max_transfer; depth = v.depth; faithful = v.faithful; keeps_bytes = v.keeps_bytes }
 
 -- the rules of a port over this adapter
 abbrev pub rules_over : AdapterView → Rules

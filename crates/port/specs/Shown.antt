@@ -40,6 +40,7 @@ rules_of sizes = record {
   busy_limit = 1;
   any_cut = false;
   faithful = sizes.faithful;
+  keeps_bytes = sizes.keeps_bytes;
 }
 
 -- the places of a request

@@ -165,6 +165,10 @@ impl<A: Adapter> Device for Port<A> {
         self.parts.queues.sizes.max_transfer as u64
     }
 
+    fn keeps_bytes(&self) -> bool {
+        self.parts.queues.sizes.keeps_bytes
+    }
+
     fn most(&self) -> u128 {
         let _parts = &self.parts;
         MOST

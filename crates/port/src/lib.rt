@@ -72,6 +72,7 @@ impl<A: Adapter> Port<A> {
             max_transfer: adapter.max_transfer(),
             depth: adapter.depth(),
             faithful: adapter.is_faithful(),
+            keeps_bytes: adapter.keeps_bytes(),
         };
         let queues = Queues::new(alloc, sizes)?;
         let parts = Parts { adapter, queues };

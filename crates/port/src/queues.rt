@@ -25,6 +25,8 @@ pub struct Sizes {
     pub depth: u8,
     /// Whether acts read and write the adapter's sectors.
     pub faithful: bool,
+    /// Whether the bytes of labels stand in memory.
+    pub keeps_bytes: bool,
 }
 
 /// How a packet ended.

@@ -133,11 +133,11 @@ came_back : (old view : AdapterView) (command : Cdb) (use' : TagInUse) (srb : Sr
     → IsPermutation view.tags (use' ∷ [])
     → (use'.fate ≡ Fresh → ⊥) → ((moved : List (List ℕ)) → use'.fate ≡ Acted moved → concat moved ≡ bytes_brought old command)
     → use'.failures_before ≡ old.failures
-    → view.sector_size ≡ old.sector_size → view.sectors ≡ old.sectors → view.faithful ≡ old.faithful
+    → view.sector_size ≡ old.sector_size → view.sectors ≡ old.sectors → view.faithful ≡ old.faithful → view.keeps_bytes ≡ old.keeps_bytes
     → view.max_transfer ≡ old.max_transfer → view.depth ≡ old.depth
     → view.accepted ≡ old.accepted + 1 → old.failures ≤ view.failures
     → Finishes view 0 srb completion last → Exchanges old command (class_of completion) (record last { labels = [] }) → AsksOnce old command srb completion last
-came_back old view command use' srb completion last one acts good before size sectors faith most depth counted fails h exchanged =
+came_back old view command use' srb completion last one acts good before size sectors faith bytes_kept most depth counted fails h exchanged =
     let alone = just_one use' h.returns.use' view.tags h.returns.others one h.returns.is_on.in_use in
     let tags : h.returns.tags ≡ [] = none_left _ (subst (λ (os : List TagInUse). IsPermutation h.returns.tags os) alone.1 h.returns.in_use) in
     let after = h.returns.after in
@@ -148,6 +148,7 @@ came_back old view command use' srb completion last one acts good before size se
         sector_size = ap (λ (v : AdapterView). v.sector_size) after ∙ size;
         sectors = ap (λ (v : AdapterView). v.sectors) after ∙ sectors;
         faithful = ap (λ (v : AdapterView). v.faithful) after ∙ faith;
+        keeps_bytes = ap (λ (v : AdapterView). v.keeps_bytes) after ∙ bytes_kept;
         max_transfer = ap (λ (v : AdapterView). v.max_transfer) after ∙ most;
         depth = ap (λ (v : AdapterView). v.depth) after ∙ depth;
         idle = record { no_tags = ap (λ (v : AdapterView). v.tags) after ∙ tags; no_labels = refl };
@@ -190,7 +191,7 @@ asks_once old first second last command sent srb completion idle by looks accept
           (λ fresh. cc (fresh))
           (λ moved e. let same : h.1.moved ≡ moved = cc (e) in ap concat (sym same) ∙ seen.1)
           (sym (ap (λ (u : TagInUse). u.failures_before) alone.0))
-          refl seen.0 refl refl refl refl (omega arith)
+          refl seen.0 refl refl refl refl refl (omega arith)
           finishes' exchanged
       | inr (h, unbooked) ↦
           let alone = just_one (in_use_from old 0 0 sent) h.use' accepts.tags h.others one h.is_on.in_use in
@@ -201,7 +202,7 @@ asks_once old first second last command sent srb completion idle by looks accept
           (λ fresh. cc (fresh))
           (λ moved e. cc (e))
           (sym (ap (λ (u : TagInUse). u.failures_before) alone.0))
-          refl refl refl refl refl refl (omega (arith, counted))
+          refl refl refl refl refl refl refl (omega (arith, counted))
           finishes' exchanged
     ]
 

@@ -80,6 +80,7 @@ pub record IsSameDisk (asked : ℕ) (old new : AdapterView) : Type 0 where
   pub sector_size : new.sector_size ≡ old.sector_size
   pub sectors : new.sectors ≡ old.sectors
   pub faithful : new.faithful ≡ old.faithful
+  pub keeps_bytes : new.keeps_bytes ≡ old.keeps_bytes
   pub max_transfer : new.max_transfer ≡ old.max_transfer
   pub depth : new.depth ≡ old.depth
   pub idle : IsIdle new

@@ -45,6 +45,7 @@ rules_over is_faithful c = record {
   busy_limit = last_busy_return;
   any_cut = false;
   faithful = is_faithful;
+  keeps_bytes = true;
 }
 
 -- the rules of a stack over the disk itself, to whose sectors the adapter is faithful

@@ -23,6 +23,7 @@ small = record {
   busy_limit = 2;
   any_cut = false;
   faithful = true;
+  keeps_bytes = true;
 }
 
 -- a sector of this byte alone

@@ -64,6 +64,7 @@ pub record AreSizes (sizes : Sizes) (rules : Rules) : Type 0 where
   pub sector_size : sizes.sector_size ≡ rules.sector_size
   pub max_transfer : sizes.max_transfer ≡ rules.max_transfer
   pub whole : IsWholeDisk sizes.disk_sectors rules
+  pub keeps_bytes : sizes.keeps_bytes ≡ rules.keeps_bytes
 
 -- the port's location of a request: a SCSI request of its extent, with SL_WRITE_THROUGH or no flags, and no completion
 -- routine

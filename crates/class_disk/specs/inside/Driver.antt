@@ -191,7 +191,7 @@ WentInTurn count (part ∷ parts) = WentAs count part.progress × WentInTurn (co
 -- a part has its buffers before it is sent; once it has ended, a read has what it brought, a flush has brought nothing,
 -- and a part that came back busy has its buffer
 abbrev pub IsBufferedBy : Rules → (only : Bool) → Request → Progress → Type 0
-IsBufferedBy rules only r (Ready place) = HasBuffers only rules.sector_size r place
+IsBufferedBy rules only r (Ready place) = HasBuffers rules.keeps_bytes only rules.sector_size r place
 IsBufferedBy rules only r (Below number spot) = ⊤
 IsBufferedBy rules only r (HasEnded ended) =
     (ended.outcome ≡ Good → r.kind ≡ Read → length (payload_bytes (payload_in ended.packet)) ≡ transfer_length rules r)

@@ -155,18 +155,18 @@ pub record CanCut (sizes : Sizes) (rules : Rules) (r : Request) : Type 0 where
       → (part_request_of sizes.max_transfer r k).extent.count * sizes.sector_size < 2 ^ 64
 
 -- a part of this request that can be sent, for which nothing was sent yet
-pub record IsNewPart (only : Bool) (sector_size : ℕ) (request : Request) (part : Part) : Type 0 where
+pub record IsNewPart (keeps only : Bool) (sector_size : ℕ) (request : Request) (part : Part) : Type 0 where
   pub asks : part.request ≡ request
   pub first : part.restarts ≡ 0
   pub place : Place
   pub is_ready : part.progress ≡ Ready place
-  pub buffers : HasBuffers only sector_size request place
+  pub buffers : HasBuffers keeps only sector_size request place
 
 -- the first parts of a request, this many, each of which can be sent
 pub record AreNewParts (sizes : Sizes) (r : Request) (count : ℕ) (parts : List Part) : Type 0 where
   pub long : length parts ≡ count
   pub are : (k : ℕ) (part : Part) → slice_get parts k ≡ Some part
-      → IsNewPart (goes_whole sizes.max_transfer r) sizes.sector_size (part_request_of sizes.max_transfer r k) part
+      → IsNewPart sizes.keeps_bytes (goes_whole sizes.max_transfer r) sizes.sector_size (part_request_of sizes.max_transfer r k) part
 
 -- only what is reserved changes
 abbrev pub ChangesRooms : DeviceView → DeviceView → Type 0

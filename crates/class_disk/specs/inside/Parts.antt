@@ -204,7 +204,7 @@ abbrev pub own_length : (only : Bool) (sector_size : ℕ) → Request → ℕ
 own_length only sector_size r = if only then 0 else data_length sector_size r
 
 -- the buffers of a part before it is sent, whether or not it is the only one
-pub record HasBuffers (only : Bool) (sector_size : ℕ) (r : Request) (place : Place) : Type 0 where
+pub record HasBuffers (keeps only : Bool) (sector_size : ℕ) (r : Request) (place : Place) : Type 0 where
   pub buffer : IsBufferOf r.kind place.«data».items (vec_capacity place.«data») (own_length only sector_size r)
-  -- room for just as many bytes as its data
-  pub for_label : place.for_label ≡ data_length sector_size r
+  -- room for just as many bytes as its data, where labels keep their bytes
+  pub for_label : IsTrue keeps → place.for_label ≡ data_length sector_size r

@@ -73,7 +73,7 @@ pub record CanSend (sizes : Sizes) (o : Opened) (part : Part) (place : Place) : 
   pub inside : part.request.kind ≡ Write
       → bytes_from sizes.sector_size o.request part.request + data_length sizes.sector_size part.request
       ≤ length (payload_bytes o.irp.payload)
-  pub buffers : HasBuffers (length o.parts == 1) sizes.sector_size part.request place
+  pub buffers : HasBuffers sizes.keeps_bytes (length o.parts == 1) sizes.sector_size part.request place
   -- the only part is all of its request
   pub whole : length o.parts ≡ 1 → part.request ≡ o.request
   pub long : length (payload_bytes o.irp.payload) ≡ data_length sizes.sector_size o.request

@@ -1,5 +1,5 @@
 -- A call as it comes in: how it is answered at once, and the request and the packet of one that is admitted.
-use Rattle.std.specs.Prelude.{◌≡◌, ◌<◌, ◌≤◌, ℕ, true, false, Bool, ◌+◌, ◌/◌, max, nat_le, List, [], ◌∷◌, ◌++◌}
+use Rattle.std.specs.Prelude.{◌≡◌, ◌<◌, ◌≤◌, ◌&&◌, ℕ, true, false, Bool, ◌+◌, ◌/◌, max, nat_le, List, [], ◌∷◌, ◌++◌}
 use Rattle.std.specs.Prelude.{Option, Some, None, MatchOption, IsTrue, IsFalse, length, slice_index, slice_set}
 use Rattle.std.specs.Prelude.{if◌then◌else◌}
 use Rattle.std.specs.VecDeque.{deque_len, deque_capacity}
@@ -17,6 +17,7 @@ use Rattle.srb.specs.declared.Kind.{Kind}
 use Rattle.srb.specs.declared.Kind.TheVariants.{Read, Write, Flush}
 use Rattle.machine.specs.declared.Request.{Request}
 use Rattle.machine.specs.declared.ClientRequest.{ClientRequest}
+use Rattle.machine.specs.declared.Label.{Label}
 use Rattle.machine.specs.declared.Label.TheVariants.{Call, Answer as AnswerLabel}
 use Rattle.machine.specs.Rules.{Rules, sectors_of}
 use Rattle.machine.specs.State.{State}
@@ -92,9 +93,14 @@ request_of sector_size q = record {
   through = q.through;
 }
 
--- just where labels are kept, there is a copy of the bytes that are told of a call
+-- the label of a call, with these bytes
+abbrev pub with_bytes : List ℕ → Label → Label
+with_bytes bytes (Call number q) = Call number (record q { bytes = bytes })
+with_bytes bytes label = label
+
+-- there is a copy of the bytes that are told of a call, or none of them
 abbrev pub IsCopied : Bool → CallBytes → Type 0
-IsCopied keeps bytes = MatchOption bytes.copy (IsFalse keeps) (λ copy. IsTrue keeps × (copy ≡ bytes.told.items))
+IsCopied copies bytes = bytes.copy ≡ (if copies then bytes.told.items else [])
 
 -- how many bytes the label of an answer has room for: as many as a read's buffer has, and none for other kinds
 abbrev pub answer_room_of : Kind → ℕ → ℕ
@@ -103,10 +109,10 @@ answer_room_of Write bytes = 0
 answer_room_of Flush bytes = 0
 
 -- the buffers that a request needs for the manager's own labels
-pub record HasLabelBytes (keeps : Bool) (kind : Kind) (buffer : List ℕ) (copies : LabelBytes) : Type 0 where
+pub record HasLabelBytes (keeps keeps_bytes : Bool) (kind : Kind) (buffer : List ℕ) (copies : LabelBytes) : Type 0 where
   pub told : copies.call_bytes.told.items ≡ bytes_called kind buffer
-  pub copied : IsCopied keeps copies.call_bytes
-  pub label_bytes : copies.label_bytes ≡ answer_room_of kind (length buffer)
+  pub copied : IsCopied (keeps && keeps_bytes) copies.call_bytes
+  pub label_bytes : IsTrue keeps_bytes → copies.label_bytes ≡ answer_room_of kind (length buffer)
 
 -- the first location of a request: of its kind and its extent, with SL_WRITE_THROUGH or no flags, and no completion
 -- routine

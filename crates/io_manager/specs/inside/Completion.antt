@@ -4,6 +4,7 @@ use Rattle.std.specs.Prelude.{option_map, map, length, All, IsPermutation, Match
 use Rattle.slab.specs.Slab.{Slab, get, slab_len, Updates}
 use Rattle.ntstatus.specs.declared.NtStatus.{NtStatus}
 use Rattle.ntstatus.specs.declared.NtStatus.TheVariants.{Success}
+use Rattle.srb.specs.Bare.{in_memory}
 use Rattle.srb.specs.declared.DeviceLabel.{DeviceLabel}
 use Rattle.adapter.specs.View.{MovesByAll}
 use Rattle.irp.specs.declared.Done.{Done}
@@ -42,6 +43,10 @@ done_of irp = record {
 abbrev pub unlabelled : DeviceView → DeviceView
 unlabelled below = record below { adapter = record below.adapter { labels = [] } }
 
+-- a label of the device as memory has it
+abbrev pub shown_label : Bool → DeviceLabel → Label
+shown_label keeps label = as_label (in_memory keeps label)
+
 -- the labels that were told, and then those that the device recorded
 abbrev pub and_recorded : List Label → DeviceView → List Label
 and_recorded told below = told ++ map as_label below.adapter.labels
@@ -75,15 +80,15 @@ answer_for request done = record {
   bytes = brought request.kind done.status (payload_bytes done.payload);
 }
 
--- the bytes of a read that succeeded fit the room that its request has for the label
-abbrev pub IsFilled : OpenRequest → Done → Type 0
-IsFilled request done = request.kind ≡ Read → done.status ≡ Success
+-- where labels keep their bytes, those of a read that succeeded fit the room that its request has for the label
+abbrev pub IsFilled : Bool → OpenRequest → Done → Type 0
+IsFilled keeps_bytes request done = IsTrue keeps_bytes → request.kind ≡ Read → done.status ≡ Success
     → length (payload_bytes done.payload) ≤ request.label_bytes
 
 -- the bytes that a finished packet brings fit the room of its open request
-abbrev pub AreFilled : Slab OpenRequest → Done → Type 0
-AreFilled requests done = (slot : ℕ) (request : OpenRequest) → get requests slot ≡ Some request
-    → request.number ≡ done.number → IsFilled request done
+abbrev pub AreFilled : Bool → Slab OpenRequest → Done → Type 0
+AreFilled keeps_bytes requests done = (slot : ℕ) (request : OpenRequest) → get requests slot ≡ Some request
+    → request.number ≡ done.number → IsFilled keeps_bytes request done
 
 -- one request fewer is open on a handle, if the handle is open still
 abbrev pub CountsOut : Tables → Handle → Tables → Type 0

@@ -76,6 +76,7 @@ pub record FitsBelow (limits : Limits) (below : DeviceView) : Type 0 where
   pub max_transfer : limits.max_transfer ≡ below.rules.max_transfer
   pub some_transfer : 0 < limits.max_transfer
   pub depth : limits.depth ≡ below.rules.depth
+  pub keeps_bytes : limits.keeps_bytes ≡ below.rules.keeps_bytes
   pub firsts : AreFirsts limits.first_sectors below.rules.partitions
   pub ends : All EndsInRange below.rules.partitions
   pub some_open : (1 ≤ limits.open_requests) × (limits.open_requests ≤ 64)
@@ -89,7 +90,7 @@ pub record HasNumbers (below : DeviceView) (tables : Tables) : Type 0 where
   pub submitted : below.submitted ≤ tables.next_request
 
 -- the slot of a request that is open below
-pub record IsHeldAt (requests : Slab OpenRequest) (o : OpenBelow) : Type 0 where
+pub record IsHeldAt (keeps_bytes : Bool) (requests : Slab OpenRequest) (o : OpenBelow) : Type 0 where
   pub slot : ℕ
   pub request : OpenRequest
   pub there : get requests slot ≡ Some request
@@ -97,11 +98,11 @@ pub record IsHeldAt (requests : Slab OpenRequest) (o : OpenBelow) : Type 0 where
   pub same_kind : request.kind ≡ o.request.kind
   pub same_cancelled : request.cancelled ≡ o.cancelled
   pub has_partition : is_some o.request.partition ≡ true
-  pub label_bytes : o.request.kind ≡ Read → o.request.length ≤ request.label_bytes
+  pub label_bytes : IsTrue keeps_bytes → o.request.kind ≡ Read → o.request.length ≤ request.label_bytes
 
 -- the requests that are open below are those in the table
-pub record AreHeld (requests : Slab OpenRequest) (below : List OpenBelow) : Type 0 where
-  pub held : All (IsHeldAt requests) below
+pub record AreHeld (keeps_bytes : Bool) (requests : Slab OpenRequest) (below : List OpenBelow) : Type 0 where
+  pub held : All (IsHeldAt keeps_bytes requests) below
   pub is_open : (slot : ℕ) (request : OpenRequest) → get requests slot ≡ Some request
       → Contains (map request_number below) request.number
   pub one_slot : (slot other : ℕ) (request same : OpenRequest) → get requests slot ≡ Some request
@@ -115,6 +116,8 @@ pub record HasPlaces (limits : Limits) (tables : Tables) : Type 0 where
   pub labels : 256 ≤ tables.labels.places
   pub answered : 64 ≤ tables.answered.places
   pub alike : tables.answered.keeps ≡ tables.labels.keeps
+  pub label_bytes : tables.labels.keeps_bytes ≡ limits.keeps_bytes
+  pub answer_bytes : tables.answered.keeps_bytes ≡ limits.keeps_bytes
   pub untaken : deque_len tables.untaken + slab_len tables.requests ≤ deque_capacity tables.untaken
   pub handles : tables.handles.capacity ≡ handle_limit
   pub requests : tables.requests.capacity ≡ limits.open_requests
@@ -150,7 +153,7 @@ IsInState Removed s = IsFalse s.paused × IsTrue s.removing × (s.requests ≡ [
 pub record IsSoundWith (put_by : List Answer) (limits : Limits) (below : DeviceView) (tables : Tables) : Type 0 where
   pub fits : FitsBelow limits below
   pub numbers : HasNumbers below tables
-  pub held : AreHeld tables.requests below.state.requests
+  pub held : AreHeld limits.keeps_bytes tables.requests below.state.requests
   pub few : slab_len tables.requests ≤ limits.open_requests
   pub places : HasPlaces limits tables
   pub on_map : IsOnMap below.rules tables.handles

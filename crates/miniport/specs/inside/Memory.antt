@@ -1,5 +1,5 @@
 -- What an adapter in memory keeps, and how it acts on its table.
-use Rattle.std.specs.Prelude.{◌≡◌, ◌≢◌, ◌≤◌, ◌<◌, ◌^◌, ◌⊎◌, ℕ, ◌+◌, ◌*◌, Bool, true, List, length, sum_by, Option, Some, None, if◌then◌else◌}
+use Rattle.std.specs.Prelude.{◌≡◌, ◌≢◌, ◌≤◌, ◌<◌, ◌^◌, ◌⊎◌, ℕ, ◌+◌, ◌*◌, Bool, true, IsTrue, List, length, sum_by, Option, Some, None, if◌then◌else◌}
 use Rattle.std.specs.List.{concat}
 use Rattle.srb.specs.declared.Srb.{Srb}
 use Rattle.srb.specs.declared.Entry.{Entry}
@@ -58,9 +58,9 @@ failures_left (Some on) = if on.was_reset then 0 else left_by on.progress
 abbrev pub HasBooked : ℕ → ℕ → Srb → Type 0
 HasBooked size sectors srb = (entry : Entry) × IsOfSrb size sectors srb entry × (srb.data ≡ entry.bytes)
 
-pub record IsPieceRight (medium : MediumView) (failures : ℕ) (on : OnTag) : Type 0 where
+pub record IsPieceRight (keeps : Bool) (medium : MediumView) (failures : ℕ) (on : OnTag) : Type 0 where
   pub ready : IsReady medium on.srb
-  pub buffers : on.progress ≡ Untouched → length on.srb.data ≤ on.srb.for_label
+  pub buffers : on.progress ≡ Untouched → IsTrue keeps → length on.srb.data ≤ on.srb.for_label
   pub moved : on.progress ≡ Done → concat (moved_by medium.sector_size on.srb.block on.srb.data) ≡ on.srb.data
   pub counted : on.failures_before ≤ failures
   pub failed : (completion : Completion) → on.progress ≡ Refused completion → (class_of completion ≡ Bad completion) × (on.failures_before < failures)
@@ -68,15 +68,15 @@ pub record IsPieceRight (medium : MediumView) (failures : ℕ) (on : OnTag) : Ty
   pub booked : on.progress ≡ Untouched → on.booking ≡ Bytes → (on.piece ≢ 0) × HasBooked medium.sector_size (length medium.sectors) on.srb
   pub failing : (completion : Completion) → on.booking ≡ Failure completion → class_of completion ≡ Bad completion
 
-abbrev pub ArePiecesRight : MediumView → ℕ → List (Option OnTag) → Type 0
-ArePiecesRight medium failures slots = (tag : ℕ) (on : OnTag) → piece_at slots tag ≡ Some on → IsPieceRight medium failures on
+abbrev pub ArePiecesRight : Bool → MediumView → ℕ → List (Option OnTag) → Type 0
+ArePiecesRight keeps medium failures slots = (tag : ℕ) (on : OnTag) → piece_at slots tag ≡ Some on → IsPieceRight keeps medium failures on
 
 pub record AdapterKept (medium : MediumView) (longest : ℕ) (table : Table) : Type 0 where
   pub sector_size : (medium.sector_size ≡ 512) ⊎ (medium.sector_size ≡ 4096)
   pub sectors : (1 ≤ length medium.sectors) × (length medium.sectors ≤ 2 ^ 40)
   pub max_transfer : (1 ≤ longest) × (longest ≤ 2 ^ 16)
   pub depth : (1 ≤ length table.slots) × (length table.slots ≤ 32)
-  pub pieces : ArePiecesRight medium table.failures table.slots
+  pub pieces : ArePiecesRight table.keeps_bytes medium table.failures table.slots
   pub accepted : table.accepted ≤ 2 ^ 100
   pub failures : table.failures + sum_by failures_left table.slots ≤ 2 * table.accepted
   pub medium_failures : medium.failures ≤ table.failures

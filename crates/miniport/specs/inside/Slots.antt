@@ -9,6 +9,7 @@ use Rattle.srb.specs.declared.Booked.TheVariants.{Copied, Taken, Sent, Failed as
 use Rattle.srb.specs.declared.Completion.{Completion}
 use Rattle.srb.specs.declared.DeviceLabel.{DeviceLabel}
 use Rattle.srb.specs.declared.DeviceLabel.TheVariants.{Start, Act, Fault, Return}
+use Rattle.srb.specs.Bare.{in_memory}
 use Rattle.srb.specs.Fate.{Fate, Fresh, Acted, Faulted, class_of}
 use Rattle.adapter.specs.View.{TagInUse}
 use Rattle.miniport.specs.declared.on_tag.OnTag.{OnTag}
@@ -25,6 +26,7 @@ pub record Table : Type 0 where
   pub accepted : ℕ
   pub failures : ℕ
   pub labels : List DeviceLabel
+  pub keeps_bytes : Bool
 
 -- the piece on a tag, if there is one
 abbrev pub piece_at : List (Option OnTag) → ℕ → Option OnTag
@@ -218,3 +220,11 @@ pub record Fails (old : Table) (tag : ℕ) (completion : Completion) (new : Tabl
   pub was_there : piece_at old.slots tag ≡ Some on
   pub untouched : on.progress ≡ Untouched
   pub after : new ≡ with_failed tag (record on { progress = Failed completion }) (with_slot tag None old)
+
+-- the earliest label leaves, as memory has it
+pub record TakesFirst (old : Table) (label : DeviceLabel) (new : Table) : Type 0 where
+  pub first : DeviceLabel
+  pub rest : List DeviceLabel
+  pub is_first : old.labels ≡ first ∷ rest
+  pub shown : label ≡ in_memory old.keeps_bytes first
+  pub after : new ≡ record old { labels = rest }

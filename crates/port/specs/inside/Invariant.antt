@@ -28,6 +28,7 @@ pub record AreSizes (sizes : Sizes) (v : AdapterView) : Type 0 where
   pub max_transfer : sizes.max_transfer ≡ v.max_transfer
   pub depth : sizes.depth ≡ v.depth
   pub faithful : sizes.faithful ≡ v.faithful
+  pub keeps_bytes : sizes.keeps_bytes ≡ v.keeps_bytes
 
 -- all places that the request needs are made
 pub record IsRoom (rules : Rules) (v : AdapterView) (r : Request) : Type 0 where

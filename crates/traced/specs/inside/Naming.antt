@@ -17,4 +17,5 @@ no_rules = record {
   busy_limit = 0;
   any_cut = false;
   faithful = true;
+  keeps_bytes = true;
 }

@@ -23,7 +23,7 @@ returns-clause-part g c =
         buffer =
             subst (IsBufferOf c.args.request.now.kind c.in_ok-data.data.items (vec_capacity c.in_ok-data.data))
             (c.own_bytes.ensures ∙ ap (λ n. if c.args.is_only then 0 else n) c.byte_count-length.ensures) c.in_ok-data.ensures;
-        for_label = c.in_ok-for_label.ensures ∙ c.byte_count-length.ensures;
+        for_label = λ kept. c.in_ok-for_label.ensures kept ∙ c.byte_count-length.ensures;
       };
     }
 

@@ -58,6 +58,7 @@ loop-event-preserved g c =
     record {
       taken = c.carry_out.ensures.taken;
       kept = c.carry_out.ensures.kept;
+      bytes = c.carry_out.ensures.bytes;
       counted = omega arith;
       places = omega arith;
       carries =

@@ -7,6 +7,7 @@ abbrev pub invariant-loop-event : goal.invariant-loop-event
 invariant-loop-event g l = record {
   taken : l.manager.labels ≡ [];
   kept : IsTrue l.manager.keeps;
+  bytes : IsTrue l.manager.rules.keeps_bytes;
   counted : vec_len l.shown ≡ length l.yielded;
   places : length l.fn.events.items ≤ vec_capacity l.shown;
   carries : CarriesAll l.initial.manager l.yielded l.shown.items l.manager;

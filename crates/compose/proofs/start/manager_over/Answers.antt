@@ -28,7 +28,7 @@ pub new-requires-2-clause-limits : goal.new-requires-2-clause-limits
 new-requires-2-clause-limits g c =
     limits_for (g.A.Adapter.view c.args.adapter) (g.A.Adapter.view c.prepare.new.adapter) c.args.settings c.in_ok-probed.ensures.in_range c.in_ok-probed.probed
     c.in_ok-probed.ensures.probed c.in_ok-probed.ensures.same _ _ _ c.in_ok-port.ensures.opening c.new-disk.ensures c.new-filter.ensures.opening
-    _ c.new-partitions.ensures.opening c.in_ok-probed.ensures.order _ refl c.max_transfer-max_transfer.ensures.exact c.depth-depth.ensures.exact refl
+    _ c.new-partitions.ensures.opening c.in_ok-probed.ensures.order _ refl c.max_transfer-max_transfer.ensures.exact c.depth-depth.ensures.exact c.keeps_bytes-keeps_bytes.ensures refl
     (subst (λ (xs : List Extent). AreFirsts c.first_sectors_of-first_sectors.result xs) c.as_slice.ensures.value c.first_sectors_of-first_sectors.ensures)
 
 pub returns-clause-view : goal.returns-clause-view

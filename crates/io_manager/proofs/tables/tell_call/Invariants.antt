@@ -1,6 +1,5 @@
-use Rattle.std.proofs.Common.{◌++◌, ◌∷◌, []}
-use Rattle.machine.specs.declared.Label.TheVariants.{Call}
+use Rattle.io_manager.specs.inside.Admitting.{with_bytes}
 use Rattle.io_manager.proofs.tables.tell_call.Given as goal
 
-abbrev pub ghost-note : goal.ghost-note
-ghost-note a = a.self.now.items ++ Call a.from.now.number (record a.from.now.request { bytes = a.from.now.bytes.items }) ∷ []
+abbrev pub ghost-tell_as : goal.ghost-tell_as
+ghost-tell_as a = with_bytes a.from.now.items a.item

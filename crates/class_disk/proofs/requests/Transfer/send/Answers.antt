@@ -44,8 +44,8 @@ returns c = λ part place is_there ready.
     let e : c.send-packet.result ≡ place = same_place part.progress c.send-packet.result place (ap (λ (p : Part). p.progress) (sym r) ∙ c.send-packet.ensures.was) ready in
     let e' : c.requires.place ≡ place = same_place part.progress c.requires.place place (ap (λ (p : Part). p.progress) (sym q ∙ m) ∙ c.requires.can.ready) ready in
     let only = length c.args.self.now.parts.items == 1 in
-    let h : HasBuffers only c.args.sizes.now.sector_size part.request place = subst (λ (p : Place). HasBuffers only c.args.sizes.now.sector_size part.request p) e'
-    (subst (λ (p : Part). HasBuffers only c.args.sizes.now.sector_size p.request c.requires.place) (sym m ∙ q) c.requires.can.buffers) in
+    let h : HasBuffers c.args.sizes.now.keeps_bytes only c.args.sizes.now.sector_size part.request place = subst (λ (p : Place). HasBuffers c.args.sizes.now.keeps_bytes only c.args.sizes.now.sector_size part.request p) e'
+    (subst (λ (p : Part). HasBuffers c.args.sizes.now.keeps_bytes only c.args.sizes.now.sector_size p.request c.requires.place) (sym m ∙ q) c.requires.can.buffers) in
     let sent : slice_set c.args.self.now.parts.items c.args.k c.send-packet.new.self ≡ slice_set c.args.self.now.parts.items c.args.k (sent_part c.args.number place.packet.room.spot part) =
     ap (slice_set c.args.self.now.parts.items c.args.k) (c.send-packet.ensures.after ∙ ap (λ (x : Place). sent_part c.args.number x.packet.room.spot c.index_mut.result.now) e ∙ ap (sent_part c.args.number place.packet.room.spot) r) in
     let is_at = c.data_for-data.ensures.after ∙ ap (λ ps. record (opened_of c.args.self.now) { parts = ps; lent = length ps == 1 }) sent
@@ -57,7 +57,7 @@ returns c = λ part place is_there ready.
     sends_with c.args.sizes.now (opened_of c.args.self.now) (opened_of c.data_for-data.new.self) c.args.k c.args.number part place c.data_for-data.result c.srb_for.result _ d h c.srb_for.ensures.data
     (λ rules whole a b. subst (λ (p : Part). AsksFor rules p.request c.srb_for.result) q
     (c.srb_for.ensures.asks rules whole (a ∙ ap (λ (p : Part). transfer_length rules p.request) (sym q))
-    (subst (λ (p : Part). transfer_length rules p.request ≤ c.send-packet.result.for_label) (sym q) (subst (λ (p : Place). transfer_length rules part.request ≤ p.for_label) (sym e) b))))
+    (λ kept. subst (λ (p : Part). transfer_length rules p.request ≤ c.send-packet.result.for_label) (sym q) (subst (λ (p : Place). transfer_length rules part.request ≤ p.for_label) (sym e) (b kept)))))
     (subst (λ (p : Part). IsOwnPacket c.args.number p.request (Packed c.srb_for.result) c.ready_packet.new.irp) q c.ready_packet.ensures.own)
     (subst (λ (p : Part). AsksInLocation true p.request c.ready_packet.new.irp) q c.ready_packet.ensures.asks)
     (ap (λ (p : Place). p.packet.room) e)

@@ -74,8 +74,8 @@ reserved_for g c =
     subst (λ (r : Request). SetsRoom (g.D.Shown.view c.self.inside.parts.device).rooms c.in-Ok.prepared.room.spot None (Some (whole_for r)) (g.D.Shown.view c.reserve.new.self.device).rooms) c.request_below-below.ensures
     c.in-Ok.ensures.reserved.room
 
-made : (g : _) (c : goal.After-collect g) → HasLabelBytes c.reserve.new.self.tables.labels.keeps c.args.request.kind c.args.buffer c.in-Ok.prepared.copies
-made g c = subst (λ (r : Request). HasLabelBytes c.reserve.new.self.tables.labels.keeps r.kind c.args.buffer c.in-Ok.prepared.copies) c.request_below-below.ensures c.in-Ok.ensures.copies
+made : (g : _) (c : goal.After-collect g) → HasLabelBytes c.reserve.new.self.tables.labels.keeps c.reserve.new.self.tables.labels.keeps_bytes c.args.request.kind c.args.buffer c.in-Ok.prepared.copies
+made g c = subst (λ (r : Request). HasLabelBytes c.reserve.new.self.tables.labels.keeps c.reserve.new.self.tables.labels.keeps_bytes r.kind c.args.buffer c.in-Ok.prepared.copies) c.request_below-below.ensures c.in-Ok.ensures.copies
 
 sent : (g : _) (c : goal.After-collect g)
     → IsSent (g.D.Shown.view c.reserve.new.self.device) c.reserve.new.self.tables c.args.handle c.args.request (request_of c.self.inside.parts.limits.sector_size c.args.request) c.in-Ok.prepared.copies c.args.buffer c.in-Ok.prepared.room.spot c.send-id.result.slot

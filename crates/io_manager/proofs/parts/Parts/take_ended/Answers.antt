@@ -1,8 +1,8 @@
 -- The packet is of an open request, whose slot and places are there.
-use Rattle.std.proofs.Common.{◌<◌, ◌≤◌, ◌^◌, sym, subst, arith, length}
+use Rattle.std.proofs.Common.{◌<◌, ◌≤◌, ◌^◌, refl, sym, subst, arith, length}
 use Rattle.device.specs.View.{DeviceView}
 use Rattle.device.specs.Served.{HandsUp}
-use Rattle.io_manager.specs.inside.Completion.{TakesEnded}
+use Rattle.io_manager.specs.inside.Completion.{AreFilled, TakesEnded}
 use Rattle.io_manager.specs.inside.Sound.{IsSoundWith}
 use Rattle.io_manager.proofs.Vacant.{handed_reserved, given_back}
 use Rattle.io_manager.proofs.Closing.{no_routine, handed, is_at, is_given, are_filled, answered_place}
@@ -30,7 +30,8 @@ close-requires-clause-held g c =
 
 pub close-requires-clause-filled : goal.close-requires-clause-filled
 close-requires-clause-filled g c =
-    are_filled _ _ _ _ c.in-Finished.irp c.done_of.result c.done_of.ensures _ (handed _ _ _ _ c.in-Finished.irp _ c.in-Finished.is c.in-Some.ensures.hands_up) c.requires.sound.held
+    subst (λ w. AreFilled w c.args.self.now.tables.requests c.done_of.result) (sym c.requires.sound.places.answer_bytes)
+    (are_filled _ _ _ _ c.in-Finished.irp c.done_of.result c.done_of.ensures _ (handed _ _ _ _ c.in-Finished.irp _ c.in-Finished.is c.in-Some.ensures.hands_up) c.requires.sound.held)
 
 pub close-requires-clause-answered_place : goal.close-requires-clause-answered_place
 close-requires-clause-answered_place g c =
@@ -46,7 +47,7 @@ close-requires-clause-untaken_place g c =
 pub returns-clause-sound : goal.returns-clause-sound
 returns-clause-sound g c =
     subst (λ (v : DeviceView). IsSoundWith c.close.new.self.answered.items c.args.self.now.limits v c.close.new.self) (sym c.free.ensures.frees.same)
-    (sound_after _ _ _ _ c.in-Finished.irp c.done_of.result c.done_of.ensures _ _ (handed _ _ _ _ c.in-Finished.irp _ c.in-Finished.is c.in-Some.ensures.hands_up) c.requires.sound.held c.close.ensures _ _ c.shows_order.ensures.order.distinct c.requires.sound _)
+    (sound_after _ _ _ _ c.in-Finished.irp c.done_of.result c.done_of.ensures _ _ (handed _ _ _ _ c.in-Finished.irp _ c.in-Finished.is c.in-Some.ensures.hands_up) c.requires.sound.held c.close.ensures _ _ refl c.shows_order.ensures.order.distinct c.requires.sound _)
 
 pub returns-clause-few : goal.returns-clause-few
 returns-clause-few g c =

@@ -1,5 +1,6 @@
 -- A request that was not cancelled is in its handle's chain, each is in that of its number, and each is counted while its handle is open.
-use Rattle.std.proofs.Common.{◌≤◌, sym, ◌∙◌, refl, subst, length}
+use Rattle.std.proofs.Common.{◌≤◌, sym, ◌∙◌, refl, ap, subst, length}
+use Rattle.io_manager.specs.declared.tables.Tables.{Tables}
 use Rattle.io_manager.proofs.Chained.{waiting_can_leave}
 use Rattle.io_manager.proofs.Numbered.{numbered_can_leave}
 use Rattle.io_manager.proofs.Counted.{can_count_out}
@@ -22,8 +23,9 @@ count_out-requires c is_open =
     (sym c.try_remove.ensures.value ∙ c.in-Some-try_remove.is) refl is_open
 
 pub put_by-requires-clause-room : goal.put_by-requires-clause-room
-put_by-requires-clause-room c =
+put_by-requires-clause-room c = λ kept.
     subst (λ bytes. length bytes ≤ c.in-Some-try_remove.open.label_bytes) (sym c.brought-bytes.ensures)
     (room_takes c.in-Some-try_remove.open.kind c.args.done.status c.bytes_of-bytes.result c.in-Some-try_remove.open.label_bytes
     (λ reads succeeded. subst (λ bytes. length bytes ≤ c.in-Some-try_remove.open.label_bytes) (sym c.bytes_of-bytes.ensures)
-    (filled_at c.args.self.now.requests c.args.done c.in-Some.slot c.in-Some-try_remove.open c.requires.filled c.in-Some.ensures (sym c.try_remove.ensures.value ∙ c.in-Some-try_remove.is) reads succeeded)))
+    (filled_at c.args.self.now.requests c.args.done c.in-Some.slot c.in-Some-try_remove.open c.requires.filled c.in-Some.ensures (sym c.try_remove.ensures.value ∙ c.in-Some-try_remove.is)
+    (sym (ap (λ (t : Tables). t.answered.keeps_bytes) c.count_out.ensures.after) ∙ kept) reads succeeded)))
