@@ -1,7 +1,7 @@
 -- When a call of the I/O manager, or a step of the adapter, is right.
 use Rattle.std.specs.Prelude.{◌≡◌, ◌≢◌, ◌<◌, ◌⊎◌, ℕ, ◌+◌, ◌==◌, Bool, true, false, List, [], ◌∷◌, ◌++◌, Option, Some}
 use Rattle.std.specs.Prelude.{None, Result, map, filter, slice_get, slice_index_or, remove, is_some, IsTrue, IsFalse}
-use Rattle.std.specs.Prelude.{All, Contains, IsPermutation, if◌then◌else◌}
+use Rattle.std.specs.Prelude.{length, All, Contains, IsPermutation, if◌then◌else◌}
 use Rattle.std.specs.List.{list_any}
 use Rattle.std.specs.List.Sorted.{IsStrictlyIncreasing}
 use Rattle.ntstatus.specs.declared.NtStatus.{NtStatus}
@@ -15,6 +15,7 @@ use Rattle.sector.specs.declared.Extent.{Extent}
 use Rattle.adapter.specs.View.{AdapterView, MovesByAll, NotesReset, ReservesMore, ReservesNear}
 use Rattle.adapter.specs.Calls.{IsBooked}
 use Rattle.adapter.specs.Booking.{Books}
+use Rattle.srb.specs.declared.Kind.{Kind}
 use Rattle.srb.specs.declared.Kind.TheVariants.{Write}
 use Rattle.machine.specs.declared.ClientRequest.{ClientRequest}
 use Rattle.machine.specs.Bare.{in_memory}
@@ -41,7 +42,7 @@ use Rattle.io_manager.specs.declared.Reply.{Reply}
 use Rattle.io_manager.specs.declared.Reply.TheVariants.{Handle as HandleReply, Ok as OkReply, Request as Requested}
 use Rattle.io_manager.specs.declared.Reply.TheVariants.{Answered, Refused, Ignored}
 use Rattle.io_manager.specs.Shown.{ManagerView, Holder}
-use Rattle.io_manager.specs.Calls.{handle_limit, are_used_up, status_of_refusal, partition_of, without_bytes}
+use Rattle.io_manager.specs.Calls.{handle_limit, are_used_up, status_of_refusal, call_on, partition_of, without_bytes}
 use Rattle.io_manager.specs.Calls.{open_refusal, reserved_by}
 
 -- the label of an answer
@@ -494,6 +495,11 @@ pub record IsRight (Row : Told → Type 0) (old new : ManagerView) : Type 0 wher
   pub told : Told
   pub replies : Row told
   pub by : IsRightBy false told old new
+
+-- for any buffer of this length, a call without it was refused so
+abbrev pub Refuses : ManagerView → Handle → Kind → ℕ → ℕ → Bool → Refusal → ManagerView → Type 0
+Refuses old handle kind offset long through reason new = (buffer : List ℕ) → long ≡ length buffer
+    → IsRight (CallReplies old handle (call_on old handle kind offset buffer through) buffer (Refused reason buffer) new) old new
 
 -- a reset that is right
 pub record IsRightReset (old new : ManagerView) : Type 0 where

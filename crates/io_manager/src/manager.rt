@@ -10,11 +10,11 @@ ghost use Rattle.machine.specs.Settled.{Settled, IsFinished};
 ghost use Rattle.machine_laws.specs.Reached.{IsReached};
 ghost use Rattle.io_manager.specs.Calls.{asked_on, call_on, without_bytes, opened_as, would_open};
 ghost use Rattle.io_manager.specs.inside.Admitting.{asked_for, AreBoundsOf, Decides, IsAdmissible};
-ghost use Rattle.io_manager.specs.Right.{IsRight, IsRightReset, IsHandleOpen, CallReplies, OpenReplies};
+ghost use Rattle.io_manager.specs.Right.{IsRight, IsRightReset, Refuses, IsHandleOpen, CallReplies, OpenReplies};
 ghost use Rattle.io_manager.specs.Right.{CloseReplies, CancelReplies, MarkReplies, ActReplies, BooksPiece};
 ghost use Rattle.io_manager.specs.Right.{FinishReplies, FitsTogether, TakesAnswer, TakesShown, TakesLabel as TakesFirst};
 
-use crate::admission::{Asked, Bounds, Decision, refusal_of, request_below, request_for};
+use crate::admission::{AtOnce, Asked, Bounds, Decision, refusal_of, request_below, request_for};
 use crate::parts::Parts;
 use crate::tables::{NUMBER_LIMIT, refused, refused_alone};
 use crate::{Answer, Handle, Id, Refusal, Reply};
@@ -175,6 +175,47 @@ impl<D: Device> IoManager<D> {
         match self.decide(partition, asked) {
             Decision::Opens => Some(self.opened_by(partition, asked)),
             Decision::UsedUp | Decision::Ends(_) => None,
+        }
+    }
+
+    /// Carries out a read, a write or a flush of this many bytes without its buffer, where it is refused before it asks
+    /// for memory, and returns the refusal: the step is that of the call with any buffer of this length. For a flush
+    /// `offset` and `length` are 0. `None`, with nothing changed, where the call would not be refused so.
+    pub fn refuse(
+        &mut self,
+        alloc: Global,
+        handle: Handle,
+        kind: Kind,
+        offset: u64,
+        length: u64,
+        through: bool,
+    ) -> Option<Refusal>
+        requires taken { self.old.labels ≡ [] }
+        requires plain { kind ≡ Flush → (offset ≡ 0) × (length ≡ 0) }
+        ensures right { MatchOption result (self.new ≡ self.old)
+            (λ refusal. Refuses self.old handle kind offset length through refusal self.new) }
+    {
+        let partition = self.parts.tables.partition_of(handle);
+        let asked = Asked {
+            kind,
+            offset,
+            length,
+            through,
+        };
+        match self.decide(partition, asked) {
+            Decision::UsedUp => Some(Refusal::DeviceBusy),
+            Decision::Ends(at_once) => match at_once {
+                AtOnce::Refused(refusal) => {
+                    let request = request_for(alloc, partition, asked);
+                    let _number = self
+                        .parts
+                        .tables
+                        .tell_at_once(alloc, request, refusal.status());
+                    Some(refusal)
+                }
+                AtOnce::Empty => None,
+            },
+            Decision::Opens => None,
         }
     }
 

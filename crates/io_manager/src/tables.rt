@@ -219,6 +219,26 @@ impl Tables {
         }
     }
 
+    /// Tells a call that ends where it begins, and its answer of this status.
+    pub(crate) fn tell_at_once(&mut self, alloc: Global, request: ClientRequest, status: NtStatus) -> u64
+        requires numbers_last { are_used_up self.old.next_request ≡ false }
+        requires places { length self.old.labels.items + 2 ≤ self.old.labels.places }
+        requires no_bytes { request.bytes ≡ [] }
+        ensures tells { AnswersAtOnce self.old request status self.new }
+        ensures number { result ≡ self.old.next_request }
+    {
+        let number = self.next_request;
+        self.next_request += 1;
+        self.labels.tell(Label::Call { number, request });
+        self.labels.tell(Label::Answer {
+            number,
+            status,
+            information: 0,
+            bytes: Bytes::new(Vec::new(alloc)),
+        });
+        number
+    }
+
     /// Tells a call that is refused or has no bytes, and its answer.
     pub(crate) fn answer_at_once(
         &mut self,
@@ -233,15 +253,7 @@ impl Tables {
         ensures tells { AnswersAtOnce self.old request (status_at_once at_once) self.new }
         ensures replies { result ≡ reply_at_once self.old.next_request buffer at_once }
     {
-        let number = self.next_request;
-        self.next_request += 1;
-        self.labels.tell(Label::Call { number, request });
-        self.labels.tell(Label::Answer {
-            number,
-            status: at_once.status(),
-            information: 0,
-            bytes: Bytes::new(Vec::new(alloc)),
-        });
+        let number = self.tell_at_once(alloc, request, at_once.status());
         match at_once {
             AtOnce::Empty => Reply::Answered(Answer {
                 number,
