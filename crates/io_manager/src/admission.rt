@@ -11,10 +11,10 @@ ghost use Rattle.io_manager.specs.Opening.{AreFirsts};
 ghost use Rattle.io_manager.specs.inside.Admitting.{asked_for, status_at_once, AreBoundsOf, IsKnown, request_of};
 ghost use Rattle.io_manager.specs.inside.Admitting.{HasLabelBytes, IsCopied, answer_room_of, first_location, IsOnTop};
 
-use noted::Noted;
 use crate::{Limits, Refusal};
 use device::{ClientRequest, Kind, Request, major_for};
 use irp::{Control, Driver, Irp, LocationFlags, Payload, StackLocation};
+use noted::Noted;
 use ntstatus::NtStatus;
 use sector::{Bytes, Extent, LabelRoom};
 use std::alloc::{AllocError, Global};

@@ -26,9 +26,9 @@ use crate::tables::{Tables, remainder_of};
 use crate::{Answer, Handle};
 use device::{Climb, Device, Kind, Label};
 use irp::{Done, Irp, Payload};
+use noted::Noted;
 use ntstatus::NtStatus;
 use sector::Bytes;
-use noted::Noted;
 use std::alloc::Global;
 use std::collections::VecDeque;
 

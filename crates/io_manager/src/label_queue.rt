@@ -58,7 +58,11 @@ impl<T: Told> LabelQueue<T> {
     /// # Errors
     ///
     /// [`AllocError`] where memory for these was refused.
-    pub(crate) fn new(alloc: Global, places: usize, keeps_bytes: bool) -> Result<LabelQueue<T>, AllocError>
+    pub(crate) fn new(
+        alloc: Global,
+        places: usize,
+        keeps_bytes: bool,
+    ) -> Result<LabelQueue<T>, AllocError>
         ensures { IfOk result (λ queue. queue ≡ record { items = []; places = places; keeps = true; keeps_bytes = keeps_bytes }) }
     {
         Ok(LabelQueue {

@@ -14,7 +14,7 @@ ghost use Rattle.io_manager.specs.Right.{IsRight, IsRightReset, Refuses, IsHandl
 ghost use Rattle.io_manager.specs.Right.{CloseReplies, CancelReplies, MarkReplies, ActReplies, BooksPiece};
 ghost use Rattle.io_manager.specs.Right.{FinishReplies, FitsTogether, TakesAnswer, TakesShown, TakesLabel as TakesFirst};
 
-use crate::admission::{AtOnce, Asked, Bounds, Decision, refusal_of, request_below, request_for};
+use crate::admission::{Asked, AtOnce, Bounds, Decision, refusal_of, request_below, request_for};
 use crate::parts::Parts;
 use crate::tables::{NUMBER_LIMIT, refused, refused_alone};
 use crate::{Answer, Handle, Id, Refusal, Reply};

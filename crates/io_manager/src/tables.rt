@@ -220,7 +220,12 @@ impl Tables {
     }
 
     /// Tells a call that ends where it begins, and its answer of this status.
-    pub(crate) fn tell_at_once(&mut self, alloc: Global, request: ClientRequest, status: NtStatus) -> u64
+    pub(crate) fn tell_at_once(
+        &mut self,
+        alloc: Global,
+        request: ClientRequest,
+        status: NtStatus,
+    ) -> u64
         requires numbers_last { are_used_up self.old.next_request ≡ false }
         requires places { length self.old.labels.items + 2 ≤ self.old.labels.places }
         requires no_bytes { request.bytes ≡ [] }

@@ -95,7 +95,13 @@ fn noted(bytes: &Bytes) -> Noted<u8>
 }
 
 /// The label of an act, with the room for its bytes where they are kept.
-pub(crate) fn recorded_act(keeps: bool, tag: u8, piece: u128, bytes: &Bytes, room: LabelRoom) -> Recorded
+pub(crate) fn recorded_act(
+    keeps: bool,
+    tag: u8,
+    piece: u128,
+    bytes: &Bytes,
+    room: LabelRoom,
+) -> Recorded
     requires room { IsTrue keeps → length bytes.now ≤ room }
     ensures tells { (slots : List (Option OnTag)) → HasActed (piece_at slots tag) → data_of (piece_at slots tag) ≡ bytes.now → Tells slots keeps result (Act piece bytes.now) }
 {
