@@ -16,7 +16,7 @@ mod stack;
 mod start;
 
 use device::Label;
-pub use io_manager::{Answer, Handle, Id, OpenHandle, Refusal, Reply};
+pub use io_manager::{Answer, Asked, Handle, Id, OpenHandle, Refusal, Reply};
 pub use laws::{
     armed_may_be_booked, booked_acts_add_entries, idle_acts_keep_entries, steps_call_once,
     steps_keep_entries, steps_leave_answers, steps_open_as_told, steps_stay_apart,

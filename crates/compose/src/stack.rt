@@ -1,6 +1,7 @@
 //! The stack over an adapter: what its user calls.
 
-ghost use Rattle.std.specs.Prelude.{◌≡◌, [], IfOk, IfErr, IsTrue, MatchOption, MatchResult, Some};
+ghost use Rattle.std.specs.Prelude.{◌≡◌, [], IfOk, IfErr, IsTrue, MatchOption, MatchResult, Some, option_copied};
+ghost use Rattle.srb.specs.declared.Kind.TheVariants.{Flush};
 ghost use Rattle.adapter.specs.View.{IsInOrder};
 ghost use Rattle.adapter.specs.Calls.{HasNoneFresh};
 ghost use Rattle.adapter.specs.Booking.{IsArmed, handed};
@@ -8,14 +9,16 @@ ghost use Rattle.machine.specs.Rules.{sectors_of};
 ghost use Rattle.machine.specs.Settled.{Settled, IsFinished};
 ghost use Rattle.machine_laws.specs.Reached.{IsReached};
 ghost use Rattle.probe.specs.Exchange.{IsIdle};
-ghost use Rattle.io_manager.specs.Right.{BooksPiece, FitsTogether, TakesAnswer, TakesAnswerOf};
+ghost use Rattle.io_manager.specs.Right.{BooksPiece, FitsTogether, IsNextAnswer, Refuses, TakesAnswer, TakesAnswerOf};
 ghost use Rattle.io_manager.specs.Right.{TakesShown, TakesLabel as TakesFirst};
 ghost use Rattle.compose.specs.Right.{IsRight, StepsUntraced, opened_by};
 ghost use Rattle.compose.specs.Opening.{IsFirstView, IsSpent};
 ghost use Rattle.compose.specs.Runs.{CarriesAll, IsLawful, StopsAfter};
 
 use crate::start::{Manager, manager_over};
-use crate::{Answer, Event, Reply, RunStopped, Settings, Shown, StartFault, events};
+use crate::{
+    Answer, Asked, Event, Handle, Refusal, Reply, RunStopped, Settings, Shown, StartFault, events,
+};
 use adapter::Adapter;
 use device::Label;
 use sector::Extent;
@@ -91,6 +94,18 @@ impl<A: Adapter> Stack<A> {
         ensures whole { FitsTogether self.new }
     {
         events::step_untraced(&mut self.manager, alloc, event)
+    }
+
+    /// Carries out a read, a write or a flush without its buffer, where it is refused before it asks for memory, and
+    /// returns the refusal: the step is that of the call with any buffer of this length. `None`, with nothing changed,
+    /// where the call would not be refused so.
+    pub fn refuse(&mut self, alloc: Global, handle: Handle, asked: Asked) -> Option<Refusal>
+        requires taken { self.old.labels ≡ [] }
+        requires plain { asked.kind ≡ Flush → (asked.offset ≡ 0) × (asked.length ≡ 0) }
+        ensures right { MatchOption result (self.new ≡ self.old)
+            (λ refusal. Refuses self.old handle asked refusal self.new) }
+    {
+        self.manager.refuse(alloc, handle, asked)
     }
 
     /// Returns what a read, a write or a flush would open if it were the next event: the number of pieces that its
@@ -169,6 +184,13 @@ impl<A: Adapter> Stack<A> {
         ensures { TakesFirst self.old result self.new }
     {
         self.manager.take_label()
+    }
+
+    /// The waiting answer with the lowest number, which [`Stack::take_answer`] takes next.
+    pub fn first_answer(&self) -> Option<&Answer>
+        ensures { IsNextAnswer self.now (option_copied result) }
+    {
+        self.manager.first_answer()
     }
 
     /// Takes the waiting answer with the lowest number. Answers wait from step to step, one for each `Answer` label of

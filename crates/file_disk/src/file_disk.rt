@@ -37,7 +37,7 @@ pub struct Sizes {
 
 /// What a command asks of a file.
 #[derive(Debug, Clone, Copy, PartialEq, Eq)]
-pub(crate) enum Task {
+pub enum Task {
     Read,
     /// A write; with `through` it goes past volatile caches.
     Write { through: bool },

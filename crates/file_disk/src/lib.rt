@@ -20,7 +20,7 @@ mod record;
 mod storage;
 
 pub use disk_file::DiskFile;
-pub use file_disk::{FileDisk, Moved, Sizes};
+pub use file_disk::{FileDisk, Moved, Sizes, Task};
 pub use memory::MemoryFile;
 pub use moving::{read_all, write_all};
 pub use record::Record;

@@ -1,6 +1,8 @@
 -- One of the answers that wait is taken out, or the earliest label.
-use Rattle.std.proofs.Common.{◌≡◌, ◌≤◌, ℕ, zero, suc, Bool, IsTrue, refl, List, [], ◌∷◌, None, sym, ap, ◌∙◌, subst, arith, map}
-use Rattle.std.specs.Prelude.{All, Option, Some, OnSome, remove}
+use Rattle.std.proofs.Common.{◌≡◌, ◌<◌, ◌≤◌, ℕ, zero, suc, Bool, IsTrue, refl, List, [], ◌∷◌, None, sym, ap, ◌∙◌, subst, arith, map}
+use Rattle.std.specs.Prelude.{All, Option, Some, OnSome, MatchOption, remove, length, option_copied}
+use Rattle.std.specs.List.{HoldsAt}
+use Rattle.std.specs.Borrow.{Bor}
 use Rattle.std.specs.VecDeque.{deque_len, deque_capacity}
 use Rattle.std.proofs.lemmas.List.Elements.{All-head, All-tail, All-cons, All-nil}
 use Rattle.slab.specs.Slab.{Slab}
@@ -15,7 +17,7 @@ use Rattle.io_manager.specs.Shown.{ManagerView}
 use Rattle.io_manager.proofs.InMemory.{whole_label}
 use Rattle.io_manager.specs.inside.Ordering.{HasOtherNumber}
 use Rattle.io_manager.specs.inside.Queue.{QueueView, SameQueue, TakesFirst}
-use Rattle.io_manager.specs.Right.{AreRising, IsAbove, TakesLabel, TakesShown, answer_number}
+use Rattle.io_manager.specs.Right.{AreRising, IsAbove, IsNextAnswer, TakesLabel, TakesShown, answer_number}
 use Rattle.io_manager.specs.inside.Sound.{WasGiven, AreApart, ManagerKept, view_of}
 
 all_but : {X : Type 0} (P : X → Type 0) (xs : List X) (at : ℕ) → All P xs → All P (remove xs at)
@@ -85,6 +87,16 @@ with_fewer limits below tables other at kept items shorter same =
 -- what is said of an answer that is there
 pub of_some : {X : Type 0} (found : Option X) (x : X) (P : Type 0) → found ≡ Some x → OnSome found P → P
 of_some found x P is h = subst (λ (o : Option _). OnSome o P) is h
+
+-- the answer in front is the next that is taken
+pub seen_first : (v : ManagerView) (answers : List Answer) (found : Option (Bor Answer)) → v.answers ≡ answers → AreRising (map answer_number answers)
+    → MatchOption found (length answers ≤ 0) (λ x. (0 < length answers) × HoldsAt (λ y. x.now ≡ y) answers 0) → IsNextAnswer v (option_copied found)
+seen_first v [] None is rising first = (v, (is, refl))
+seen_first v [] (Some x) is rising first = absurd (let none : 0 < 0 = first.0 in omega arith)
+seen_first v (a ∷ rest) None is rising first = absurd (let none : suc (length rest) ≤ 0 = first in omega arith)
+seen_first v (a ∷ rest) (Some x) is rising first =
+    let here : x.now ≡ a = first.1 a in
+    (record v { answers = rest }, (rest, is ∙ ap (λ y. y ∷ rest) (sym here), subst (λ (y : Answer). All (IsAbove y.number) (map answer_number rest)) (sym here) rising.0, refl))
 
 -- THE EARLIEST LABEL
 

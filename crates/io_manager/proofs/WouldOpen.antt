@@ -16,7 +16,7 @@ use Rattle.machine.specs.Sending.{partition_number}
 use Rattle.device.specs.View.{DeviceView}
 use Rattle.io_manager.specs.declared.Handle.{Handle}
 use Rattle.io_manager.specs.declared.Limits.{Limits}
-use Rattle.io_manager.specs.declared.admission.Asked.{Asked}
+use Rattle.io_manager.specs.declared.Asked.{Asked}
 use Rattle.io_manager.specs.declared.tables.Tables.{Tables}
 use Rattle.io_manager.specs.Shown.{ManagerView}
 use Rattle.io_manager.specs.Calls.{are_used_up, partition_of, call_on, without_bytes, opened_as, would_open}

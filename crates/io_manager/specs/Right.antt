@@ -33,6 +33,7 @@ use Rattle.pnp.specs.declared.State.{State as PnpState}
 use Rattle.pnp.specs.declared.State.TheVariants.{Started, RemovePending, Removing, Removed}
 use Rattle.pnp.specs.Table.{Event, QueryRemove, CancelRemove, Remove as RemoveDevice, SurpriseRemove, next}
 use Rattle.io_manager.specs.declared.Answer.{Answer}
+use Rattle.io_manager.specs.declared.Asked.{Asked}
 use Rattle.io_manager.specs.declared.Handle.{Handle}
 use Rattle.io_manager.specs.declared.Id.{Id}
 use Rattle.io_manager.specs.declared.Refusal.{Refusal}
@@ -496,10 +497,10 @@ pub record IsRight (Row : Told → Type 0) (old new : ManagerView) : Type 0 wher
   pub replies : Row told
   pub by : IsRightBy false told old new
 
--- for any buffer of this length, a call without it was refused so
-abbrev pub Refuses : ManagerView → Handle → Kind → ℕ → ℕ → Bool → Refusal → ManagerView → Type 0
-Refuses old handle kind offset long through reason new = (buffer : List ℕ) → long ≡ length buffer
-    → IsRight (CallReplies old handle (call_on old handle kind offset buffer through) buffer (Refused reason buffer) new) old new
+-- for any buffer of the length that is asked for, a call without it was refused so
+abbrev pub Refuses : ManagerView → Handle → Asked → Refusal → ManagerView → Type 0
+Refuses old handle asked reason new = (buffer : List ℕ) → asked.length ≡ length buffer
+    → IsRight (CallReplies old handle (call_on old handle asked.kind asked.offset buffer asked.through) buffer (Refused reason buffer) new) old new
 
 -- a reset that is right
 pub record IsRightReset (old new : ManagerView) : Type 0 where
@@ -553,6 +554,10 @@ TakesAnswer old None new = (old.answers ≡ []) × (new ≡ old)
 TakesAnswer old (Some answer) new =
     (rest : List Answer) × (old.answers ≡ answer ∷ rest) × All (IsAbove answer.number) (map answer_number rest)
     × (new ≡ record old { answers = rest })
+
+-- the answer that is taken next, if one waits
+abbrev pub IsNextAnswer : ManagerView → Option Answer → Type 0
+IsNextAnswer v next = (after : ManagerView) × TakesAnswer v next after
 
 -- the answer is that of another request
 abbrev pub IsOfAnother : ℕ → Answer → Type 0

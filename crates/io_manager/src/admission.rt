@@ -11,24 +11,13 @@ ghost use Rattle.io_manager.specs.Opening.{AreFirsts};
 ghost use Rattle.io_manager.specs.inside.Admitting.{asked_for, status_at_once, AreBoundsOf, IsKnown, request_of};
 ghost use Rattle.io_manager.specs.inside.Admitting.{HasLabelBytes, IsCopied, answer_room_of, first_location, IsOnTop};
 
-use crate::{Limits, Refusal};
+use crate::{Asked, Limits, Refusal};
 use device::{ClientRequest, Kind, Request, major_for};
 use irp::{Control, Driver, Irp, LocationFlags, Payload, StackLocation};
 use noted::Noted;
 use ntstatus::NtStatus;
 use sector::{Bytes, Extent, LabelRoom};
 use std::alloc::{AllocError, Global};
-
-/// What a call asks of a partition, without its bytes.
-#[derive(Debug, Clone, Copy, PartialEq, Eq)]
-pub(crate) struct Asked {
-    pub(crate) kind: Kind,
-    /// In bytes, from the start of the partition.
-    pub(crate) offset: u64,
-    /// In bytes.
-    pub(crate) length: u64,
-    pub(crate) through: bool,
-}
 
 /// What bounds a request.
 #[derive(Debug, Clone, Copy, PartialEq, Eq)]

@@ -25,6 +25,7 @@ mod parts;
 mod removal;
 mod tables;
 
+use device::Kind;
 pub use manager::IoManager;
 use ntstatus::NtStatus;
 use sector::Bytes;
@@ -67,6 +68,18 @@ pub struct Limits {
     pub keeps_bytes: bool,
     /// The sector of the disk where each partition begins, by the partition's number.
     pub first_sectors: [u64; 4],
+}
+
+/// What a read, a write or a flush asks of a partition, without its bytes. Of a flush offset and length are 0.
+#[derive(Debug, Clone, Copy, PartialEq, Eq)]
+pub struct Asked {
+    pub kind: Kind,
+    /// In bytes, from the start of the partition.
+    pub offset: u64,
+    /// In bytes.
+    pub length: u64,
+    /// Whether a write goes past volatile caches (WDK: SL_WRITE_THROUGH).
+    pub through: bool,
 }
 
 /// Why a call was refused.

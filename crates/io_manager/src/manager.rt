@@ -1,6 +1,6 @@
 //! Client calls and adapter steps over any device stack. Each call restores the manager's invariant.
 
-ghost use Rattle.std.specs.Prelude.{◌≡◌, ◌<◌, [], false, length, Some, None, IsTrue, MatchOption};
+ghost use Rattle.std.specs.Prelude.{◌≡◌, ◌<◌, [], false, length, option_copied, Some, None, IsTrue, MatchOption};
 ghost use Rattle.adapter.specs.View.{IsInOrder};
 ghost use Rattle.adapter.specs.Calls.{HasNoneFresh};
 ghost use Rattle.adapter.specs.Booking.{IsArmed, handed};
@@ -12,12 +12,12 @@ ghost use Rattle.io_manager.specs.Calls.{asked_on, call_on, without_bytes, opene
 ghost use Rattle.io_manager.specs.inside.Admitting.{asked_for, AreBoundsOf, Decides, IsAdmissible};
 ghost use Rattle.io_manager.specs.Right.{IsRight, IsRightReset, Refuses, IsHandleOpen, CallReplies, OpenReplies};
 ghost use Rattle.io_manager.specs.Right.{CloseReplies, CancelReplies, MarkReplies, ActReplies, BooksPiece};
-ghost use Rattle.io_manager.specs.Right.{FinishReplies, FitsTogether, TakesAnswer, TakesShown, TakesLabel as TakesFirst};
+ghost use Rattle.io_manager.specs.Right.{FinishReplies, FitsTogether, IsNextAnswer, TakesAnswer, TakesShown, TakesLabel as TakesFirst};
 
-use crate::admission::{Asked, AtOnce, Bounds, Decision, refusal_of, request_below, request_for};
+use crate::admission::{AtOnce, Bounds, Decision, refusal_of, request_below, request_for};
 use crate::parts::Parts;
 use crate::tables::{NUMBER_LIMIT, refused, refused_alone};
-use crate::{Answer, Handle, Id, Refusal, Reply};
+use crate::{Answer, Asked, Handle, Id, Refusal, Reply};
 use device::{ClientRequest, Device, Kind, Label, Shown};
 use sector::{Bytes, Extent};
 use srb::{Booked, Srb};
@@ -178,30 +178,16 @@ impl<D: Device> IoManager<D> {
         }
     }
 
-    /// Carries out a read, a write or a flush of this many bytes without its buffer, where it is refused before it asks
-    /// for memory, and returns the refusal: the step is that of the call with any buffer of this length. For a flush
-    /// `offset` and `length` are 0. `None`, with nothing changed, where the call would not be refused so.
-    pub fn refuse(
-        &mut self,
-        alloc: Global,
-        handle: Handle,
-        kind: Kind,
-        offset: u64,
-        length: u64,
-        through: bool,
-    ) -> Option<Refusal>
+    /// Carries out a call without its buffer, where it is refused before it asks for memory, and returns the refusal: the
+    /// step is that of the call with any buffer of this length. `None`, with nothing changed, where the call would not
+    /// be refused so.
+    pub fn refuse(&mut self, alloc: Global, handle: Handle, asked: Asked) -> Option<Refusal>
         requires taken { self.old.labels ≡ [] }
-        requires plain { kind ≡ Flush → (offset ≡ 0) × (length ≡ 0) }
+        requires plain { asked.kind ≡ Flush → (asked.offset ≡ 0) × (asked.length ≡ 0) }
         ensures right { MatchOption result (self.new ≡ self.old)
-            (λ refusal. Refuses self.old handle kind offset length through refusal self.new) }
+            (λ refusal. Refuses self.old handle asked refusal self.new) }
     {
         let partition = self.parts.tables.partition_of(handle);
-        let asked = Asked {
-            kind,
-            offset,
-            length,
-            through,
-        };
         match self.decide(partition, asked) {
             Decision::UsedUp => Some(Refusal::DeviceBusy),
             Decision::Ends(at_once) => match at_once {
@@ -354,6 +340,13 @@ impl<D: Device> IoManager<D> {
         ensures forgets { self.new ≡ record self.old { labels = [] } }
     {
         self.parts.tables.labels.forget();
+    }
+
+    /// The waiting answer with the lowest number, which [`IoManager::take_answer`] takes next.
+    pub fn first_answer(&self) -> Option<&Answer>
+        ensures next { IsNextAnswer self.now (option_copied result) }
+    {
+        self.parts.tables.untaken.front()
     }
 
     /// Takes the waiting answer with the lowest number.

@@ -82,7 +82,7 @@ pub run_alone : (rules : Rules) (number : ℕ) (q : ClientRequest) (place : ℕ)
 run_alone rules number q place low s [] s' sound k run solo = inl (ap (λ arrays. slice_get (array_at arrays (partition_number q)) (sector_of rules q place)) (sym run.arrays))
 run_alone rules number q place low s (label ∷ labels) s' sound k run solo =
     let mid : State = run.0 in
-    let k' : Serves rules number q Anything mid = Serves-Step rules number q Anything s label mid sound.0 (act_anyhow rules number s mid) k run.1 in
+    let k' : Serves rules number q Anything mid = Serves-Step rules number q Anything s label mid sound.0 (act_anyhow rules number s label mid) k run.1 in
     elim (run_alone rules number q place low mid labels s' (IsSound-Step rules s label mid sound run.1) k' run.2 solo.1) [
       | inr later ↦ inr (later.0, inr later.1, later.2)
       | inl same ↦ elim (step_alone rules number q Anything place low s label mid sound k solo.0 (step_arrays rules s label mid run.1)) [

@@ -1,39 +1,35 @@
 -- Entries that are of the acts of a trace by its labels are so by its run.
-use Rattle.std.proofs.Common.{◌≡◌, ◌≢◌, ◌<◌, ◌≤◌, inl, inr, ℕ, zero, suc, ◌+◌, Bool, true, false, IsTrue, IsFalse, List, [], ◌∷◌, Option, Some, None, refl, sym, ◌∙◌, ap, subst, arith, map, length, get_or, if◌then◌else◌}
+use Rattle.std.proofs.Common.{◌≡◌, ◌≢◌, ◌<◌, ◌≤◌, inl, inr, ℕ, zero, suc, ◌+◌, Bool, true, false, IsTrue, List, [], ◌∷◌, Option, Some, None, refl, sym, ◌∙◌, ap, subst, arith, get_or, if◌then◌else◌}
 use Rattle.std.specs.Prelude.{IsPermutation, All, Contains, is_none, unwrap_or}
-use Rattle.std.proofs.lemmas.List.Sorted.{IsPermutation-sym, All-permutation, Contains-permutation}
+use Rattle.std.proofs.lemmas.List.Sorted.{IsPermutation-sym, All-permutation}
 use Rattle.std.proofs.lemmas.List.Elements.{All-nil, All-head, All-tail, All-cons, All-weaker, All-map, All-contains, All-contains_itself}
 use Rattle.ntstatus.specs.declared.NtStatus.{NtStatus}
 use Rattle.ntstatus.specs.declared.NtStatus.TheVariants.{InvalidHandle}
 use Rattle.ntstatus.proofs.First.{none_first}
 use Rattle.sector.specs.declared.Extent.{Extent}
-use Rattle.cdb.specs.declared.Cdb.{Cdb}
-use Rattle.cdb.specs.declared.Cdb.TheVariants.{Read10, Write10, Sync10, ReadCapacity10, Read16, Write16, Sync16, ReadCapacity16}
+use Rattle.cdb.specs.declared.Cdb.TheVariants.{Read10, Write10, Sync10, Read16, Write16, Sync16}
 use Rattle.cdb.specs.Meaning.{Means}
 use Rattle.cdb.proofs.Once.{means_once}
 use Rattle.srb.specs.declared.Entry.{Entry}
 use Rattle.srb.specs.declared.Kind.{Kind}
 use Rattle.srb.specs.declared.Kind.TheVariants.{Read, Write, Flush}
-use Rattle.srb.specs.declared.DeviceLabel.{DeviceLabel}
 use Rattle.srb.specs.declared.DeviceLabel.TheVariants.{Start, Act, Fault, Return}
 use Rattle.srb.specs.Fate.{Fate, Acted, Faulted}
 use Rattle.machine.specs.declared.ClientRequest.{ClientRequest}
 use Rattle.machine.specs.declared.Label.{Label}
 use Rattle.machine.specs.declared.Label.TheVariants.{Call, Device, Answer, Cancel, Pause, Resume, Remove, Surprise, Removed}
 use Rattle.machine.specs.Rules.{Rules, is_transfer, first_sector, home}
-use Rattle.machine.specs.State.{Mark, Done, OpenRequest, Piece, State, IsSame, opening}
+use Rattle.machine.specs.State.{Mark, Done, OpenRequest, Piece, State, opening}
 use Rattle.machine.specs.Calling.{refusal, Admits, new_request}
-use Rattle.machine.specs.Sending.{Starts, Acts, sent, given_back, new_piece, with_fate, partition_number, command_for, read_command, write_command, flush_command, fits_ten}
+use Rattle.machine.specs.Sending.{Starts, Acts, sent, given_back, new_piece, with_fate, command_for}
 use Rattle.machine.specs.Holding.{held_back, beyond, as_timely, as_cancelled}
 use Rattle.machine.specs.Numbers.{request_number, AreDistinct, IsGiven}
-use Rattle.machine.specs.Step.{DeviceStep, FreeStep, OwingStep, Step, Run}
-use Rattle.machine.proofs.Numbers.{AreDistinct-Step}
+use Rattle.machine.specs.Step.{Step, Run}
 use Rattle.machine.proofs.Permuting.{distinct_first}
-use Rattle.machine_laws.specs.Reached.{AreWhole}
-use Rattle.machine_laws.specs.Lifting.{IsEntryOf, DeviceTakes, StepTakes, AreActsOf}
+use Rattle.machine_laws.specs.Lifting.{IsEntryOf, StepTakes, AreActsOf}
 use Rattle.machine_laws.specs.Booked.{IsTransfer, IsAskedBy, IsOfAct, TakesEntry, AreOfActs, EntriesAreOfRuns}
 use Rattle.machine_laws.proofs.Serving.{IsRightMark, IsRightFate, IsMine, PieceFits, Serves, Serves-Step}
-use Rattle.machine_laws.proofs.Sound.{Anything, nothing, IsSound, IsSound-Step, IsSound-opening, act_anyhow}
+use Rattle.machine_laws.proofs.Sound.{Anything, IsSound, IsSound-Step, IsSound-opening, act_anyhow}
 
 -- STARTS HAVE NUMBERS OF THEIR OWN
 
@@ -225,7 +221,7 @@ module _ (rules : Rules) (trace : List Label) where
     q = k.q;
     started = k.started;
     asks = k.asks;
-    serves = Serves-Step rules p.owner k.q Anything s label s' d (act_anyhow rules p.owner s s') k.serves h;
+    serves = Serves-Step rules p.owner k.q Anything s label s' d (act_anyhow rules p.owner s label s') k.serves h;
   }
 
   any_fated : (s : State) (p : Piece) (fate : Fate) → HasStart rules trace s p → HasStart rules trace s (with_fate fate p)
@@ -251,7 +247,7 @@ module _ (rules : Rules) (trace : List Label) where
     q = h.owner.request;
     started = subst (λ n. Contains trace (Device (Start n tag block))) h.next_number there;
     asks = h.asks;
-    serves = Serves-Step rules h.owner.number h.owner.request Anything s (Device (Start piece tag block)) s' sound.0 (act_anyhow rules h.owner.number s s') (any_serves rules s h.owner h.others sound h.is_open) step;
+    serves = Serves-Step rules h.owner.number h.owner.request Anything s (Device (Start piece tag block)) s' sound.0 (act_anyhow rules h.owner.number s (Device (Start piece tag block)) s') (any_serves rules s h.owner h.others sound h.is_open) step;
   }
 
   started_step : (s : State) (label : Label) (s' : State) → IsSound rules s → Contains trace label → Step rules s label s' → AllStarted s s.pieces → AllStarted s' s'.pieces

@@ -12,7 +12,7 @@ use Rattle.machine.specs.Step.{Run}
 use Rattle.machine.specs.Solo.{IsSoloAt, IsSolo, IsServed}
 use Rattle.machine.proofs.Same.{IsSame-sym}
 use Rattle.machine_laws.proofs.Marks.{all_right}
-use Rattle.machine_laws.proofs.Serving.{Mine, Serves, AllActRightly, Serves-same, Serves-Step, sized_first, mine_first}
+use Rattle.machine_laws.proofs.Serving.{Mine, Serves, AllActRightly, acts_by, Serves-same, Serves-Step, sized_first, mine_first}
 use Rattle.machine_laws.proofs.Sound.{IsSound, IsSound-Step, called_sound, called_serves}
 
 -- a request whose places are all done, each as is right
@@ -28,7 +28,7 @@ module _ (rules : Rules) (number : ℕ) (q : ClientRequest) (Right : List (List 
   Serves-Run s [] s' sound k run solo = Serves-same rules number q Right s' s (IsSame-sym s s' run) k
   Serves-Run s (label ∷ labels) s' sound k run solo =
       Serves-Run run.0 labels s' (IsSound-Step rules s label run.0 sound run.1)
-      (Serves-Step rules number q Right s label run.0 sound.0 (acts s run.0 sound k solo.0) k run.1) run.2 solo.1
+      (Serves-Step rules number q Right s label run.0 sound.0 (acts_by rules number Right s label run.0 (acts s run.0 sound k solo.0)) k run.1) run.2 solo.1
 
   -- where its acts keep right what is right of its places, that is right at its answer
   pub done_rightly : (before : State) (bytes : List ℕ) (after : State) → IsSound rules before → (served : IsServed rules number q bytes before after)

@@ -87,6 +87,25 @@ pub record ActsRightly (rules : Rules) (number : ℕ) (Right : List (List (List 
 abbrev pub AllActRightly : Rules → ℕ → (List (List (List ℕ)) → ℕ → List ℕ → Type 0) → State → State → Type 0
 AllActRightly rules number Right s s' = (n : ℕ) (bytes : List ℕ) (h : Acts rules s n bytes s') → ActsRightly rules number Right s n bytes s' h
 
+-- the act that the label is, if it is one
+abbrev pub ActsRightlyBy : Rules → ℕ → (List (List (List ℕ)) → ℕ → List ℕ → Type 0) → State → Label → State → Type 0
+ActsRightlyBy rules number Right s (Device (Act n bytes)) s' = (h : Acts rules s n bytes s') → ActsRightly rules number Right s n bytes s' h
+ActsRightlyBy rules number Right s label s' = Unit {0}
+
+pub acts_by : (rules : Rules) (number : ℕ) (Right : List (List (List ℕ)) → ℕ → List ℕ → Type 0) (s : State) (label : Label) (s' : State) → AllActRightly rules number Right s s' → ActsRightlyBy rules number Right s label s'
+acts_by rules number Right s (Device (Act n bytes)) s' acts = acts n bytes
+acts_by rules number Right s (Device (Start n tag block)) s' acts = tt
+acts_by rules number Right s (Device (Fault n)) s' acts = tt
+acts_by rules number Right s (Device (Return n class)) s' acts = tt
+acts_by rules number Right s (Call n r) s' acts = tt
+acts_by rules number Right s (Answer n status informed bytes) s' acts = tt
+acts_by rules number Right s (Cancel n) s' acts = tt
+acts_by rules number Right s Pause s' acts = tt
+acts_by rules number Right s Resume s' acts = tt
+acts_by rules number Right s Remove s' acts = tt
+acts_by rules number Right s Surprise s' acts = tt
+acts_by rules number Right s Removed s' acts = tt
+
 -- MARKS AND FATES
 
 right_mark : (old new : ℕ → List ℕ → Type 0) → ((k : ℕ) (sector : List ℕ) → old k sector → new k sector) → (k : ℕ) (m : Mark) → IsRightMark old k m → IsRightMark new k m
@@ -279,9 +298,9 @@ module _ (rules : Rules) (number : ℕ) (q : ClientRequest) (Right : List (List 
       Serves-same s' _ h.after (met (record s { arrays = h.arrays' }) p h.other_pieces (Acted h.sectors) h.fresh.is_out k1 h.covers rightly.leaves)
 
   -- RETURN
-  Serves-DeviceStep : (s : State) (label : DeviceLabel) (s' : State) → AreDistinct s → AllActRightly rules number Right s s' → Serves rules number q Right s → DeviceStep rules s label s' → Serves rules number q Right s'
+  Serves-DeviceStep : (s : State) (label : DeviceLabel) (s' : State) → AreDistinct s → ActsRightlyBy rules number Right s (Device label) s' → Serves rules number q Right s → DeviceStep rules s label s' → Serves rules number q Right s'
   Serves-DeviceStep s (Start k' tag block) s' d acts k h = Serves-Starts s k' tag block s' d k h
-  Serves-DeviceStep s (Act k' bytes) s' d acts k h = Serves-Acts s k' bytes s' k h (acts k' bytes h)
+  Serves-DeviceStep s (Act k' bytes) s' d acts k h = Serves-Acts s k' bytes s' k h (acts h)
   Serves-DeviceStep s (Fault k') s' d acts k h = Serves-same s' _ h.after (met s h.piece h.other_pieces Faulted h.fresh.is_out k tt (λ e. tt))
   Serves-DeviceStep s (Return k' class) s' d acts k h =
       let o : OpenRequest = h.owner in
@@ -356,7 +375,7 @@ module _ (rules : Rules) (number : ℕ) (q : ClientRequest) (Right : List (List 
   Serves-paused s None k = with_requests s s.requests k k.sized k.mine (λ p h. h)
   Serves-paused s (Some window) k = each s (beyond window s.requests) (λ o. refl) (λ o. refl) (λ o. refl) k
 
-  pub Serves-FreeStep : (s : State) (label : Label) (s' : State) → AreDistinct s → AllActRightly rules number Right s s' → Serves rules number q Right s → FreeStep rules s label s' → Serves rules number q Right s'
+  pub Serves-FreeStep : (s : State) (label : Label) (s' : State) → AreDistinct s → ActsRightlyBy rules number Right s label s' → Serves rules number q Right s → FreeStep rules s label s' → Serves rules number q Right s'
   Serves-FreeStep s (Call n r) s' d acts k h = Serves-Admits s n r (refusal rules s r) s' (rw h.next_number (omega arith)) k h.admits
   Serves-FreeStep s (Device label) s' d acts k h = Serves-DeviceStep s label s' d acts k h
   Serves-FreeStep s (Answer n status informed bytes) s' d acts k h =
@@ -380,6 +399,6 @@ module _ (rules : Rules) (number : ℕ) (q : ClientRequest) (Right : List (List 
   Serves-OwingStep s (Answer n status informed bytes) s' k h = Serves-same s' _ h.after (flagged s None s.next_piece s.paused s.removing s.removed k)
   Serves-OwingStep s _ s' k h = absurd h
 
-  pub Serves-Step : (s : State) (label : Label) (s' : State) → AreDistinct s → AllActRightly rules number Right s s' → Serves rules number q Right s → Step rules s label s' → Serves rules number q Right s'
+  pub Serves-Step : (s : State) (label : Label) (s' : State) → AreDistinct s → ActsRightlyBy rules number Right s label s' → Serves rules number q Right s → Step rules s label s' → Serves rules number q Right s'
   Serves-Step s label s' d acts k (inl h) = Serves-FreeStep s label s' d acts k h.1
   Serves-Step s label s' d acts k (inr h) = Serves-OwingStep s label s' k h

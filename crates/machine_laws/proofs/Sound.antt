@@ -17,7 +17,7 @@ use Rattle.machine.proofs.Same.{IsSame-sym}
 use Rattle.machine.proofs.Numbers.{AreDistinct-Admits, AreDistinct-Step, AreDistinct-Run}
 use Rattle.sector.proofs.Splicing.{AllAt}
 use Rattle.machine_laws.specs.Reached.{AreWhole, IsReached}
-use Rattle.machine_laws.proofs.Serving.{IsRightMark, IsSized, IsMine, PieceFits, Serves, AllActRightly, Serves-same, Serves-Opens, Serves-Step}
+use Rattle.machine_laws.proofs.Serving.{IsRightMark, IsSized, IsMine, PieceFits, Serves, ActsRightlyBy, acts_by, Serves-same, Serves-Opens, Serves-Step}
 
 -- any sector is right
 abbrev pub Anything : List (List (List ℕ)) → ℕ → List ℕ → Type 0
@@ -30,12 +30,12 @@ nothing = record { partition = Some 0; kind = Read; offset = 0; length = 0; thro
 abbrev pub IsSound : Rules → State → Type 0
 IsSound rules s = AreDistinct s × Serves rules 0 nothing Anything s
 
-pub act_anyhow : (rules : Rules) (number : ℕ) (s s' : State) → AllActRightly rules number Anything s s'
-act_anyhow rules number s s' n bytes h = record { keeps = λ k sector right. tt; leaves = λ e k d within. tt }
+pub act_anyhow : (rules : Rules) (number : ℕ) (s : State) (label : Label) (s' : State) → ActsRightlyBy rules number Anything s label s'
+act_anyhow rules number s label s' = acts_by rules number Anything s label s' (λ n bytes h. record { keeps = λ k sector right. tt; leaves = λ e k d within. tt })
 
 pub IsSound-Step : (rules : Rules) (s : State) (label : Label) (s' : State) → IsSound rules s → Step rules s label s' → IsSound rules s'
 IsSound-Step rules s label s' sound h =
-    (AreDistinct-Step rules s label s' sound.0 h, Serves-Step rules 0 nothing Anything s label s' sound.0 (act_anyhow rules 0 s s') sound.1 h)
+    (AreDistinct-Step rules s label s' sound.0 h, Serves-Step rules 0 nothing Anything s label s' sound.0 (act_anyhow rules 0 s label s') sound.1 h)
 
 pub IsSound-same : (rules : Rules) (s t : State) → IsSame s t → IsSound rules t → IsSound rules s
 IsSound-same rules s t h sound =

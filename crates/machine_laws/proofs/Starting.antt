@@ -13,7 +13,7 @@ use Rattle.srb.specs.declared.Class.{Class}
 use Rattle.srb.specs.declared.Class.TheVariants.{Good, Busy, Bad}
 use Rattle.machine.specs.Rules.{Rules}
 use Rattle.machine.specs.State.{Mark, Untouched, Out, Done, Failed, Back, OpenRequest, Piece}
-use Rattle.machine.specs.Cutting.{mark_at, piece_count, count_below, is_back, pieces_with, restarts, restarts_left}
+use Rattle.machine.specs.Cutting.{mark_at, piece_count, count_below, is_back, pieces_with, restarts}
 use Rattle.machine.specs.Sending.{is_untouched, IsUnsent, IsSendable, LeavesMarks, one_if_busy, sent, given_back}
 use Rattle.machine.proofs.Placed.{get_or-splice_inside, get_or-splice_below, get_or-splice_above}
 use Rattle.machine_laws.specs.LabelsLeft.{labels_of_starts}

@@ -32,7 +32,7 @@ use Rattle.io_manager.specs.declared.Reply.{Reply}
 use Rattle.io_manager.specs.declared.Reply.TheVariants.{Handle as HandleReply, Ok as OkReply, Request as Requested}
 use Rattle.io_manager.specs.declared.Reply.TheVariants.{Answered, Refused, Ignored}
 use Rattle.io_manager.specs.declared.tables.Tables.{Tables}
-use Rattle.io_manager.specs.declared.admission.Asked.{Asked}
+use Rattle.io_manager.specs.declared.Asked.{Asked}
 use Rattle.io_manager.specs.declared.admission.Decision.{Decision}
 use Rattle.io_manager.specs.declared.admission.Decision.TheVariants.{UsedUp, Ends, Opens}
 use Rattle.io_manager.specs.declared.admission.AtOnce.{AtOnce}

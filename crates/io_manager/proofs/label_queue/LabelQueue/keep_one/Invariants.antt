@@ -1,5 +1,0 @@
-use Rattle.std.proofs.Common.{◌++◌, ◌∷◌, []}
-use Rattle.io_manager.proofs.label_queue.LabelQueue.keep_one.Given as goal
-
-abbrev pub ghost-with : goal.ghost-with
-ghost-with g a = a.self.now.items ++ a._from.now ∷ []
