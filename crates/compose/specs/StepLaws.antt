@@ -1,16 +1,17 @@
 -- Laws of every right step. A crate that keeps the trace of a stack rests on them.
-use Rattle.std.specs.Prelude.{◌≡◌, ◌⊎◌, ℕ, List, [], ◌∷◌, All, Contains, MatchOption}
-use Rattle.ntstatus.specs.declared.NtStatus.{NtStatus}
+use Rattle.std.specs.Prelude.{◌≡◌, ◌⊎◌, ℕ, List, [], ◌∷◌, ◌++◌, map, All, Contains, IsPermutation, MatchOption}
 use Rattle.sector.specs.declared.Extent.{Extent}
 use Rattle.machine.specs.declared.ClientRequest.{ClientRequest}
 use Rattle.machine.specs.declared.Label.{Label}
 use Rattle.machine.specs.declared.Label.TheVariants.{Call, Answer as AnswerLabel}
 use Rattle.machine.specs.Rules.{Rules}
+use Rattle.io_manager.specs.declared.Answer.{Answer}
 use Rattle.io_manager.specs.declared.Reply.{Reply}
 use Rattle.io_manager.specs.declared.Reply.TheVariants.{Request as Requested, Refused, Answered}
 use Rattle.io_manager.specs.declared.Refusal.TheVariants.{InsufficientResources}
 use Rattle.io_manager.specs.Shown.{ManagerView}
 use Rattle.io_manager.specs.Calls.{opened_as, status_of_refusal}
+use Rattle.io_manager.specs.Right.{AreRising, answer_number}
 use Rattle.compose.specs.declared.Event.{Event}
 use Rattle.compose.specs.declared.Event.TheVariants.{Read, Write, Flush}
 use Rattle.compose.specs.Right.{IsRight, opened_by}
@@ -44,23 +45,44 @@ StepsTakeNoMemory =
     → IsRight old event (Refused InsufficientResources bytes) new
     → IsTransferEvent event
 
--- the reply says this answer of its call: it gives it, or refuses the call with its status
-abbrev pub SaysAnswer : Reply → ℕ → NtStatus → ℕ → List ℕ → Type 0
-SaysAnswer (Answered answer) number status informed bytes =
-    answer ≡ record { number = number; status = status; information = informed; bytes = bytes }
-SaysAnswer (Refused reason back) number status informed bytes =
-    (status ≡ status_of_refusal reason) × (informed ≡ 0) × (bytes ≡ [])
-SaysAnswer _ number status informed bytes = ⊥
+-- a step keeps the rules
+abbrev pub StepsKeepRules : Type 0
+StepsKeepRules =
+    (old : ManagerView) (event : Event) (reply : Reply) (new : ManagerView) → IsRight old event reply new
+    → new.rules ≡ old.rules
 
--- each answer of a step is said by its reply, or waits to be taken, with the status, the information and the bytes of
--- its label
+-- the answers that labels tell, in order
+abbrev pub answers_in : List Label → List Answer
+answers_in [] = []
+answers_in (AnswerLabel number status informed bytes ∷ labels) =
+    record { number = number; status = status; information = informed; bytes = bytes } ∷ answers_in labels
+answers_in (_ ∷ labels) = answers_in labels
+
+-- these answers, by rising numbers, come to wait beside those that wait already
+pub record ComeToWait (told before after : List Answer) : Type 0 where
+  pub rising : AreRising (map answer_number told)
+  pub wait : IsPermutation after (told ++ before)
+
+-- the reply says this answer of its call: it gives it, or refuses the call with its status
+abbrev pub SaysAnswer : Reply → Answer → Type 0
+SaysAnswer (Answered answer) told = answer ≡ told
+SaysAnswer (Refused reason back) told = (told.status ≡ status_of_refusal reason) × (told.information ≡ 0)
+SaysAnswer _ told = ⊥
+
+-- the reply says the one answer, which has no bytes, and none comes to wait
+pub record IsSaidAlone (reply : Reply) (told before after : List Answer) : Type 0 where
+  pub answer : Answer
+  pub one : told ≡ answer ∷ []
+  pub says : SaysAnswer reply answer
+  pub no_bytes : answer.bytes ≡ []
+  pub wait : IsPermutation after before
+
+-- the answers of a step come to wait, or its reply says the only one
 abbrev pub StepsLeaveAnswers : Type 0
 StepsLeaveAnswers =
-    (old : ManagerView) (event : Event) (reply : Reply) (new : ManagerView) (number : ℕ) (status : NtStatus)
-    (informed : ℕ) (bytes : List ℕ)
-    → IsRight old event reply new → Contains new.labels (AnswerLabel number status informed bytes)
-    → SaysAnswer reply number status informed bytes ⊎ Contains new.answers
-    (record { number = number; status = status; information = informed; bytes = bytes })
+    (old : ManagerView) (event : Event) (reply : Reply) (new : ManagerView) → IsRight old event reply new
+    → ComeToWait (answers_in new.labels) old.answers new.answers
+    ⊎ IsSaidAlone reply (answers_in new.labels) old.answers new.answers
 
 -- the request whose call the step tells under this number opens as this many pieces, on these sectors of the disk
 pub record OpensAs (rules : Rules) (told : ℕ × Extent) (number : ℕ) (labels : List Label) : Type 0 where

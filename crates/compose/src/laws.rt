@@ -2,7 +2,7 @@
 
 ghost use Rattle.compose.specs.Journaled.{ArmedMayBeBooked, BookedActsAddEntries, IdleActsKeepEntries};
 ghost use Rattle.compose.specs.Journaled.{StepsKeepEntries, StepsStayApart};
-ghost use Rattle.compose.specs.StepLaws.{StepsCallOnce, StepsLeaveAnswers, StepsOpenAsTold, StepsTakeNoMemory};
+ghost use Rattle.compose.specs.StepLaws.{StepsCallOnce, StepsKeepRules, StepsLeaveAnswers, StepsOpenAsTold, StepsTakeNoMemory};
 
 /// Among the labels of a step there is at most one call. It comes first, and only a read, a write or a flush brings it.
 pub fn steps_call_once()
@@ -14,8 +14,13 @@ pub fn steps_take_no_memory()
     ensures { StepsTakeNoMemory }
 {}
 
-/// Where the reply neither answers nor refuses, each answer among the labels of a step waits to be taken, with the
-/// number, the status, the information and the bytes of its label.
+/// No step changes the rules.
+pub fn steps_keep_rules()
+    ensures { StepsKeepRules }
+{}
+
+/// The answers among the labels of a step wait to be taken, by rising numbers and with all that their labels tell; or
+/// there is one, which has no bytes and which the reply says, and none comes to wait.
 pub fn steps_leave_answers()
     ensures { StepsLeaveAnswers }
 {}

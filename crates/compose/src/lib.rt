@@ -19,8 +19,8 @@ use device::Label;
 pub use io_manager::{Answer, Asked, Handle, Id, OpenHandle, Refusal, Reply};
 pub use laws::{
     armed_may_be_booked, booked_acts_add_entries, idle_acts_keep_entries, steps_call_once,
-    steps_keep_entries, steps_leave_answers, steps_open_as_told, steps_stay_apart,
-    steps_take_no_memory,
+    steps_keep_entries, steps_keep_rules, steps_leave_answers, steps_open_as_told,
+    steps_stay_apart, steps_take_no_memory,
 };
 pub use mbr::MbrFault;
 use ntstatus::NtStatus;
