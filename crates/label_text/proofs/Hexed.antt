@@ -1,32 +1,45 @@
 -- Bytes in digits, one by one.
-use Rattle.std.proofs.Common.{◌≡◌, ◌≤◌, ◌==◌, ◌++◌, ◌∙◌, ℕ, List, [], ◌∷◌, Option, None, Some, ap, arith, cond, drop, false, length, length-append, nat_le, refl, slice_index, subst, sym, true}
-use Rattle.std.proofs.lemmas.List.{append_assoc, append-nil}
+use Rattle.std.proofs.Common.{◌≡◌, ◌≤◌, ◌<◌, ◌+◌, ◌*◌, ◌/◌, ◌%◌, ◌==◌, ◌++◌, ◌∙◌, ℕ, List, [], ◌∷◌, Option, None, Some, ap, arith, cond, drop, false, get_or, length, length-append, nat_le, refl, set, slice_index, sym, take, true}
+use Rattle.std.proofs.lemmas.List.{append_assoc, append-nil, length-set, take_all, take_more}
+use Rattle.std.proofs.lemmas.Grind.{take-set_at}
 use Rattle.std.proofs.lemmas.Bool.Decides.{nat_tests}
-use Rattle.std.specs.Io.KnownBytes.{Appends}
 use Rattle.std.specs.Option.{option_and_then, option_map}
-use Rattle.label_text.specs.Runs.{hex_bytes, hex_of}
+use Rattle.label_text.specs.Runs.{digit_of, hex_bytes, hex_of}
 use Rattle.label_text.specs.inside.Reading.{block_in, byte_of, bytes_in, short_block}
-use Rattle.label_text.proofs.Printed.{both, nothing}
 
--- the digits of all bytes are written but for those of the rest
-pub record AreHexed (old : Option (List ℕ)) (bytes rest : List ℕ) (new : Option (List ℕ)) : Type 0 where
-  pub done : List ℕ
-  pub appends : Appends old new done
-  pub behind : hex_bytes bytes ≡ done ++ hex_bytes rest
+hex_append : (xs ys : List ℕ) → hex_bytes (xs ++ ys) ≡ hex_bytes xs ++ hex_bytes ys
+hex_append [] ys = refl
+hex_append (x ∷ xs) ys = ap (λ l. hex_of x ++ l) (hex_append xs ys) ∙ sym (append_assoc (hex_of x) (hex_bytes xs) (hex_bytes ys))
 
-pub none_hexed : (old : Option (List ℕ)) (bytes : List ℕ) → AreHexed old bytes bytes old
-none_hexed old bytes = record { done = []; appends = nothing old; behind = refl }
+-- the digits of so many bytes stand first
+pub record AreHexed (bytes : List ℕ) (count at : ℕ) (digits : List ℕ) : Type 0 where
+  pub long : length digits ≡ 32
+  pub place : at ≡ 2 * count
+  pub done : take at digits ≡ hex_bytes (take count bytes)
 
-pub one_hexed : (old mid new : Option (List ℕ)) (bytes rest behind : List ℕ) (byte : ℕ) → AreHexed old bytes rest mid → rest ≡ byte ∷ behind
-    → Appends mid new (hex_of byte) → AreHexed old bytes behind new
-one_hexed old mid new bytes rest behind byte h cut more = record {
-  done = h.done ++ hex_of byte;
-  appends = both old mid new h.done (hex_of byte) h.appends more;
-  behind = h.behind ∙ ap (λ l. h.done ++ hex_bytes l) cut ∙ sym (append_assoc h.done (hex_of byte) (hex_bytes behind));
+-- two digits more
+pub one_hexed : (bytes : List ℕ) (count at : ℕ) (digits : List ℕ) (high low d : ℕ) → length bytes ≤ 16 → count < length bytes → AreHexed bytes count at digits
+    → high ≡ digit_of (get_or bytes count d / 16) → low ≡ digit_of (get_or bytes count d % 16) → AreHexed bytes (count + 1) (at + 2) (set (set digits at high) (at + 1) low)
+one_hexed bytes count at digits high low d few inside h is_high is_low = record {
+  long = length-set (set digits at high) (at + 1) low ∙ length-set digits at high ∙ h.long;
+  place = omega (arith, h.place);
+  done = two ∙ (ap (λ l. (l ++ high ∷ []) ++ low ∷ []) h.done ∙ append_assoc (hex_bytes (take count bytes)) (high ∷ []) (low ∷ [])
+      ∙ (λ i. hex_bytes (take count bytes) ++ is_high i ∷ is_low i ∷ []) ∙ sym (hex_append (take count bytes) (get_or bytes count d ∷ []))
+      ∙ ap hex_bytes (sym (take_more bytes count d inside)));
 }
+  where
+    low_place : at < length digits
+    low_place = omega (arith, h.place, h.long)
+    next_place : at + 1 < length (set digits at high)
+    next_place = omega (arith, h.place, h.long, length-set digits at high)
+    two : take (at + 2) (set (set digits at high) (at + 1) low) ≡ (take at digits ++ high ∷ []) ++ low ∷ []
+    two = take-set_at (set digits at high) (at + 1) (at + 2) low (omega arith) next_place
+        ∙ ap (λ l. l ++ low ∷ []) (take-set_at digits at (at + 1) high (omega arith) low_place)
 
-pub all_hexed : (old new : Option (List ℕ)) (bytes rest : List ℕ) → AreHexed old bytes rest new → rest ≡ [] → Appends old new (hex_bytes bytes)
-all_hexed old new bytes rest h none = subst (Appends old new) (sym (h.behind ∙ ap (λ l. h.done ++ hex_bytes l) none ∙ append-nil h.done)) h.appends
+pub all_hexed : (bytes : List ℕ) (count at : ℕ) (digits : List ℕ) → AreHexed bytes count at digits → count ≡ length bytes → take (2 * length bytes) digits ≡ hex_bytes bytes
+all_hexed bytes count at digits h all =
+    let place : 2 * length bytes ≡ at = omega (arith, all, h.place) in
+    ap (λ n. take n digits) place ∙ h.done ∙ ap hex_bytes (take_all count bytes (omega (arith, all)))
 
 -- what is read of digits begins with these bytes
 pub record BeginsWith (digits bytes rest : List ℕ) : Type 0 where

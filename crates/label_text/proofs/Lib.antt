@@ -2,7 +2,6 @@ mod Found
 mod Parting
 mod Numbers
 mod Digits
-pub mod Printed
 mod Hexed
 mod LongestRuns
 mod Same

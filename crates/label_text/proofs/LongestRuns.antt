@@ -7,11 +7,9 @@ use Rattle.std.proofs.lemmas.List.Elements.{All-head, All-tail}
 use Rattle.std.proofs.Math.Seq.{drop-cons}
 use Rattle.std.proofs.Math.ListN.{drop_of_length-le}
 use Rattle.std.specs.Bool.{⊤}
-use Rattle.std.specs.Io.KnownBytes.{Appends}
 use Rattle.label_text.specs.Runs.{Run, expanded, joined, runs_of, run_text, runs_text}
 use Rattle.label_text.specs.inside.Spacing.{comma}
 use Rattle.label_text.specs.inside.Reading.{is_last, may_follow}
-use Rattle.label_text.proofs.Printed.{both, nothing}
 
 abbrev pub run : ℕ → ℕ → Run
 run byte count = record { byte = byte; count = count }
@@ -105,34 +103,30 @@ text_first r (y ∷ ys) = text_joined r y (runs_of ys)
     ∙ (sym (append_assoc (run_text r) (codes ",") (runs_text (runs_of (y ∷ ys))))
     ∙ ap (λ (b : Bool). (run_text r ++ comma b) ++ runs_text (runs_of (y ∷ ys))) (sym (some_behind (length ys))))
 
--- the runs of all bytes are written but for those of the rest
-pub record AreWritten (old : Option (List ℕ)) (bytes rest : List ℕ) (new : Option (List ℕ)) : Type 0 where
-  pub done : List ℕ
-  pub appends : Appends old new done
-  pub behind : runs_text (runs_of bytes) ≡ done ++ runs_text (runs_of rest)
+-- the runs of all bytes are written behind a text but for those of the rest
+pub record AreWritten (old bytes rest new : List ℕ) : Type 0 where
+  pub behind : old ++ runs_text (runs_of bytes) ≡ new ++ runs_text (runs_of rest)
 
-pub none_written : (old : Option (List ℕ)) (bytes : List ℕ) → AreWritten old bytes bytes old
-none_written old bytes = record { done = []; appends = nothing old; behind = refl }
+pub none_written : (old bytes : List ℕ) → AreWritten old bytes bytes old
+none_written old bytes = record { behind = refl }
 
-pub all_written : (old : Option (List ℕ)) (bytes rest : List ℕ) (new : Option (List ℕ)) → AreWritten old bytes rest new → length rest ≡ 0
-    → Appends old new (runs_text (runs_of bytes))
+pub all_written : (old bytes rest new : List ℕ) → AreWritten old bytes rest new → length rest ≡ 0 → new ≡ old ++ runs_text (runs_of bytes)
 all_written old bytes rest new h none =
     let empty : rest ≡ [] = nil_from_length rest none in
-    subst (Appends old new) (sym (h.behind ∙ (ap (λ (l : List ℕ). h.done ++ runs_text (runs_of l)) empty ∙ append-nil h.done))) h.appends
+    sym (h.behind ∙ (ap (λ (l : List ℕ). new ++ runs_text (runs_of l)) empty ∙ append-nil new))
 
-pub run_written : (old : Option (List ℕ)) (bytes rest behind : List ℕ) (mid new : Option (List ℕ)) (byte n : ℕ) (is_last : Bool) → AreWritten old bytes rest mid
+pub run_written : (old bytes rest behind mid new : List ℕ) (byte n : ℕ) (is_last : Bool) → AreWritten old bytes rest mid
     → n ≤ length rest → 0 < n → All (λ b. b ≡ byte) (take n rest) → (n < length rest → get_or rest n 0 ≢ byte)
     → behind ≡ drop n rest → is_last ≡ (length behind == 0)
-    → Appends mid new (run_text (run byte n) ++ comma is_last) → AreWritten old bytes behind new
+    → new ≡ mid ++ (run_text (run byte n) ++ comma is_last) → AreWritten old bytes behind new
 run_written old bytes rest behind mid new byte n is_last h within some all longest cut last more =
     let text : List ℕ = run_text (run byte n) ++ comma is_last in
     let runs : runs_of rest ≡ run byte n ∷ runs_of behind = first_run byte n rest within some all longest ∙ ap (λ (l : List ℕ). run byte n ∷ runs_of l) (sym cut) in
     let texts : runs_text (runs_of rest) ≡ text ++ runs_text (runs_of behind) =
     ap runs_text runs ∙ (text_first (run byte n) behind ∙ ap (λ (b : Bool). (run_text (run byte n) ++ comma b) ++ runs_text (runs_of behind)) (sym last)) in
     record {
-      done = h.done ++ text;
-      appends = both old mid new h.done text h.appends more;
-      behind = h.behind ∙ (ap (λ (l : List ℕ). h.done ++ l) texts ∙ sym (append_assoc h.done text (runs_text (runs_of behind))));
+      behind = h.behind ∙ (ap (λ (l : List ℕ). mid ++ l) texts
+          ∙ (sym (append_assoc mid text (runs_text (runs_of behind))) ∙ ap (λ (l : List ℕ). l ++ runs_text (runs_of behind)) (sym more)));
     }
 
 -- some byte equals the first one

@@ -1,15 +1,16 @@
 //! The text of a trace, one label a line, behind a start with the request that its piece is of. It tells all that a
 //! label holds, so a trace can be stored, sent and read again.
 //!
-//! [`write_line`] promises to the crate above, by its clauses `text` and `spelled`, that a line is written as its text
-//! and nothing else. [`read_line`] promises, by `spelled`, `only`, `again` and `fault`, that a text is read as the one
-//! line whose text it is, and refused only where no line has this text or memory was refused. What is written is
-//! therefore read as the line that it was, and what is read would be written as the text that it was.
+//! [`write_line`] promises to the crate above, by its clauses `text` and `spelled`, that a line is written behind a text
+//! as its own text and nothing else. [`read_line`] promises, by `spelled`, `only`, `again` and `fault`, that a text is
+//! read as the one line whose text it is, and refused only where no line has this text or memory was refused. What is
+//! written is therefore read as the line that it was, and what is read would be written as the text that it was.
 //! [`write_short_line`] (`text`) writes a label as a script's transcript tells it, which is not read again.
 //!
-//! The crate does not promise that lines are a run of the machine, or that a writer takes all.
+//! The crate does not promise that lines are a run of the machine.
 #![tactic(auto)]
 
+mod numbers;
 mod reading;
 mod runs;
 mod words;
@@ -18,11 +19,12 @@ mod writing;
 ghost use Rattle.std.specs.Prelude.{Some};
 ghost use Rattle.label_text.specs.Faults.{text_of};
 
+pub use numbers::write_number;
 pub use reading::{is_told, read_line};
 use std::alloc::AllocError;
 use std::error::Error;
 use std::fmt;
-pub use writing::{write_line, write_number, write_short_line};
+pub use writing::{write_line, write_short_line};
 
 /// Why a line was not read.
 #[derive(Debug, Clone, Copy, PartialEq, Eq)]

@@ -2,16 +2,13 @@
 
 ghost use Rattle.std.specs.Prelude.{◌≡◌, ◌≢◌, ◌<◌, ◌≤◌, ◌+◌, ◌^◌, ◌++◌, nat_le, All, IfOk, IsTrue, OnOk, codes, length, option_map, replicate, slice_index, take};
 ghost use Rattle.std.specs.Fmt.{decimal};
-ghost use Rattle.std.specs.Io.KnownBytes.{Appends};
 ghost use Rattle.label_text.specs.Runs.{hex_of, most_bytes, runs_of, runs_text};
 ghost use Rattle.label_text.specs.inside.Spacing.{comma};
 ghost use Rattle.label_text.specs.inside.Reading.{may_follow, run_in, run_told, runs_in};
 
+use crate::numbers::{write_byte, write_number};
 use crate::words::Words;
-use crate::writing::{write_byte, write_number};
 use std::alloc::{AllocError, Global};
-use std::io;
-use std::io::Write;
 
 /// The most bytes of a label: those of the longest request, which has 65,536 sectors of 4,096.
 const MOST_BYTES: usize = 1 << 28;
@@ -130,29 +127,29 @@ fn equal_bytes(bytes: &[u8], byte: u8) -> usize
 }
 
 /// Writes bytes as their longest runs, joined by commas.
-pub(crate) fn write_runs<W: Write>(out: &mut W, bytes: &[u8]) -> io::Result<()>
-    ensures { OnOk result (Appends (W.contents out.old) (W.contents out.new) (runs_text (runs_of bytes.now))) }
+pub(crate) fn write_runs(text: &mut Vec<u8>, bytes: &[u8]) -> Result<(), AllocError>
+    ensures { OnOk result (text.new.items ≡ text.old.items ++ runs_text (runs_of bytes.now)) }
 {
     let mut rest = bytes;
     while !rest.is_empty() {
         let byte = rest[0];
         let count = run_of(rest, byte);
         let (_, behind) = rest.split_at(count);
-        write_run(out, byte, count, behind.is_empty())?;
+        write_run(text, byte, count, behind.is_empty())?;
         rest = behind;
     }
     Ok(())
 }
 
 /// Writes a run, and a comma behind it unless it is the last.
-fn write_run<W: Write>(out: &mut W, byte: u8, count: usize, is_last: bool) -> io::Result<()>
-    ensures { OnOk result (Appends (W.contents out.old) (W.contents out.new) (hex_of byte ++ (codes "*" ++ (decimal count ++ comma is_last)))) }
+fn write_run(text: &mut Vec<u8>, byte: u8, count: usize, is_last: bool) -> Result<(), AllocError>
+    ensures { OnOk result (text.new.items ≡ text.old.items ++ (hex_of byte ++ (codes "*" ++ (decimal count ++ comma is_last)))) }
 {
-    write_byte(out, byte)?;
-    out.write_all(b"*")?;
-    write_number(out, count)?;
+    write_byte(text, byte)?;
+    text.extend_from_slice(b"*")?;
+    write_number(text, count as u64)?;
     if is_last {
         return Ok(());
     }
-    out.write_all(b",")
+    text.extend_from_slice(b",")
 }

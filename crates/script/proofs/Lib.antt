@@ -1,4 +1,4 @@
-pub mod AllAnswered
+mod Answered
 mod Asked
 mod Cuts
 mod Digits
@@ -7,6 +7,7 @@ pub mod Playing
 pub mod Printed
 mod PrintedLabels
 mod Reading
+mod Rising
 mod Spelled
 mod Trims
 mod Zipped

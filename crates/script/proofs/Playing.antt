@@ -2,41 +2,91 @@
 use Rattle.std.proofs.Common.{◌≡◌, ◌<◌, ◌+◌, ℕ, List, [], ◌∷◌, ◌++◌, Option, ap, subst, sym, refl, ◌∙◌, take, length, get_or}
 use Rattle.std.proofs.lemmas.List.{append_assoc, append-nil, take_more}
 use Rattle.std.specs.BTreeMap.{IsEmpty}
-use Rattle.std.specs.Io.KnownBytes.{Appends}
-use Rattle.io_manager.specs.declared.Answer.{Answer}
+use Rattle.std.specs.Prelude.{codes}
+use Rattle.std.specs.Io.KnownBytes.{Keeps as KeepsBytes, append_known}
+use Rattle.machine.specs.declared.Label.{Label}
 use Rattle.io_manager.specs.declared.Reply.{Reply}
+use Rattle.io_manager.specs.declared.Reply.TheVariants.{Handle as HandleReply, Ok as OkReply, Request as Requested, Answered, Refused, Ignored}
 use Rattle.io_manager.specs.Shown.{ManagerView}
-use Rattle.label_text.proofs.Printed.{both, nothing}
+use Rattle.label_text.specs.Lines.{line_end}
 use Rattle.script.specs.declared.Line.{Line}
 use Rattle.script.specs.declared.Style.{Style}
 use Rattle.script.specs.declared.given.Given.{Given}
 use Rattle.script.specs.Events.{Keeps}
-use Rattle.script.specs.Trace.{without_labels, AreLinesTold, Between, IsAllTaken, IsCarriedOut, IsLineTold, IsTold, IsToldTo, Prints, line_text}
-use Rattle.script.proofs.AllAnswered.{of_carried}
+use Rattle.script.specs.Trace.{AreLinesTold, Between, IsAllTaken, IsLineTold, IsTold, IsToldTo, Prints, all_taken, line_text}
+use Rattle.script.specs.Printing.{labels_text, reply_line}
+use Rattle.script.specs.declared.Style.TheVariants.{Transcript, Trace}
+use Rattle.script.specs.inside.Answers.{Tells, without_bytes}
+use Rattle.script.proofs.Printed.{both, more_waits, nothing, stays}
 
 -- A LINE
 
+-- a text of this kind stands behind an older one
+pub record Adds (old new : List ℕ) (Is : List ℕ → Type 0) : Type 0 where
+  pub text : List ℕ
+  pub is : Is text
+  pub appends : new ≡ old ++ text
+
+-- a reply says the same without the bytes that a refused call gives back
+same_line : (shown reply : Reply) → without_bytes shown ≡ without_bytes reply → reply_line shown ≡ reply_line reply
+same_line shown reply alike = bare_line shown ∙ ap reply_line alike ∙ sym (bare_line reply)
+  where
+    bare_line : (r : Reply) → reply_line r ≡ reply_line (without_bytes r)
+    bare_line (HandleReply handle) = refl
+    bare_line OkReply = refl
+    bare_line (Requested id) = refl
+    bare_line (Answered answer) = refl
+    bare_line (Refused reason bytes) = refl
+    bare_line Ignored = refl
+
+same_kept : (shown reply : Reply) (old new : Given) → without_bytes shown ≡ without_bytes reply → Keeps shown old new → Keeps reply old new
+same_kept shown reply old new alike keeps = back reply (subst (λ (r : Reply). Keeps r old new) alike (there shown keeps))
+  where
+    there : (r : Reply) → Keeps r old new → Keeps (without_bytes r) old new
+    there (HandleReply handle) h = h
+    there OkReply h = h
+    there (Requested id) h = h
+    there (Answered answer) h = h
+    there (Refused reason bytes) h = h
+    there Ignored h = h
+
+    back : (r : Reply) → Keeps (without_bytes r) old new → Keeps r old new
+    back (HandleReply handle) h = h
+    back OkReply h = h
+    back (Requested id) h = h
+    back (Answered answer) h = h
+    back (Refused reason bytes) h = h
+    back Ignored h = h
+
+same_text : (style : Style) (line : Line) (shown reply : Reply) (labels : List Label) → without_bytes shown ≡ without_bytes reply
+    → line_text style line shown labels ≡ line_text style line reply labels
+same_text Transcript line shown reply labels alike =
+    ap (λ (l : List ℕ). (codes "> " ++ (line.text.now ++ line_end)) ++ (l ++ labels_text Transcript labels)) (same_line shown reply alike)
+same_text Trace line shown reply labels alike = refl
+
 module _ (style : Style) where
   -- what is told of a line
-  pub line_played : (old new : Between) (line : Line) (reply : Reply) (stepped : ManagerView) (a b : Option (List ℕ)) → IsAllTaken old.stack
-      → IsCarriedOut old.given line.order old.stack reply stepped → Keeps reply old.given new.given → new.stack ≡ without_labels stepped
-      → Appends a b (line_text style line reply stepped.labels) → Prints a b (λ text. IsLineTold style old line text new)
-  line_played old new line reply stepped a b taken carried keeps gone written = record {
-    text = line_text style line reply stepped.labels;
-    is = record {
-      reply = reply;
-      stepped = stepped;
-      carried = carried;
-      told = refl;
-      taken = gone ∙ ap (λ (xs : List Answer). record stepped { labels = []; answers = xs }) (of_carried old.given line.order old.stack reply stepped taken carried);
-      keeps = keeps;
-    };
-    appends = written;
-  }
+  pub line_played : (old new : Between) (line : Line) (shown : Reply) (stepped : ManagerView) (a b : List ℕ) → Tells old.given line.order old.stack shown stepped
+      → Keeps shown old.given new.given → new.stack ≡ all_taken stepped → b ≡ a ++ line_text style line shown stepped.labels → Adds a b (λ text. IsLineTold style old line text new)
+  line_played old new line shown stepped a b told keeps gone written =
+      let reply : Reply = told.carried.0 in
+      let alike : without_bytes shown ≡ without_bytes reply = told.carried.2 in
+      record {
+        text = line_text style line reply stepped.labels;
+        is = record {
+          reply = reply;
+          stepped = stepped;
+          carried = told.carried.1;
+          told = refl;
+          taken = gone;
+          keeps = same_kept shown reply old.given new.given alike keeps;
+        };
+        appends = written ∙ ap (λ (l : List ℕ). a ++ l) (same_text style line shown reply stepped.labels alike);
+      }
 
-  -- after a line all labels and answers are taken
-  pub all_taken : (old new : Between) (line : Line) (text : List ℕ) → IsLineTold style old line text new → IsAllTaken new.stack
-  all_taken old new line text h = record { labels = ap (λ (v : ManagerView). v.labels) h.taken; answers = ap (λ (v : ManagerView). v.answers) h.taken }
+  -- after a line all labels and answers are taken, and the rules are the same
+  pub none_waits : (old new : Between) (line : Line) (text : List ℕ) → IsLineTold style old line text new → IsAllTaken new.stack
+  none_waits old new line text h = record { labels = ap (λ (v : ManagerView). v.labels) h.taken; answers = ap (λ (v : ManagerView). v.answers) h.taken }
 
   -- ALL LINES
 
@@ -72,6 +122,15 @@ module _ (style : Style) where
     };
     appends = both a b c h.text one.text h.appends one.appends;
   }
+
+  -- the same where a block may have been written before, and the text of the line waits
+  pub one_waits : (stack : ManagerView) (lines : List Line) (i : ℕ) (d : Line) (mid new : Between) (a b held : Option (List ℕ)) (text more : List ℕ) → i < length lines
+      → Prints a b (λ told. IsToldTo style stack (take i lines) told mid) → KeepsBytes b (append_known held text)
+      → Adds text more (λ told. IsLineTold style mid (get_or lines i d) told new) → Prints a (append_known held more) (λ told. IsToldTo style stack (take (i + 1) lines) told new)
+  one_waits stack lines i d mid new a b held text more inside h keeps one =
+      one_played stack lines i d mid new a (append_known held text) (append_known held more) inside
+      (stays a b (append_known held text) (λ told. IsToldTo style stack (take i lines) told mid) h keeps)
+      (record { text = one.text; is = one.is; appends = more_waits held text more one.text one.appends })
 
   -- all lines
   pub all_played : (stack : ManagerView) (lines : List Line) (i : ℕ) (end : Between) (a b : Option (List ℕ)) → take i lines ≡ lines

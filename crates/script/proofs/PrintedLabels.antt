@@ -1,15 +1,25 @@
 -- The labels that are written, and those that are left.
-use Rattle.std.proofs.Common.{◌≡◌, ℕ, List, [], ◌∷◌, ◌++◌, Option, Some, None, ap, subst, sym, refl, ◌∙◌, drop}
+use Rattle.std.proofs.Common.{◌≡◌, ℕ, List, [], ◌∷◌, ◌++◌, Bool, true, false, Option, Some, None, ap, subst, sym, refl, ◌∙◌, drop}
+use Rattle.std.specs.Prelude.{IsTrue, codes}
+use Rattle.std.specs.Fmt.{decimal}
+use Rattle.std.specs.List.{join_with_byte}
 use Rattle.std.proofs.lemmas.List.{append_assoc, append-nil}
-use Rattle.std.specs.Io.KnownBytes.{Appends}
+use Rattle.srb.specs.declared.DeviceLabel.TheVariants.{Start, Act, Fault, Return}
+use Rattle.srb.specs.declared.Kind.{Kind}
+use Rattle.srb.specs.declared.Kind.TheVariants.{Read, Write, Flush}
+use Rattle.machine.specs.Bare.{in_memory, request_in_memory}
+use Rattle.machine.specs.declared.ClientRequest.{ClientRequest}
 use Rattle.machine.specs.declared.Label.{Label}
+use Rattle.machine.specs.declared.Label.TheVariants.{Call, Device, Answer as AnswerLabel, Cancel, Pause, Resume, Remove, Surprise, Removed}
 use Rattle.io_manager.specs.declared.Answer.{Answer}
-use Rattle.io_manager.specs.Right.{TakesAnswer, TakesLabel}
+use Rattle.io_manager.specs.Right.{TakesAnswer, TakesShown}
 use Rattle.io_manager.specs.Shown.{ManagerView}
-use Rattle.label_text.proofs.Printed.{both, nothing}
+use Rattle.label_text.specs.Lines.{Words, kind_word, line_end, short_extent, short_line_of}
 use Rattle.script.specs.declared.Style.{Style}
+use Rattle.script.specs.declared.Style.TheVariants.{Transcript, Trace}
 use Rattle.script.specs.Printing.{label_line, labels_text}
-use Rattle.script.specs.Trace.{left_by, left_by_all, without_labels}
+use Rattle.script.specs.Trace.{all_taken}
+use Rattle.script.specs.inside.Answers.{GoWith, HasBytesOf, answered_by, first_bytes, left_by}
 
 -- taking an answer leaves those behind the first
 pub answer_taken : (old new : ManagerView) (answer : Option Answer) → TakesAnswer old answer new → new ≡ record old { answers = drop 1 old.answers }
@@ -17,45 +27,128 @@ answer_taken old new None t =
     t.1 ∙ (ap (λ (xs : List Answer). record old { answers = xs }) t.0 ∙ ap (λ (xs : List Answer). record old { answers = drop 1 xs }) (sym t.0))
 answer_taken old new (Some answer) t = t.3 ∙ ap (λ (xs : List Answer). record old { answers = drop 1 xs }) (sym t.1)
 
--- the labels of a stack are written and taken but for those that are left, and with them the answers that they tell
-pub record AreWritten (style : Style) (old : Option (List ℕ)) (all left : ManagerView) (new : Option (List ℕ)) : Type 0 where
-  pub done : List ℕ
-  pub appends : Appends old new done
-  pub behind : labels_text style all.labels ≡ done ++ labels_text style left.labels
-  pub taken : without_labels all ≡ without_labels left
+-- A LABEL
 
-pub none_written : (style : Style) (old : Option (List ℕ)) (all : ManagerView) → AreWritten style old all all old
-none_written style old all = record { done = []; appends = nothing old; behind = refl; taken = refl }
+-- a label that keeps its bytes is in memory as it is told
+whole : (label : Label) → in_memory true label ≡ label
+whole (Call number q) = refl
+whole (Device (Start piece tag block)) = refl
+whole (Device (Act piece bytes)) = refl
+whole (Device (Fault piece)) = refl
+whole (Device (Return piece class)) = refl
+whole (AnswerLabel number status information bytes) = refl
+whole (Cancel number) = refl
+whole Pause = refl
+whole Resume = refl
+whole Remove = refl
+whole Surprise = refl
+whole Removed = refl
 
--- a label is taken, and the answer that goes with it
-label_taken : (v : ManagerView) (label : Label) (rest : List Label) → v.labels ≡ label ∷ rest
-    → without_labels v ≡ without_labels (record v { labels = rest; answers = left_by label v.answers })
-label_taken v label rest e = ap (λ (ls : List Label). record v { labels = []; answers = left_by_all ls v.answers }) e
+-- the bytes of the answer that goes with a label are those that the label tells
+same_bytes : (answers : List Answer) (bytes : List ℕ) → bytes ≡ first_bytes answers [] → first_bytes answers bytes ≡ bytes
+same_bytes [] bytes same = refl
+same_bytes (answer ∷ answers) bytes same = sym same
 
-one_written : (style : Style) (old : Option (List ℕ)) (all left : ManagerView) (label : Label) (rest : List Label) (mid new : Option (List ℕ)) → AreWritten style old all left mid
-    → left.labels ≡ label ∷ rest → Appends mid new (label_line style label) → AreWritten style old all (record left { labels = rest; answers = left_by label left.answers }) new
-one_written style old all left label rest mid new h first more = record {
-  done = h.done ++ label_line style label;
-  appends = both old mid new h.done (label_line style label) h.appends more;
-  behind = h.behind ∙ (ap (λ (ls : List Label). h.done ++ labels_text style ls) first ∙ sym (append_assoc h.done (label_line style label) (labels_text style rest)));
-  taken = h.taken ∙ label_taken left label rest first;
-}
+whole_answered : (label : Label) (answers : List Answer) → HasBytesOf label answers → answered_by label answers ≡ label
+whole_answered (AnswerLabel number status information bytes) answers same = ap (λ (l : List ℕ). AnswerLabel number status information l) (same_bytes answers bytes same)
+whole_answered (Call number q) answers same = refl
+whole_answered (Device label) answers same = refl
+whole_answered (Cancel number) answers same = refl
+whole_answered Pause answers same = refl
+whole_answered Resume answers same = refl
+whole_answered Remove answers same = refl
+whole_answered Surprise answers same = refl
+whole_answered Removed answers same = refl
+
+-- a call in short tells no bytes
+bare_extent : (kind : Kind) (q : ClientRequest) → short_extent kind (request_in_memory false q) ≡ short_extent kind q
+bare_extent Read q = refl
+bare_extent Write q = refl
+bare_extent Flush q = refl
+
+-- a label in short tells bytes of answers alone
+short_answered : (label : Label) (answers : List Answer) → HasBytesOf label answers → short_line_of (answered_by (in_memory false label) answers) ≡ short_line_of label
+short_answered (Call number q) answers same =
+    ap (λ (extent : Words). join_with_byte 32 (codes "call" ∷ decimal number ∷ kind_word q.kind ∷ extent)) (bare_extent q.kind q)
+short_answered (Device (Start piece tag block)) answers same = refl
+short_answered (Device (Act piece bytes)) answers same = refl
+short_answered (Device (Fault piece)) answers same = refl
+short_answered (Device (Return piece class)) answers same = refl
+short_answered (AnswerLabel number status information bytes) answers same =
+    ap (λ (l : List ℕ). short_line_of (AnswerLabel number status information l)) (sym same)
+short_answered (Cancel number) answers same = refl
+short_answered Pause answers same = refl
+short_answered Resume answers same = refl
+short_answered Remove answers same = refl
+short_answered Surprise answers same = refl
+short_answered Removed answers same = refl
+
+-- the line of a label as memory has it, with the bytes of the answer that goes with it, is that of the label
+line_answered : (style : Style) (keeps : Bool) (label : Label) (answers : List Answer) → (style ≡ Trace → IsTrue keeps) → HasBytesOf label answers
+    → label_line style (answered_by (in_memory keeps label) answers) ≡ label_line style label
+line_answered style true label answers traced same =
+    ap (λ (l : Label). label_line style (answered_by l answers)) (whole label) ∙ ap (label_line style) (whole_answered label answers same)
+line_answered Transcript false label answers traced same = ap (λ (l : List ℕ). l ++ line_end) (short_answered label answers same)
+line_answered Trace false label answers traced same = let no : false ≡ true = traced refl in absurd (cc (no))
+
+left_same : (keeps : Bool) (label : Label) (answers : List Answer) → left_by (in_memory keeps label) answers ≡ left_by label answers
+left_same keeps (AnswerLabel number status information bytes) answers = refl
+left_same keeps (Call number q) answers = refl
+left_same keeps (Device label) answers = refl
+left_same keeps (Cancel number) answers = refl
+left_same keeps Pause answers = refl
+left_same keeps Resume answers = refl
+left_same keeps Remove answers = refl
+left_same keeps Surprise answers = refl
+left_same keeps Removed answers = refl
+
+-- ALL LABELS
+
+-- the labels of a stack are written behind a text and taken but for those that are left, and with them the answers that go with them
+pub record AreWritten (style : Style) (old : List ℕ) (all left : ManagerView) (new : List ℕ) : Type 0 where
+  pub behind : old ++ labels_text style all.labels ≡ new ++ labels_text style left.labels
+  pub taken : all_taken all ≡ all_taken left
+  pub answers : GoWith left.labels left.answers
+  pub bytes : style ≡ Trace → IsTrue left.rules.keeps_bytes
+
+pub none_written : (style : Style) (old : List ℕ) (all : ManagerView) → GoWith all.labels all.answers → (style ≡ Trace → IsTrue all.rules.keeps_bytes) → AreWritten style old all all old
+none_written style old all answers bytes = record { behind = refl; taken = refl; answers = answers; bytes = bytes }
+
+one_written : (style : Style) (old : List ℕ) (all left : ManagerView) (label : Label) (rest : List Label) (mid new : List ℕ) → AreWritten style old all left mid
+    → left.labels ≡ label ∷ rest → new ≡ mid ++ label_line style (answered_by (in_memory left.rules.keeps_bytes label) left.answers)
+    → AreWritten style old all (record left { labels = rest; answers = left_by label left.answers }) new
+one_written style old all left label rest mid new h first more =
+    let go : GoWith (label ∷ rest) left.answers = subst (λ (labels : List Label). GoWith labels left.answers) first h.answers in
+    let line = line_answered style left.rules.keeps_bytes label left.answers h.bytes go.0 in
+    record {
+      behind = h.behind ∙ (ap (λ (labels : List Label). mid ++ labels_text style labels) first
+          ∙ (sym (append_assoc mid (label_line style label) (labels_text style rest))
+          ∙ ap (λ (l : List ℕ). l ++ labels_text style rest) (sym (more ∙ ap (λ (l : List ℕ). mid ++ l) line))));
+      taken = h.taken;
+      answers = go.1;
+      bytes = h.bytes;
+    }
 
 -- the same with the stack as it is after the line
-pub step_written : (style : Style) (old : Option (List ℕ)) (all before after : ManagerView) (label : Label) (mid new : Option (List ℕ)) (last : ManagerView) → AreWritten style old all before mid
-    → TakesLabel before (Some label) after → last ≡ record after { answers = left_by label after.answers } → Appends mid new (label_line style label)
-    → AreWritten style old all last new
-step_written style old all before after label mid new last h takes same more =
-    subst (λ (v : ManagerView). AreWritten style old all v new) (sym (same ∙ ap (λ (v : ManagerView). record v { answers = left_by label v.answers }) takes.2))
-    (one_written style old all before label takes.0 mid new h takes.1 more)
+pub step_written : (style : Style) (old : List ℕ) (all before after : ManagerView) (shown label : Label) (mid new : List ℕ) (last : ManagerView) → AreWritten style old all before mid
+    → TakesShown before (Some shown) after → last ≡ record after { answers = left_by shown after.answers } → label ≡ answered_by shown after.answers
+    → new ≡ mid ++ label_line style label → AreWritten style old all last new
+step_written style old all before after shown label mid new last h (rest, told, first, is_shown, is_after) same answered more =
+    let keeps : Bool = before.rules.keeps_bytes in
+    let answers : after.answers ≡ before.answers = ap (λ (v : ManagerView). v.answers) is_after in
+    let line : label ≡ answered_by (in_memory keeps told) before.answers = answered ∙ (λ i. answered_by (is_shown i) (answers i)) in
+    let left : left_by shown after.answers ≡ left_by told before.answers = (λ i. left_by (is_shown i) (answers i)) ∙ left_same keeps told before.answers in
+    let there : last ≡ record before { labels = rest; answers = left_by told before.answers } =
+    same ∙ (λ i. record (is_after i) { answers = left i }) in
+    subst (λ (v : ManagerView). AreWritten style old all v new) (sym there)
+    (one_written style old all before told rest mid new h first (more ∙ ap (λ (l : Label). mid ++ label_line style l) line))
 
 -- with no label left, all are written and taken
-pub all_written : (style : Style) (old : Option (List ℕ)) (all left : ManagerView) (new : Option (List ℕ)) → AreWritten style old all left new → left.labels ≡ []
-    → Appends old new (labels_text style all.labels)
-all_written style old all left new h none =
-    subst (Appends old new) (sym (h.behind ∙ (ap (λ (ls : List Label). h.done ++ labels_text style ls) none ∙ append-nil h.done))) h.appends
+pub all_written : (style : Style) (old : List ℕ) (all left : ManagerView) (new : List ℕ) → AreWritten style old all left new → left.labels ≡ []
+    → new ≡ old ++ labels_text style all.labels
+all_written style old all left new h none = sym (h.behind ∙ (ap (λ (labels : List Label). new ++ labels_text style labels) none ∙ append-nil new))
 
-pub all_taken : (style : Style) (old : Option (List ℕ)) (all left : ManagerView) (new : Option (List ℕ)) → AreWritten style old all left new → left.labels ≡ [] → left ≡ without_labels all
-all_taken style old all left new h none =
-    sym (h.taken ∙ (ap (λ (ls : List Label). record left { labels = []; answers = left_by_all ls left.answers }) none
-    ∙ ap (λ (ls : List Label). record left { labels = ls }) (sym none)))
+pub none_left : (style : Style) (old : List ℕ) (all left : ManagerView) (new : List ℕ) → AreWritten style old all left new → left.labels ≡ [] → left ≡ all_taken all
+none_left style old all left new h none =
+    let gone : left.answers ≡ [] = subst (λ (labels : List Label). GoWith labels left.answers) none h.answers in
+    (λ i. record left { labels = none i; answers = gone i }) ∙ sym h.taken

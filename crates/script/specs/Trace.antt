@@ -1,10 +1,8 @@
 -- A script run through a stack, and what is printed of it.
-use Rattle.std.specs.Prelude.{◌≡◌, ◌⊎◌, ℕ, List, [], ◌∷◌, ◌++◌, Option, codes, drop}
+use Rattle.std.specs.Prelude.{◌≡◌, ◌⊎◌, ℕ, List, [], ◌∷◌, ◌++◌, Option, codes}
 use Rattle.std.specs.Io.KnownBytes.{Appends}
 use Rattle.std.specs.BTreeMap.{IsEmpty}
 use Rattle.machine.specs.declared.Label.{Label}
-use Rattle.machine.specs.declared.Label.TheVariants.{Answer as AnswerLabel}
-use Rattle.io_manager.specs.declared.Answer.{Answer}
 use Rattle.io_manager.specs.declared.Reply.{Reply}
 use Rattle.io_manager.specs.Shown.{ManagerView}
 use Rattle.compose.specs.declared.Event.{Event}
@@ -20,18 +18,9 @@ use Rattle.script.specs.Printing.{labels_text, reply_line}
 
 -- WHAT IS TAKEN
 
--- the waiting answers that are left when the one that goes with a label was taken, if one does
-abbrev pub left_by : Label → List Answer → List Answer
-left_by (AnswerLabel number status information bytes) answers = drop 1 answers
-left_by _ answers = answers
-
-abbrev pub left_by_all : List Label → List Answer → List Answer
-left_by_all [] answers = answers
-left_by_all (label ∷ labels) answers = left_by_all labels (left_by label answers)
-
--- the stack after its labels were taken, and the answers that go with them
-abbrev pub without_labels : ManagerView → ManagerView
-without_labels v = record v { labels = []; answers = left_by_all v.labels v.answers }
+-- the stack after all labels and answers were taken
+abbrev pub all_taken : ManagerView → ManagerView
+all_taken v = record v { labels = []; answers = [] }
 
 -- no label and no answer waits to be taken
 pub record IsAllTaken (v : ManagerView) : Type 0 where
@@ -67,7 +56,7 @@ pub record IsLineTold (style : Style) (old : Between) (line : Line) (text : List
   pub stepped : ManagerView
   pub carried : IsCarriedOut old.given line.order old.stack reply stepped
   pub told : text ≡ line_text style line reply stepped.labels
-  pub taken : new.stack ≡ record stepped { labels = []; answers = [] }
+  pub taken : new.stack ≡ all_taken stepped
   pub keeps : Keeps reply old.given new.given
 
 -- ALL LINES

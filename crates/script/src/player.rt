@@ -1,30 +1,43 @@
 //! Lines of a script, carried out by a stack, and what comes of each in print.
 
-ghost use Rattle.std.specs.Prelude.{◌≡◌, [], IfErr, IfOk, MatchResult, OnOk, replicate};
-ghost use Rattle.std.specs.Io.KnownBytes.{Appends};
+ghost use Rattle.std.specs.Prelude.{◌≡◌, ◌++◌, [], IfErr, IsTrue, MatchOption, MatchResult, OnOk, drop, replicate};
+ghost use Rattle.std.specs.Io.KnownBytes.{Appends, Keeps, append_known};
 ghost use Rattle.io_manager.specs.declared.Refusal.TheVariants.{InsufficientResources};
 ghost use Rattle.io_manager.specs.declared.Reply.TheVariants.{Refused};
+ghost use Rattle.script.specs.declared.Style.TheVariants.{Trace};
 ghost use Rattle.script.specs.Events.{AreNamed, IsEventOf, IsReplyTo, MovesBytes};
 ghost use Rattle.script.specs.Faults.{IsPrintFault};
 ghost use Rattle.script.specs.Printing.{labels_text};
-ghost use Rattle.script.specs.Trace.{IsAllTaken, IsCarriedOut, IsTold, Prints, left_by, line_text, without_labels};
+ghost use Rattle.script.specs.Trace.{IsAllTaken, IsTold, Prints, all_taken, line_text};
+ghost use Rattle.script.specs.inside.Answers.{GoWith, IsCarriedOutFor, Tells, answered_by, asked_by, first_bytes, left_by};
 
 use crate::given::Given;
 use crate::printing::{write_event, write_label, write_reply};
 use crate::{Line, Order, ScriptFault, Style};
 use adapter::Adapter;
-use compose::{Event, Refusal, Reply, Stack};
-use machine::Label;
+use compose::{Asked, Event, Handle, Refusal, Reply, Stack};
+use machine::{Kind, Label};
 use sector::Bytes;
-use std::alloc::Global;
+use std::alloc::{AllocError, Global};
 use std::io;
 use std::io::Write;
 
 /// How many tags an adapter can have.
 const TAGS: u64 = 32;
 
-/// Carries the lines of a script out, one after the other, and writes what comes of each. The writer is flushed behind
-/// the last.
+/// How many bytes of text are written at once.
+const BLOCK: usize = 65_536;
+
+/// How lines are told, and the text that waits for the writer.
+#[derive(Drop)]
+struct Telling {
+    style: Style,
+    text: Vec<u8>,
+}
+
+/// Carries the lines of a script out, one after the other, and writes what comes of each, in blocks. What is left of the
+/// text is written behind the last line, also where a line ends in want of memory. The writer is flushed only where no
+/// fault came.
 ///
 /// All labels and answers of the stack have to be taken. The lines can name the handles and the requests that they
 /// open, and no others.
@@ -40,75 +53,226 @@ pub fn play<A: Adapter, W: Write>(
     out: &mut W,
 ) -> Result<(), ScriptFault>
     requires taken { IsAllTaken stack.old }
+    requires bytes { style ≡ Trace → IsTrue stack.old.rules.keeps_bytes }
     ensures text { OnOk result (Prints (W.contents out.old) (W.contents out.new) (λ text. IsTold style stack.old lines.now text stack.new)) }
+    ensures fault { IfErr result IsPrintFault }
+{
+    let text = Vec::with_capacity(alloc, BLOCK)?;
+    let mut telling = Telling { style, text };
+    match play_lines(alloc, stack, lines, &mut telling, out) {
+        Ok(()) => {
+            write_out(&mut telling.text, out)?;
+            out.flush()?;
+            Ok(())
+        }
+        Err(fault) => {
+            let _ = write_out(&mut telling.text, out);
+            Err(fault)
+        }
+    }
+}
+
+/// Gives a text that waited to the writer, and begins a new one.
+fn write_out<W: Write>(text: &mut Vec<u8>, out: &mut W) -> io::Result<()>
+    ensures written { OnOk result (Appends (W.contents out.old) (W.contents out.new) text.old.items) }
+    ensures none_waits { text.new.items ≡ [] }
+{
+    let written = out.write_all(text.as_slice());
+    text.clear();
+    written
+}
+
+/// Gives a text that waited to the writer once it fills a block.
+fn write_block<W: Write>(text: &mut Vec<u8>, out: &mut W) -> io::Result<()>
+    ensures { OnOk result (Keeps (append_known (W.contents out.old) text.old.items) (append_known (W.contents out.new) text.new.items)) }
+{
+    if text.len() < BLOCK {
+        return Ok(());
+    }
+    write_out(text, out)
+}
+
+/// Carries the lines out. What the writer has not got yet stands in the text.
+fn play_lines<A: Adapter, W: Write>(
+    alloc: Global,
+    stack: &mut Stack<A>,
+    lines: &[Line<'_>],
+    telling: &mut Telling,
+    out: &mut W,
+) -> Result<(), ScriptFault>
+    requires taken { IsAllTaken stack.old }
+    requires bytes { telling.old.style ≡ Trace → IsTrue stack.old.rules.keeps_bytes }
+    ensures text { OnOk result (Prints (append_known (W.contents out.old) telling.old.text.items) (append_known (W.contents out.new) telling.new.text.items) (λ text. IsTold telling.old.style stack.old lines.now text stack.new)) }
     ensures fault { IfErr result IsPrintFault }
 {
     let mut given = Given::new(alloc);
     for line in lines {
+        write_block(&mut telling.text, out)?;
         let reply = carry_out(alloc, stack, line.order, &given);
         given.keep(&reply)?;
-        tell(stack, style, line, &reply, out)?;
+        tell(stack, telling.style, line, &reply, &mut telling.text)?;
     }
-    out.flush()?;
     Ok(())
 }
 
-/// Carries out what a line asks for.
+/// Carries out what a line asks for, and shows which answers go with the labels.
 fn carry_out<A: Adapter>(alloc: Global, stack: &mut Stack<A>, order: Order, given: &Given) -> Reply
     requires taken { IsAllTaken stack.old }
     requires named { AreNamed given.now }
-    ensures { IsCarriedOut given.now order stack.old result stack.new }
+    ensures { Tells given.now order stack.old result stack.new }
 {
+    compose::steps_keep_rules();
+    compose::steps_leave_answers();
+    let reply = step(alloc, stack, order, given);
+    stack.shows_whole();
+    reply
+}
+
+/// Carries out what a line asks for. A call that is refused before it asks for memory makes no bytes, and its reply
+/// gives none back.
+fn step<A: Adapter>(alloc: Global, stack: &mut Stack<A>, order: Order, given: &Given) -> Reply
+    requires taken { IsAllTaken stack.old }
+    requires named { AreNamed given.now }
+    ensures { IsCarriedOutFor given.now order stack.old result stack.new }
+{
+    if let Some(reply) = refused(alloc, stack, order, given) {
+        return reply;
+    }
     match event(alloc, order, given) {
         Ok(event) => stack.step(alloc, event),
         Err(reply) => reply,
     }
 }
 
-/// Writes what came of a line, and takes all labels and the answers that go with them.
-fn tell<A: Adapter, W: Write>(
+/// Writes what came of a line behind a text, and takes all labels and the answers that go with them.
+fn tell<A: Adapter>(
     stack: &mut Stack<A>,
     style: Style,
     line: &Line<'_>,
     reply: &Reply,
-    out: &mut W,
-) -> io::Result<()>
-    ensures taken { OnOk result (stack.new ≡ without_labels stack.old) }
-    ensures text { OnOk result (Appends (W.contents out.old) (W.contents out.new) (line_text style line.now reply.now stack.old.labels)) }
+    text: &mut Vec<u8>,
+) -> Result<(), AllocError>
+    requires answers { GoWith stack.old.labels stack.old.answers }
+    requires bytes { style ≡ Trace → IsTrue stack.old.rules.keeps_bytes }
+    ensures taken { OnOk result (stack.new ≡ all_taken stack.old) }
+    ensures text { OnOk result (text.new.items ≡ text.old.items ++ line_text style line.now reply.now stack.old.labels) }
 {
     match style {
         Style::Transcript => {
-            write_event(out, line.text)?;
-            write_reply(out, reply)?;
-            write_labels(stack, style, out)
+            write_event(text, line.text)?;
+            write_reply(text, reply)?;
+            write_labels(stack, style, text)
         }
-        Style::Trace => write_labels(stack, style, out),
+        Style::Trace => write_labels(stack, style, text),
     }
 }
 
-/// Writes all labels that a stack has not given yet, and takes the answers that go with them.
-fn write_labels<A: Adapter, W: Write>(
+/// Writes all labels that a stack has not given yet behind a text, and takes the answers that go with them.
+fn write_labels<A: Adapter>(
     stack: &mut Stack<A>,
     style: Style,
-    out: &mut W,
-) -> io::Result<()>
-    ensures taken { OnOk result (stack.new ≡ without_labels stack.old) }
-    ensures text { OnOk result (Appends (W.contents out.old) (W.contents out.new) (labels_text style stack.old.labels)) }
+    text: &mut Vec<u8>,
+) -> Result<(), AllocError>
+    requires answers { GoWith stack.old.labels stack.old.answers }
+    requires bytes { style ≡ Trace → IsTrue stack.old.rules.keeps_bytes }
+    ensures taken { OnOk result (stack.new ≡ all_taken stack.old) }
+    ensures text { OnOk result (text.new.items ≡ text.old.items ++ labels_text style stack.old.labels) }
 {
-    while let Some(label) = stack.take_label() {
-        write_label(out, style, &label)?;
-        take_answer_of(stack, label);
+    while let Some(shown) = stack.take_shown() {
+        let label = answered(stack, shown);
+        write_label(text, style, &label)?;
     }
     Ok(())
 }
 
-/// Takes the answer that goes with a label, if one does.
-#[tactic(auto, using(crate::proofs::PrintedLabels::answer_taken))]
-fn take_answer_of<A: Adapter>(stack: &mut Stack<A>, label: Label)
-    ensures { stack.new ≡ record stack.old { answers = left_by label stack.old.answers } }
+/// Gives the label of an answer the bytes of the waiting answer that goes with it, if one does, and takes that. Other
+/// labels stay as they are.
+fn answered<A: Adapter>(stack: &mut Stack<A>, label: Label) -> Label
+    ensures taken { stack.new ≡ record stack.old { answers = left_by label stack.old.answers } }
+    ensures label { result ≡ answered_by label stack.old.answers }
 {
-    if let Label::Answer { .. } = label {
-        let _ = stack.take_answer();
+    match label {
+        Label::Answer {
+            number,
+            status,
+            information,
+            bytes,
+        } => Label::Answer {
+            number,
+            status,
+            information,
+            bytes: answer_bytes(stack, bytes),
+        },
+        label => label,
+    }
+}
+
+/// Takes the first answer that waits, and returns its bytes, or these where none waits.
+#[tactic(auto, using(crate::proofs::PrintedLabels::answer_taken))]
+fn answer_bytes<A: Adapter>(stack: &mut Stack<A>, otherwise: Bytes) -> Bytes
+    ensures taken { stack.new ≡ record stack.old { answers = drop 1 stack.old.answers } }
+    ensures bytes { result ≡ first_bytes stack.old.answers otherwise }
+{
+    match stack.take_answer() {
+        Some(answer) => answer.bytes,
+        None => otherwise,
+    }
+}
+
+/// Carries out a read or a write that is refused before it asks for memory, without its bytes.
+fn refused<A: Adapter>(
+    alloc: Global,
+    stack: &mut Stack<A>,
+    order: Order,
+    given: &Given,
+) -> Option<Reply>
+    requires taken { IsAllTaken stack.old }
+    requires named { AreNamed given.now }
+    ensures { MatchOption result (stack.new ≡ stack.old) (λ reply. IsCarriedOutFor given.now order stack.old reply stack.new) }
+{
+    let (handle, asked) = asked(order, given)?;
+    let refusal = stack.refuse(alloc, handle, asked)?;
+    Some(Reply::Refused {
+        refusal,
+        bytes: Bytes::new(Vec::new(alloc)),
+    })
+}
+
+/// What a read or a write asks for on its handle.
+fn asked(order: Order, given: &Given) -> Option<(Handle, Asked)>
+    requires { AreNamed given.now }
+    ensures { result ≡ asked_by given.now order }
+{
+    match order {
+        Order::Read {
+            handle,
+            offset,
+            length,
+        } => Some((
+            given.handle(handle),
+            Asked {
+                kind: Kind::Read,
+                offset,
+                length,
+                through: false,
+            },
+        )),
+        Order::Write {
+            handle,
+            offset,
+            length,
+            through,
+            ..
+        } => Some((
+            given.handle(handle),
+            Asked {
+                kind: Kind::Write,
+                offset,
+                length,
+                through,
+            },
+        )),
+        _ => None,
     }
 }
 

@@ -2,7 +2,6 @@
 
 ghost use Rattle.std.specs.Prelude.{◌≡◌, ◌++◌, OnOk, codes};
 ghost use Rattle.std.specs.Fmt.{decimal};
-ghost use Rattle.std.specs.Io.KnownBytes.{Appends};
 ghost use Rattle.label_text.specs.Lines.{line_end};
 ghost use Rattle.script.specs.Printing.{label_line, number_of, reply_line};
 
@@ -10,47 +9,46 @@ use crate::Style;
 use compose::{Refusal, Reply};
 use label_text::{write_line, write_number, write_short_line};
 use machine::Label;
-use std::io;
-use std::io::Write;
+use std::alloc::AllocError;
 
 /// Writes a line of the script.
-pub(crate) fn write_event<W: Write>(out: &mut W, line: &str) -> io::Result<()>
-    ensures { OnOk result (Appends (W.contents out.old) (W.contents out.new) (codes "> " ++ (line.now ++ line_end))) }
+pub(crate) fn write_event(text: &mut Vec<u8>, line: &str) -> Result<(), AllocError>
+    ensures { OnOk result (text.new.items ≡ text.old.items ++ (codes "> " ++ (line.now ++ line_end))) }
 {
-    out.write_all(b"> ")?;
-    out.write_all(line.as_bytes())?;
-    out.write_all(b"\n")
+    text.extend_from_slice(b"> ")?;
+    text.extend_from_slice(line.as_bytes())?;
+    text.extend_from_slice(b"\n")
 }
 
 /// Writes the line of a reply.
-pub fn write_reply<W: Write>(out: &mut W, reply: &Reply) -> io::Result<()>
-    ensures { OnOk result (Appends (W.contents out.old) (W.contents out.new) (reply_line reply.now)) }
+pub fn write_reply(text: &mut Vec<u8>, reply: &Reply) -> Result<(), AllocError>
+    ensures { OnOk result (text.new.items ≡ text.old.items ++ reply_line reply.now) }
 {
     match reply {
         Reply::Handle(handle) => {
-            out.write_all(b"handle ")?;
-            write_last(out, handle.number)
+            text.extend_from_slice(b"handle ")?;
+            write_last(text, handle.number)
         }
-        Reply::Ok => out.write_all(b"ok\n"),
+        Reply::Ok => text.extend_from_slice(b"ok\n"),
         Reply::Request(id) => {
-            out.write_all(b"request ")?;
-            write_last(out, id.number)
+            text.extend_from_slice(b"request ")?;
+            write_last(text, id.number)
         }
-        Reply::Answered(_) => out.write_all(b"answered\n"),
+        Reply::Answered(_) => text.extend_from_slice(b"answered\n"),
         Reply::Refused { refusal, .. } => {
-            out.write_all(b"refused E")?;
-            write_last(out, number_of(*refusal) as u64)
+            text.extend_from_slice(b"refused E")?;
+            write_last(text, number_of(*refusal) as u64)
         }
-        Reply::Ignored => out.write_all(b"ignored\n"),
+        Reply::Ignored => text.extend_from_slice(b"ignored\n"),
     }
 }
 
 /// Writes a number, and ends the line.
-fn write_last<W: Write>(out: &mut W, number: u64) -> io::Result<()>
-    ensures { OnOk result (Appends (W.contents out.old) (W.contents out.new) (decimal number ++ line_end)) }
+fn write_last(text: &mut Vec<u8>, number: u64) -> Result<(), AllocError>
+    ensures { OnOk result (text.new.items ≡ text.old.items ++ (decimal number ++ line_end)) }
 {
-    write_number(out, number)?;
-    out.write_all(b"\n")
+    write_number(text, number)?;
+    text.extend_from_slice(b"\n")
 }
 
 /// The number of a refusal, as it is printed after its E.
@@ -69,11 +67,11 @@ fn number_of(refusal: Refusal) -> u8
 }
 
 /// Writes the line of a label.
-pub(crate) fn write_label<W: Write>(out: &mut W, style: Style, label: &Label) -> io::Result<()>
-    ensures { OnOk result (Appends (W.contents out.old) (W.contents out.new) (label_line style label.now)) }
+pub(crate) fn write_label(text: &mut Vec<u8>, style: Style, label: &Label) -> Result<(), AllocError>
+    ensures { OnOk result (text.new.items ≡ text.old.items ++ label_line style label.now) }
 {
     match style {
-        Style::Transcript => write_short_line(out, label),
-        Style::Trace => write_line(out, label, None),
+        Style::Transcript => write_short_line(text, label),
+        Style::Trace => write_line(text, label, None),
     }
 }
