@@ -43,7 +43,7 @@ module _ (config : Option (List ℕ)) (threads : ℕ) where
         never holds = absurd (cc (holds))
 
     -- settings without a partition have room for nobody
-    pub no_partition : (rules : Rules) (missed : RoundsFault) (fault : Error) → rules ≡ rules_over false settings → missed ≡ NoPartition → IsRoundsFault rules missed → fault ≡ Startup (Settings OutOfRange)
+    pub no_partition : (rules : Rules) (missed : RoundsFault) (fault : Error) → rules ≡ rules_over false true settings → missed ≡ NoPartition → IsRoundsFault rules missed → fault ≡ Startup (Settings OutOfRange)
         → IsClientsFault config threads fault
     no_partition rules missed fault of_them named why is = out_of_range fault is (λ room. by settings.partitions.items (sym (ap (λ (r : Rules). r.partitions) of_them) ∙ none) room.sectors)
       where

@@ -101,7 +101,7 @@ fn has_room(config: &Config, threads: u16) -> bool
 /// The sizes of the stack of some settings.
 fn sizes_for(config: &Config) -> StackSizes
     requires { AreInRange config.now }
-    ensures rules { result ≡ sizes_of (rules_over false config.now) }
+    ensures rules { result ≡ sizes_of (rules_over false true config.now) }
     ensures sizes { AreSizes result }
 {
     StackSizes {

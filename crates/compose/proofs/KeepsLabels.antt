@@ -1,10 +1,14 @@
 -- Whether labels are kept changes with no step.
-use Rattle.std.proofs.Common.{◌≡◌, ℕ, Option, Some, None, ap}
+use Rattle.std.proofs.Common.{◌≡◌, ℕ, Option, Some, None, MatchOption, ap, replicate, sym}
+use Rattle.std.proofs.lemmas.List.{length-replicate}
 use Rattle.machine.specs.declared.Label.{Label}
 use Rattle.io_manager.specs.declared.Answer.{Answer}
+use Rattle.io_manager.specs.declared.Asked.{Asked}
+use Rattle.io_manager.specs.declared.Handle.{Handle}
+use Rattle.io_manager.specs.declared.Refusal.{Refusal}
 use Rattle.io_manager.specs.declared.Reply.{Reply}
 use Rattle.io_manager.specs.Shown.{ManagerView}
-use Rattle.io_manager.specs.Right.{TakesLabel, TakesShown, TakesAnswer, TakesAnswerOf}
+use Rattle.io_manager.specs.Right.{Refuses, TakesLabel, TakesShown, TakesAnswer, TakesAnswerOf}
 use Rattle.compose.specs.declared.Event.{Event}
 use Rattle.compose.specs.declared.Event.TheVariants.{Open, Close, Read, Write, Flush, CancelIoEx, Mark, QueryRemove}
 use Rattle.compose.specs.declared.Event.TheVariants.{CancelRemove, Remove, SurpriseRemove, Act, Finish, Reset}
@@ -57,3 +61,8 @@ answer_keeps old (Some answer) new h = ap (λ (v : ManagerView). v.keeps) h.3
 pub answer_of_keeps : (old : ManagerView) (number : ℕ) (found : Option Answer) (new : ManagerView) → TakesAnswerOf old number found new → new.keeps ≡ old.keeps
 answer_of_keeps old number None new h = ap (λ (v : ManagerView). v.keeps) h.1
 answer_of_keeps old number (Some answer) new h = ap (λ (v : ManagerView). v.keeps) h.3
+
+pub refused_keeps : (old : ManagerView) (handle : Handle) (asked : Asked) (found : Option Refusal) (new : ManagerView)
+    → MatchOption found (new ≡ old) (λ refusal. Refuses old handle asked refusal new) → new.keeps ≡ old.keeps
+refused_keeps old handle asked None new h = ap (λ (v : ManagerView). v.keeps) h
+refused_keeps old handle asked (Some refusal) new h = (h (replicate asked.length 0) (sym (length-replicate asked.length 0))).by.same_keeps

@@ -11,7 +11,7 @@ use std::alloc::{AllocError, Global};
 const SECTOR: u64 = 512;
 
 /// Where a changed label has to be refused.
-#[derive(Debug, Clone, Copy, PartialEq, Eq)]
+#[derive(Clone, Copy, PartialEq, Eq)]
 pub enum Due {
     /// The label is refused there: the labels before leave this field one value.
     There,
@@ -19,36 +19,28 @@ pub enum Due {
     Anywhere,
 }
 
+use Due::{Anywhere, There};
+
+/// A changed label and where it has to be refused, or no change of this number.
+type Changed<T> = Option<(T, Due)>;
+
 /// A label with the change of this number, and where that has to be refused. Some numbers have no change.
-pub fn changed(
-    alloc: Global,
-    label: &Label,
-    change: usize,
-) -> Result<Option<(Label, Due)>, AllocError> {
+pub fn changed(alloc: Global, label: &Label, change: usize) -> Result<Changed<Label>, AllocError> {
     match label {
         Label::Call { number, request } => call(alloc, *number, request, change),
         Label::Device(label) => device(alloc, label, change),
-        Label::Answer {
-            number,
-            status,
-            information,
-            bytes,
-        } => {
-            let answer = Answer {
-                number: *number,
-                status: *status,
-                information: *information,
-            };
-            answer_changed(alloc, answer, bytes.as_slice(), change)
+        Label::Answer { .. } => answer(alloc, label, change),
+        Label::Cancel { number } => {
+            let number = number.wrapping_add(1);
+            Ok((change == 0).then_some((Label::Cancel { number }, Anywhere)))
         }
-        Label::Cancel { number } => Ok(cancel(*number, change)),
         _ => Ok(bare(label, change)),
     }
 }
 
 /// Bytes with the first one changed, without the last one, or with one more. An empty list can only get one more.
-fn other_bytes(alloc: Global, bytes: &[u8], change: usize) -> Result<Option<Bytes>, AllocError> {
-    let mut other = Vec::from_slice(alloc, bytes)?;
+fn other_bytes(alloc: Global, bytes: &Bytes, change: usize) -> Result<Option<Bytes>, AllocError> {
+    let mut other = Vec::from_slice(alloc, bytes.as_slice())?;
     match change {
         0 => match other.first_mut() {
             Some(byte) => *byte ^= 1,
@@ -62,128 +54,122 @@ fn other_bytes(alloc: Global, bytes: &[u8], change: usize) -> Result<Option<Byte
     Ok(Some(Bytes::new(other)))
 }
 
+fn copied(alloc: Global, bytes: &Bytes) -> Result<Bytes, AllocError> {
+    Ok(Bytes::new(Vec::from_slice(alloc, bytes.as_slice())?))
+}
+
 fn other_kind(kind: Kind, change: usize) -> Kind {
     match (kind, change) {
-        (Kind::Read, 0) | (Kind::Flush, 1) => Kind::Write,
-        (Kind::Write, 0) | (Kind::Read, 1) => Kind::Flush,
+        (Kind::Read, 3) | (Kind::Flush, 4) => Kind::Write,
+        (Kind::Write, 3) | (Kind::Read, 4) => Kind::Flush,
         _ => Kind::Read,
     }
 }
 
-/// A call with its bytes changed, which are as many as it is long, or with another field changed.
+/// A call with another number, with another field of its request, or with its bytes changed, which are as many as it is
+/// long.
 fn call(
     alloc: Global,
     number: u64,
-    request: &ClientRequest,
+    told: &ClientRequest,
     change: usize,
-) -> Result<Option<(Label, Due)>, AllocError> {
-    let told = request.bytes.as_slice();
-    if change >= 16 {
-        let due = if change == 16 {
-            Due::Anywhere
-        } else {
-            Due::There
-        };
-        let bytes = other_bytes(alloc, told, change.saturating_sub(16))?;
-        return Ok(bytes.map(|bytes| (call_of(number, request, bytes), due)));
-    }
-    let bytes = Bytes::new(Vec::from_slice(alloc, told)?);
-    if change == 0 {
-        let label = call_of(number.wrapping_add(1), request, bytes);
-        return Ok(Some((label, Due::There)));
-    }
-    let mut other = with_bytes(request, bytes);
+) -> Result<Changed<Label>, AllocError> {
+    let bytes = if change < 16 {
+        Some(copied(alloc, &told.bytes)?)
+    } else {
+        other_bytes(alloc, &told.bytes, change.saturating_sub(16))?
+    };
+    let Some(bytes) = bytes else {
+        return Ok(None);
+    };
+    let number = if change == 0 {
+        number.wrapping_add(1)
+    } else {
+        number
+    };
+    let Some(request) = other_request(told, bytes, change) else {
+        return Ok(None);
+    };
+    let due = if matches!(change, 0 | 17 | 18) {
+        There
+    } else {
+        Anywhere
+    };
+    Ok(Some((Label::Call { number, request }, due)))
+}
+
+/// A request with these bytes and with the field of this change changed, where it is one of a field.
+fn other_request(told: &ClientRequest, bytes: Bytes, change: usize) -> Option<ClientRequest> {
+    let mut other = ClientRequest {
+        partition: told.partition,
+        kind: told.kind,
+        offset: told.offset,
+        length: told.length,
+        through: told.through,
+        bytes,
+    };
     match change {
         1 => other.partition = other.partition.map(|number| number ^ 1),
         2 if other.partition.is_some() => other.partition = None,
         2 => other.partition = Some(0),
-        3 | 4 => other.kind = other_kind(request.kind, change.saturating_sub(3)),
+        3 | 4 => other.kind = other_kind(other.kind, change),
         5 => other.offset = other.offset.wrapping_add(SECTOR),
         6 => other.offset = other.offset.wrapping_add(1),
         7 => other.length = other.length.wrapping_add(SECTOR),
         8 => other.length = other.length.wrapping_add(1),
         9 => other.through = !other.through,
-        _ => return Ok(None),
+        10..16 => return None,
+        _ => {}
     }
-    Ok(Some((
-        Label::Call {
-            number,
-            request: other,
-        },
-        Due::Anywhere,
-    )))
+    Some(other)
 }
 
-fn with_bytes(request: &ClientRequest, bytes: Bytes) -> ClientRequest {
-    ClientRequest {
-        partition: request.partition,
-        kind: request.kind,
-        offset: request.offset,
-        length: request.length,
-        through: request.through,
-        bytes,
+fn other_status(status: NtStatus, change: usize) -> NtStatus {
+    match (change, status) {
+        (1, NtStatus::Success) => NtStatus::Cancelled,
+        (1, _) => NtStatus::Success,
+        (_, NtStatus::DeviceBusy) => NtStatus::InvalidHandle,
+        _ => NtStatus::DeviceBusy,
     }
 }
 
-fn call_of(number: u64, request: &ClientRequest, bytes: Bytes) -> Label {
-    Label::Call {
+/// An answer with another number, status, information, or with its bytes changed.
+fn answer(alloc: Global, label: &Label, change: usize) -> Result<Changed<Label>, AllocError> {
+    let Label::Answer {
         number,
-        request: with_bytes(request, bytes),
-    }
-}
-
-/// An answer without its bytes.
-#[derive(Debug, Clone, Copy)]
-struct Answer {
-    number: u64,
-    status: NtStatus,
-    information: u64,
-}
-
-fn answer_changed(
-    alloc: Global,
-    answer: Answer,
-    bytes: &[u8],
-    change: usize,
-) -> Result<Option<(Label, Due)>, AllocError> {
-    let mut other = answer;
-    let mut due = Due::There;
-    match change {
-        0 => {
-            other.number = other.number.wrapping_add(1);
-            due = Due::Anywhere;
-        }
-        1 if answer.status == NtStatus::Success => other.status = NtStatus::Cancelled,
-        1 => other.status = NtStatus::Success,
-        2 if answer.status == NtStatus::DeviceBusy => other.status = NtStatus::InvalidHandle,
-        2 => other.status = NtStatus::DeviceBusy,
-        3 => other.information = other.information.wrapping_add(1),
-        4 | 5 | 6 => {
-            let bytes = other_bytes(alloc, bytes, change.saturating_sub(4))?;
-            return Ok(bytes.map(|bytes| (answer_of(other, bytes), due)));
-        }
-        _ => return Ok(None),
-    }
-    let bytes = Bytes::new(Vec::from_slice(alloc, bytes)?);
-    Ok(Some((answer_of(other, bytes), due)))
-}
-
-fn answer_of(answer: Answer, bytes: Bytes) -> Label {
-    Label::Answer {
-        number: answer.number,
-        status: answer.status,
-        information: answer.information,
+        status,
+        information,
         bytes,
+    } = label
+    else {
+        return Ok(None);
+    };
+    let (mut number, mut status, mut information) = (*number, *status, *information);
+    match change {
+        0 => number = number.wrapping_add(1),
+        1 | 2 => status = other_status(status, change),
+        3 => information = information.wrapping_add(1),
+        _ => {}
     }
-}
-
-fn cancel(number: u64, change: usize) -> Option<(Label, Due)> {
-    let number = number.wrapping_add(1);
-    (change == 0).then_some((Label::Cancel { number }, Due::Anywhere))
+    let bytes = if change < 4 {
+        Some(copied(alloc, bytes)?)
+    } else {
+        other_bytes(alloc, bytes, change.saturating_sub(4))?
+    };
+    let Some(bytes) = bytes else {
+        return Ok(None);
+    };
+    let label = Label::Answer {
+        number,
+        status,
+        information,
+        bytes,
+    };
+    Ok(Some((label, if change == 0 { Anywhere } else { There })))
 }
 
 /// One label without a field in the place of another.
-fn bare(label: &Label, change: usize) -> Option<(Label, Due)> {
+fn bare(label: &Label, change: usize) -> Changed<Label> {
     let other = match (change, label) {
         (0, Label::Pause) | (1, Label::Resume) | (2, Label::Remove) => return None,
         (3, Label::Surprise) | (4, Label::Removed) => return None,
@@ -194,20 +180,16 @@ fn bare(label: &Label, change: usize) -> Option<(Label, Due)> {
         (4, _) => Label::Removed,
         _ => return None,
     };
-    Some((other, Due::Anywhere))
+    Some((other, Anywhere))
 }
 
-fn device(
-    alloc: Global,
-    label: &DeviceLabel,
-    change: usize,
-) -> Result<Option<(Label, Due)>, AllocError> {
+fn device(alloc: Global, label: &DeviceLabel, change: usize) -> Result<Changed<Label>, AllocError> {
     let other = match label {
         DeviceLabel::Start { piece, tag, block } => start(*piece, *tag, block, change),
-        DeviceLabel::Act { piece, bytes } => act(alloc, *piece, bytes.as_slice(), change)?,
+        DeviceLabel::Act { piece, bytes } => act(alloc, *piece, bytes, change)?,
         DeviceLabel::Fault { piece } if change == 0 => {
             let piece = piece.wrapping_add(1);
-            Some((DeviceLabel::Fault { piece }, Due::Anywhere))
+            Some((DeviceLabel::Fault { piece }, Anywhere))
         }
         DeviceLabel::Fault { .. } => None,
         DeviceLabel::Return { piece, class } => returned(*piece, *class, change),
@@ -215,17 +197,18 @@ fn device(
     Ok(other.map(|(label, due)| (Label::Device(label), due)))
 }
 
-fn start(piece: u128, tag: u8, block: &CommandBlock, change: usize) -> Option<(DeviceLabel, Due)> {
-    let (piece, tag, due) = match change {
-        0 => (piece.wrapping_add(1), tag, Due::There),
-        1 => (piece, tag ^ 1, Due::There),
-        _ => (piece, tag, Due::Anywhere),
+fn start(piece: u128, tag: u8, block: &CommandBlock, change: usize) -> Changed<DeviceLabel> {
+    let (piece, tag) = match change {
+        0 => (piece.wrapping_add(1), tag),
+        1 => (piece, tag ^ 1),
+        _ => (piece, tag),
     };
-    let block = match change {
-        0 | 1 => block.copied(),
-        _ => other_block(block, change.saturating_sub(2))?,
-    };
-    Some((DeviceLabel::Start { piece, tag, block }, due))
+    if change < 2 {
+        let block = block.copied();
+        return Some((DeviceLabel::Start { piece, tag, block }, There));
+    }
+    let block = other_block(block, change.saturating_sub(2))?;
+    Some((DeviceLabel::Start { piece, tag, block }, Anywhere))
 }
 
 /// A block with one of its bytes changed, or without the last one.
@@ -248,16 +231,16 @@ fn other_block(block: &CommandBlock, change: usize) -> Option<CommandBlock> {
 fn act(
     alloc: Global,
     piece: u128,
-    bytes: &[u8],
+    bytes: &Bytes,
     change: usize,
-) -> Result<Option<(DeviceLabel, Due)>, AllocError> {
+) -> Result<Changed<DeviceLabel>, AllocError> {
     if change == 0 {
         let piece = piece.wrapping_add(1);
-        let bytes = Bytes::new(Vec::from_slice(alloc, bytes)?);
-        return Ok(Some((DeviceLabel::Act { piece, bytes }, Due::Anywhere)));
+        let bytes = copied(alloc, bytes)?;
+        return Ok(Some((DeviceLabel::Act { piece, bytes }, Anywhere)));
     }
     let bytes = other_bytes(alloc, bytes, change.saturating_sub(1))?;
-    Ok(bytes.map(|bytes| (DeviceLabel::Act { piece, bytes }, Due::There)))
+    Ok(bytes.map(|bytes| (DeviceLabel::Act { piece, bytes }, There)))
 }
 
 const MEDIUM_ERROR: Completion = Completion {
@@ -270,14 +253,12 @@ const MEDIUM_ERROR: Completion = Completion {
     }),
 };
 
-fn returned(piece: u128, class: Class, change: usize) -> Option<(DeviceLabel, Due)> {
-    let due = Due::Anywhere;
-    if change == 0 {
-        let piece = piece.wrapping_add(1);
-        return Some((DeviceLabel::Return { piece, class }, due));
-    }
-    let class = other_class(class, change)?;
-    Some((DeviceLabel::Return { piece, class }, due))
+fn returned(piece: u128, class: Class, change: usize) -> Changed<DeviceLabel> {
+    let (piece, class) = match change {
+        0 => (piece.wrapping_add(1), class),
+        _ => (piece, other_class(class, change)?),
+    };
+    Some((DeviceLabel::Return { piece, class }, Anywhere))
 }
 
 /// Another class, or this one with another field.
@@ -286,38 +267,31 @@ fn other_class(class: Class, change: usize) -> Option<Class> {
         (1, Class::Good) | (2, Class::Busy) => None,
         (1, _) => Some(Class::Good),
         (2, _) => Some(Class::Busy),
-        (3, Class::Bad(told)) => Some(Class::Bad(other_completion(told, 0))),
+        (_, Class::Bad(told)) => Some(Class::Bad(other_completion(told, change)?)),
         (3, _) => Some(Class::Bad(MEDIUM_ERROR)),
-        (4, Class::Bad(told)) => Some(Class::Bad(other_completion(told, 1))),
-        (5, Class::Bad(told)) => Some(Class::Bad(other_completion(told, 2))),
-        (6..9, Class::Bad(told)) => {
-            let sense = other_sense(told.sense?, change.saturating_sub(6));
-            Some(Class::Bad(Completion {
-                sense: Some(sense),
-                ..told
-            }))
-        }
         _ => None,
     }
 }
 
-fn other_completion(told: Completion, change: usize) -> Completion {
+fn other_completion(told: Completion, change: usize) -> Option<Completion> {
     let mut other = told;
     match change {
-        0 => other.srb_status ^= 1,
-        1 => other.scsi_status ^= 1,
-        _ if told.sense.is_some() => other.sense = None,
-        _ => other.sense = MEDIUM_ERROR.sense,
+        3 => other.srb_status ^= 1,
+        4 => other.scsi_status ^= 1,
+        5 if told.sense.is_some() => other.sense = None,
+        5 => other.sense = MEDIUM_ERROR.sense,
+        _ => other.sense = Some(other_sense(told.sense?, change)?),
     }
-    other
+    Some(other)
 }
 
-fn other_sense(told: Sense, change: usize) -> Sense {
+fn other_sense(told: Sense, change: usize) -> Option<Sense> {
     let mut other = told;
     match change {
-        0 => other.key ^= 1,
-        1 => other.asc ^= 1,
-        _ => other.ascq ^= 1,
+        6 => other.key ^= 1,
+        7 => other.asc ^= 1,
+        8 => other.ascq ^= 1,
+        _ => return None,
     }
-    other
+    Some(other)
 }

@@ -2,9 +2,8 @@
 
 use crate::changed::{Due, changed};
 use crate::fault::HostileFault;
-use crate::layout::Layout;
-use crate::random::run_of;
-use crate::tally::{Case, Changes};
+use crate::random::{Run, run_of};
+use crate::tally::{Case, Tally};
 use crate::verdicts::{Wrong, rules_of, zeros};
 use judge::stepwise::{Judge, Refusal};
 use judge::{Verdict, judge};
@@ -16,34 +15,34 @@ use std::mem;
 const MOST_CHANGES: usize = 32;
 
 /// Changes each label of this many random runs, from this seed on, in each field.
-pub fn changes(alloc: Global, seed: u64, runs: u64) -> Result<Changes, HostileFault> {
-    let mut tally = Changes::new();
+pub fn changes(alloc: Global, seed: u64, runs: u64) -> Result<Tally, HostileFault> {
+    let mut tally = Tally::new();
     for n in 0..runs {
         let seed = seed.wrapping_add(n);
         let mut run = run_of(alloc, seed)?;
-        change_all(alloc, seed, &run.layout, &mut run.told.labels, &mut tally)?;
+        for at in 0..run.told.labels.len() {
+            tally.labels = tally.labels.saturating_add(1);
+            change_one(alloc, seed, &mut run, at, &mut tally)?;
+        }
     }
     Ok(tally)
 }
 
-/// Changes each label of a run.
-fn change_all(
+/// Changes the label of a place of a run.
+fn change_one(
     alloc: Global,
     seed: u64,
-    layout: &Layout,
-    labels: &mut Vec<Label>,
-    tally: &mut Changes,
+    run: &mut Run,
+    at: usize,
+    tally: &mut Tally,
 ) -> Result<(), HostileFault> {
-    for at in 0..labels.len() {
-        tally.labels = tally.labels.saturating_add(1);
-        for change in 0..MOST_CHANGES {
-            let Some((label, due)) = change_of(alloc, labels.as_slice(), at, change)? else {
-                continue;
-            };
-            let seen = judged(alloc, layout, labels, at, label)?;
-            let case = Case::Changed { seed, at, change };
-            tally.add(case, at, seen, wrong_of(seen, at, due));
-        }
+    for change in 0..MOST_CHANGES {
+        let Some((label, due)) = change_of(alloc, run.told.labels.as_slice(), at, change)? else {
+            continue;
+        };
+        let (whole, stepwise) = judged(alloc, run, at, label)?;
+        let wrong = wrong_of(whole, stepwise, at, due);
+        tally.add_change(Case::Changed { seed, at, change }, at, whole, wrong);
     }
     Ok(())
 }
@@ -61,28 +60,26 @@ fn change_of(
     Ok(changed(alloc, label, change)?)
 }
 
-/// Where both judges stop, if they do.
-#[derive(Debug, Clone, Copy)]
-pub struct Seen {
-    /// Where the judge stops that is given all labels at once.
-    pub whole: Option<usize>,
-    /// Where the judge stops that takes them one by one, and names a rule.
-    pub stepwise: Option<usize>,
-}
-
-/// Judges a run with another label in a place. The run stays as it was.
+/// Judges a run with another label in a place, and returns where the judge stops that is given all labels at once, and
+/// where the one that takes them one by one. The run stays as it was.
 fn judged(
     alloc: Global,
-    layout: &Layout,
-    labels: &mut Vec<Label>,
+    run: &mut Run,
     at: usize,
     mut label: Label,
-) -> Result<Seen, HostileFault> {
-    swap(labels, at, &mut label);
-    let whole = stops(alloc, layout, labels.as_slice())?;
-    let stepwise = stops_stepwise(alloc, layout, labels.as_slice())?;
-    swap(labels, at, &mut label);
-    Ok(Seen { whole, stepwise })
+) -> Result<(Option<usize>, Option<usize>), HostileFault> {
+    swap(&mut run.told.labels, at, &mut label);
+    let rules = rules_of(alloc, &run.layout)?;
+    let arrays = zeros(alloc, &rules)?;
+    let whole = match judge(alloc, &rules, arrays, run.told.labels.as_slice())? {
+        Verdict::Run(_) => None,
+        Verdict::Stops(at) => Some(at),
+    };
+    let arrays = zeros(alloc, &rules)?;
+    let judge = Judge::new(alloc, rules, arrays)?;
+    let stepwise = stops_stepwise(alloc, judge, run.told.labels.as_slice())?;
+    swap(&mut run.told.labels, at, &mut label);
+    Ok((whole, stepwise))
 }
 
 fn swap(labels: &mut Vec<Label>, at: usize, label: &mut Label) {
@@ -91,23 +88,11 @@ fn swap(labels: &mut Vec<Label>, at: usize, label: &mut Label) {
     }
 }
 
-fn stops(alloc: Global, layout: &Layout, labels: &[Label]) -> Result<Option<usize>, HostileFault> {
-    let rules = rules_of(alloc, layout)?;
-    let arrays = zeros(alloc, &rules)?;
-    match judge(alloc, &rules, arrays, labels)? {
-        Verdict::Run(_) => Ok(None),
-        Verdict::Stops(at) => Ok(Some(at)),
-    }
-}
-
 fn stops_stepwise(
     alloc: Global,
-    layout: &Layout,
+    mut judge: Judge,
     labels: &[Label],
 ) -> Result<Option<usize>, HostileFault> {
-    let rules = rules_of(alloc, layout)?;
-    let arrays = zeros(alloc, &rules)?;
-    let mut judge = Judge::new(alloc, rules, arrays)?;
     for (at, label) in labels.iter().enumerate() {
         match judge.take(alloc, label) {
             Ok(()) => {}
@@ -119,11 +104,11 @@ fn stops_stepwise(
 }
 
 /// What is wrong with where the judges stop, where the label of this place was changed.
-fn wrong_of(seen: Seen, at: usize, due: Due) -> Option<Wrong> {
-    if seen.whole != seen.stepwise {
+fn wrong_of(whole: Option<usize>, stepwise: Option<usize>, at: usize, due: Due) -> Option<Wrong> {
+    if whole != stepwise {
         return Some(Wrong::Judges);
     }
-    match seen.whole {
+    match whole {
         Some(stop) if stop < at => Some(Wrong::Before),
         Some(stop) if stop == at => None,
         _ if due == Due::There => Some(Wrong::Taken),

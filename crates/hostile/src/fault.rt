@@ -7,7 +7,7 @@ use std::io;
 use thiserror::Error;
 
 /// Why the runs were not made, or not judged.
-#[derive(Debug, Clone, Copy, PartialEq, Eq, Error)]
+#[derive(Debug, Clone, Copy, Error)]
 pub enum HostileFault {
     #[error("usage: hostile [SEED RUNS]")]
     Usage,

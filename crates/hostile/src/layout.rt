@@ -5,7 +5,7 @@ ghost use Rattle.probe.specs.Exchange.{IsIdle};
 
 use crate::fault::HostileFault;
 use compose::Settings;
-use disk::{Medium, VecDisk};
+use disk::VecDisk;
 use miniport::MemAdapter;
 use std::alloc::Global;
 
@@ -19,7 +19,7 @@ pub type Partition = (u32, u32);
 pub const NONE_BAD: u64 = u64::MAX;
 
 /// A disk, an adapter and a stack.
-#[derive(Debug, Clone, Copy)]
+#[derive(Clone, Copy)]
 pub struct Layout {
     pub sectors: u32,
     pub partitions: [Partition; 4],
@@ -66,43 +66,16 @@ pub fn adapter(alloc: Global, layout: &Layout) -> Result<MemAdapter<VecDisk>, Ho
     ensures idle { IfOk result (λ a. IsIdle a.shown) }
     ensures unasked { IfOk result (λ a. a.shown.accepted ≡ 0) }
 {
-    if layout.sectors == 0 {
-        return Err(HostileFault::NoDisk);
-    }
-    let bad = Vec::from_slice(alloc, &layout.bad)?;
-    let table = layout.table();
-    let disk = VecDisk::starting_with(alloc, SECTOR, layout.sectors as u64, &table, bad)?;
-    adapter_over(alloc, disk, layout)
-}
-
-/// The adapter of a layout over a medium.
-fn adapter_over<M: Medium>(
-    alloc: Global,
-    medium: M,
-    layout: &Layout,
-) -> Result<MemAdapter<M>, HostileFault>
-    ensures idle { IfOk result (λ a. IsIdle a.shown) }
-    ensures unasked { IfOk result (λ a. a.shown.accepted ≡ 0) }
-{
-    let sectors = medium.sectors();
-    if sectors < 1 || sectors > 1 << 40 {
-        return Err(HostileFault::NoDisk);
-    }
-    if medium.sector_size() != 512 || medium.failures() != 0 {
-        return Err(HostileFault::NoDisk);
-    }
-    if layout.max_transfer < 1 || layout.max_transfer > 65_536 {
+    if layout.sectors < 1 || layout.max_transfer < 1 || layout.max_transfer > 65_536 {
         return Err(HostileFault::NoDisk);
     }
     if layout.depth < 1 || layout.depth > 32 {
         return Err(HostileFault::NoDisk);
     }
-    let adapter = MemAdapter::new(
-        alloc,
-        medium,
-        layout.max_transfer,
-        layout.depth,
-        layout.write_protected,
-    )?;
+    let bad = Vec::from_slice(alloc, &layout.bad)?;
+    let table = layout.table();
+    let disk = VecDisk::starting_with(alloc, SECTOR, layout.sectors as u64, &table, bad)?;
+    let (longest, protected) = (layout.max_transfer, layout.write_protected);
+    let adapter = MemAdapter::new(alloc, disk, longest, layout.depth, protected)?;
     Ok(adapter)
 }

@@ -32,8 +32,7 @@ use crate::fault::HostileFault;
 use crate::random::random_runs;
 use crate::rows::{ROWS, Row};
 use crate::sweeps::{failures, insertions};
-use crate::tally::Case;
-use crate::verdicts::Wrong;
+use crate::tally::Tally;
 use std::env;
 use std::process::ExitCode;
 
@@ -65,9 +64,9 @@ fn number(word: &String) -> Result<u64, HostileFault> {
         .map_err(|_| HostileFault::Usage)
 }
 
-/// Names the first wrong run, and says whether there is one.
-fn is_wrong(rt: &HostRuntime, first: Option<(Case, Wrong)>) -> Result<bool, HostileFault> {
-    let Some((case, wrong)) = first else {
+/// Names the first wrong run of a sweep, and says whether there is one.
+fn is_wrong(rt: &HostRuntime, tally: &Tally) -> Result<bool, HostileFault> {
+    let Some((case, wrong)) = tally.first else {
         return Ok(false);
     };
     println!(rt; "first wrong: {case}: {wrong}")?;
@@ -76,53 +75,48 @@ fn is_wrong(rt: &HostRuntime, first: Option<(Case, Wrong)>) -> Result<bool, Host
 
 /// Makes both sweeps of a row.
 fn sweep(rt: &HostRuntime, row: &Row) -> Result<bool, HostileFault> {
-    let inserted = insertions(rt.alloc(), row)?;
+    let all = insertions(rt.alloc(), row)?;
     println!(rt;
         "{}: {} insertions, {} labels, {} wrong",
-        row.name, inserted.runs, inserted.labels, inserted.wrong
+        row.name, all.runs, all.labels, all.wrong
     )?;
-    let failed = failures(rt.alloc(), row)?;
+    let inserted = is_wrong(rt, &all)?;
+    let all = failures(rt.alloc(), row)?;
     println!(rt;
         "{}: {} runs with one act failing, {} started, {} labels, {} wrong",
-        row.name, failed.runs, failed.started, failed.labels, failed.wrong
+        row.name, all.runs, all.started, all.labels, all.wrong
     )?;
-    let first = is_wrong(rt, inserted.first)?;
-    let second = is_wrong(rt, failed.first)?;
-    Ok(first || second)
+    let failing = is_wrong(rt, &all)?;
+    Ok(inserted || failing)
 }
 
-/// Makes all sweeps and then the random runs, and returns whether one was wrong.
+/// Makes all sweeps, the random runs, and changes of a few of their labels; returns whether anything was wrong.
 fn run(rt: &HostRuntime) -> Result<bool, HostileFault> {
     let (seed, runs) = asked(rt)?;
     let mut any = false;
     for row in &ROWS {
-        let wrong = sweep(rt, row)?;
-        any = any || wrong;
+        any |= sweep(rt, row)?;
     }
-    let tally = random_runs(rt.alloc(), seed, runs)?;
+    let all = random_runs(rt.alloc(), seed, runs)?;
     println!(rt;
         "random: seed {seed}, {} runs, {} started, {} labels, {} wrong",
-        tally.runs, tally.started, tally.labels, tally.wrong
+        all.runs, all.started, all.labels, all.wrong
     )?;
-    let wrong = is_wrong(rt, tally.first)?;
-    let changed = change(rt, seed, runs.min(CHANGED_RUNS))?;
-    Ok(any || wrong || changed)
-}
-
-/// Changes each label of some random runs, and returns whether one was judged wrongly.
-fn change(rt: &HostRuntime, seed: u64, runs: u64) -> Result<bool, HostileFault> {
-    let tally = changes(rt.alloc(), seed, runs)?;
-    let refused = tally.there.saturating_add(tally.later);
+    any |= is_wrong(rt, &all)?;
+    let runs = runs.min(CHANGED_RUNS);
+    let all = changes(rt.alloc(), seed, runs)?;
+    let refused = all.there.saturating_add(all.later);
     println!(rt;
         "changed: seed {seed}, {runs} runs, {} labels, {} changes, {} refused there, {} later, {} legal, {} wrong",
-        tally.labels,
-        tally.changes,
-        tally.there,
-        tally.later,
-        tally.changes.saturating_sub(refused),
-        tally.wrong
+        all.labels,
+        all.runs,
+        all.there,
+        all.later,
+        all.runs.saturating_sub(refused),
+        all.wrong
     )?;
-    is_wrong(rt, tally.first)
+    any |= is_wrong(rt, &all)?;
+    Ok(any)
 }
 
 fn main(rt: HostRuntime) -> ExitCode {

@@ -11,7 +11,7 @@ use miniport::Adapter;
 use std::alloc::{AllocError, Global};
 
 /// What a run told.
-#[derive(Debug, Drop)]
+#[derive(Drop)]
 pub struct Told {
     /// Whether the stack started.
     pub is_started: bool,
@@ -74,11 +74,9 @@ fn play_step<A: Adapter>(
     let event = given.event(alloc, step)?;
     let reply = stack.step(alloc, event);
     let labels = labels_of(alloc, stack)?;
-    let owed: &[Label] = if is_answer(&reply) {
-        &[]
-    } else {
-        labels.as_slice()
-    };
+    // Of these replies each is the answer to its call by itself: the request was never open.
+    let is_answer = matches!(reply, Reply::Answered(_) | Reply::Refused { .. });
+    let owed: &[Label] = if is_answer { &[] } else { labels.as_slice() };
     let fits = fits(stack, owed);
     told.fits = told.fits && fits;
     keep(given, &reply)?;
@@ -86,11 +84,6 @@ fn play_step<A: Adapter>(
         told.labels.push(label)?;
     }
     Ok(())
-}
-
-/// Whether a reply is the answer to its call by itself: the request was never open.
-fn is_answer(reply: &Reply) -> bool {
-    matches!(reply, Reply::Answered(_) | Reply::Refused { .. })
 }
 
 /// Keeps the handle or the request of a reply.
@@ -124,7 +117,7 @@ fn fits<A: Adapter>(stack: &mut Stack<A>, labels: &[Label]) -> bool
         let fits_one = fits_label(stack, label);
         fits = fits && fits_one;
     }
-    let more = next_answer(stack);
+    let more = stack.take_answer();
     fits && more.is_none()
 }
 
@@ -134,17 +127,9 @@ fn fits_label<A: Adapter>(stack: &mut Stack<A>, label: &Label) -> bool
     ensures { stack.new.labels ≡ [] }
 {
     match label {
-        Label::Answer { .. } => is_of(label, next_answer(stack)),
+        Label::Answer { .. } => is_of(label, stack.take_answer()),
         _ => true,
     }
-}
-
-/// Takes the waiting answer with the lowest number.
-fn next_answer<A: Adapter>(stack: &mut Stack<A>) -> Option<Answer>
-    requires { stack.old.labels ≡ [] }
-    ensures { stack.new.labels ≡ [] }
-{
-    stack.take_answer()
 }
 
 /// Whether an answer is the one that a label tells.

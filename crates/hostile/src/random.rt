@@ -15,20 +15,16 @@ use std::alloc::{AllocError, Global};
 pub fn random_runs(alloc: Global, seed: u64, runs: u64) -> Result<Tally, HostileFault> {
     let mut tally = Tally::new();
     for n in 0..runs {
-        random_run(alloc, seed.wrapping_add(n), &mut tally)?;
+        let seed = seed.wrapping_add(n);
+        let run = run_of(alloc, seed)?;
+        let wrong = wrong_of(alloc, &run.layout, run.goes, &run.told)?;
+        tally.add_run(Case::Seeded { seed }, &run.told, wrong);
     }
     Ok(tally)
 }
 
-fn random_run(alloc: Global, seed: u64, tally: &mut Tally) -> Result<(), HostileFault> {
-    let run = run_of(alloc, seed)?;
-    let wrong = wrong_of(alloc, &run.layout, run.goes, &run.told)?;
-    tally.add(Case::Seeded { seed }, &run.told, wrong);
-    Ok(())
-}
-
 /// A run that was played.
-#[derive(Debug, Drop)]
+#[derive(Drop)]
 pub struct Run {
     pub layout: Layout,
     pub goes: Goes,

@@ -3,14 +3,17 @@
 use crate::layout::{Layout, NONE_BAD};
 use crate::steps::{On, Step, Target};
 use compose::{Handle, Id};
+use std::alloc::{AllocError, Global};
 
 /// A run worked by hand.
-#[derive(Debug, Clone, Copy)]
 pub struct Row {
     pub name: &'static str,
     /// A bad sector, if one is.
-    pub bad: u64,
-    pub steps: &'static [Step],
+    bad: u64,
+    begins: &'static [Step],
+    /// How often the piece on tag 0 then comes back busy.
+    busy: usize,
+    ends: &'static [Step],
 }
 
 impl Row {
@@ -27,6 +30,16 @@ impl Row {
             open_requests: 64,
         }
     }
+
+    /// All steps of the run.
+    pub fn steps(&self, alloc: Global) -> Result<Vec<Step>, AllocError> {
+        let mut steps = Vec::from_slice(alloc, self.begins)?;
+        for _ in 0..self.busy {
+            steps.push(Step::Finish(0))?;
+        }
+        steps.extend_from_slice(self.ends)?;
+        Ok(steps)
+    }
 }
 
 /// The first handle that a stack gives.
@@ -34,114 +47,67 @@ pub const FIRST: On = On::Made(Handle { slot: 0, number: 1 });
 
 const ONE: Target = Target::Made(Id { slot: 0, number: 1 });
 
-/// A write of four pieces, two of them started, is cancelled.
-const CANCELLED: [Step; 7] = [
-    Step::Open(0),
-    Step::Write(FIRST, 0, 131_072, 0xA5, false),
-    Step::Cancel(FIRST, ONE),
-    Step::Act(0),
-    Step::Finish(0),
-    Step::Act(1),
-    Step::Finish(1),
-];
+const WRITE: [Step; 2] = [Step::Open(0), Step::Write(FIRST, 0, 512, 0xA5, false)];
 
-/// A read of three pieces, the second over a bad sector.
-const FAILED: [Step; 8] = [
-    Step::Open(0),
-    Step::Read(FIRST, 0, 98_304),
-    Step::Act(0),
-    Step::Finish(0),
-    Step::Act(1),
-    Step::Finish(1),
-    Step::Act(0),
-    Step::Finish(0),
-];
+const SERVE: [Step; 2] = [Step::Act(0), Step::Finish(0)];
 
-/// A write that comes back busy sixteen times, and then acts.
-const BUSY: [Step; 20] = [
-    Step::Open(0),
-    Step::Write(FIRST, 0, 512, 0xA5, false),
-    Step::Finish(0),
-    Step::Finish(0),
-    Step::Finish(0),
-    Step::Finish(0),
-    Step::Finish(0),
-    Step::Finish(0),
-    Step::Finish(0),
-    Step::Finish(0),
-    Step::Finish(0),
-    Step::Finish(0),
-    Step::Finish(0),
-    Step::Finish(0),
-    Step::Finish(0),
-    Step::Finish(0),
-    Step::Finish(0),
-    Step::Finish(0),
-    Step::Act(0),
-    Step::Finish(0),
-];
+const SERVE_BOTH: [Step; 4] = [Step::Act(0), Step::Finish(0), Step::Act(1), Step::Finish(1)];
 
-/// A write that comes back busy seventeen times.
-const TOO_BUSY: [Step; 19] = [
-    Step::Open(0),
-    Step::Write(FIRST, 0, 512, 0xA5, false),
-    Step::Finish(0),
-    Step::Finish(0),
-    Step::Finish(0),
-    Step::Finish(0),
-    Step::Finish(0),
-    Step::Finish(0),
-    Step::Finish(0),
-    Step::Finish(0),
-    Step::Finish(0),
-    Step::Finish(0),
-    Step::Finish(0),
-    Step::Finish(0),
-    Step::Finish(0),
-    Step::Finish(0),
-    Step::Finish(0),
-    Step::Finish(0),
-    Step::Finish(0),
-];
-
-/// A removal with one read at work and one held.
-const REMOVED: [Step; 9] = [
-    Step::Open(0),
-    Step::Remove,
-    Step::Read(FIRST, 0, 512),
-    Step::QueryRemove,
-    Step::Read(FIRST, 512, 512),
-    Step::Remove,
-    Step::Act(0),
-    Step::Finish(0),
-    Step::Read(FIRST, 0, 512),
-];
-
-/// All rows.
+/// All rows: a write of four pieces, two of them started, is cancelled; a read of three pieces, the second over a bad
+/// sector; a write that comes back busy sixteen times, and then acts, or seventeen times; a removal with one read at work
+/// and one held.
 pub const ROWS: [Row; 5] = [
     Row {
         name: "four pieces, cancelled",
         bad: NONE_BAD,
-        steps: &CANCELLED,
+        begins: &[
+            Step::Open(0),
+            Step::Write(FIRST, 0, 131_072, 0xA5, false),
+            Step::Cancel(FIRST, ONE),
+        ],
+        busy: 0,
+        ends: &SERVE_BOTH,
     },
     Row {
         name: "a bad sector",
         bad: 2120,
-        steps: &FAILED,
+        begins: &[
+            Step::Open(0),
+            Step::Read(FIRST, 0, 98_304),
+            Step::Act(0),
+            Step::Finish(0),
+            Step::Act(1),
+            Step::Finish(1),
+        ],
+        busy: 0,
+        ends: &SERVE,
     },
     Row {
         name: "busy sixteen times",
         bad: NONE_BAD,
-        steps: &BUSY,
+        begins: &WRITE,
+        busy: 16,
+        ends: &SERVE,
     },
     Row {
         name: "busy too often",
         bad: NONE_BAD,
-        steps: &TOO_BUSY,
+        begins: &WRITE,
+        busy: 17,
+        ends: &[],
     },
     Row {
         name: "a removal",
         bad: NONE_BAD,
-        steps: &REMOVED,
+        begins: &[
+            Step::Open(0),
+            Step::Remove,
+            Step::Read(FIRST, 0, 512),
+            Step::QueryRemove,
+            Step::Read(FIRST, 512, 512),
+            Step::Remove,
+        ],
+        busy: 0,
+        ends: &[Step::Act(0), Step::Finish(0), Step::Read(FIRST, 0, 512)],
     },
 ];

@@ -5,7 +5,7 @@ use sector::Bytes;
 use std::alloc::{AllocError, Global};
 
 /// The handle of a step.
-#[derive(Debug, Clone, Copy)]
+#[derive(Clone, Copy)]
 pub enum On {
     /// This handle, open or not.
     Made(Handle),
@@ -14,7 +14,7 @@ pub enum On {
 }
 
 /// The request of a cancel.
-#[derive(Debug, Clone, Copy)]
+#[derive(Clone, Copy)]
 pub enum Target {
     /// All requests on the handle.
     All,
@@ -25,7 +25,7 @@ pub enum Target {
 }
 
 /// What happens to a stack. Offsets and lengths are in bytes.
-#[derive(Debug, Clone, Copy)]
+#[derive(Clone, Copy)]
 pub enum Step {
     Open(u8),
     Close(On),
@@ -45,7 +45,7 @@ pub enum Step {
 }
 
 /// The handles and the requests that a stack gave so far.
-#[derive(Debug, Drop)]
+#[derive(Drop)]
 pub struct Given {
     pub handles: Vec<Handle>,
     pub requests: Vec<Id>,

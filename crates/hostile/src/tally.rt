@@ -1,12 +1,11 @@
 //! How many runs were made or changed, and how many were wrong.
 
-use crate::changes::Seen;
 use crate::playing::Told;
 use crate::verdicts::Wrong;
 use std::fmt;
 
 /// A run of a sweep.
-#[derive(Debug, Clone, Copy)]
+#[derive(Clone, Copy)]
 pub enum Case {
     /// The run with this put in before the step of this place, counted from 0, or behind the last.
     Inserted { what: &'static str, before: usize },
@@ -31,13 +30,18 @@ impl fmt::Display for Case {
     }
 }
 
-/// The runs of a sweep so far.
-#[derive(Debug, Clone, Copy)]
+/// What a sweep has counted so far.
+#[derive(Clone, Copy)]
 pub struct Tally {
+    /// Runs, or changes of a label.
     pub runs: u64,
     /// How many runs had a stack that started.
     pub started: u64,
     pub labels: u64,
+    /// How many changes had the changed label refused.
+    pub there: u64,
+    /// How many changes had a later label refused.
+    pub later: u64,
     pub wrong: u64,
     /// The first wrong run.
     pub first: Option<(Case, Wrong)>,
@@ -50,46 +54,6 @@ impl Tally {
             runs: 0,
             started: 0,
             labels: 0,
-            wrong: 0,
-            first: None,
-        }
-    }
-
-    /// Counts one run more.
-    pub fn add(&mut self, case: Case, told: &Told, wrong: Option<Wrong>) {
-        self.runs = self.runs.saturating_add(1);
-        self.started = self.started.saturating_add(told.is_started as u64);
-        self.labels = self.labels.saturating_add(told.labels.len() as u64);
-        let Some(wrong) = wrong else {
-            return;
-        };
-        self.wrong = self.wrong.saturating_add(1);
-        if self.first.is_none() {
-            self.first = Some((case, wrong));
-        }
-    }
-}
-
-/// The changes of labels so far.
-#[derive(Debug, Clone, Copy)]
-pub struct Changes {
-    pub labels: u64,
-    pub changes: u64,
-    /// How many changes had the changed label refused.
-    pub there: u64,
-    /// How many changes had a later label refused.
-    pub later: u64,
-    pub wrong: u64,
-    /// The first wrong change.
-    pub first: Option<(Case, Wrong)>,
-}
-
-impl Changes {
-    /// The tally of no changes.
-    pub fn new() -> Changes {
-        Changes {
-            labels: 0,
-            changes: 0,
             there: 0,
             later: 0,
             wrong: 0,
@@ -97,20 +61,34 @@ impl Changes {
         }
     }
 
+    /// Counts one run more.
+    pub fn add_run(&mut self, case: Case, told: &Told, wrong: Option<Wrong>) {
+        self.started = self.started.saturating_add(told.is_started as u64);
+        self.labels = self.labels.saturating_add(told.labels.len() as u64);
+        self.add(case, wrong);
+    }
+
     /// Counts one change more, of the label of this place.
-    pub fn add(&mut self, case: Case, at: usize, seen: Seen, wrong: Option<Wrong>) {
-        self.changes = self.changes.saturating_add(1);
-        match seen.whole {
+    pub fn add_change(
+        &mut self,
+        case: Case,
+        at: usize,
+        stops: Option<usize>,
+        wrong: Option<Wrong>,
+    ) {
+        match stops {
             Some(stop) if stop == at => self.there = self.there.saturating_add(1),
             Some(_) => self.later = self.later.saturating_add(1),
             None => {}
         }
-        let Some(wrong) = wrong else {
-            return;
-        };
-        self.wrong = self.wrong.saturating_add(1);
-        if self.first.is_none() {
-            self.first = Some((case, wrong));
+        self.add(case, wrong);
+    }
+
+    fn add(&mut self, case: Case, wrong: Option<Wrong>) {
+        self.runs = self.runs.saturating_add(1);
+        if let Some(wrong) = wrong {
+            self.wrong = self.wrong.saturating_add(1);
+            self.first = self.first.or(Some((case, wrong)));
         }
     }
 }

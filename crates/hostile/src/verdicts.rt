@@ -11,7 +11,7 @@ use std::alloc::{AllocError, Global};
 use std::fmt;
 
 /// What is wrong with a run.
-#[derive(Debug, Clone, Copy, PartialEq, Eq)]
+#[derive(Clone, Copy)]
 pub enum Wrong {
     /// The answers that were taken aren't those of the labels.
     Answers,
@@ -45,7 +45,7 @@ impl fmt::Display for Wrong {
 }
 
 /// Whether the run of a layout's stack went to its end: all that is out came back, and nothing is held.
-#[derive(Debug, Clone, Copy, PartialEq, Eq)]
+#[derive(Clone, Copy, PartialEq, Eq)]
 pub enum Goes {
     ToItsEnd,
     NotSoFar,
@@ -66,13 +66,14 @@ pub fn wrong_of(
     match judge(alloc, &rules, arrays, told.labels.as_slice())? {
         Verdict::Stops(at) => Ok(Some(Wrong::Label(at))),
         Verdict::Run(machines) => {
-            if !is_any_settled(machines.as_slice(), &rules) {
-                return Ok(Some(Wrong::Unsettled));
-            }
-            if goes == Goes::ToItsEnd && is_some_open(told.labels.as_slice()) {
-                return Ok(Some(Wrong::Unanswered));
-            }
-            Ok(None)
+            let ended = goes == Goes::ToItsEnd;
+            Ok(if !is_any_settled(machines.as_slice(), &rules) {
+                Some(Wrong::Unsettled)
+            } else if ended && is_some_open(told.labels.as_slice()) {
+                Some(Wrong::Unanswered)
+            } else {
+                None
+            })
         }
     }
 }

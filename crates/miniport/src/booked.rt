@@ -1,6 +1,6 @@
 //! An adapter that has the first sector alone: what its acts do is booked, but for piece 0.
 
-ghost use Rattle.std.specs.Prelude.{◌≡◌, ◌⊎◌, ◌≤◌, ◌^◌, true, length, IfOk};
+ghost use Rattle.std.specs.Prelude.{◌≡◌, ◌⊎◌, ◌≤◌, ◌^◌, [], false, length, IfOk, IsTrue};
 ghost use Rattle.miniport.specs.Memory.{MemView};
 ghost use Rattle.miniport.specs.Apart.{IsNewBooked};
 
@@ -56,11 +56,23 @@ impl BookedAdapter {
         requires short { max_transfer ≤ 2 ^ 16 }
         requires deep { 1 ≤ depth }
         requires shallow { depth ≤ 32 }
-        ensures { IfOk result (λ a. IsNewBooked first.items sectors max_transfer depth a) }
+        ensures new { IfOk result (IsNewBooked first.items sectors max_transfer depth) }
+        ensures keeps { IfOk result (λ a. IsTrue a.shown.keeps_bytes) }
     {
         let medium = FirstSector::new(first, sectors);
         let inner = MemAdapter::new(alloc, medium, max_transfer, depth, true)?;
         Ok(BookedAdapter { inner })
+    }
+
+    /// The same adapter, of whose labels contracts alone read the bytes. No label waits.
+    pub fn noting(self) -> BookedAdapter
+        requires { self.shown.labels ≡ [] }
+        ensures { result ≡ record self { shown = record self.shown { keeps_bytes = false } } }
+    {
+        let BookedAdapter { inner } = self;
+        BookedAdapter {
+            inner: inner.noting(),
+        }
     }
 }
 

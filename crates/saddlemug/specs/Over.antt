@@ -1,5 +1,5 @@
 -- A stack whose sectors C keeps.
-use Rattle.std.specs.Prelude.{◌≡◌, ◌≢◌, ◌⊎◌, ◌≤◌, ℕ, ◌+◌, ◌*◌, ◌^◌, Bool, true, false, List, length, replicate, slice_set, Option, Some, None, Result, Ok, Err, IsFalse, if◌then◌else◌}
+use Rattle.std.specs.Prelude.{◌≡◌, ◌≢◌, ◌⊎◌, ◌≤◌, ℕ, ◌+◌, ◌*◌, ◌^◌, Bool, true, false, List, length, replicate, slice_set, Option, Some, None, Result, Ok, Err, IsFalse, IsTrue, if◌then◌else◌}
 use Rattle.ntstatus.specs.declared.NtStatus.{NtStatus}
 use Rattle.ntstatus.specs.declared.NtStatus.TheVariants.{InsufficientResources, InvalidParameter, NotFound}
 use Rattle.srb.specs.declared.Srb.{Srb}
@@ -34,9 +34,11 @@ pub record OverView : Type 0 where
 abbrev pub over : ManagerView → List (Option PieceBytes) → OverView
 over stack places = record { stack = stack; places = places }
 
--- what holds between two calls: the stack's adapter moves no sectors, and the disk has these sizes
+-- what holds between two calls: the stack's adapter moves no sectors, its labels keep their bytes, and the disk has these
+-- sizes
 pub record OverKept (stack : ManagerView) (places : List (Option PieceBytes)) (disk : DiskOf) : Type 0 where
   pub apart : IsFalse stack.adapter.faithful
+  pub bytes : IsTrue stack.rules.keeps_bytes
   pub sector_size : stack.rules.sector_size ≡ disk.sector_size
   pub sectors : stack.rules.disk_sectors ≡ disk.sectors
   pub many : length places ≡ 256

@@ -44,7 +44,7 @@ fn start_fault(alloc: Global, config: Config) -> Option<Error>
     requires { AreInRange config }
     ensures { MatchOption result ((v : ManagerView) × IsFirstOf config v) (λ fault. (why : StartFault) × (fault ≡ Start why) × IsStartFault config why) }
 {
-    match start(alloc, config) {
+    match start(alloc, config, true) {
         Ok(_) => None,
         Err(fault) => Some(Error::Start(fault)),
     }

@@ -13,10 +13,10 @@ use crate::booking::StackBooking;
 use crate::bytes::{copied, zeros};
 use crate::events::{StackEvent, StackReply};
 use crate::labels::{StackAnswer, StackLabel};
+use crate::memory_stack::MemoryStack;
 use crate::over::Over;
-use crate::stepping::{step_as_told, tell_answer, tell_answer_of, tell_label};
 use adapter::Adapter;
-use compose::{Refusal, Stack};
+use compose::Refusal;
 use disk::SparseDisk;
 use miniport::MemAdapter;
 use ntstatus::NtStatus;
@@ -29,7 +29,7 @@ pub enum Instance {
     /// One partition as an array of bytes, over a stack of its own.
     Volume(Volume<MemAdapter<SparseDisk>>),
     /// A whole stack, event by event.
-    Stack(Stack<MemAdapter<SparseDisk>>),
+    Stack(MemoryStack),
     /// A stack over storage of C's own.
     Over(Over),
 }
@@ -111,11 +111,11 @@ impl Instance {
         }
     }
 
-    /// Carries an event out on the stack, as [`step_as_told`].
+    /// Carries an event out on the stack, as [`MemoryStack::step`].
     ///
     /// # Errors
     ///
-    /// As [`step_as_told`].
+    /// As [`MemoryStack::step`].
     pub fn step(
         &mut self,
         alloc: Global,
@@ -130,13 +130,13 @@ impl Instance {
         ensures why { IfErr result (IsStepStatus event.now bytes.now) }
     {
         match self {
-            Instance::Stack(stack) => step_as_told(stack, alloc, event, bytes),
+            Instance::Stack(stack) => stack.step(alloc, event, bytes),
             Instance::Over(over) => over.step(alloc, event, bytes),
             Instance::Volume(_) => unreachable!(),
         }
     }
 
-    /// Takes the stack's next label, as [`tell_label`].
+    /// Takes the stack's next label, as [`MemoryStack::next_label`].
     pub fn next_label(&mut self, buffer: &mut [u8]) -> Option<StackLabel>
         requires { IsAnyStack self.old }
         ensures held { IsAnyStack self.new }
@@ -144,13 +144,13 @@ impl Instance {
         ensures places { places_in self.new ≡ places_in self.old }
     {
         match self {
-            Instance::Stack(stack) => tell_label(stack, buffer),
+            Instance::Stack(stack) => stack.next_label(buffer),
             Instance::Over(over) => over.next_label(buffer),
             Instance::Volume(_) => unreachable!(),
         }
     }
 
-    /// Takes the stack's next answer, as [`tell_answer`].
+    /// Takes the stack's next answer, as [`MemoryStack::next_answer`].
     pub fn next_answer(&mut self, buffer: &mut [u8]) -> Option<StackAnswer>
         requires { IsAnyStack self.old }
         ensures held { IsAnyStack self.new }
@@ -158,13 +158,13 @@ impl Instance {
         ensures places { places_in self.new ≡ places_in self.old }
     {
         match self {
-            Instance::Stack(stack) => tell_answer(stack, buffer),
+            Instance::Stack(stack) => stack.next_answer(buffer),
             Instance::Over(over) => over.next_answer(buffer),
             Instance::Volume(_) => unreachable!(),
         }
     }
 
-    /// Takes the stack's answer of a number, as [`tell_answer_of`].
+    /// Takes the stack's answer of a number, as [`MemoryStack::answer_of`].
     pub fn answer_of(&mut self, number: u64, buffer: &mut [u8]) -> Option<StackAnswer>
         requires { IsAnyStack self.old }
         ensures held { IsAnyStack self.new }
@@ -172,7 +172,7 @@ impl Instance {
         ensures places { places_in self.new ≡ places_in self.old }
     {
         match self {
-            Instance::Stack(stack) => tell_answer_of(stack, number, buffer),
+            Instance::Stack(stack) => stack.answer_of(number, buffer),
             Instance::Over(over) => over.answer_of(number, buffer),
             Instance::Volume(_) => unreachable!(),
         }

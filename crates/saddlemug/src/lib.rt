@@ -37,6 +37,7 @@ mod instance;
 mod labels;
 mod memory_calls;
 mod memory_disk;
+mod memory_stack;
 mod names;
 mod opening;
 mod opening_over;

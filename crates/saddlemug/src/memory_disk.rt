@@ -7,7 +7,6 @@ ghost use Rattle.settings.specs.InRange.{AreInRange};
 ghost use Rattle.saddlemug.specs.InMemory.{AreTold, IsDisk, IsDiskStatus, IsInRange, IsToldStack, IsToldStackStatus, IsToldVolume, IsToldVolumeStatus, is_used, partition_of, told};
 
 use crate::opening::{stack_of, volume_of};
-use compose::Stack;
 use disk::SparseDisk;
 use miniport::MemAdapter;
 use ntstatus::NtStatus;
@@ -119,7 +118,7 @@ pub(crate) fn told_stack(
     alloc: Global,
     disk: &MemoryDisk,
     bad: &[u64],
-) -> Result<Stack<MemAdapter<SparseDisk>>, NtStatus>
+) -> Result<MemoryStack, NtStatus>
     ensures stack { IfOk result (IsToldStack disk.now bad.now) }
     ensures fault { IfErr result (λ status. status ≢ Success) }
     ensures why { IfErr result (IsToldStackStatus disk.now bad.now) }

@@ -8,8 +8,9 @@ ghost use Rattle.startup.specs.Started.{IsFirstOf, IsVolumeOf};
 ghost use Rattle.saddlemug.specs.Opened.{IsConfigStatus, IsNewStack, IsNewVolume, IsOpenStatus, IsStackStatus, IsStartStatus, IsVolumeStatus};
 ghost use Rattle.saddlemug.specs.Statuses.{start_status};
 
+use crate::memory_stack::MemoryStack;
 use crate::status::{refusal_status, start_status};
-use compose::{Stack, StartFault};
+use compose::StartFault;
 use disk::SparseDisk;
 use miniport::MemAdapter;
 use ntstatus::NtStatus;
@@ -44,7 +45,7 @@ pub(crate) fn new_volume(
 pub(crate) fn new_stack(
     alloc: Global,
     text: &[u8],
-) -> Result<Stack<MemAdapter<SparseDisk>>, NtStatus>
+) -> Result<MemoryStack, NtStatus>
     ensures stack { IfOk result (IsNewStack text.now) }
     ensures fault { IfErr result (λ status. status ≢ Success) }
     ensures why { IfErr result (IsStackStatus text.now) }
@@ -102,14 +103,14 @@ pub(crate) fn volume_of(
 pub(crate) fn stack_of(
     alloc: Global,
     config: Config,
-) -> Result<Stack<MemAdapter<SparseDisk>>, NtStatus>
+) -> Result<MemoryStack, NtStatus>
     requires { AreInRange config }
     ensures stack { IfOk result (IsFirstOf config) }
     ensures fault { IfErr result (λ status. status ≢ Success) }
     ensures why { IfErr result (IsStartStatus config) }
 {
-    match start(alloc, config) {
-        Ok(stack) => Ok(stack),
+    match start(alloc, config, true) {
+        Ok(stack) => Ok(MemoryStack::new(stack)),
         Err(fault) => Err(start_status(fault)),
     }
 }

@@ -94,6 +94,7 @@ fn sizes_of(adapter: &BookedAdapter) -> DiskOf
 fn new_adapter(alloc: Global, disk: &StackDisk, first: &[u8]) -> Result<BookedAdapter, AllocError>
     requires { IsDisk disk.now first.now }
     ensures new { IfOk result (IsNewBooked first.now disk.now.sectors disk.now.max_transfer disk.now.depth) }
+    ensures keeps { IfOk result (λ a. IsTrue a.shown.keeps_bytes) }
     ensures idle { IfOk result (λ a. IsIdle a.shown) }
     ensures unasked { IfOk result (λ a. a.shown.accepted ≡ 0) }
 {
@@ -113,6 +114,7 @@ fn new_adapter(alloc: Global, disk: &StackDisk, first: &[u8]) -> Result<BookedAd
 /// The stack with places for the bytes of its pieces; none of these was told.
 fn with_places(alloc: Global, stack: Stack<BookedAdapter>, sizes: DiskOf) -> Result<Over, NtStatus>
     requires apart { IsFalse stack.adapter.faithful }
+    requires bytes { IsTrue stack.rules.keeps_bytes }
     requires sector_size { stack.rules.sector_size ≡ sizes.sector_size }
     requires sectors { stack.rules.disk_sectors ≡ sizes.sectors }
     ensures stack { IfOk result (λ o. o.stack ≡ stack) }

@@ -1,6 +1,6 @@
 //! A stack whose sectors C keeps.
 
-ghost use Rattle.std.specs.Prelude.{◌≡◌, ◌≢◌, IfErr, IfOk, IsFalse, MatchOption, MatchResult, None, Some, false, replicate, true};
+ghost use Rattle.std.specs.Prelude.{◌≡◌, ◌≢◌, IfErr, IfOk, IsFalse, IsTrue, MatchOption, MatchResult, None, Some, false, replicate, true};
 ghost use Rattle.ntstatus.specs.declared.NtStatus.TheVariants.{Success};
 ghost use Rattle.adapter.specs.Booking.{IsArmed};
 ghost use Rattle.saddlemug.specs.Places.{HasPiece, place_of};
@@ -48,6 +48,7 @@ impl Over {
         disk: DiskOf,
     ) -> Result<Over, AllocError>
         requires apart { IsFalse stack.adapter.faithful }
+        requires bytes { IsTrue stack.rules.keeps_bytes }
         requires sector_size { stack.rules.sector_size ≡ disk.sector_size }
         requires sectors { stack.rules.disk_sectors ≡ disk.sectors }
         ensures stack { IfOk result (λ o. o.stack ≡ stack) }
@@ -78,6 +79,7 @@ impl Over {
         ensures why { IfErr result (IsStepStatus event.now bytes.now) }
     {
         compose::steps_stay_apart();
+        compose::steps_keep_rules();
         step_as_told(&mut self.stack, alloc, event, bytes)
     }
 

@@ -1,6 +1,6 @@
 //! A stack's calls as C makes them, over any adapter.
 
-ghost use Rattle.std.specs.Prelude.{◌≡◌, ◌≢◌, IfErr, MatchResult};
+ghost use Rattle.std.specs.Prelude.{◌≡◌, ◌≢◌, IfErr, IsTrue, MatchResult};
 ghost use Rattle.ntstatus.specs.declared.NtStatus.TheVariants.{Success};
 ghost use Rattle.saddlemug.specs.Stepping.{IsNotStepped, IsStepStatus, Steps, TellsAnswer, TellsAnswerOf, TellsLabel, quiet};
 
@@ -41,13 +41,14 @@ pub(crate) fn step_as_told<A: Adapter>(
 fn drop_labels<A: Adapter>(stack: &mut Stack<A>)
     ensures { stack.new ≡ quiet stack.old }
 {
-    while let Some(label) = stack.take_label() {
+    while let Some(label) = stack.take_shown() {
         drop(label);
     }
 }
 
 /// Takes the earliest label that waits, and tells it.
 pub(crate) fn tell_label<A: Adapter>(stack: &mut Stack<A>, buffer: &mut [u8]) -> Option<StackLabel>
+    requires { IsTrue stack.old.rules.keeps_bytes }
     ensures { TellsLabel stack.old buffer.old result buffer.new stack.new }
 {
     match stack.take_label() {

@@ -8,7 +8,7 @@ use Rattle.script.specs.declared.Line.{Line}
 use Rattle.script.specs.Script.{AreEvents, lines_of}
 use Rattle.script.specs.declared.Style.{Style}
 use Rattle.script.specs.Trace.{IsTold, Prints}
-use Rattle.script_runs.specs.Runs.{AreGiven, IsTextOf}
+use Rattle.script_runs.specs.Runs.{AreGiven, IsTextOf, keeps_bytes}
 
 module _ (config script : Option (List ℕ)) (settings : Config) (are_read : AreRead config settings) where
   -- settings and the lines of a script, each as they were read
@@ -23,7 +23,7 @@ module _ (config script : Option (List ℕ)) (settings : Config) (are_read : Are
 
   -- played by the stack of those settings
   pub written : (style : Style) (lines shown : List Line) (start last : ManagerView) (a b : Option (List ℕ))
-      → AreGiven config script settings lines → shown ≡ lines → IsStartOf settings start
+      → AreGiven config script settings lines → shown ≡ lines → IsStartOf (keeps_bytes style) settings start
       → Prints a b (λ text. IsTold style start shown text last) → Prints a b (IsTextOf style config script)
   written style lines shown start last a b are_given same_lines starts trace = record {
     text = trace.text;

@@ -1,5 +1,5 @@
 -- What is written of settings and a script, and why not all of it is written.
-use Rattle.std.specs.Prelude.{◌≡◌, ◌⊎◌, ℕ, List, Option, false}
+use Rattle.std.specs.Prelude.{◌≡◌, ◌⊎◌, ℕ, Bool, List, Option, false, true}
 use Rattle.std.specs.Str.{is_utf8}
 use Rattle.io_manager.specs.Shown.{ManagerView}
 use Rattle.settings.specs.declared.Config.{Config}
@@ -11,6 +11,7 @@ use Rattle.script.specs.declared.ScriptFault.TheVariants.{BadLine, NoMemory as W
 use Rattle.script.specs.Script.{AreEvents, IsFirstBad, lines_of}
 use Rattle.script.specs.Trace.{IsTold}
 use Rattle.script.specs.declared.Style.{Style}
+use Rattle.script.specs.declared.Style.TheVariants.{Trace, Transcript}
 use Rattle.script_runs.specs.declared.faults.Error.{Error}
 use Rattle.script_runs.specs.declared.faults.Error.TheVariants.{Startup, Unreadable, Script}
 
@@ -21,13 +22,18 @@ pub record AreGiven (config script : Option (List ℕ)) (settings : Config) (lin
   pub all : IsAllOf script script_text
   pub events : AreEvents (lines_of script_text) lines
 
+-- whether the labels of a script's stack keep their bytes: a trace tells them all
+abbrev pub keeps_bytes : Style → Bool
+keeps_bytes Transcript = false
+keeps_bytes Trace = true
+
 -- what is written of a script in some style: the texts of its lines, from the stack that its settings start
 pub record IsTextOf (style : Style) (config script : Option (List ℕ)) (text : List ℕ) : Type 0 where
   pub settings : Config
   pub lines : List Line
   pub given : AreGiven config script settings lines
   pub start : ManagerView
-  pub starts : IsStartOf settings start
+  pub starts : IsStartOf (keeps_bytes style) settings start
   pub last : ManagerView
   pub told : IsTold style start lines text last
 

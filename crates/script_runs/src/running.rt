@@ -4,7 +4,7 @@ ghost use Rattle.std.specs.Prelude.{ℕ, IfErr, IfOk, List, OnOk, Option};
 ghost use Rattle.script.specs.Trace.{Prints};
 ghost use Rattle.settings.specs.InRange.{AreInRange};
 ghost use Rattle.startup.specs.Reading.{IsAllOf};
-ghost use Rattle.script_runs.specs.Runs.{AreGiven, IsRunFault, IsTextOf, IsUnread, IsUntold};
+ghost use Rattle.script_runs.specs.Runs.{AreGiven, IsRunFault, IsTextOf, IsUnread, IsUntold, keeps_bytes};
 
 use crate::faults::Error;
 use script::{Line, ScriptFault, Style, lines, play};
@@ -58,10 +58,20 @@ fn play_lines<O: Write>(
     ensures fault { (settings script : Option (List ℕ)) → AreGiven settings script config lines.now → IfErr result (IsRunFault settings script) }
     ensures untold { IfErr result (IsUntold (O.contents out.old) (O.contents out.new)) }
 {
-    let mut stack = start(alloc, config)?;
+    let mut stack = start(alloc, config, keeps_bytes(style))?;
     match play(alloc, &mut stack, lines, style, out) {
         Ok(()) => Ok(()),
         Err(fault) => Err(Error::Script(fault)),
+    }
+}
+
+/// Whether the labels of a script's stack keep their bytes: a trace tells them all.
+fn keeps_bytes(style: Style) -> bool
+    ensures { result ≡ keeps_bytes style }
+{
+    match style {
+        Style::Transcript => false,
+        Style::Trace => true,
     }
 }
 

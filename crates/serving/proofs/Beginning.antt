@@ -53,9 +53,9 @@ module _ (c : Config) (table : List ℕ) (stack : ManagerView) (started : IsStar
       same_items xs ys e = cc
 
   -- and the rules of the settings
-  pub rules_at_first : told_by c.sectors table ≡ Ok (extents_of c) → stack.rules ≡ rules_over false c
-  rules_at_first told = started.first.rules ∙ same_rules started.disk started.first.partitions started.apart started.sector_size started.sectors started.max_transfer started.depth (same_partitions told)
+  pub rules_at_first : told_by c.sectors table ≡ Ok (extents_of c) → stack.rules ≡ rules_over false false c
+  rules_at_first told = started.first.rules ∙ same_rules started.disk started.first.partitions started.apart started.bare started.sector_size started.sectors started.max_transfer started.depth (same_partitions told)
     where
-      same_rules : (disk : AdapterView) (partitions : List Extent) → disk.faithful ≡ false → disk.sector_size ≡ c.sector_size → length disk.sectors ≡ c.sectors → disk.max_transfer ≡ c.max_transfer → disk.depth ≡ c.depth
-          → partitions ≡ extents_of c → first_rules disk (limits_of c) partitions ≡ rules_over false c
-      same_rules disk partitions apart sector_size sectors max_transfer depth same = cc
+      same_rules : (disk : AdapterView) (partitions : List Extent) → disk.faithful ≡ false → disk.keeps_bytes ≡ false → disk.sector_size ≡ c.sector_size → length disk.sectors ≡ c.sectors → disk.max_transfer ≡ c.max_transfer → disk.depth ≡ c.depth
+          → partitions ≡ extents_of c → first_rules disk (limits_of c) partitions ≡ rules_over false false c
+      same_rules disk partitions apart bare sector_size sectors max_transfer depth same = cc

@@ -86,7 +86,7 @@ module _ (c : Config) (p : ℕ) (before after : List Call) (servable : AreServab
     fault_of_start OutputFailed h = absurd h
 
     -- no handle was given
-    pub fault_of_handle : (rules : Rules) → rules ≡ rules_over false c → (fault : Error) → (fault ≡ NoMemory) ⊎ ((fault ≡ NoPartition) × (length rules.partitions ≤ p)) → IsOpenFault c p before fault after
+    pub fault_of_handle : (rules : Rules) → rules ≡ rules_over false false c → (fault : Error) → (fault ≡ NoMemory) ⊎ ((fault ≡ NoPartition) × (length rules.partitions ≤ p)) → IsOpenFault c p before fault after
     fault_of_handle rules same fault (inl lacks) = subst (λ (f : Error). IsOpenFault c p before f after) (sym lacks) (servable, inr read)
     fault_of_handle rules same fault (inr none) =
         let past : length (extents_of c) ≤ p = subst (λ (r : Rules). length r.partitions ≤ p) same none.1 in

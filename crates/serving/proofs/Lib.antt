@@ -10,3 +10,4 @@ pub mod Putting
 pub mod Beginning
 pub mod Filing
 pub mod Failing
+pub mod Noting

@@ -92,11 +92,13 @@ IsTableFault c before _ after = ⊥
 
 -- A STACK IS STARTED
 
--- a stack before its first event, over an adapter of the settings' sizes that holds no sectors but this first one
+-- a stack before its first event, over an adapter of the settings' sizes that holds no sectors but this first one and
+-- keeps no bytes of labels
 pub record IsStartedOver (c : Config) (first_sector : List ℕ) (stack : ManagerView) : Type 0 where
   pub disk : AdapterView
   pub first : IsFirstView disk (limits_of c) stack
   pub apart : IsFalse disk.faithful
+  pub bare : IsFalse disk.keeps_bytes
   pub sector_size : disk.sector_size ≡ c.sector_size
   pub sectors : length disk.sectors ≡ c.sectors
   pub max_transfer : disk.max_transfer ≡ c.max_transfer
@@ -127,7 +129,7 @@ pub record IsOpened (c : Config) (p : ℕ) (calls : List Call) (filed : FiledVie
   pub write_protected : filed.carried.disk.write_protected ≡ c.write_protected
   pub told : filed.sizes.read_only ≡ c.write_protected
   -- the stack's partitions, sizes and limits are those of the settings; the handle is on this partition
-  pub rules : filed.carried.stack.rules ≡ rules_over false c
+  pub rules : filed.carried.stack.rules ≡ rules_over false false c
   pub on : IsOn filed.carried.stack filed.handle p
   pub bytes : filed.sizes.bytes ≡ (extent_at (extents_of c) p).count * c.sector_size
   -- what is told of the stack from here on is told of a run from its start, in which nothing acted

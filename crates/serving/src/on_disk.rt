@@ -272,7 +272,7 @@ fn sizes_of(config: &Config, partition: u8) -> Result<Sizes, Error>
     }
 }
 
-/// Returns a stack over an adapter of the settings that holds no sectors but the first.
+/// Returns a stack over an adapter of the settings that holds no sectors but the first, and keeps no bytes of labels.
 ///
 /// # Errors
 ///
@@ -297,7 +297,7 @@ fn started(alloc: Global, config: &Config, first: Vec<u8>) -> Result<Stack<Booke
         window: config.window,
         open_requests: config.open_requests,
     };
-    match Stack::start(alloc, adapter, settings) {
+    match Stack::start(alloc, adapter.noting(), settings) {
         Ok(stack) => Ok(stack),
         Err(fault) => Err(Error::Startup(startup::Error::Start(fault))),
     }

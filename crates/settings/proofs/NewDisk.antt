@@ -1,8 +1,7 @@
 -- The disk of some settings, and the adapter over it.
-use Rattle.std.proofs.Common.{◌≡◌, ℕ, ◌-◌, ◌≤◌, ◌<◌, List, [], ◌∷◌, ◌++◌, map, Result, Ok, Err, IfOk, length, replicate, get_or, Contains, ◌↔◌, arith, refl, sym, ap, ◌∙◌, subst}
+use Rattle.std.proofs.Common.{◌≡◌, ℕ, ◌-◌, ◌≤◌, ◌<◌, List, [], ◌∷◌, ◌++◌, map, Bool, true, IsTrue, length, replicate, get_or, Contains, ◌↔◌, arith, refl, sym, ap, ◌∙◌, subst}
 use Rattle.std.proofs.lemmas.List.{length-replicate}
 use Rattle.disk.specs.Medium.{MediumView, StartsWith, HasWholeSectors}
-use Rattle.disk.specs.declared.NoMemory.{NoMemory}
 use Rattle.miniport.specs.Memory.{MemView, new_view}
 use Rattle.sector.specs.Extents.{sectors_in}
 use Rattle.mbr.specs.Table.{Entry, table_bytes}
@@ -64,45 +63,45 @@ says c medium first new same told sectors =
 pub count_of_disk : (c : Config) → 1 ≤ c.sectors → length (disk_of c) ≡ c.sectors
 count_of_disk c some = omega (arith, length-replicate {A = List ℕ} (c.sectors - 1) (replicate c.sector_size 0))
 
-new_adapter : (c : Config) (medium : MediumView) (view : MemView) → AreInRange c → IsNewDisk c medium
-    → view ≡ new_view medium c.max_transfer c.depth c.write_protected → IsNewAdapter c view
-new_adapter c medium view settings disk same = subst (IsNewAdapter c) (sym same) (record {
-  sector_size = disk.sector_size;
-  sectors = disk.sectors;
-  count = ap length disk.sectors ∙ count_of_disk c settings.sectors.0;
-  faithful = refl;
-  max_transfer = refl;
-  depth = refl;
-  no_tags = refl;
-  no_labels = refl;
-  none_accepted = refl;
-  bad = disk.bad;
-  write_protected = refl;
-  none_due = refl;
-})
+-- the adapter of which a new one over the disk of the settings is made
+abbrev pub IsMadeOf : Config → MediumView → Bool → MemView → MemView → Type 0
+IsMadeOf c medium keeps first view =
+    (first ≡ new_view medium c.max_transfer c.depth c.write_protected) × (view ≡ record first { shown = record first.shown { keeps_bytes = keeps } })
 
--- an adapter over the disk of the settings is theirs
-pub new_adapter_if : (c : Config) (medium : MediumView) (result : Result MemView NoMemory) → AreInRange c → IsNewDisk c medium
-    → IfOk result (λ view. view ≡ new_view medium c.max_transfer c.depth c.write_protected) → IfOk result (IsNewAdapter c)
-new_adapter_if c medium (Ok view) settings disk same = new_adapter c medium view settings disk same
-new_adapter_if c medium (Err fault) settings disk same = tt
+-- is theirs
+pub new_adapter : (c : Config) (medium : MediumView) (keeps : Bool) (first view : MemView) → AreInRange c → IsNewDisk c medium → IsMadeOf c medium keeps first view → IsNewAdapter c view
+new_adapter c medium keeps first view settings disk made =
+    let new = new_view medium c.max_transfer c.depth c.write_protected in
+    let is : view ≡ record new { shown = record new.shown { keeps_bytes = keeps } } = made.1 ∙ ap (λ (v : MemView). record v { shown = record v.shown { keeps_bytes = keeps } }) made.0 in
+    subst (IsNewAdapter c) (sym is) (record {
+      sector_size = disk.sector_size;
+      sectors = disk.sectors;
+      count = ap length disk.sectors ∙ count_of_disk c settings.sectors.0;
+      faithful = refl;
+      max_transfer = refl;
+      depth = refl;
+      no_tags = refl;
+      no_labels = refl;
+      none_accepted = refl;
+      bad = disk.bad;
+      write_protected = refl;
+      none_due = refl;
+    })
 
 -- the table that it has says what the settings say
-pub told_if : (c : Config) (medium : MediumView) (result : Result MemView NoMemory)
+pub adapter_told : (c : Config) (medium : MediumView) (keeps : Bool) (first view : MemView)
     → ((sectors : ℕ) → told_by sectors (get_or medium.sectors 0 []) ≡ said_of sectors (entries_of c))
-    → IfOk result (λ view. view ≡ new_view medium c.max_transfer c.depth c.write_protected)
-    → IfOk result (λ view. told_by c.sectors (get_or view.shown.sectors 0 []) ≡ said_of c.sectors (entries_of c))
-told_if c medium (Ok view) told same = ap (λ (v : MemView). told_by c.sectors (get_or v.shown.sectors 0 [])) same ∙ told c.sectors
-told_if c medium (Err fault) told same = tt
+    → IsMadeOf c medium keeps first view → told_by c.sectors (get_or view.shown.sectors 0 []) ≡ said_of c.sectors (entries_of c)
+adapter_told c medium keeps first view told made =
+    ap (λ (v : MemView). told_by c.sectors (get_or v.shown.sectors 0 [])) made.1
+    ∙ (ap (λ (v : MemView). told_by c.sectors (get_or v.shown.sectors 0 [])) made.0 ∙ told c.sectors)
+
+-- an adapter of which memory keeps the bytes of labels is one that keeps them
+pub kept_already : (view : MemView) → IsTrue view.shown.keeps_bytes → view ≡ record view { shown = record view.shown { keeps_bytes = true } }
+kept_already view is = ap (λ (keeps : Bool). record view { shown = record view.shown { keeps_bytes = keeps } }) is
 
 -- what settings name as partitions has zeros alone
 pub blank : (c : Config) (sectors : List (List ℕ)) → sectors ≡ disk_of c → HasBlankPartitions c sectors
 blank c sectors same extent is =
     ap (λ (xs : List (List ℕ)). sectors_in xs extent) same
     ∙ zeros_in c.sector_size c.sectors extent.first extent.count (table_sector c) is.behind_table is.inside
-
--- its partitions are zeros
-pub blank_if : (c : Config) (result : Result MemView NoMemory) → IfOk result (IsNewAdapter c)
-    → IfOk result (λ view. HasBlankPartitions c view.shown.sectors)
-blank_if c (Ok view) new = blank c view.shown.sectors new.sectors
-blank_if c (Err fault) new = tt

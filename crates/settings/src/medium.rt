@@ -1,6 +1,6 @@
 //! The adapter of settings, over a sparse disk in memory.
 
-ghost use Rattle.std.specs.Prelude.{◌≡◌, ◌≤◌, ◌-◌, ◌++◌, ℕ, [], All, IfOk, get_or, length, map, replicate};
+ghost use Rattle.std.specs.Prelude.{◌≡◌, ◌≤◌, ◌-◌, ◌++◌, ℕ, [], All, IfOk, IsTrue, get_or, length, map, replicate};
 ghost use Rattle.disk.specs.Medium.{HasWholeSectors};
 ghost use Rattle.disk.specs.SparseDisk.{shown};
 ghost use Rattle.mbr.specs.Table.{FitsEntry, partitions_of};
@@ -16,14 +16,20 @@ use sector::Extent;
 use std::alloc::{AllocError, Global};
 
 /// The adapter of the settings, of which nothing was asked yet, over a disk of zeros with their partition table in sector 0.
-/// No fault of a partition is looked for: the table says what is wrong with it.
+/// No fault of a partition is looked for: the table says what is wrong with it. With `keeps_bytes` its labels keep their
+/// bytes in memory; without, contracts alone read these.
 ///
 /// # Errors
 ///
 /// [`NoMemory`] where memory was refused.
-pub fn new_adapter(alloc: Global, config: Config) -> Result<MemAdapter<SparseDisk>, NoMemory>
+pub fn new_adapter(
+    alloc: Global,
+    config: Config,
+    keeps_bytes: bool,
+) -> Result<MemAdapter<SparseDisk>, NoMemory>
     requires { AreInRange config }
     ensures new { IfOk result (IsNewAdapter config) }
+    ensures keeps { IfOk result (λ adapter. adapter.shown.keeps_bytes ≡ keeps_bytes) }
     ensures says { IfOk result (λ adapter. told_by config.sectors (get_or adapter.shown.sectors 0 []) ≡ said_of config.sectors (entries_of config)) }
     ensures extents { partitions_of (entries_of config) ≡ extents_of config }
     ensures blank { IfOk result (λ adapter. HasBlankPartitions config adapter.shown.sectors) }
@@ -32,7 +38,21 @@ pub fn new_adapter(alloc: Global, config: Config) -> Result<MemAdapter<SparseDis
     let depth = config.depth;
     let write_protected = config.write_protected;
     let disk = new_disk(alloc, config)?;
-    MemAdapter::new(alloc, disk, max_transfer, depth, write_protected)
+    let adapter = MemAdapter::new(alloc, disk, max_transfer, depth, write_protected)?;
+    Ok(keeping(adapter, keeps_bytes))
+}
+
+/// The same adapter, whose labels keep their bytes in memory or not.
+fn keeping<M: Medium>(adapter: MemAdapter<M>, keeps_bytes: bool) -> MemAdapter<M>
+    requires kept { IsTrue adapter.shown.keeps_bytes }
+    requires quiet { adapter.shown.labels ≡ [] }
+    ensures { result ≡ record adapter { shown = record adapter.shown { keeps_bytes = keeps_bytes } } }
+{
+    if keeps_bytes {
+        adapter
+    } else {
+        adapter.noting()
+    }
 }
 
 /// The disk of the settings: their partition table in sector 0, and zeros. No fault of a partition is looked for: the table

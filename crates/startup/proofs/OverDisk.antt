@@ -76,22 +76,24 @@ module _ (c : Config) (disk : AdapterView) (shows : Shows c disk) where
   pub map_of : (told : List Extent) → told ≡ extents_of c → IsMap (length disk.sectors) told → IsMap c.sectors (extents_of c)
   map_of told same h = subst (λ (n : ℕ). IsMap n (extents_of c)) shows.count (subst (IsMap (length disk.sectors)) same h)
 
-  rules_started : (is_faithful : Bool) (told : List Extent) → disk.faithful ≡ is_faithful → told ≡ extents_of c → first_rules disk (limits_of c) told ≡ rules_over is_faithful c
-  rules_started is_faithful told faithful same =
+  rules_started : (is_faithful keeps_bytes : Bool) (told : List Extent) → disk.faithful ≡ is_faithful → disk.keeps_bytes ≡ keeps_bytes → told ≡ extents_of c
+      → first_rules disk (limits_of c) told ≡ rules_over is_faithful keeps_bytes c
+  rules_started is_faithful keeps_bytes told faithful keeps same =
       let sector_size = shows.sector_size in
       let count = shows.count in
       let max_transfer = shows.max_transfer in
       let depth = shows.depth in
       cc
 
-  pub started_over : (is_faithful : Bool) (stack : ManagerView) → disk.faithful ≡ is_faithful → IsFirstView disk (limits_of c) stack → IsStartOver is_faithful c stack
-  started_over is_faithful stack faithful first =
+  pub started_over : (is_faithful keeps_bytes : Bool) (stack : ManagerView) → disk.faithful ≡ is_faithful → disk.keeps_bytes ≡ keeps_bytes → IsFirstView disk (limits_of c) stack
+      → IsStartOver is_faithful keeps_bytes c stack
+  started_over is_faithful keeps_bytes stack faithful keeps first =
       let same : first.partitions ≡ extents_of c = same_extents first.partitions first.told.told in
       let is_map : IsMap c.sectors (extents_of c) = map_of first.partitions same first.told.is_map in
       let arrays : map (sectors_in disk.sectors) first.partitions ≡ map (λ (extent : Extent). zeros c extent.count) (extents_of c) =
       ap (map (sectors_in disk.sectors)) same ∙ zero_sectors c disk.sectors shows.blank (extents_of c) is_map.each in
       record {
-        rules = first.rules ∙ rules_started is_faithful first.partitions faithful same;
+        rules = first.rules ∙ rules_started is_faithful keeps_bytes first.partitions faithful keeps same;
         is_map = is_map;
         state = first.state ∙ ap opening arrays;
         adapter = record {
@@ -167,8 +169,9 @@ module _ (c : Config) (view : MemView) (new : IsNewAdapter c view)
     blank = blank;
   }
 
-  pub started : (stack : ManagerView) → HasBlankPartitions c view.shown.sectors → IsFirstView view.shown (limits_of c) stack → IsStartOf c stack
-  started stack blank first = started_over c view.shown (shows_disk blank) true stack new.faithful first
+  pub started : (keeps_bytes : Bool) (stack : ManagerView) → view.shown.keeps_bytes ≡ keeps_bytes → HasBlankPartitions c view.shown.sectors → IsFirstView view.shown (limits_of c) stack
+      → IsStartOf keeps_bytes c stack
+  started keeps_bytes stack keeps blank first = started_over c view.shown (shows_disk blank) true keeps_bytes stack new.faithful keeps first
 
   pub not_started : AreInRange c → HasBlankPartitions c view.shown.sectors → (why : StartFault) (after : AdapterView) → IsSpent view.shown (limits_of c) why after → IsStartFault c why
   not_started settings blank WrongSettings after spent = absurd (spent.why.0 (record { window = settings.window; open_requests = settings.open_requests }))

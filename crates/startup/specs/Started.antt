@@ -30,9 +30,9 @@ abbrev pub limits_of : Config → Settings
 limits_of c = record { window = c.window; open_requests = c.open_requests }
 
 -- the rules of the stack. The longest piece is as long as a transfer. The adapter may be faithful to the sectors that
--- it shows, or not
-abbrev pub rules_over : Bool → Config → Rules
-rules_over is_faithful c = record {
+-- it shows, or not, and labels may keep their bytes in memory, or not
+abbrev pub rules_over : Bool → Bool → Config → Rules
+rules_over is_faithful keeps_bytes c = record {
   sector_size = c.sector_size;
   disk_sectors = c.sectors;
   partitions = extents_of c;
@@ -45,12 +45,12 @@ rules_over is_faithful c = record {
   busy_limit = last_busy_return;
   any_cut = false;
   faithful = is_faithful;
-  keeps_bytes = true;
+  keeps_bytes = keeps_bytes;
 }
 
--- the rules of a stack over the disk itself, to whose sectors the adapter is faithful
+-- the rules of a stack over the disk itself, to whose sectors the adapter is faithful, and whose labels keep their bytes
 abbrev pub rules_of : Config → Rules
-rules_of c = rules_over true c
+rules_of c = rules_over true true c
 
 -- the adapter of the settings, after the partition table was read
 pub record IsOverDisk (c : Config) (adapter : AdapterView) : Type 0 where
@@ -61,8 +61,8 @@ pub record IsOverDisk (c : Config) (adapter : AdapterView) : Type 0 where
   pub idle : IsIdle adapter
 
 -- the stack of these settings before its first event: all sectors of each partition are zeros, and nothing is open
-pub record IsStartOver (is_faithful : Bool) (c : Config) (view : ManagerView) : Type 0 where
-  pub rules : view.rules ≡ rules_over is_faithful c
+pub record IsStartOver (is_faithful keeps_bytes : Bool) (c : Config) (view : ManagerView) : Type 0 where
+  pub rules : view.rules ≡ rules_over is_faithful keeps_bytes c
   pub is_map : IsMap c.sectors (extents_of c)
   pub state : view.state ≡ opening (map (λ extent. zeros c extent.count) (extents_of c))
   pub adapter : IsOverDisk c view.adapter
@@ -74,12 +74,12 @@ pub record IsStartOver (is_faithful : Bool) (c : Config) (view : ManagerView) : 
   pub no_answers : view.answers ≡ []
 
 -- such a stack over the disk itself
-abbrev pub IsStartOf : Config → ManagerView → Type 0
-IsStartOf c view = IsStartOver true c view
+abbrev pub IsStartOf : Bool → Config → ManagerView → Type 0
+IsStartOf keeps_bytes c view = IsStartOver true keeps_bytes c view
 
--- such a stack over an adapter beside the disk, which holds only the first of the disk's sectors
+-- such a stack over an adapter beside the disk, which holds only the first of the disk's sectors; labels keep their bytes
 abbrev pub IsStartApart : Config → ManagerView → Type 0
-IsStartApart c view = IsStartOver false c view
+IsStartApart c view = IsStartOver false true c view
 
 -- what a stack shows over an adapter of these settings before its first event
 pub record IsFirstOf (c : Config) (view : ManagerView) : Type 0 where

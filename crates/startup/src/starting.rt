@@ -11,27 +11,32 @@ use settings::{Config, new_adapter};
 use std::alloc::Global;
 use volume::{OpenFault, Volume};
 
-/// Starts a stack over a disk that is zeros but for its partition table.
+/// Starts a stack over a disk that is zeros but for its partition table. With `keeps_bytes` its labels keep their bytes in
+/// memory; without, contracts alone read these.
 ///
 /// # Errors
 ///
 /// [`StartFault::Mbr`] with what is wrong with the partitions of the settings, [`StartFault::Device`] where the adapter
 /// failed a command, [`StartFault::NoMemory`].
-pub fn start(alloc: Global, config: Config) -> Result<Stack<MemAdapter<SparseDisk>>, StartFault>
+pub fn start(
+    alloc: Global,
+    config: Config,
+    keeps_bytes: bool,
+) -> Result<Stack<MemAdapter<SparseDisk>>, StartFault>
     requires { AreInRange config }
-    ensures view { IfOk result (IsStartOf config) }
+    ensures view { IfOk result (IsStartOf keeps_bytes config) }
     ensures first { IfOk result (IsFirstOf config) }
     ensures fault { IfErr result (IsStartFault config) }
 {
     let settings = limits_of(&config);
-    let Ok(adapter) = new_adapter(alloc, config) else {
+    let Ok(adapter) = new_adapter(alloc, config, keeps_bytes) else {
         return Err(StartFault::NoMemory);
     };
     let stack = Stack::start(alloc, adapter, settings)?;
     Ok(stack)
 }
 
-/// Opens a volume of a partition, counted from 0, over a stack that [`start`] starts.
+/// Opens a volume of a partition, counted from 0, over a stack that [`start`] starts, whose labels keep no bytes.
 ///
 /// # Errors
 ///
@@ -46,7 +51,7 @@ pub fn open(
     ensures fault { IfErr result (IsOpenFault config partition) }
 {
     let settings = limits_of(&config);
-    let Ok(adapter) = new_adapter(alloc, config) else {
+    let Ok(adapter) = new_adapter(alloc, config, false) else {
         return Err(OpenFault::Start(StartFault::NoMemory));
     };
     let volume = Volume::start(alloc, adapter, settings, partition)?;

@@ -1,5 +1,6 @@
-use Rattle.std.proofs.Common.{◌≡◌, Err, refl, rules}
+use Rattle.std.proofs.Common.{◌≡◌, Bool, Err, refl, rules, subst}
 use Rattle.startup.specs.declared.faults.Error.TheVariants.{Start}
+use Rattle.startup.specs.Started.{IsStartOf}
 use Rattle.script_runs.specs.declared.faults.Error.TheVariants.{Startup}
 use Rattle.script_runs.proofs.Blaming.{begun, by_play}
 use Rattle.script_runs.proofs.Written.{written}
@@ -16,7 +17,8 @@ returns-clause-fault g c settings script given =
 
 pub returns-in-Ok-clause-text : goal.returns-in-Ok-clause-text
 returns-in-Ok-clause-text g c settings script given =
-    written _ _ _ given.are_read c.args.style _ _ _ _ _ _ given (refl) c.in_ok-stack.ensures.view c.in-Ok.ensures.text
+    written _ _ _ given.are_read c.args.style _ _ _ _ _ _ given (refl)
+    (subst (λ (keeps : Bool). IsStartOf keeps c.args.config c.in_ok-stack.stack) c.keeps_bytes.ensures c.in_ok-stack.ensures.view) c.in-Ok.ensures.text
 
 pub returns-clause-untold : goal.returns-clause-untold
 returns-clause-untold g c = begun _ _ c.in-Err.fault c.in-Err.ensures.fault

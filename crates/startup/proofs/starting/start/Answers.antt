@@ -6,7 +6,7 @@ use Rattle.startup.proofs.starting.start.Goals as goal
 
 pub returns-clause-view : goal.returns-clause-view
 returns-clause-view c =
-    started c.args.config c.in-Ok.adapter c.in-Ok.ensures.new c.in-Ok.ensures.says c.new_adapter.ensures.extents c.in_ok-stack.stack c.in-Ok.ensures.blank
+    started c.args.config c.in-Ok.adapter c.in-Ok.ensures.new c.in-Ok.ensures.says c.new_adapter.ensures.extents c.args.keeps_bytes c.in_ok-stack.stack c.in-Ok.ensures.keeps c.in-Ok.ensures.blank
     (subst (λ (s : Settings). IsFirstView c.in-Ok.adapter.shown s c.in_ok-stack.stack) c.limits_of-settings.ensures c.in_ok-stack.ensures.view)
 
 pub returns-clause-first : goal.returns-clause-first
