@@ -10,7 +10,7 @@ use traced::TraceEntry;
 // The line of a label.
 fn line(alloc: Global, label: &Label) -> Result<String, AllocError> {
     let mut line = Vec::new(alloc);
-    write_short_line(&mut line, label).map_err(|_| AllocError)?;
+    write_short_line(&mut line, label)?;
     line.pop();
     String::from_utf8(line).map_err(|_| AllocError)
 }

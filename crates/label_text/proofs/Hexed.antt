@@ -30,8 +30,10 @@ one_hexed bytes count at digits high low d few inside h is_high is_low = record 
   where
     low_place : at < length digits
     low_place = omega (arith, h.place, h.long)
+
     next_place : at + 1 < length (set digits at high)
     next_place = omega (arith, h.place, h.long, length-set digits at high)
+
     two : take (at + 2) (set (set digits at high) (at + 1) low) ≡ (take at digits ++ high ∷ []) ++ low ∷ []
     two = take-set_at (set digits at high) (at + 1) (at + 2) low (omega arith) next_place
         ∙ ap (λ l. l ++ low ∷ []) (take-set_at digits at (at + 1) high (omega arith) low_place)

@@ -1,6 +1,7 @@
 mod Found
 mod Parting
 mod Numbers
+mod Decimals
 mod Digits
 mod Hexed
 mod LongestRuns

@@ -10,7 +10,7 @@
 //! The crate does not promise that lines are a run of the machine.
 #![tactic(auto)]
 
-mod numbers;
+mod numerals;
 mod reading;
 mod runs;
 mod words;
@@ -19,7 +19,7 @@ mod writing;
 ghost use Rattle.std.specs.Prelude.{Some};
 ghost use Rattle.label_text.specs.Faults.{text_of};
 
-pub use numbers::write_number;
+pub use numerals::write_number;
 pub use reading::{is_told, read_line};
 use std::alloc::AllocError;
 use std::error::Error;

@@ -6,7 +6,7 @@ ghost use Rattle.label_text.specs.Runs.{hex_of, most_bytes, runs_of, runs_text};
 ghost use Rattle.label_text.specs.inside.Spacing.{comma};
 ghost use Rattle.label_text.specs.inside.Reading.{may_follow, run_in, run_told, runs_in};
 
-use crate::numbers::{write_byte, write_number};
+use crate::numerals::{write_byte, write_number};
 use crate::words::Words;
 use std::alloc::{AllocError, Global};
 

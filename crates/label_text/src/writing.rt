@@ -9,7 +9,7 @@ ghost use Rattle.label_text.specs.Runs.{hex_of};
 ghost use Rattle.label_text.specs.Lines.{Fits, OwnerFits, Spells, block_words, class_word, class_words, extent_words, kind_word, line_end, line_of, owned, owner_words, partition_word, request_words, runs_words, sense_words, short_extent, short_line_of, short_words, through_words, verb_of, words_behind};
 ghost use Rattle.label_text.specs.inside.Spacing.{spaced, spaced_before};
 
-use crate::numbers::{write_byte, write_hex, write_number, write_piece};
+use crate::numerals::{write_byte, write_hex, write_number, write_piece};
 use crate::runs::write_runs;
 use machine::{ClientRequest, Kind, Label};
 use ntstatus::{NtStatus, Sense};
@@ -55,31 +55,42 @@ fn write_short_words(text: &mut Vec<u8>, label: &Label) -> Result<(), AllocError
     }
 }
 
-#[tactic(auto, using(crate::proofs::Spaced::spaced_then))]
-fn write_short_call(text: &mut Vec<u8>, number: u64, request: &ClientRequest) -> Result<(), AllocError>
+fn write_short_call(
+    text: &mut Vec<u8>,
+    number: u64,
+    request: &ClientRequest,
+) -> Result<(), AllocError>
     ensures { OnOk result (text.new.items ≡ text.old.items ++ (codes "call" ++ spaced (decimal number ∷ kind_word request.now.kind ∷ short_extent request.now.kind request.now))) }
 {
     text.extend_from_slice(b"call ")?;
     write_number(text, number)?;
     text.extend_from_slice(b" ")?;
     text.extend_from_slice(kind_word(request.kind).as_bytes())?;
-    write_short_extent(text, request)?;
-    text.extend_from_slice(b"\n")
+    write_short_extent(text, request)
 }
 
-/// Writes where a read or a write begins and how long it is, and of a write that it goes through, each behind a space.
-#[tactic(auto, using(crate::proofs::Spaced::spaced_append))]
+/// Writes where a read or a write begins and how long it is, and of a write that it goes through, and ends the line.
 fn write_short_extent(text: &mut Vec<u8>, request: &ClientRequest) -> Result<(), AllocError>
-    ensures { OnOk result (text.new.items ≡ text.old.items ++ spaced_before (short_extent request.now.kind request.now) []) }
+    ensures { OnOk result (text.new.items ≡ text.old.items ++ spaced (short_extent request.now.kind request.now)) }
 {
     match request.kind {
-        Kind::Read => write_two(text, request.offset, request.length),
+        Kind::Read => {
+            write_two(text, request.offset, request.length)?;
+            text.extend_from_slice(b"\n")
+        }
         Kind::Write => {
             write_two(text, request.offset, request.length)?;
-            write_through(text, request.through)
+            text.extend_from_slice(end_of_write(request.through))
         }
-        Kind::Flush => Ok(()),
+        Kind::Flush => text.extend_from_slice(b"\n"),
     }
+}
+
+/// What stands behind the length of a write in short, to the end of its line.
+fn end_of_write(through: bool) -> &'static [u8]
+    ensures { result.now ≡ spaced (through_words through) }
+{
+    if through { b" through\n" } else { b"\n" }
 }
 
 fn write_short_device_label(text: &mut Vec<u8>, label: &DeviceLabel) -> Result<(), AllocError>
@@ -264,7 +275,12 @@ fn write_device_label(
     }
 }
 
-fn write_start(text: &mut Vec<u8>, piece: u128, tag: u8, block: &CommandBlock) -> Result<(), AllocError>
+fn write_start(
+    text: &mut Vec<u8>,
+    piece: u128,
+    tag: u8,
+    block: &CommandBlock,
+) -> Result<(), AllocError>
     ensures { OnOk result (text.new.items ≡ text.old.items ++ (codes "start" ++ spaced_before (decimal piece ∷ codes "tag" ∷ decimal tag ∷ block_words block.now) [])) }
 {
     text.extend_from_slice(b"start ")?;

@@ -7,6 +7,7 @@ pub mod Playing
 pub mod Printed
 mod PrintedLabels
 mod Reading
+mod RefusedCalls
 mod Rising
 mod Spelled
 mod Trims

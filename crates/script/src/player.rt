@@ -1,6 +1,6 @@
 //! Lines of a script, carried out by a stack, and what comes of each in print.
 
-ghost use Rattle.std.specs.Prelude.{◌≡◌, ◌++◌, [], IfErr, IsTrue, MatchOption, MatchResult, OnOk, drop, replicate};
+ghost use Rattle.std.specs.Prelude.{◌≡◌, ◌++◌, [], IfErr, IsTrue, MatchOption, MatchResult, OnOk, replicate};
 ghost use Rattle.std.specs.Io.KnownBytes.{Appends, Keeps, append_known};
 ghost use Rattle.io_manager.specs.declared.Refusal.TheVariants.{InsufficientResources};
 ghost use Rattle.io_manager.specs.declared.Reply.TheVariants.{Refused};
@@ -9,7 +9,7 @@ ghost use Rattle.script.specs.Events.{AreNamed, IsEventOf, IsReplyTo, MovesBytes
 ghost use Rattle.script.specs.Faults.{IsPrintFault};
 ghost use Rattle.script.specs.Printing.{labels_text};
 ghost use Rattle.script.specs.Trace.{IsAllTaken, IsTold, Prints, all_taken, line_text};
-ghost use Rattle.script.specs.inside.Answers.{GoWith, IsCarriedOutFor, Tells, answered_by, asked_by, first_bytes, left_by};
+ghost use Rattle.script.specs.inside.Answers.{GoWith, IsCarriedOutFor, Tells, answered_by, asked_by, left_by};
 
 use crate::given::Given;
 use crate::printing::{write_event, write_label, write_reply};
@@ -105,12 +105,13 @@ fn play_lines<A: Adapter, W: Write>(
     ensures text { OnOk result (Prints (append_known (W.contents out.old) telling.old.text.items) (append_known (W.contents out.new) telling.new.text.items) (λ text. IsTold telling.old.style stack.old lines.now text stack.new)) }
     ensures fault { IfErr result IsPrintFault }
 {
+    let style = telling.style;
     let mut given = Given::new(alloc);
     for line in lines {
         write_block(&mut telling.text, out)?;
         let reply = carry_out(alloc, stack, line.order, &given);
         given.keep(&reply)?;
-        tell(stack, telling.style, line, &reply, &mut telling.text)?;
+        tell(stack, style, line, &reply, &mut telling.text)?;
     }
     Ok(())
 }
@@ -178,8 +179,8 @@ fn write_labels<A: Adapter>(
     ensures taken { OnOk result (stack.new ≡ all_taken stack.old) }
     ensures text { OnOk result (text.new.items ≡ text.old.items ++ labels_text style stack.old.labels) }
 {
-    while let Some(shown) = stack.take_shown() {
-        let label = answered(stack, shown);
+    while let Some(mut label) = stack.take_shown() {
+        give_bytes(stack, &mut label);
         write_label(text, style, &label)?;
     }
     Ok(())
@@ -187,35 +188,15 @@ fn write_labels<A: Adapter>(
 
 /// Gives the label of an answer the bytes of the waiting answer that goes with it, if one does, and takes that. Other
 /// labels stay as they are.
-fn answered<A: Adapter>(stack: &mut Stack<A>, label: Label) -> Label
-    ensures taken { stack.new ≡ record stack.old { answers = left_by label stack.old.answers } }
-    ensures label { result ≡ answered_by label stack.old.answers }
-{
-    match label {
-        Label::Answer {
-            number,
-            status,
-            information,
-            bytes,
-        } => Label::Answer {
-            number,
-            status,
-            information,
-            bytes: answer_bytes(stack, bytes),
-        },
-        label => label,
-    }
-}
-
-/// Takes the first answer that waits, and returns its bytes, or these where none waits.
 #[tactic(auto, using(crate::proofs::PrintedLabels::answer_taken))]
-fn answer_bytes<A: Adapter>(stack: &mut Stack<A>, otherwise: Bytes) -> Bytes
-    ensures taken { stack.new ≡ record stack.old { answers = drop 1 stack.old.answers } }
-    ensures bytes { result ≡ first_bytes stack.old.answers otherwise }
+fn give_bytes<A: Adapter>(stack: &mut Stack<A>, label: &mut Label)
+    ensures taken { stack.new ≡ record stack.old { answers = left_by label.old stack.old.answers } }
+    ensures label { label.new ≡ answered_by label.old stack.old.answers }
 {
-    match stack.take_answer() {
-        Some(answer) => answer.bytes,
-        None => otherwise,
+    if let Label::Answer { bytes, .. } = label {
+        if let Some(answer) = stack.take_answer() {
+            *bytes = answer.bytes;
+        }
     }
 }
 

@@ -151,7 +151,7 @@ fn tell_answer(text: &mut Vec<u8>, answer: Answer) -> Result<(), AllocError> {
         information: answer.information,
         bytes: answer.bytes,
     };
-    write_short_line(text, &label).map_err(|_| AllocError)
+    write_short_line(text, &label)
 }
 
 /// Tells a line, and what it showed.
@@ -164,12 +164,12 @@ fn tell(
     text.extend_from_slice(b"> ")?;
     text.extend_from_slice(line.text.as_bytes())?;
     text.extend_from_slice(b"\n")?;
-    write_reply(text, &shown.reply).map_err(|_| AllocError)?;
+    write_reply(text, &shown.reply)?;
     if let Reply::Refused { bytes, .. } = &shown.reply {
         same(rt, &is_handed_back(line.order, bytes.as_slice()), &true);
     }
     for label in &shown.labels {
-        write_short_line(text, label).map_err(|_| AllocError)?;
+        write_short_line(text, label)?;
     }
     Ok(())
 }

@@ -4,12 +4,11 @@ use Rattle.script.specs.Events.{AreNamed}
 use Rattle.script.specs.Trace.{IsAllTaken, IsToldTo, Prints}
 use Rattle.script.proofs.player.play_lines.Given as goal
 
--- the lines so far are played, what was given stands under its number, and style and rules stay
+-- the lines so far are played, what was given stands under its number, and the rules stay
 abbrev pub invariant-loop-line : goal.invariant-loop-line
 invariant-loop-line g l = record {
   taken : IsAllTaken l.stack;
   named : AreNamed l.given;
-  style : l.telling.style ≡ l.initial.telling.style;
   rules : l.stack.rules ≡ l.initial.stack.rules;
   text : Prints (append_known (g.W.Write.contents l.initial.out) l.initial.telling.text.items) (append_known (g.W.Write.contents l.out) l.telling.text.items)
       (λ told. IsToldTo l.initial.telling.style l.initial.stack (take l.line-index l.lines) told (record { stack = l.stack; given = l.given }));

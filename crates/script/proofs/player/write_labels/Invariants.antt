@@ -3,8 +3,8 @@ use Rattle.script.proofs.PrintedLabels.{AreWritten}
 use Rattle.script.proofs.player.write_labels.Given as goal
 
 -- the labels before those that are left are written
-abbrev pub invariant-loop-shown : goal.invariant-loop-shown
-invariant-loop-shown g l = AreWritten l.style l.initial.text.items l.initial.stack l.stack l.text.items
+abbrev pub invariant-loop-label : goal.invariant-loop-label
+invariant-loop-label g l = AreWritten l.style l.initial.text.items l.initial.stack l.stack l.text.items
 
-abbrev pub decreases-loop-shown : goal.decreases-loop-shown
-decreases-loop-shown g l = length l.stack.labels
+abbrev pub decreases-loop-label : goal.decreases-loop-label
+decreases-loop-label g l = length l.stack.labels

@@ -1,4 +1,4 @@
-//! Numbers, written behind a text in decimal digits, and bytes in hexadecimal ones.
+//! Numbers in decimal digits and bytes in hexadecimal ones, written behind a text.
 
 ghost use Rattle.std.specs.Prelude.{◌≡◌, ◌+◌, ◌*◌, ◌<◌, ◌≤◌, ◌++◌, OnOk, length, take};
 ghost use Rattle.std.specs.Fmt.{decimal};

@@ -1,5 +1,5 @@
 use Rattle.label_text.proofs.Hexed.{AreHexed}
-use Rattle.label_text.proofs.numbers.hex_digits.Given as goal
+use Rattle.label_text.proofs.numerals.hex_digits.Given as goal
 
 -- the digits of the bytes so far stand first
 abbrev pub invariant-loop-byte : goal.invariant-loop-byte
