@@ -16,7 +16,7 @@ use Rattle.script.specs.inside.Answers.{IsCarriedOutFor, asked_by}
 
 module _ (given : Given) (old new : ManagerView) (handle : OpenedHandle) (asked : Asked) (reason : Refusal) where
   -- what was found
-  found : Option (OpenedHandle × Asked) → OpenedHandle × Asked
+  abbrev found : Option (OpenedHandle × Asked) → OpenedHandle × Asked
   found None = (handle, asked)
   found (Some pair) = pair
 
