@@ -14,6 +14,7 @@
 
 ghost use Rattle.script.specs.Faults.{IsOfWrite};
 
+mod buffers;
 mod given;
 mod orders;
 mod player;

@@ -11,6 +11,7 @@ ghost use Rattle.script.specs.Printing.{labels_text};
 ghost use Rattle.script.specs.Trace.{IsAllTaken, IsTold, Prints, all_taken, line_text};
 ghost use Rattle.script.specs.inside.Answers.{GoWith, IsCarriedOutFor, Tells, answered_by, asked_by, left_by};
 
+use crate::buffers::Spare;
 use crate::given::Given;
 use crate::printing::{write_event, write_label, write_reply};
 use crate::{Line, Order, ScriptFault, Style};
@@ -28,11 +29,12 @@ const TAGS: u64 = 32;
 /// How many bytes of text are written at once.
 const BLOCK: usize = 65_536;
 
-/// How lines are told, and the text that waits for the writer.
+/// How lines are told, the text that waits for the writer, and buffers for the bytes of further calls.
 #[derive(Drop)]
 struct Telling {
     style: Style,
     text: Vec<u8>,
+    spare: Spare,
 }
 
 /// Carries the lines of a script out, one after the other, and writes what comes of each, in blocks. What is left of the
@@ -58,7 +60,8 @@ pub fn play<A: Adapter, W: Write>(
     ensures fault { IfErr result IsPrintFault }
 {
     let text = Vec::with_capacity(alloc, BLOCK)?;
-    let mut telling = Telling { style, text };
+    let spare = Spare::with_places(alloc)?;
+    let mut telling = Telling { style, text, spare };
     match play_lines(alloc, stack, lines, &mut telling, out) {
         Ok(()) => {
             write_out(&mut telling.text, out)?;
@@ -109,29 +112,41 @@ fn play_lines<A: Adapter, W: Write>(
     let mut given = Given::new(alloc);
     for line in lines {
         write_block(&mut telling.text, out)?;
-        let reply = carry_out(alloc, stack, line.order, &given);
+        let reply = carry_out(alloc, stack, line.order, &given, &mut telling.spare);
         given.keep(&reply)?;
-        tell(stack, style, line, &reply, &mut telling.text)?;
+        tell(stack, style, line, &reply, telling)?;
     }
     Ok(())
 }
 
 /// Carries out what a line asks for, and shows which answers go with the labels.
-fn carry_out<A: Adapter>(alloc: Global, stack: &mut Stack<A>, order: Order, given: &Given) -> Reply
+fn carry_out<A: Adapter>(
+    alloc: Global,
+    stack: &mut Stack<A>,
+    order: Order,
+    given: &Given,
+    spare: &mut Spare,
+) -> Reply
     requires taken { IsAllTaken stack.old }
     requires named { AreNamed given.now }
     ensures { Tells given.now order stack.old result stack.new }
 {
     compose::steps_keep_rules();
     compose::steps_leave_answers();
-    let reply = step(alloc, stack, order, given);
+    let reply = step(alloc, stack, order, given, spare);
     stack.shows_whole();
     reply
 }
 
 /// Carries out what a line asks for. A call that is refused before it asks for memory makes no bytes, and its reply
 /// gives none back.
-fn step<A: Adapter>(alloc: Global, stack: &mut Stack<A>, order: Order, given: &Given) -> Reply
+fn step<A: Adapter>(
+    alloc: Global,
+    stack: &mut Stack<A>,
+    order: Order,
+    given: &Given,
+    spare: &mut Spare,
+) -> Reply
     requires taken { IsAllTaken stack.old }
     requires named { AreNamed given.now }
     ensures { IsCarriedOutFor given.now order stack.old result stack.new }
@@ -139,32 +154,32 @@ fn step<A: Adapter>(alloc: Global, stack: &mut Stack<A>, order: Order, given: &G
     if let Some(reply) = refused(alloc, stack, order, given) {
         return reply;
     }
-    match event(alloc, order, given) {
+    match event_from(alloc, order, given, spare) {
         Ok(event) => stack.step(alloc, event),
         Err(reply) => reply,
     }
 }
 
-/// Writes what came of a line behind a text, and takes all labels and the answers that go with them.
+/// Writes what came of a line behind the text, and takes all labels and the answers that go with them.
 fn tell<A: Adapter>(
     stack: &mut Stack<A>,
     style: Style,
     line: &Line<'_>,
     reply: &Reply,
-    text: &mut Vec<u8>,
+    telling: &mut Telling,
 ) -> Result<(), AllocError>
     requires answers { GoWith stack.old.labels stack.old.answers }
     requires bytes { style ≡ Trace → IsTrue stack.old.rules.keeps_bytes }
     ensures taken { OnOk result (stack.new ≡ all_taken stack.old) }
-    ensures text { OnOk result (text.new.items ≡ text.old.items ++ line_text style line.now reply.now stack.old.labels) }
+    ensures text { OnOk result (telling.new.text.items ≡ telling.old.text.items ++ line_text style line.now reply.now stack.old.labels) }
 {
     match style {
         Style::Transcript => {
-            write_event(text, line.text)?;
-            write_reply(text, reply)?;
-            write_labels(stack, style, text)
+            write_event(&mut telling.text, line.text)?;
+            write_reply(&mut telling.text, reply)?;
+            write_labels(stack, style, telling)
         }
-        Style::Trace => write_labels(stack, style, text),
+        Style::Trace => write_labels(stack, style, telling),
     }
 }
 
@@ -172,16 +187,17 @@ fn tell<A: Adapter>(
 fn write_labels<A: Adapter>(
     stack: &mut Stack<A>,
     style: Style,
-    text: &mut Vec<u8>,
+    telling: &mut Telling,
 ) -> Result<(), AllocError>
     requires answers { GoWith stack.old.labels stack.old.answers }
     requires bytes { style ≡ Trace → IsTrue stack.old.rules.keeps_bytes }
     ensures taken { OnOk result (stack.new ≡ all_taken stack.old) }
-    ensures text { OnOk result (text.new.items ≡ text.old.items ++ labels_text style stack.old.labels) }
+    ensures text { OnOk result (telling.new.text.items ≡ telling.old.text.items ++ labels_text style stack.old.labels) }
 {
     while let Some(mut label) = stack.take_shown() {
         give_bytes(stack, &mut label);
-        write_label(text, style, &label)?;
+        write_label(&mut telling.text, style, &label)?;
+        telling.spare.keep(label);
     }
     Ok(())
 }
@@ -267,6 +283,18 @@ pub fn event(alloc: Global, order: Order, given: &Given) -> Result<Event, Reply>
     requires { AreNamed given.now }
     ensures { MatchResult result (IsEventOf given.now order) (IsReplyTo order) }
 {
+    event_from(alloc, order, given, &mut Spare::new(alloc))
+}
+
+/// Does what [`event`] says, with bytes in buffers that were kept.
+///
+/// # Errors
+///
+/// Those of [`event`].
+fn event_from(alloc: Global, order: Order, given: &Given, spare: &mut Spare) -> Result<Event, Reply>
+    requires { AreNamed given.now }
+    ensures { MatchResult result (IsEventOf given.now order) (IsReplyTo order) }
+{
     match order {
         Order::Read {
             handle,
@@ -275,7 +303,7 @@ pub fn event(alloc: Global, order: Order, given: &Given) -> Result<Event, Reply>
         } => Ok(Event::Read {
             handle: given.handle(handle),
             offset,
-            buffer: filled(alloc, 0, length)?,
+            buffer: filled(alloc, 0, length, spare)?,
         }),
         Order::Write {
             handle,
@@ -286,7 +314,7 @@ pub fn event(alloc: Global, order: Order, given: &Given) -> Result<Event, Reply>
         } => Ok(Event::Write {
             handle: given.handle(handle),
             offset,
-            bytes: filled(alloc, byte, length)?,
+            bytes: filled(alloc, byte, length, spare)?,
             through,
         }),
         _ => plain_event(order, given),
@@ -298,10 +326,10 @@ pub fn event(alloc: Global, order: Order, given: &Given) -> Result<Event, Reply>
 /// # Errors
 ///
 /// The reply to an order for whose bytes memory was refused.
-fn filled(alloc: Global, byte: u8, length: u64) -> Result<Bytes, Reply>
+fn filled(alloc: Global, byte: u8, length: u64, spare: &mut Spare) -> Result<Bytes, Reply>
     ensures { MatchResult result (λ bytes. bytes ≡ replicate length byte) (λ reply. reply ≡ Refused InsufficientResources []) }
 {
-    match vec![in alloc; byte; length as usize] {
+    match spare.filled(alloc, byte, length as usize) {
         Ok(bytes) => Ok(Bytes::new(bytes)),
         Err(_) => Err(Reply::Refused {
             refusal: Refusal::InsufficientResources,
