@@ -5,15 +5,11 @@
 //! changes; the rule over it ties the [`Whole`] and all [`Claims`]. So what one thread noted under a lock it can later
 //! prove to who has the lock, though nothing is known of what lies under a lock but its type's invariant.
 //!
-//! What is promised to the crate above, of any type of entry:
-//! - only `Whole::add` changes the list, and it adds just its entry, at the end (`add`); there is one `Whole` of a
-//!   history at most (`one_whole`);
-//! - a claim is given on an entry that stands at its place (`claim`), and otherwise claims come from claims alone
-//! (`join`, `again`);
-//! - whatever was claimed stands in the list whenever one looks (`check`, `claims_stand`).
+//! # Promises
 //!
-//! No call waits for another thread, and none but `Opened::new` takes memory. What is not promised: that anything is
-//! ever added. Once the [`Whole`] is dropped, nothing more can be added, and no claim can be checked.
+//! Only `Whole::add` changes the history, and there is one `Whole` at most (`one_whole`). A claim is given on an entry
+//! that stands at its place (`claim`) or comes from claims (`join`, `again`), and what is claimed stands for good
+//! (`check`, `claims_stand`). Only `Opened::new` takes memory.
 #![tactic(auto)]
 
 ghost use Rattle.std.specs.Prelude.{◌≡◌, ◌∷◌, ◌++◌, [], ◌<◌, Some, slice_get};

@@ -24,7 +24,7 @@ use Rattle.adapter.specs.View.{AdapterView, TagInUse}
 use Rattle.adapter.specs.Booking.{with_booked}
 use Rattle.adapter.proofs.Booked.{books_tags, books_sectors}
 use Rattle.sector.specs.Extents.{sectors_in}
-use Rattle.device.specs.Served.{BooksPiece, Moves, IsUnfinished, IsFreshOn, IsActOrFault, ActsOrFaults, ActsNot, TakesLabel, ForgetsLabels, IsAt}
+use Rattle.device.specs.Served.{BooksPiece, Moves, AwaitsRestartIfEnded, IsFreshOn, IsActOrFault, ActsOrFaults, ActsNot, TakesLabel, ForgetsLabels, IsAt}
 use Rattle.machine.proofs.Same.{Run-same, none_there}
 use Rattle.machine.proofs.Numbers.{AreDistinct-Run, AreDistinct-same}
 use Rattle.class_disk.specs.inside.TableView.{Opened, TableView, all_open}
@@ -32,7 +32,8 @@ use Rattle.class_disk.specs.declared.parts.Progress.{Progress}
 use Rattle.class_disk.specs.declared.parts.Progress.TheVariants.{Ready, Below as SentBelow, Ended as PartEnded}
 use Rattle.class_disk.specs.inside.Joint.{Part, Below, Here, Known, known_of, Divided, Joint, parts_marks, pieces_below, pieces_above, shown, above}
 use Rattle.class_disk.specs.inside.Invariant.{IsSound, Keeps, AreParts, IsMadeUp, HasSome, IsOver}
-use Rattle.class_disk.specs.Shown.{class_rules, IsPort, divided_of, shown_state}
+use Rattle.class_disk.specs.Shown.{class_rules, IsPort}
+use Rattle.class_disk.specs.inside.Machine.{divided_of, shown_state}
 use Rattle.class_disk.specs.inside.Driver.{knowns, view_of, AreKept, AreBelow, IsCoupled, IsInHand, AsksUnder, IsAskedBy, IsAsked, AreAsked, IsSpottedBy, IsSpotted, AreSpotted, tickets}
 use Rattle.class_disk.specs.Opening.{most_over}
 use Rattle.class_disk.specs.inside.Rooms.{AllOut}
@@ -40,6 +41,7 @@ use Rattle.class_disk.proofs.Rooms.{out_same}
 use Rattle.class_disk.proofs.CoupledRun.{Ran, run_coupled, Contains-map}
 use Rattle.class_disk.proofs.Showing.{shown_is}
 use Rattle.class_disk.proofs.Orderly.{on_tags, orderly_above, All-from_map}
+use Rattle.class_disk.proofs.PortRules.{port_rules}
 
 -- WHAT STAYS WHERE NO REQUEST CHANGES
 
@@ -66,10 +68,10 @@ ended_still rules s s' o (Failed failure) same (inr (status, h)) = inr (status, 
 ended_still rules s s' o Out same (inr (status, h)) = absurd h
 ended_still rules s s' o (Done sector) same (inr (status, h)) = absurd h
 
-pub unfinished_still : (rules : Rules) (s s' : State) → IsStill s s' → All (IsUnfinished rules s) s.requests → All (IsUnfinished rules s') s'.requests
+pub unfinished_still : (rules : Rules) (s s' : State) → IsStill s s' → All (AwaitsRestartIfEnded rules s) s.requests → All (AwaitsRestartIfEnded rules s') s'.requests
 unfinished_still rules s s' h all =
-    All-permutation (IsUnfinished rules s') _ _ h.requests
-    (All-weaker (IsUnfinished rules s) (IsUnfinished rules s') (λ o not_yet ended.
+    All-permutation (AwaitsRestartIfEnded rules s') _ _ h.requests
+    (All-weaker (AwaitsRestartIfEnded rules s) (AwaitsRestartIfEnded rules s') (λ o not_yet ended.
     let awaits = not_yet (All-weaker (HasEnded rules s' o) (HasEnded rules s o) (λ m. ended_still rules s s' o m h.removing) o.marks ended) in
     record {
       in_pieces = awaits.in_pieces;
@@ -186,7 +188,7 @@ module _ (v : DeviceView) (books : TableView) (port : IsPort v.rules) (sound : I
   pub moves_above : (labels : List DeviceLabel) (v' : DeviceView) → Moves v labels v' → MovesAbove v books labels v'
   moves_above labels v' m =
       let rules : Rules = class_rules v.rules in
-      let ran : Ran rules coupled.j labels v'.state = run_coupled rules refl labels coupled.j v.state v'.state coupled.same sound coupled.keeps (subst (λ r. Run r v.state (map as_label labels) v'.state) port.below m.run) in
+      let ran : Ran rules coupled.j labels v'.state = run_coupled rules refl labels coupled.j v.state v'.state coupled.same sound coupled.keeps (subst (λ r. Run r v.state (map as_label labels) v'.state) (port_rules port) m.run) in
       let same_rules : class_rules v'.rules ≡ rules = ap class_rules m.same_rules in
       let ks : IsPermutation (map known_of ran.next.divided) (knowns rules books) = IsPermutation-trans _ _ _ ran.like.transfers coupled.knows in
       let here : IsSame (above coupled.j) (shown_state v.state (books.last_request + 1) (knowns rules books)) =
@@ -259,7 +261,7 @@ module _ (v : DeviceView) (books : TableView) (h : IsInHand v books) where
 
   pub hand_ran : (labels : List DeviceLabel) (v' : DeviceView) → v'.rules ≡ v.rules → IsCoupled v' books → IsSound v'.state
       → Run (class_rules v.rules) (view_of v books).state (map as_label labels) (view_of v' books).state → IsOrderly v' → AllOut v' (tickets books)
-      → All (IsUnfinished v.rules v'.state) v'.state.requests → Settled v.rules v'.state → AreCounted v.rules v'.state → AreBelow v' books → IsInHand v' books
+      → All (AwaitsRestartIfEnded v.rules v'.state) v'.state.requests → Settled v.rules v'.state → AreCounted v.rules v'.state → AreBelow v' books → IsInHand v' books
   hand_ran labels v' same_rules coupled sound run ordered rooms_out unfinished settled counted below =
       let to : (P : Rules → Type 0) → P v.rules → P v'.rules = λ P x. subst P (sym same_rules) x in
       let port : IsPort v'.rules = to IsPort h.port in
@@ -268,7 +270,7 @@ module _ (v : DeviceView) (books : TableView) (h : IsInHand v books) where
       let same_shown : IsSame (above j) (view_of v' books).state = subst (λ n. IsSame (above j) (shown_state v'.state n ks)) coupled.next_above
       (shown_is (class_rules v'.rules) j v'.state ks coupled.same sound.distinct coupled.keeps coupled.knows) in
       let distinct : AreDistinct (view_of v' books).state = AreDistinct-Run (class_rules v.rules) (view_of v books).state (map as_label labels) (view_of v' books).state h.orderly.distinct run in
-      let unfinished' : All (IsUnfinished v'.rules v'.state) v'.state.requests = to (λ r. All (IsUnfinished r v'.state) v'.state.requests) unfinished in
+      let unfinished' : All (AwaitsRestartIfEnded v'.rules v'.state) v'.state.requests = to (λ r. All (AwaitsRestartIfEnded r v'.state) v'.state.requests) unfinished in
       let settled' : Settled v'.rules v'.state = to (λ r. Settled r v'.state) settled in
       let over_j : All (IsOver 17 j.removing) (map known_of j.divided) = subst (λ b. All (IsOver 17 b) (map known_of j.divided)) (sym coupled.same.removing) (All-permutation (IsOver 17 v'.state.removing) _ _ (IsPermutation-sym _ _ coupled.knows) below.over) in
       let numbers : map request_number (view_of v books).state.requests ≡ map request_number (view_of v' books).state.requests =
@@ -291,7 +293,7 @@ module _ (v : DeviceView) (books : TableView) (h : IsInHand v books) where
       }
 
   pub hand_moved : (labels : List DeviceLabel) (v' : DeviceView) → MovesAbove v books labels v' → IsOrderly v' → AllOut v' (tickets books)
-      → All (IsUnfinished v.rules v'.state) v'.state.requests → Settled v.rules v'.state → AreCounted v.rules v'.state → AreBelow v' books → IsInHand v' books
+      → All (AwaitsRestartIfEnded v.rules v'.state) v'.state.requests → Settled v.rules v'.state → AreCounted v.rules v'.state → AreBelow v' books → IsInHand v' books
   hand_moved labels v' m = hand_ran labels v' m.same_rules m.coupled m.sound m.moves.run
 
 -- nothing changed that is shown

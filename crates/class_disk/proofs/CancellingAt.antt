@@ -11,7 +11,8 @@ use Rattle.device.specs.Served.{CancelsIfOpen, CancelsAt, NoneToCancel, IsAt, Ha
 use Rattle.class_disk.proofs.Standing.{IsApart}
 use Rattle.class_disk.specs.inside.Joint.{Known, Divided, shown}
 use Rattle.class_disk.specs.inside.Invariant.{NeverSent}
-use Rattle.class_disk.specs.Shown.{class_rules, divided_of}
+use Rattle.class_disk.specs.Shown.{class_rules}
+use Rattle.class_disk.specs.inside.Machine.{divided_of}
 use Rattle.class_disk.specs.inside.TableView.{Opened, TableView, opened, all_open, open_at, put_at}
 use Rattle.class_disk.specs.inside.TableCalls.{cancelled_one, is_cancellable, CancelsAtSlot, CancelsNoneAt, CannotCancel}
 use Rattle.class_disk.specs.inside.Driver.{known, knowns, view_of, packet_above, IsInHand}

@@ -40,6 +40,7 @@ use Rattle.class_disk.proofs.Standing.{StandsIn, is_put, split_there, All-middle
 use Rattle.class_disk.proofs.Noting.{ended-append, left-append, tickets_open-append}
 use Rattle.class_disk.proofs.Midst.{InMidst, AllCancelled, cancelled_part, all_cancelled}
 use Rattle.class_disk.proofs.Withdrawn.{StandsAgain, stands_again, over_more}
+use Rattle.class_disk.proofs.PortRules.{port_rules}
 
 -- CANCELLED PARTS SHOW AS THEY WERE
 
@@ -237,12 +238,12 @@ module _ (v : DeviceView) (b : TableView) (h : IsInHand v b) (slot : ℕ) (o : O
 
     cancelled : AllCancelled j i.e i.es [] i.e.parts v v1
     cancelled =
-        all_cancelled rules j i.e i.es v (ap (λ (r : Rules). r.one_piece) h.port.below) [] i.e.parts o.parts (ap (λ (k : Known). k.parts) i.is_known) v v1
+        all_cancelled rules j i.e i.es v (h.port.one_piece) [] i.e.parts o.parts (ap (λ (k : Known). k.parts) i.is_known) v v1
         (record {
           beside = record { same_rules = refl; same_packets = IsPermutation-refl _; same_rooms = λ spot. refl; same_submitted = refl; same_most = refl; same_adapter = refl };
           sound = h.sound;
           counted = h.counted;
-          unsent = ends_unsent v.rules (ap (λ (r : Rules). r.busy_limit) h.port.below) (ap (λ (r : Rules). r.one_piece) h.port.below)
+          unsent = ends_unsent v.rules (h.port.first_busy) (h.port.one_piece)
               v.state h.sound h.rooms_out.orderly.places h.unfinished;
           asked = λ r q n h'. h';
           next = refl;
@@ -274,7 +275,7 @@ module _ (v : DeviceView) (b : TableView) (h : IsInHand v b) (slot : ℕ) (o : O
           (IsPermutation-sym _ _ known_now);
       keeps = keeps_cancelled rules j i.e i.es keeps_first;
       sound = m.sound;
-      counted = subst (λ r. AreCounted r v1.state) h.port.below m.counted;
+      counted = subst (λ r. AreCounted r v1.state) (port_rules h.port) m.counted;
       next_above = refl;
       run = IsSame-refl _;
     }

@@ -14,7 +14,7 @@ use Rattle.machine.specs.Rules.{Rules, first_sector}
 use Rattle.machine.specs.State.{Mark, Untouched, Out, Done, Failed, Back, OpenRequest, Piece}
 use Rattle.machine.specs.Sending.{HasTag, IsLowestFreeTag, command_for, is_untouched, IsUnsent, is_started}
 use Rattle.class_disk.specs.inside.Joint.{Part, Below, Here, Divided, shown_mark, lifted, parts_requests, parts_pieces, parts_marks, parts_lifted, shown, pieces_below, pieces_above, IsPartOf}
-use Rattle.class_disk.specs.PortRules.{below_rules}
+use Rattle.class_disk.specs.inside.PortRules.{below_rules}
 
 take-append-add : {X : Type 0} (xs ys : List X) (n : ℕ) → take (length xs + n) (xs ++ ys) ≡ xs ++ take n ys
 take-append-add [] ys n = ap (λ k. take k ys) (omega arith)

@@ -30,7 +30,7 @@ use Rattle.machine.proofs.Permuting.{IsPermutation-uncons, first_unique}
 use Rattle.machine.proofs.Placed.{leaves, ArePlaced-DeviceStep, ArePlaced-same}
 use Rattle.machine.proofs.Owners.{Owns, owns}
 use Rattle.class_disk.specs.inside.Joint.{Part, Below, Divided, Joint, note_of, known_of, lifted, parts_requests, parts_pieces, parts_marks, parts_lifted, requests_below, pieces_below, pieces_above, shown, below, above, IsPartOf}
-use Rattle.class_disk.specs.PortRules.{below_rules}
+use Rattle.class_disk.specs.inside.PortRules.{below_rules}
 use Rattle.class_disk.specs.inside.Invariant.{IsSound, IsOwnedBy, IsMadeUp, AgreesOnCancel, AreBehind, IsAhead, IsInTurn, IsInPieces, Keeps}
 use Rattle.class_disk.proofs.Coupled.{requests-append, pieces-append, lifted-append}
 use Rattle.class_disk.proofs.CoupledSteps.{divided_with, Starts-above, Acts-above, Faults-above, Returns-above, changed_below, below_first, shown_pieces}

@@ -19,7 +19,7 @@ use Rattle.machine.specs.Holding.{Cancels}
 use Rattle.machine.specs.State.{Mark, Untouched, Out, Done, Failed, Back, OpenRequest, Piece, State, IsSame, with_marks}
 use Rattle.machine.specs.Sending.{Starts, Acts, Faults, Returns, MayStart, IsInTurn, IsSendable, IsLowestFreeTag, IsUnsent, LeavesMarks, Transfers, command_for, sent, new_piece, with_fate, given_back, one_if_busy}
 use Rattle.class_disk.specs.inside.Joint.{Part, Below, Here, Divided, Joint, shown_mark, lifted, parts_requests, parts_pieces, parts_marks, parts_busy, parts_lifted, shown, requests_below, pieces_below, pieces_above, below, above, IsPartOf}
-use Rattle.class_disk.specs.PortRules.{below_rules}
+use Rattle.class_disk.specs.inside.PortRules.{below_rules}
 use Rattle.class_disk.specs.inside.Invariant.{IsAhead, IsInPieces}
 use Rattle.machine.proofs.Same.{IsSame-refl}
 use Rattle.machine.proofs.Permuting.{IsPermutation-uncons}

@@ -124,7 +124,7 @@ pub can_cut : (v : DeviceView) (sizes : Sizes) (r : Request) → IsPort v.rules 
 can_cut v sizes r port order are b =
     let limit : sizes.max_transfer ≡ v.rules.max_transfer = are.max_transfer in
     let some : 0 < sizes.max_transfer = let s = port.some_transfer in omega arith in
-    let long : sizes.max_transfer ≤ v.rules.longest = let e = ap (λ (x : Rules). x.longest) port.below in omega arith in
+    let long : sizes.max_transfer ≤ v.rules.longest = let e = port.longest in omega arith in
     let short : r.extent.count ≤ 2 ^ 16 = b.short in
     let bytes : sizes.sector_size ≤ 4096 =
     let a = order.adapter.sector_size in let e = order.read.same_size in let f = are.sector_size in omega arith in

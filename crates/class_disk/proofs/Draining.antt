@@ -26,6 +26,7 @@ use Rattle.class_disk.proofs.Acting.{asked_still, spotted_still, shows}
 use Rattle.class_disk.proofs.Ending.{ends_unsent, unsent_drains, never_sent}
 use Rattle.class_disk.proofs.Causes.{causes_more}
 use Rattle.class_disk.proofs.Withdrawn.{StandsAgain, stands_again, over_more}
+use Rattle.class_disk.proofs.PortRules.{port_rules}
 
 -- a removal leaves no turns
 keeps_removed : (rules : Rules) (j : Joint) → Keeps rules j → Keeps rules (record j { removing = true })
@@ -89,14 +90,14 @@ module _ (v : DeviceView) (b : TableView) (h : IsInHand v b) (v1 : DeviceView) (
     knows = h.coupled.knows;
     keeps = keeps_removed rules h.coupled.j h.coupled.keeps;
     sound = sound_same (removed_state v.state) v1.state same_state (sound_removed v.state h.sound);
-    counted = subst (λ r. AreCounted r v1.state) h.port.below counted_drained;
+    counted = subst (λ r. AreCounted r v1.state) (port_rules h.port) counted_drained;
     next_above = refl;
     run = IsSame-refl _;
   }
 
   unsent : EndedAre NeverSent v.rules v1.state
   unsent =
-      let before = ends_unsent v.rules (ap (λ (r : Rules). r.busy_limit) h.port.below) (ap (λ (r : Rules). r.one_piece) h.port.below) in
+      let before = ends_unsent v.rules (h.port.first_busy) (h.port.one_piece) in
       never_sent v.rules v1.state (unsent_drains v v1 h.port.no_window (before v.state h.sound h.rooms_out.orderly.places h.unfinished) d)
 
   below_drained : AreBelow (record v1 { rules = v.rules }) books_drained

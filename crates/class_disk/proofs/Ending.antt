@@ -28,7 +28,7 @@ use Rattle.machine.specs.Answering.{HasEnded, HasCause, Answers, is_done}
 use Rattle.machine.specs.Holding.{Cancels, as_cancelled, held_back}
 use Rattle.machine.specs.Step.{Run, as_label}
 use Rattle.device.specs.View.{DeviceView, Packet, payload_bytes}
-use Rattle.device.specs.Served.{HandsUp, Submits, Finishes, CancelsIfOpen, DrainsAll, IsBeside, NoneToCancel, IsUnfinished, sectors_moved, cut}
+use Rattle.device.specs.Served.{HandsUp, Submits, Finishes, CancelsIfOpen, DrainsAll, IsBeside, NoneToCancel, AwaitsRestartIfEnded, sectors_moved, cut}
 use Rattle.machine.proofs.Commuting.{out_ends_not, untouched_ends_not}
 use Rattle.machine.proofs.Same.{IsSame-sym}
 use Rattle.machine.proofs.Permuting.{All-changed}
@@ -127,7 +127,7 @@ module _ (takes : Bool) (v : DeviceView) (climb : Climb) (spot : ℕ) (v' : Devi
   first_earned = All-contains (λ o. All (IsEarned o) o.marks) v.state.requests ended_one sound.earned open_there 0 Untouched some_mark
 
   one_piece : IsTrue v.rules.one_piece
-  one_piece = ap (λ (r : Rules). r.one_piece) port.below
+  one_piece = port.one_piece
 
   -- how it ended, after a return
   pub data Ends : Type 0 where
@@ -309,11 +309,11 @@ left_touched piece Busy marks h = rw h.1 (All-replicate (λ m. is_untouched m �
 left_touched piece (Bad completion) marks h = rw h.1 (All-replicate (λ m. is_untouched m ≡ false) piece.places.count (Failed (status_of_completion completion)) refl)
 
 pub ended_return : (rules : Rules) → IsTrue rules.one_piece → (s : State) (number : ℕ) (class : Class) (s' : State)
-    → IsSound s → All (IsUnfinished rules s) s.requests → Returns s number class s' → EndedAre WasSent rules s'
+    → IsSound s → All (AwaitsRestartIfEnded rules s) s.requests → Returns s number class s' → EndedAre WasSent rules s'
 ended_return rules whole s number class s' sound unfinished h =
     let o : OpenRequest = h.owner in
     let w : ComesBackWhole o h.piece h.marks = comes_back_whole s number class s' sound.placed sound.whole h in
-    let all : EndedAre WasSent rules s = All-weaker (IsUnfinished rules s) (IsIfEnded WasSent rules s)
+    let all : EndedAre WasSent rules s = All-weaker (AwaitsRestartIfEnded rules s) (IsIfEnded WasSent rules s)
     (λ x none ended. let awaits = none ended in absurd (cc (awaits.in_pieces, whole))) s.requests unfinished in
     let others : All (IsIfEnded WasSent rules s) h.others = All-tail (IsIfEnded WasSent rules s) o h.others (All-permutation (IsIfEnded WasSent rules s) _ _ h.is_open all) in
     let mid : State = record s { requests = given_back h.piece class h.marks o ∷ h.others; pieces = h.other_pieces } in
@@ -325,7 +325,7 @@ ended_return rules whole s number class s' sound unfinished h =
 
 -- a finish, from where nothing that has ended waits
 pub ended_finish : (v : DeviceView) (tag : ℕ) (v' : DeviceView) → IsTrue v.rules.one_piece → IsSound v.state
-    → All (IsUnfinished v.rules v.state) v.state.requests → Finishes v tag v' → EndedAre WasSent v.rules v'.state
+    → All (AwaitsRestartIfEnded v.rules v.state) v.state.requests → Finishes v tag v' → EndedAre WasSent v.rules v'.state
 ended_finish v tag v' whole sound unfinished h = by h.moves.run
   where
     by : Run v.rules v.state (map as_label (Return h.piece.number h.class ∷ h.starts)) v'.state → EndedAre WasSent v.rules v'.state
@@ -338,7 +338,7 @@ ended_finish v tag v' whole sound unfinished h = by h.moves.run
 
 -- where nothing that has ended waits, what ends with no step of its piece was never sent
 pub ends_unsent : (rules : Rules) → rules.busy_limit ≡ 1 → IsTrue rules.one_piece → (s : State) → IsSound s → HavePlaces s
-    → All (IsUnfinished rules s) s.requests → All (EndsUnsent rules) s.requests
+    → All (AwaitsRestartIfEnded rules s) s.requests → All (EndsUnsent rules) s.requests
 ends_unsent rules one whole s sound places unfinished k d low t p are ended =
     by (at_rest rules one whole s (get_or s.requests k d) (unfinished k d low) (sound.earned k d low) (sound.whole.alike k d low))
   where

@@ -19,7 +19,7 @@ use Rattle.machine.specs.Sending.{IsStart}
 use Rattle.machine.specs.Cutting.{restarts}
 use Rattle.machine.specs.Step.{Run, as_label}
 use Rattle.device.specs.View.{DeviceView, Packet, OnTag, piece_on_tag, packet_number, IsOrderly, sent_bytes, room_at}
-use Rattle.device.specs.Served.{HandsUp, HandsUpNone, Submits, Finishes, IsUnfinished}
+use Rattle.device.specs.Served.{HandsUp, HandsUpNone, Submits, Finishes, AwaitsRestartIfEnded}
 use Rattle.machine.proofs.Same.{Run-same}
 use Rattle.machine.proofs.Numbers.{AreDistinct-Run, AreDistinct-same}
 use Rattle.class_disk.specs.inside.TableView.{Opened, TableView, opened}
@@ -30,7 +30,8 @@ use Rattle.class_disk.specs.declared.parts.Outcome.TheVariants.{Withdrawn}
 use Rattle.class_disk.specs.inside.Joint.{Note, Sent, Kept, Known, known_of, shown_mark, above}
 use Rattle.class_disk.specs.inside.Invariant.{IsSound, Keeps, WasSent, NeverSent, EndedAre, IsOver, HasSome, noted_busy}
 use Rattle.class_disk.proofs.Restarting.{noted_back}
-use Rattle.class_disk.specs.Shown.{class_rules, IsPort, shown_state}
+use Rattle.class_disk.specs.Shown.{class_rules, IsPort}
+use Rattle.class_disk.specs.inside.Machine.{shown_state}
 use Rattle.class_disk.specs.inside.Driver.{places_of, note, known, knowns, tickets, view_of, packet_above, AreKept, AreBelow, IsCoupled, IsInHand}
 use Rattle.class_disk.specs.Opening.{most_over}
 use Rattle.class_disk.specs.inside.Rooms.{AllOut}
@@ -43,30 +44,31 @@ use Rattle.class_disk.proofs.Acting.{map_there, same_tags, shows, numbers_known,
 use Rattle.class_disk.proofs.Orderly.{orderly_above}
 use Rattle.class_disk.proofs.Ending.{noted_returned, noted_withdrawn, waits_again, ended_finish, ended_handed, ended_submitted}
 use Rattle.class_disk.proofs.Retaking.{known_at, kept_taken, sent_again, taking_begins}
+use Rattle.class_disk.proofs.PortRules.{port_rules}
 use Rattle.machine.specs.Sending.{IsStart}
 use Rattle.machine.specs.Cutting.{restarts}
 
 -- THE PIECE COMES BACK
-pub finish_begins : (v : DeviceView) (books : TableView) (tag : ℕ) (v' : DeviceView) → IsPort v.rules → (c : IsCoupled v books) → IsSound v.state → AreCounted v.rules v.state → All (IsUnfinished v.rules v.state) v.state.requests → (h : Finishes v tag v')
+pub finish_begins : (v : DeviceView) (books : TableView) (tag : ℕ) (v' : DeviceView) → IsPort v.rules → (c : IsCoupled v books) → IsSound v.state → AreCounted v.rules v.state → All (AwaitsRestartIfEnded v.rules v.state) v.state.requests → (h : Finishes v tag v')
     → IsTaking (class_rules v.rules) (above c.j) (Return h.piece.number h.class ∷ h.starts) v'.state (knowns (class_rules v.rules) books) × EndedAre WasSent v.rules v'.state
 finish_begins v books tag v' port c sound counted unfinished h = (
   taking_begins (class_rules v.rules) refl c.j v.state v'.state (knowns (class_rules v.rules) books) (Return h.piece.number h.class ∷ h.starts) c.same c.knows c.keeps sound
-      (subst (λ r. AreCounted r v.state) port.below counted)
-      (subst (λ r. Run r v.state (map as_label (Return h.piece.number h.class ∷ h.starts)) v'.state) port.below h.moves.run),
-  ended_finish v tag v' (ap (λ (r : Rules). r.one_piece) port.below) sound unfinished h,
+      (subst (λ r. AreCounted r v.state) (port_rules port) counted)
+      (subst (λ r. Run r v.state (map as_label (Return h.piece.number h.class ∷ h.starts)) v'.state) (port_rules port) h.moves.run),
+  ended_finish v tag v' (port.one_piece) sound unfinished h,
 )
 
 module _ (takes : Bool) (v : DeviceView) (climb : Climb) (spot : ℕ) (v' : DeviceView) (h : HandsUp takes v climb spot v') (port : IsPort v.rules) (ordered : IsOrderly v)
     (first : State) (labels : List DeviceLabel) (k : Known) (front back : List Note) (again : ℕ) (others : List Known)
     (t : IsTaking (class_rules v.rules) first labels v.state (known_at k front (Sent h.packet.number again) back ∷ others)) where
   counted : AreCounted v.rules v.state
-  counted = subst (λ r. AreCounted r v.state) (sym port.below) t.counted
+  counted = subst (λ r. AreCounted r v.state) (sym (port_rules port)) t.counted
 
   kept : IsTaking (class_rules v.rules) first (labels ++ h.starts) v'.state (known_at k front (Kept (map (shown_mark again) h.answers.request.marks) (again + h.answers.request.busy_returns)) back ∷ others)
   kept =
       subst (λ r. (x : Answers r v.state h.packet.number h.status h.bytes h.answered) → Run r h.answered (map as_label h.starts) v'.state
       → IsTaking (class_rules v.rules) first (labels ++ h.starts) v'.state (known_at k front (Kept (map (shown_mark again) x.request.marks) (again + x.request.busy_returns)) back ∷ others))
-      (sym port.below)
+      (sym (port_rules port))
       (λ x run. kept_taken (class_rules v.rules) refl first labels v.state ordered.places k front back again others h.packet.number h.status h.bytes h.answered x t h.starts v'.state run)
       h.answers h.moves.run
 
@@ -113,7 +115,7 @@ module _ (takes : Bool) (v : DeviceView) (climb : Climb) (spot : ℕ) (v' : Devi
         subst (λ r. (x : Answers r v.state h.packet.number h.status h.bytes h.answered) → Opens r v'.state packet.number x.request.request d.opened → Run r d.opened (map as_label d.starts) v''.state
             → (map (shown_mark again) x.request.marks ≡ map (shown_mark (suc again)) (replicate (place_count (class_rules v.rules) x.request.request) Untouched)) → x.request.busy_returns ≡ 1
             → IsTaking (class_rules v.rules) first (labels ++ d.starts) v''.state (known_at k front (Sent packet.number (suc again)) back ∷ others))
-            (sym port.below)
+            (sym (port_rules port))
             (λ x opened go shows once. sent_again (class_rules v.rules) refl first labels v.state ordered.places k front back again others h.packet.number h.status h.bytes h.answered x t shows once few
             v'.state answered_is packet.number d.opened opened timely limit over all_some d.starts v''.state go)
             h.answers opens run w.0 w.1,
@@ -166,7 +168,7 @@ module _ (v : DeviceView) (books : TableView) (h : IsInHand v books) (tag : ℕ)
           keeps = subst (λ r. Keeps (class_rules r) t.j) (sym same_rules) t.keeps;
         },
         t.sound,
-        subst (λ r. AreCounted r v''.state) (sym same_rules) (subst (λ r. AreCounted r v''.state) (sym h.port.below) t.counted),
+        subst (λ r. AreCounted r v''.state) (sym same_rules) (subst (λ r. AreCounted r v''.state) (sym (port_rules h.port)) t.counted),
       )
 
 -- IN HAND AGAIN, where the layer below has nothing more that has ended

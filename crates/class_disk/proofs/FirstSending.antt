@@ -15,7 +15,7 @@ use Rattle.machine.proofs.Same.{IsSame-trans}
 use Rattle.machine.proofs.Permuting.{IsPermutation-uncons}
 use Rattle.machine.proofs.Counted.{AreCounted-Opens, AreCounted-Run}
 use Rattle.class_disk.specs.inside.Joint.{Part, Below, Here, Note, Sent, Kept, Known, note_of, known_of, Divided, Joint, IsPartOf, shown_mark, parts_requests, parts_marks, requests_of, pieces_of, lifted_pieces, shown, below, above}
-use Rattle.class_disk.specs.PortRules.{below_rules}
+use Rattle.class_disk.specs.inside.PortRules.{below_rules}
 use Rattle.class_disk.specs.inside.Invariant.{IsSound, IsMadeUp, AgreesOnCancel, IsAhead, begins_back, IsInPieces, Keeps, IsOver, HasSome}
 use Rattle.class_disk.proofs.InPieces.{in_pieces_with}
 use Rattle.class_disk.specs.inside.DuringACall.{IsTaking}

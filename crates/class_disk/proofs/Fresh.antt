@@ -16,10 +16,11 @@ use Rattle.machine.specs.Numbers.{HasPlaces}
 use Rattle.device.specs.View.{DeviceView, Packet, IsOffRooms, IsOrderly, WaitsForTag, IsTopmost}
 use Rattle.std.specs.Prelude.{IsPermutation}
 use Rattle.device.specs.inside.Out.{IsGood, tickets_of}
-use Rattle.device.specs.Served.{IsUnfinished}
+use Rattle.device.specs.Served.{AwaitsRestartIfEnded}
 use Rattle.class_disk.specs.declared.Sizes.{Sizes}
 use Rattle.class_disk.specs.inside.Invariant.{IsMadeUp, AgreesOnCancel, IsInTurn, IsInPieces, IsOver, HasSome}
-use Rattle.class_disk.specs.Shown.{class_rules, IsPort, joint_of}
+use Rattle.class_disk.specs.Shown.{class_rules, IsPort}
+use Rattle.class_disk.specs.inside.Machine.{joint_of}
 use Rattle.class_disk.specs.inside.TableView.{TableView}
 use Rattle.class_disk.specs.inside.TableCalls.{empty_books}
 use Rattle.class_disk.specs.inside.Driver.{IsInHand, IsHeld, IsOpen, HaveCauses, AreAsked, AreSpotted}
@@ -78,7 +79,7 @@ hand_fresh v sizes places none port orderly size longest sectors keeping =
         apart = apart_none;
         all = subst (λ rs. IsPermutation (tickets_of rs) []) (sym none) (IsPermutation-refl []);
       };
-      unfinished = All-nil (IsUnfinished v.rules s);
+      unfinished = All-nil (AwaitsRestartIfEnded v.rules s);
       settled = record {
         none_owed = refl;
         idle = λ _. All-nil IsPausedThere;
@@ -94,7 +95,7 @@ hand_fresh v sizes places none port orderly size longest sectors keeping =
       kept = record {
         sizes = record {
           sector_size = size;
-          max_transfer = longest ∙ ap (λ (r : Rules). r.longest) port.below;
+          max_transfer = longest ∙ port.longest;
           whole = record {
             as_many = sym (sectors ∙ whole_disk v.rules v.rules.partitions port.one_disk);
             one_disk = port.one_disk;

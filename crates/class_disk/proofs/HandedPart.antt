@@ -39,6 +39,7 @@ use Rattle.class_disk.proofs.Asking.{asks_of_handed, places_of_handed, request_o
 use Rattle.class_disk.proofs.Standing.{All-at}
 use Rattle.class_disk.proofs.Handed.{Handed}
 use Rattle.class_disk.proofs.Changing.{known_old}
+use Rattle.class_disk.proofs.PortRules.{port_rules}
 
 as_long : (rules : Rules) (r : Request) → r.kind ≡ Read → transfer_length rules r ≡ r.extent.count * rules.sector_size
 as_long rules r is = rw is refl
@@ -244,7 +245,7 @@ module _ {takes : Bool} {v : DeviceView} {b : TableView} {climb : Climb} {spot :
       (mul-div_cancel d.o.request.extent.first some_bytes) in
       let long : length x.marks ≡ d.part.request.extent.count =
       (All-contains (IsCounted v.rules) v.state.requests x (subst (λ r. AreCounted r v.state)
-      (sym m.port.below) m.taking.counted) open_below).places
+      (sym (port_rules m.port)) m.taking.counted) open_below).places
       ∙ as_many_places ∙ transfers_places d.part writes in
       let all : take (d.part.request.extent.count * size) x.request.bytes ≡ slice_range (sent_bytes d.o.request.kind d.o.irp.payload)
       (bytes_from size d.o.request d.part.request) (bytes_from size d.o.request d.part.request + d.part.request.extent.count * size) =

@@ -20,7 +20,8 @@ use Rattle.class_disk.specs.inside.Parts.{lowest_status}
 use Rattle.class_disk.specs.inside.TableView.{Opened, TableView, opened}
 use Rattle.class_disk.specs.inside.Joint.{note_of, Known, known_of, Divided, Joint, parts_marks, parts_busy, lifted_pieces, requests_below, pieces_below, pieces_above, shown, below, above}
 use Rattle.class_disk.specs.inside.Invariant.{IsMadeUp, AgreesOnCancel, IsAhead, AreBehind, IsInTurn, IsInPieces, Keeps, IsOver, noted_busy}
-use Rattle.class_disk.specs.Shown.{class_rules, shown_state}
+use Rattle.class_disk.specs.Shown.{class_rules}
+use Rattle.class_disk.specs.inside.Machine.{shown_state}
 use Rattle.class_disk.specs.inside.Driver.{known, knowns, view_of, note, request_of_part, IsOpen, HaveCauses, IsInHand}
 use Rattle.class_disk.proofs.Focus.{below_first}
 use Rattle.class_disk.proofs.Showing.{shown_is, gathered-permutation}

@@ -54,6 +54,7 @@ pub mod Parting
 pub mod PieceParts
 pub mod PartsLeft
 pub mod PiecePlaces
+pub mod PortRules
 pub mod ReadyParts
 pub mod Replacing
 pub mod Resending

@@ -33,6 +33,7 @@ use Rattle.class_disk.proofs.Orderly.{All-from_map}
 use Rattle.device.proofs.Bounded.{not_refused, carries_bytes, sectors_are}
 use Rattle.class_disk.proofs.Cutting.{whole_or_more, begins_within}
 use Rattle.class_disk.proofs.Submitting.{total, new_note, IsBefore, with_new, opens_new, taking_new}
+use Rattle.class_disk.proofs.PortRules.{port_rules}
 
 -- THE PARTS ARE READY
 
@@ -201,4 +202,4 @@ module _ (v : DeviceView) (b : TableView) (h : IsInHand v b) (slot : ℕ) (irp :
       let cut : AreCut rules.max_transfer counts = parts_cut rules opens.held.request opens.held.parts h.kept.sizes.whole.some_bytes h.port.some_transfer (held_there rules b slot irp b1 opens h.kept).cut in
       let permuted : IsPermutation (known rules (new_opened irp opens.held.request opens.held.parts) ∷ knowns rules b) (knowns rules b1) = IsPermutation-sym _ _ (IsPermutation-map (known rules) _ _ (IsPermutation-map opened _ _ opens.opens)) in
       taking_permuted rules first_above [] v.state _ _ (subst (λ (x : Known). IsPermutation (x ∷ knowns rules b) (knowns rules b1)) (sym new) permuted)
-      (taking_new rules h.coupled.j irp.number q counts covers refl v.state (knowns rules b) h.coupled.same h.coupled.knows cut before h.coupled.keeps h.sound (subst (λ r. AreCounted r v.state) h.port.below h.counted))
+      (taking_new rules h.coupled.j irp.number q counts covers refl v.state (knowns rules b) h.coupled.same h.coupled.knows cut before h.coupled.keeps h.sound (subst (λ r. AreCounted r v.state) (port_rules h.port) h.counted))

@@ -9,7 +9,7 @@ use Rattle.machine.specs.State.{OpenRequest}
 use Rattle.machine.specs.Settled.{Settled}
 use Rattle.machine.proofs.Same.{none_there}
 use Rattle.device.specs.View.{DeviceView, IsOrderly}
-use Rattle.device.specs.Served.{IsUnfinished, HandsUpNone}
+use Rattle.device.specs.Served.{AwaitsRestartIfEnded, HandsUpNone}
 use Rattle.class_disk.specs.inside.TableCalls.{TakesNone}
 use Rattle.class_disk.specs.declared.parts.Part.{Part}
 use Rattle.class_disk.specs.declared.parts.PartId.{PartId}
@@ -18,13 +18,14 @@ use Rattle.class_disk.specs.declared.parts.Progress.TheVariants.{Ready, Below as
 use Rattle.class_disk.specs.inside.Parts.{WasSent, WasSentBy, unfinished_by, unfinished_of}
 use Rattle.class_disk.specs.inside.TableView.{Opened, TableView, opened, ended_in}
 use Rattle.class_disk.specs.inside.Joint.{Part as JointPart, Below, Here, Sent, note_of, Known, known_of, Divided, parts_requests, above}
-use Rattle.class_disk.specs.PortRules.{below_rules}
+use Rattle.class_disk.specs.inside.PortRules.{below_rules}
 use Rattle.class_disk.specs.inside.Invariant.{IsOver}
 use Rattle.class_disk.specs.Shown.{class_rules}
 use Rattle.class_disk.specs.inside.Driver.{known, view_of, note, note_by, IsOpen, IsInHand}
 use Rattle.class_disk.proofs.Resting.{AreEndedHere, HasBelow, settled_above, unfinished_above}
 use Rattle.class_disk.proofs.Orderly.{All-from_map, over_here}
 use Rattle.class_disk.proofs.Acting.{IsStill, shows, settled_still, unfinished_still}
+use Rattle.class_disk.proofs.PortRules.{port_rules}
 
 -- some part of it is below
 pub record IsBelowSome (k : Known) : Type 0 where
@@ -84,11 +85,11 @@ module _ (v : DeviceView) (b : TableView) (h : IsInHand v b) (ordered : IsOrderl
       subst (λ x. All (IsOver 17 x) (map known_of h.coupled.j.divided)) (sym h.coupled.same.removing)
       (All-permutation (IsOver 17 v.state.removing) _ _ (IsPermutation-sym _ _ h.coupled.knows) h.below.over)
 
-  unfinished_below : All (IsUnfinished (below_rules rules) v.state) v.state.requests
-  unfinished_below = subst (λ r. All (IsUnfinished r v.state) v.state.requests) h.port.below h.unfinished
+  unfinished_below : All (AwaitsRestartIfEnded (below_rules rules) v.state) v.state.requests
+  unfinished_below = subst (λ r. All (AwaitsRestartIfEnded r v.state) v.state.requests) (port_rules h.port) h.unfinished
 
   settled_below : Settled (below_rules rules) v.state
-  settled_below = subst (λ r. Settled r v.state) h.port.below h.settled
+  settled_below = subst (λ r. Settled r v.state) (port_rules h.port) h.settled
 
   ended_here : All (AreEndedHere rules (above h.coupled.j)) h.coupled.j.divided
   ended_here = over_here rules h.coupled.j h.coupled.j.divided over_divided
@@ -105,7 +106,7 @@ module _ (v : DeviceView) (b : TableView) (h : IsInHand v b) (ordered : IsOrderl
       unfinished_below settled_below ended_here all_have)
 
   -- no open request has ended, unless a part of it awaits its restart
-  pub unfinished_shown : All (IsUnfinished rules (view_of v b).state) (view_of v b).state.requests
+  pub unfinished_shown : All (AwaitsRestartIfEnded rules (view_of v b).state) (view_of v b).state.requests
   unfinished_shown =
       unfinished_still rules (above h.coupled.j) (view_of v b).state shown_still
       (unfinished_above rules h.port.no_window h.coupled.j v.state h.coupled.same h.sound ordered.places h.coupled.keeps

@@ -8,7 +8,7 @@ use Rattle.irp.specs.declared.Irp.{Irp}
 use Rattle.machine.specs.Rules.{Rules}
 use Rattle.machine.specs.State.{State}
 use Rattle.device.specs.View.{DeviceView, Carries, payload_bytes}
-use Rattle.device.specs.Served.{IsUnfinished}
+use Rattle.device.specs.Served.{AwaitsRestartIfEnded}
 use Rattle.class_disk.specs.declared.parts.Part.{Part}
 use Rattle.class_disk.specs.declared.parts.Progress.{Progress}
 use Rattle.class_disk.specs.declared.parts.Progress.TheVariants.{Ready, Below, Ended as HasEnded}
@@ -29,10 +29,10 @@ use Rattle.class_disk.proofs.Cutting.{can_cut}
 use Rattle.class_disk.proofs.PiecePlaces.{as_many, parts_some, places_some}
 
 -- AT REST nothing that has ended waits below
-pub none_ended : (rules : Rules) → IsPort rules → (s : State) → All (IsUnfinished rules s) s.requests → EndedAre IsNothing rules s
+pub none_ended : (rules : Rules) → IsPort rules → (s : State) → All (AwaitsRestartIfEnded rules s) s.requests → EndedAre IsNothing rules s
 none_ended rules port s all =
-    All-weaker (IsUnfinished rules s) (IsIfEnded IsNothing rules s)
-    (λ o not_yet ended. let whole : rules.one_piece ≡ true = ap (λ (r : Rules). r.one_piece) port.below in let awaits = not_yet ended in cc
+    All-weaker (AwaitsRestartIfEnded rules s) (IsIfEnded IsNothing rules s)
+    (λ o not_yet ended. let whole : rules.one_piece ≡ true = port.one_piece in let awaits = not_yet ended in cc
     (awaits.in_pieces, whole)) s.requests all
 
 -- PARTS THAT ARE READY

@@ -12,14 +12,15 @@ use Rattle.machine.specs.Sending.{is_started, is_untouched}
 use Rattle.machine.specs.Answering.{HasEnded}
 use Rattle.machine.specs.Settled.{Settled, HasGone, IsAllSent, IsWithin, started_count}
 use Rattle.device.specs.View.{DeviceView, Packet, Reserved, packet_number, packet_spot, piece_on_tag, use_on_tag, IsOffRooms, WaitsForTag, IsOrderly}
-use Rattle.device.specs.Served.{IsUnfinished}
+use Rattle.device.specs.Served.{AwaitsRestartIfEnded}
 use Rattle.machine.proofs.Same.{IsSame-sym}
 use Rattle.machine.proofs.Numbers.{AreDistinct-same}
 use Rattle.class_disk.specs.inside.Joint.{Part, Below, Here, Sent, Kept, note_of, known_of, Divided, Joint, lifted, parts_pieces, parts_busy, parts_lifted, pieces_below, pieces_above, shown, below, above}
-use Rattle.class_disk.specs.PortRules.{below_rules}
+use Rattle.class_disk.specs.inside.PortRules.{below_rules}
 use Rattle.class_disk.specs.inside.Invariant.{IsSound, Keeps, noted_busy, IsOverMark, IsOverNote, IsOver}
 use Rattle.class_disk.specs.Shown.{class_rules, IsPort}
 use Rattle.class_disk.proofs.Resting.{HasEndedHere, AreEndedHere, gone, all_sent, same_count}
+use Rattle.class_disk.proofs.PortRules.{port_rules}
 
 pub All-from_map : {X Y : Type 0} (P : Y → Type 0) (f : X → Y) (xs : List X) → All P (map f xs) → All (λ x. P (f x)) xs
 All-from_map P f [] h = All-nil (λ x. P (f x))
@@ -84,16 +85,16 @@ over_here rules j (e ∷ es) h =
 -- IN ORDER
 
 module _ (v : DeviceView) (port : IsPort v.rules) (ordered : IsOrderly v) (sound : IsSound v.state) (j : Joint) (same : IsSame (below j) v.state) (k : Keeps (class_rules v.rules) j)
-    (unfinished : All (IsUnfinished v.rules v.state) v.state.requests) (settled : Settled v.rules v.state)
+    (unfinished : All (AwaitsRestartIfEnded v.rules v.state) v.state.requests) (settled : Settled v.rules v.state)
     (distinct : AreDistinct (above j)) (places : HavePlaces (above j)) (over : All (IsOver 17 j.removing) (map known_of j.divided)) where
   abbrev rules : Rules
   rules = class_rules v.rules
 
-  unfinished_below : All (IsUnfinished (below_rules rules) v.state) v.state.requests
-  unfinished_below = subst (λ r. All (IsUnfinished r v.state) v.state.requests) port.below unfinished
+  unfinished_below : All (AwaitsRestartIfEnded (below_rules rules) v.state) v.state.requests
+  unfinished_below = subst (λ r. All (AwaitsRestartIfEnded r v.state) v.state.requests) (port_rules port) unfinished
 
   settled_below : Settled (below_rules rules) v.state
-  settled_below = subst (λ r. Settled r v.state) port.below settled
+  settled_below = subst (λ r. Settled r v.state) (port_rules port) settled
 
   here_ended : All (AreEndedHere rules (above j)) j.divided
   here_ended = over_here rules j j.divided over

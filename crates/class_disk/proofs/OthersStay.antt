@@ -12,7 +12,8 @@ use Rattle.device.specs.Served.{StaysOpen}
 use Rattle.class_disk.specs.inside.TableView.{Opened, TableView, opened, open_at}
 use Rattle.class_disk.specs.inside.Driver.{known, knowns, view_of, IsCoupled}
 use Rattle.class_disk.specs.inside.Joint.{Part, Below, Here, Known, note_of, known_of, Divided, parts_requests, parts_marks, parts_busy, shown, shown_mark}
-use Rattle.class_disk.specs.Shown.{class_rules, open_under, part_of, divided_of}
+use Rattle.class_disk.specs.Shown.{class_rules}
+use Rattle.class_disk.specs.inside.Machine.{open_under, part_of, divided_of}
 use Rattle.class_disk.proofs.Acting.{map_there}
 use Rattle.class_disk.proofs.CoupledRun.{Contains-map}
 use Rattle.class_disk.proofs.CoupledSteps.{in_requests}

@@ -17,7 +17,7 @@ use Rattle.class_disk.specs.declared.parts.Part.{Part}
 use Rattle.class_disk.specs.inside.Blocks.{data_length, part_count_of, part_request_of}
 use Rattle.class_disk.specs.inside.TableCalls.{bytes_from}
 use Rattle.class_disk.specs.inside.Joint.{IsPartOf}
-use Rattle.class_disk.specs.PortRules.{below_rules}
+use Rattle.class_disk.specs.inside.PortRules.{below_rules}
 use Rattle.class_disk.specs.inside.Driver.{note, places_of, request_of_part, IsReadyPart}
 use Rattle.device.proofs.Bounded.{sectors_are}
 use Rattle.class_disk.proofs.Cutting.{piece_within}

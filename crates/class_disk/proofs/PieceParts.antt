@@ -12,7 +12,7 @@ use Rattle.machine.specs.State.{State, Untouched}
 use Rattle.machine.specs.Calling.{new_request}
 use Rattle.class_disk.specs.inside.Blocks.{part_request_of}
 use Rattle.class_disk.specs.inside.Joint.{IsPartOf}
-use Rattle.class_disk.specs.PortRules.{below_rules}
+use Rattle.class_disk.specs.inside.PortRules.{below_rules}
 use Rattle.device.proofs.Bounded.{sectors_are}
 
 -- these bytes are what those have from a place on, for this many places

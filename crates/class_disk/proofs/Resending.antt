@@ -55,6 +55,7 @@ use Rattle.class_disk.proofs.Withdrawing.{fewer_packets}
 use Rattle.class_disk.proofs.Changing.{b_now, each_entry, all_parts, packets_stay, left_now, long_now, known_old, known_new, some_now, over_now, causes_now, open_now, restarts-append}
 use Rattle.class_disk.proofs.Returning.{packets_taken, part_spotted, part_asked}
 use Rattle.class_disk.proofs.HandedPart.{taking_here, entry_open, same_request, was_sent_as, open_below, no_starts, next_stays, removing_stays}
+use Rattle.class_disk.proofs.PortRules.{port_rules}
 
 -- as many packets are left as may be sent
 pub few_enough : (n next left sub most : ℕ) → n < next → 1 ≤ left → next + left + sub ≤ sub * 2 ^ 17 + 1 → sub ≤ min (most / 2 ^ 17)
@@ -296,7 +297,7 @@ module _ {takes : Bool} (v : DeviceView) (b : TableView) (brought : TransferPack
           let c = open_below h ordered d m in
           let long : 0 < length y.marks = All-contains HasPlaces v.state.requests y ordered.places c in
           let count = (All-contains (IsCounted v.rules) v.state.requests y
-          (subst (λ r. AreCounted r v.state) (sym m.port.below) m.taking.counted) c).places in
+          (subst (λ r. AreCounted r v.state) (sym (port_rules m.port)) m.taking.counted) c).places in
           let e : place_count v.rules y.request ≡ place_count v.rules (as_client v.rules h.request []) = ap
           (place_count v.rules) h.is_request in
           omega arith

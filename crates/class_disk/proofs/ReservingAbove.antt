@@ -1,14 +1,15 @@
 -- A room is made for a request, or none: what the class driver shows.
-use Rattle.std.proofs.Common.{◌≡◌, ◌≤◌, ◌+◌, true, List, ◌∷◌, Some, None, refl, sym, ◌∙◌, ap, subst, arith, length}
-use Rattle.std.specs.Prelude.{IsPermutation}
+use Rattle.std.proofs.Common.{◌≡◌, ◌≤◌, ◌+◌, true, List, ◌∷◌, Some, None, refl, sym, ◌∙◌, ap, subst, arith, length, map}
+use Rattle.std.specs.Prelude.{All, IsPermutation}
 use Rattle.adapter.specs.View.{ReservesMore}
+use Rattle.device.proofs.Reserving.{packets_apart}
 use Rattle.device.specs.View.{DeviceView, room_at, whole_for}
-use Rattle.device.specs.Served.{Reserves, ReservesSpot, ReservesNone, SetsRoom}
+use Rattle.device.specs.Served.{HasOtherSpot, Reserves, ReservesSpot, ReservesNone, SetsRoom}
 use Rattle.class_disk.specs.declared.parts.PartId.{PartId}
 use Rattle.class_disk.specs.inside.TableView.{TableView, ClosedSlot}
 use Rattle.class_disk.specs.Shown.{class_rules}
 use Rattle.class_disk.specs.inside.TableCalls.{AddsSlot, AddsNoSlot}
-use Rattle.class_disk.specs.inside.Driver.{view_of, IsInHand, IsHeld, tickets}
+use Rattle.class_disk.specs.inside.Driver.{view_of, packet_above, IsInHand, IsHeld, tickets}
 use Rattle.class_disk.specs.inside.DuringACall.{StaysTaken, MakesNone, MakesParts}
 use Rattle.class_disk.proofs.Standing.{IsApart}
 use Rattle.class_disk.proofs.Reserving.{in_hand_refused, in_hand_made}
@@ -64,8 +65,12 @@ module _ (v : DeviceView) (b b1 : TableView) (h : IsInHand v b) (grows : AddsNoS
       let fits : length b.held + length b.opens + 1 ≤ b3.ended_places = let p = ap length held1 in let q = ap length opens1 in omega (arith, few, p, q, places) in
       let set : SetsRoom b.rooms new.slot None (Some (whole_for new.request)) b3.rooms =
       subst (λ rs. SetsRoom rs new.slot None (Some (whole_for new.request)) b3.rooms) rooms
-      (subst (λ w. SetsRoom b2.rooms new.slot None (Some (record { request = new.request; whole = w })) b3.rooms) is_whole adds.room) in (
+      (subst (λ w. SetsRoom b2.rooms new.slot None (Some (record { request = new.request; whole = w })) b3.rooms) is_whole adds.room) in
+      let opens : b3.opens ≡ b.opens = ap (λ (x : TableView). x.opens) full in
+      let packets : All (HasOtherSpot new.slot) (map packet_above b.opens) =
+      subst (λ os. All (HasOtherSpot new.slot) (map packet_above os)) opens
+      (packets_apart b3.rooms new.slot (whole_for new.request) (map packet_above b3.opens) set.is apart.vacant) in (
         in_hand_made v v2 b b3 h (subst (StaysTaken v b.owners v2) (sym owners) s) new full (subst (λ hs. IsPermutation b3.held (new ∷ hs)) held adds.more) fits
             (subst (λ o. IsHeld (class_rules v.rules) o new) (sym owners) is_held) apart (m.out (tickets b) h.rooms_out),
-        record { reserves = reserves_above m.stays.reserves b3 full; room = set },
+        record { reserves = reserves_above m.stays.reserves b3 full; apart = packets; room = set },
       )

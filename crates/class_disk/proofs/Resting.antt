@@ -15,11 +15,11 @@ use Rattle.machine.specs.Sending.{is_started, is_untouched, is_unsent}
 use Rattle.machine.specs.Answering.{HasEnded}
 use Rattle.machine.specs.Settled.{Settled, HasGone, IsHeld, WaitsIfCancelled, Waits, IsAllSent, IsHeldBack, IsFull, HasMore, IsAtWork, IsWithin, started_count, is_out, has_out, has_unsent}
 use Rattle.machine.specs.Numbers.{HasPlaces, HavePlaces}
-use Rattle.device.specs.Served.{IsUnfinished, AwaitsRestart}
+use Rattle.device.specs.Served.{AwaitsRestartIfEnded, AwaitsRestart}
 use Rattle.machine.proofs.Commuting.{out_ends_not, untouched_ends_not}
 use Rattle.machine.proofs.Same.{none_there}
 use Rattle.class_disk.specs.inside.Joint.{Part, Below, Here, Divided, Joint, shown_mark, parts_requests, parts_marks, requests_below, pieces_below, pieces_above, shown, below, above}
-use Rattle.class_disk.specs.PortRules.{below_rules}
+use Rattle.class_disk.specs.inside.PortRules.{below_rules}
 use Rattle.class_disk.specs.inside.Invariant.{IsSound, IsMadeUp, AgreesOnCancel, IsCancelledAs, AreParts, Keeps}
 use Rattle.class_disk.proofs.CoupledMarks.{started_part, same_tags, tag_of}
 use Rattle.class_disk.proofs.CoupledSteps.{in_requests}
@@ -37,7 +37,7 @@ pub record WaitsBelow (s : State) (o : OpenRequest) : Type 0 where
   pub staying : IsFalse s.removing
 
 module _ (rules : Rules) (one : rules.busy_limit ≡ 1) (whole : IsTrue rules.one_piece) (s : State) (o : OpenRequest)
-    (unfinished : IsUnfinished rules s o) (earned : HasEarned o) where
+    (unfinished : AwaitsRestartIfEnded rules s o) (earned : HasEarned o) where
   -- one that goes as a whole awaits no restart
   ends_not : All (HasEnded rules s o) o.marks → ⊥
   ends_not ended = let awaits = unfinished ended in cc (awaits.in_pieces, whole)
@@ -146,7 +146,7 @@ pub record HasBelow (e : Divided) : Type 0 where
   pub there : Contains (parts_requests e.parts) part
 
 module _ (rules : Rules) (no_window : rules.window ≡ None) (j : Joint) (s : State) (same : IsSame (below j) s) (sound : IsSound s) (places : HavePlaces s) (k : Keeps rules j)
-    (unfinished : All (IsUnfinished (below_rules rules) s) s.requests) (settled : Settled (below_rules rules) s) (ended : All (AreEndedHere rules (above j)) j.divided) where
+    (unfinished : All (AwaitsRestartIfEnded (below_rules rules) s) s.requests) (settled : Settled (below_rules rules) s) (ended : All (AreEndedHere rules (above j)) j.divided) where
   module _ (e : Divided) (c : Contains j.divided e) where
     open_below : (o : OpenRequest) → Contains (parts_requests e.parts) o → Contains s.requests o
     open_below o there = Contains-permutation _ _ o same.requests (in_requests e o j.divided c there)
@@ -154,7 +154,7 @@ module _ (rules : Rules) (no_window : rules.window ≡ None) (j : Joint) (s : St
     rests : (o : OpenRequest) → Contains (parts_requests e.parts) o → WaitsBelow s o ⊎ All (Is Out) o.marks
     rests o there =
         let oS = open_below o there in
-        at_rest (below_rules rules) refl refl s o (All-contains (IsUnfinished (below_rules rules) s) s.requests o unfinished oS)
+        at_rest (below_rules rules) refl refl s o (All-contains (AwaitsRestartIfEnded (below_rules rules) s) s.requests o unfinished oS)
         (All-contains HasEarned s.requests o sound.earned oS) (All-contains HasAlike s.requests o sound.whole.alike oS)
 
     some_place : (o : OpenRequest) → Contains (parts_requests e.parts) o → HasPlaces o
@@ -274,8 +274,8 @@ module _ (rules : Rules) (no_window : rules.window ≡ None) (j : Joint) (s : St
   of_divided P each = All-map P shown j.divided (λ n d low. each (get_or j.divided n d) (Contains-get_or j.divided n d low))
 
   -- a request with a part below has not ended, unless that part awaits its restart
-  pub unfinished_above : IsFalse rules.one_piece → All HasBelow j.divided → All (IsUnfinished rules (above j)) (map shown j.divided)
-  unfinished_above in_pieces has = of_divided (IsUnfinished rules (above j)) (λ e c over.
+  pub unfinished_above : IsFalse rules.one_piece → All HasBelow j.divided → All (AwaitsRestartIfEnded rules (above j)) (map shown j.divided)
+  unfinished_above in_pieces has = of_divided (AwaitsRestartIfEnded rules (above j)) (λ e c over.
       let p = All-contains HasBelow j.divided e has c in
       awaits e c in_pieces p.part p.there over)
 

@@ -25,7 +25,7 @@ use Rattle.machine.proofs.Earned.{HaveEarned-Answers, HaveEarned-Opens}
 use Rattle.machine.proofs.OnePiece.{AreOnePiece-Answers, AreOnePiece-Opens}
 use Rattle.machine.proofs.Counted.{AreCounted-Answers, AreCounted-Opens, AreCounted-Run, AreCounted-same}
 use Rattle.class_disk.specs.inside.Joint.{Part, Below, Here, Note, Sent, Kept, Known, note_of, known_of, Divided, Joint, IsPartOf, shown_mark, parts_requests, parts_marks, requests_below, shown, below, above}
-use Rattle.class_disk.specs.PortRules.{below_rules}
+use Rattle.class_disk.specs.inside.PortRules.{below_rules}
 use Rattle.class_disk.specs.inside.Invariant.{IsSound, IsMadeUp, AgreesOnCancel, IsCancelledAs, HasPartBefore, IsAhead, Keeps, IsOverMark, IsOverNote, IsOver, HasSome, noted_busy}
 use Rattle.class_disk.proofs.Restarting.{IsBusyOnce, busy_once, once_of, noted_back, few_again}
 use Rattle.class_disk.specs.inside.DuringACall.{IsTaking}

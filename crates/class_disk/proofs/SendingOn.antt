@@ -30,7 +30,7 @@ use Rattle.class_disk.specs.inside.Owners.{IsOwnedBy, AreOwnedFrom}
 use Rattle.class_disk.specs.inside.Rooms.{AllOut}
 use Rattle.class_disk.proofs.Rooms.{out_less}
 use Rattle.class_disk.specs.inside.Joint.{IsPartOf, Note, Sent, Kept, Known}
-use Rattle.class_disk.specs.PortRules.{below_rules}
+use Rattle.class_disk.specs.inside.PortRules.{below_rules}
 use Rattle.class_disk.specs.inside.Invariant.{IsNothing, IsOver, HasSome}
 use Rattle.class_disk.specs.inside.DuringACall.{IsTaking, GoesOn, IsOpening, OpeningSoFar, SendsDown}
 use Rattle.class_disk.specs.inside.Parts.{IsDown, restarts_of}
@@ -55,6 +55,7 @@ use Rattle.class_disk.proofs.Resending.{run_keeps, none_above}
 use Rattle.class_disk.proofs.Retaking.{known_at}
 use Rattle.class_disk.proofs.Standing.{StandsIn, AreRising, is_put, is_found, set_there, All-middle}
 use Rattle.class_disk.proofs.Submitting.{total}
+use Rattle.class_disk.proofs.PortRules.{port_rules}
 
 -- another item is changed
 beside : {X : Type 0} (xs ys : List X) (x x' e : X) → (x ≡ e → ⊥) → Contains (xs ++ (x ∷ ys)) e → Contains (xs ++ (x' ∷ ys)) e
@@ -404,9 +405,9 @@ module _ {v : DeviceView}
   taking_on first labels so_far =
       let t : IsTaking rules first labels v.state (knowns rules b) = so_far.taking in
       let opens : Opens (below_rules rules) v.state number q below.opened =
-      subst (λ r. Opens r v.state number q below.opened) h.port.below below.opens in
+      subst (λ r. Opens r v.state number q below.opened) (port_rules h.port) below.opens in
       let run : Run (below_rules rules) below.opened (map as_label below.starts) v'.state =
-      subst (λ r. Run r below.opened (map as_label below.starts) v'.state) h.port.below below.moves.run in
+      subst (λ r. Run r below.opened (map as_label below.starts) v'.state) (port_rules h.port) below.moves.run in
       let next : IsTaking rules first (labels ++ below.starts) v'.state
       (known_at (known rules h.o) front_notes (Sent number 0) back_notes ∷ others_known) =
       sent_first rules refl first labels v.state (known rules h.o) front_notes back_notes others_known q

@@ -18,7 +18,7 @@ use Rattle.machine.proofs.Same.{none_there}
 use Rattle.machine.proofs.Permuting.{IsPermutation-uncons, distinct_first}
 use Rattle.class_disk.specs.inside.Joint.{Part, Below, Here, Known, Divided, Joint, note_of, known_of, gathered, requests_of, pieces_of, lifted_pieces, lifted, parts_requests, parts_pieces, parts_marks, parts_busy, parts_lifted, requests_below, pieces_below, pieces_above, shown, shown_mark, below, above}
 use Rattle.class_disk.specs.inside.Invariant.{IsOwnedBy, AreParts, IsMadeUp, Keeps}
-use Rattle.class_disk.specs.Shown.{open_under, is_owned_by, part_of, divided_of, shown_state}
+use Rattle.class_disk.specs.inside.Machine.{open_under, is_owned_by, part_of, divided_of, shown_state}
 use Rattle.class_disk.proofs.Focus.{second_first, gathered_first}
 use Rattle.class_disk.proofs.CoupledRun.{one_request}
 

@@ -21,15 +21,17 @@ use Rattle.device.specs.View.{DeviceView, Packet, sent_bytes, whole_for}
 use Rattle.device.specs.Served.{SetsRoom, Submits, StaysOpen}
 use Rattle.class_disk.specs.inside.TableView.{TableView}
 use Rattle.class_disk.specs.inside.Joint.{Part, Here, Note, Kept, Known, note_of, known_of, Divided, Joint, parts_requests, parts_pieces, parts_marks, parts_busy, parts_lifted, requests_below, pieces_below, pieces_above, shown, below, above}
-use Rattle.class_disk.specs.PortRules.{below_rules}
+use Rattle.class_disk.specs.inside.PortRules.{below_rules}
 use Rattle.class_disk.specs.inside.Invariant.{IsSound, AreParts, IsMadeUp, IsCancelledAs, AgreesOnCancel, IsAhead, AreBehind, IsInTurn, places_in, AreCut, IsInPieces, Keeps}
-use Rattle.class_disk.specs.Shown.{class_rules, IsPort, shown_state}
+use Rattle.class_disk.specs.Shown.{class_rules, IsPort}
+use Rattle.class_disk.specs.inside.Machine.{shown_state}
 use Rattle.class_disk.specs.inside.Driver.{knowns, view_of, packet_above, IsCoupled}
 use Rattle.class_disk.specs.Opening.{most_over}
 use Rattle.class_disk.specs.inside.DuringACall.{IsTaking}
 use Rattle.class_disk.proofs.CoupledSteps.{replicate_more}
 use Rattle.class_disk.proofs.Showing.{shown_is}
 use Rattle.class_disk.proofs.Retaking.{taking_begins}
+use Rattle.class_disk.proofs.PortRules.{port_rules}
 
 -- A PART OF SO MANY PLACES, BEFORE IT IS SENT
 
@@ -191,5 +193,5 @@ submits_above v b packet request payload first starts v' b' port opens only t ad
         keeps = subst (λ r. Keeps (class_rules r) t.j) (sym same_rules) t.keeps;
       },
       t.sound,
-      subst (λ r. AreCounted r v'.state) (sym same_rules) (subst (λ r. AreCounted r v'.state) (sym port.below) t.counted),
+      subst (λ r. AreCounted r v'.state) (sym same_rules) (subst (λ r. AreCounted r v'.state) (sym (port_rules port)) t.counted),
     )

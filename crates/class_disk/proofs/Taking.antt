@@ -18,7 +18,7 @@ use Rattle.machine.proofs.Permuting.{IsPermutation-uncons}
 use Rattle.machine.proofs.Owners.{Owns, owns}
 use Rattle.machine.proofs.Commuting.{out_ends_not, started_marks}
 use Rattle.class_disk.specs.inside.Joint.{Part, Below, Here, note_of, Divided, Joint, shown_mark, parts_requests, parts_pieces, parts_marks, requests_below, pieces_below, shown, below, above}
-use Rattle.class_disk.specs.PortRules.{below_rules}
+use Rattle.class_disk.specs.inside.PortRules.{below_rules}
 use Rattle.class_disk.specs.inside.Invariant.{IsSound, IsOwnedBy, AreParts, IsMadeUp, IsCancelledAs, AgreesOnCancel, HasPartBefore, IsInPieces, Keeps}
 use Rattle.class_disk.proofs.InPieces.{shown_begins, in_pieces_with}
 use Rattle.class_disk.proofs.Coupled.{requests-append, pieces-append, marks-append}

@@ -12,12 +12,14 @@ use Rattle.device.specs.View.{DeviceView}
 use Rattle.class_disk.proofs.Standing.{IsApart}
 use Rattle.class_disk.specs.inside.Joint.{Note, Sent, Kept, Known, above}
 use Rattle.class_disk.specs.inside.Invariant.{NeverSent, IsOver, IsOverNote, IsOverMark, noted_busy}
-use Rattle.class_disk.specs.Shown.{class_rules, shown_state}
+use Rattle.class_disk.specs.Shown.{class_rules}
+use Rattle.class_disk.specs.inside.Machine.{shown_state}
 use Rattle.class_disk.specs.inside.TableView.{TableView}
 use Rattle.class_disk.specs.inside.Driver.{knowns, view_of, IsInHand}
 use Rattle.class_disk.specs.inside.DuringACall.{IsTaking, IsMidway, WithdrawsAll}
 use Rattle.class_disk.proofs.Showing.{shown_is}
 use Rattle.class_disk.proofs.Finishing.{in_hand_again}
+use Rattle.class_disk.proofs.PortRules.{port_rules}
 
 -- the two: the class driver is in hand, and shows the state that it was brought to
 pub record StandsAgain (first : State) (v : DeviceView) (b : TableView) : Type 0 where
@@ -37,7 +39,7 @@ stands_again first v1 b1 v2 b2 m1 w apart distinct next =
     record {
       in_hand = in_hand_again v2 b2 v2 (record { port = m.port; rooms_out = m.rooms_out; kept = m.kept; below = m.below; apart = apart })
           (record { j = t.j; same = t.same; knows = t.knows; next_above = next_above; keeps = t.keeps })
-          t.sound (subst (λ r. AreCounted r v2.state) (sym m.port.below) t.counted) m.rooms_out.orderly
+          t.sound (subst (λ r. AreCounted r v2.state) (sym (port_rules m.port)) t.counted) m.rooms_out.orderly
           (AreDistinct-same (view_of v2 b2).state first (IsSame-sym _ _ shows) distinct) w.none;
       shows = shows;
     }

@@ -1,4 +1,3 @@
 pub mod Opening
 pub mod Shown
 pub mod inside
-pub mod PortRules

@@ -1,16 +1,16 @@
 //! The class driver of a disk: it cuts long transfers into pieces, each an SRB of its own to the port below.
 //!
-//! It promises to the layer above, by the contract of [`device::Device`]: one volume, the whole disk; requests of up
-//! to 65,536 sectors, each sent below as parts of at most the longest transfer there, all at once and in rising
-//! order. A part that comes back busy goes to the back of the queue below again, sixteen times a request, unless the
-//! request is cancelled or the device removed. A failure stops no other part. Once all have ended, the packet is
-//! completed: with success where all parts succeeded, else with the status of the lowest one that did not; the bytes
-//! of a read are those of its parts in order. The only part of a request takes the packet's own buffer along, and
-//! brings it back; each of several parts has a buffer of its own. No call but `reserve` takes memory: it makes the
-//! packets and the buffers of all parts too.
+//! # Promises
 //!
-//! It doesn't promise that a part ever comes back, nor that requests end in the order in which they came.
+//! `Disk<D>` is a `Device` over any that takes SRBs, shows one whole disk and answers a first busy return: it takes
+//! requests of up to 65,536 sectors (`opening_over`). With a tag free no part waits that may go (`IsSending`). A busy
+//! part goes again, sixteen times a request, unless it is cancelled or removed (`IsSendable`: `begins`, `spare`); a
+//! failure ends no other. A request goes up with SUCCESS where all its parts succeeded, else with the lowest failure's
+//! status, a read's bytes in order (`hands_up`: `answers`, `brings`). A cancel ends what waits of it (`cancels`), a
+//! removal all that waits (`drains`). `unsafe`: `Send` for `Noted`.
 #![tactic(auto)]
+
+ghost use Rattle.std.specs.Prelude.{◌≡◌};
 
 mod blocks;
 mod buffers;
@@ -59,6 +59,19 @@ impl<D: Shown> Drop for Extension<D> {
     }
 }
 
+impl<D: Shown> Extension<D> {
+    fn into_device(self) -> D
+        ensures { D.view result ≡ D.view self.device }
+    {
+        let Extension {
+            alloc: _,
+            device,
+            table: _,
+        } = self;
+        device
+    }
+}
+
 /// The class driver over a port.
 pub struct Disk<D: Shown> {
     extension: Extension<D>,
@@ -82,4 +95,14 @@ impl<D: Shown> Model for Disk<D> {
 
     ghost invariant = { λ s. IsDriver D.takes_srb D.stack_size (D.view s.extension.device)
         (books_of s.extension.table) };
+}
+
+impl<D: Shown> Disk<D> {
+    /// Gives the layer below back, as it is. What the driver knows of its requests is gone.
+    pub fn into_device(self) -> D
+        ensures adapter { (D.view result).adapter ≡ self.adapter }
+    {
+        let Disk { extension } = self;
+        extension.into_device()
+    }
 }

@@ -1,23 +1,27 @@
 -- What a stack shows before its first event: the opening of each layer over the one below.
-use Rattle.std.proofs.Common.{◌≡◌, ◌≤◌, ℕ, List, refl, sym, ◌∙◌, ap, subst, map, length, arith}
+use Rattle.std.proofs.Common.{◌≡◌, ◌≤◌, ◌+◌, inr, ℕ, Bool, true, false, List, refl, sym, ◌∙◌, ap, subst, map, length, arith}
+use Rattle.std.specs.Prelude.{if◌then◌else◌}
 use Rattle.sector.specs.declared.Extent.{Extent}
 use Rattle.adapter.specs.View.{AdapterView, IsInOrder}
 use Rattle.machine.specs.Map.{IsMap}
 use Rattle.sector.specs.Extents.{sectors_in}
 use Rattle.machine.specs.State.{opening}
 use Rattle.device.specs.View.{DeviceView}
-use Rattle.port.specs.Opening.{opening_view as port_opening}
+use Rattle.port.specs.Opening.{IsFresh, opening_view as port_opening}
 use Rattle.class_disk.specs.Opening.{opening_over as disk_opening, IsFreshPort}
 use Rattle.hold_filter.specs.Opening.{opening_over as filter_opening, IsFreshBelow}
 use Rattle.partition.specs.Opening.{opening_view as partitions_opening, IsFreshDisk}
 use Rattle.probe.specs.declared.Probed.{Probed}
 use Rattle.probe.specs.Exchange.{IsSameDisk}
+use Rattle.probe.specs.Capacity.{is_long}
 use Rattle.probe.specs.Probing.{IsProbed, IsReadBy, asked_by_probe}
 use Rattle.io_manager.specs.declared.Limits.{Limits}
 use Rattle.io_manager.specs.Shown.{ManagerView}
 use Rattle.io_manager.specs.Opening.{AreFirsts, IsUnasked, AreFor, IsFirstView as IsFirstManager}
 use Rattle.compose.specs.declared.Settings.{Settings}
-use Rattle.compose.specs.Opening.{AreInRange, IsFirstView}
+use Rattle.compose.specs.declared.StartFault.{StartFault}
+use Rattle.compose.specs.declared.StartFault.TheVariants.{NoMemory}
+use Rattle.compose.specs.Opening.{AreInRange, IsFirstView, IsSpent}
 
 -- the partitions over the filter, the class driver and the port of an adapter
 abbrev pub layers_over : ℕ → List Extent → AdapterView → DeviceView
@@ -28,7 +32,7 @@ pub port_fresh : (v : AdapterView) (p : DeviceView) → p ≡ port_opening v →
 port_fresh v p port order =
     let some : 1 ≤ v.max_transfer = order.max_transfer.0 in
     subst IsFreshPort (sym port) (record {
-      port = record { below = refl; one_disk = refl; no_window = refl; uncounted = refl; some_transfer = omega arith };
+      port = record { longest = refl; one_piece = refl; first_busy = refl; one_disk = refl; no_window = refl; uncounted = refl; some_transfer = omega arith };
       state = refl;
       packets = refl;
       rooms = refl;
@@ -55,6 +59,10 @@ module _ (disk v : AdapterView) (settings : Settings) (in_range : AreInRange set
     module _ (t : DeviceView) (partitions : t ≡ partitions_opening probed.partitions.items f) where
       layers_are : t ≡ layers_over settings.window probed.partitions.items v
       layers_are = partitions ∙ ap (λ (b : DeviceView). partitions_opening probed.partitions.items b) filter_is
+
+      -- the adapter below all of them
+      pub adapter_is : t.adapter ≡ v
+      adapter_is = ap (λ (b : DeviceView). b.adapter) layers_are
 
       pub unasked : IsUnasked t
       unasked = subst IsUnasked (sym layers_are) (record {
@@ -109,3 +117,18 @@ module _ (disk v : AdapterView) (settings : Settings) (in_range : AreInRange set
             no_labels = h.no_labels;
             no_answers = h.no_answers;
           }
+
+-- memory was refused behind the probe
+pub lacks_memory : (disk v after : AdapterView) (settings : Settings) (fault : StartFault) → fault ≡ NoMemory → after ≡ v → AreInRange settings → IsSameDisk (asked_by_probe disk) disk v → IsReadBy disk v
+    → IsSpent disk settings fault after
+lacks_memory disk v after settings fault is same in_range same_disk read =
+    subst (λ (f : StartFault). IsSpent disk settings f after) (sym is)
+    (subst (IsSpent disk settings NoMemory) (sym same) (record { same = same_disk; why = (in_range, inr read) }))
+
+-- a probe sent three commands at most to an adapter that had accepted none
+pub fresh_after : (disk v : AdapterView) → disk.accepted ≡ 0 → IsSameDisk (asked_by_probe disk) disk v → IsFresh v
+fresh_after disk v none same = record { tags = same.idle.no_tags; labels = same.idle.no_labels; accepted = by (is_long disk) same.accepted }
+  where
+    by : (long : Bool) → v.accepted ≤ disk.accepted + ((if long then 2 else 1) + 1) → v.accepted ≤ 3
+    by true h = let few : v.accepted ≤ disk.accepted + 3 = h in omega (arith, few, none)
+    by false h = let few : v.accepted ≤ disk.accepted + 2 = h in omega (arith, few, none)

@@ -1,13 +1,18 @@
 //! The whole stack of one disk over an adapter, seen as one sector machine: calls and adapter steps go in, answers,
 //! bytes and labels come out.
 //!
-//! It promises to its user, by the contract of [`Stack::step`] (`right`, `settled`, `finished`, `whole`), that each
-//! event's labels are a run of the sector machine, that the adapter moved by just the device labels among them, and
-//! that the stack is settled after it; by that of [`Stack::run`] (`lawful`), that the labels of many events obey the
-//! laws of whole runs; and by that of [`Stack::start`] (`view`, `fault`), that a stack begins with the sectors of the
-//! partitions that the disk's table gives. [`Stack::admits`] tells beforehand what a call opens
-//! ([`steps_open_as_told`]). An event is one call of the I/O manager, so step and run are proved over any device that
-//! holds. It does not promise that a request completes, nor an order between requests that overlap.
+//! # Promises
+//!
+//! [`Stack::step`]: its labels are a run of the machine, and the adapter moved by just the device labels among them
+//! (`right`); the stack is then settled (`settled`), a removal with nothing open has ended (`finished`), and all fits
+//! together (`whole`). `step_untraced` is a step whose labels are forgotten. `run` carries out each event, or just the
+//! first `done` (`carries`, `within`), and its labels obey the laws of whole runs (`lawful`). `start` gives the opening
+//! state (`view`), or fails by settings with nothing sent, as `probe` does, or for memory (`fault`). A step makes one
+//! call at most, first (`steps_call_once`). Only a read, a write or a flush wants memory (`steps_take_no_memory`). Each
+//! answer waits, or the reply says it (`steps_leave_answers`). What opens is what `admits` told (`steps_open_as_told`).
+//! `first_answer` shows the next answer (`IsNextAnswer`), and `refuse` is the step of a refused call without its buffer
+//! (`Refuses`). Over a journal: `armed_may_be_booked`, `booked_acts_add_entries`, `steps_keep_entries`,
+//! `idle_acts_keep_entries`, `steps_stay_apart`. Not promised: an order between requests that overlap.
 #![tactic(auto)]
 
 mod events;
@@ -15,6 +20,7 @@ mod laws;
 mod stack;
 mod start;
 
+use adapter::Adapter;
 use device::Label;
 pub use io_manager::{Answer, Asked, Handle, Id, OpenHandle, Refusal, Reply};
 pub use laws::{
@@ -73,6 +79,13 @@ pub enum Event {
         handle: Handle,
     },
     /// All requests that are open on a handle are cancelled, or the one that is given (CancelIoEx; WDK: IoCancelIrp).
+    ///
+    /// # Example
+    ///
+    /// ```
+    /// let target = request.map(|number| Id { slot: 0, number });
+    /// other(rt, desk, Event::CancelIoEx { handle, target })
+    /// ```
     CancelIoEx {
         handle: Handle,
         target: Option<Id>,
@@ -119,7 +132,7 @@ pub struct RunStopped {
     pub done: usize,
 }
 
-/// Why a stack could not be started; the adapter is spent.
+/// Why a stack could not be started.
 #[derive(Debug, Clone, Copy, PartialEq, Eq, Error)]
 pub enum StartFault {
     /// A setting is out of range; nothing was sent.
@@ -134,4 +147,11 @@ pub enum StartFault {
     /// Memory was refused.
     #[error("no memory")]
     NoMemory,
+}
+
+/// Why a stack could not be started over an adapter, and the adapter.
+#[derive(Drop)]
+pub struct NotStarted<A: Adapter> {
+    pub fault: StartFault,
+    pub adapter: A,
 }

@@ -15,9 +15,9 @@ ghost use Rattle.compose.specs.Right.{IsRight, StepsUntraced, opened_by};
 ghost use Rattle.compose.specs.Opening.{IsFirstView, IsSpent};
 ghost use Rattle.compose.specs.Runs.{CarriesAll, IsLawful, StopsAfter};
 
-use crate::start::{Manager, manager_over};
+use crate::start::{Manager, adapter_below, manager_over};
 use crate::{
-    Answer, Asked, Event, Handle, Refusal, Reply, RunStopped, Settings, Shown, StartFault, events,
+    Answer, Asked, Event, Handle, NotStarted, Refusal, Reply, RunStopped, Settings, Shown, events,
 };
 use adapter::Adapter;
 use device::Label;
@@ -57,24 +57,59 @@ impl<A: Adapter> Stack<A> {
     ///
     /// # Errors
     ///
-    /// [`StartFault::Settings`] just where a setting is out of range, before anything is sent; [`StartFault::Device`]
-    /// where the adapter failed a command; [`StartFault::Mbr`] where the partition table is wrong;
-    /// [`StartFault::NoMemory`]. The adapter is spent.
-    pub fn start(alloc: Global, adapter: A, settings: Settings) -> Result<Stack<A>, StartFault>
+    /// [`crate::StartFault`] says why: `Settings` just where a setting is out of range, before anything is sent; `Device`
+    /// where the adapter failed a command; `Mbr` where the partition table is wrong; `NoMemory`. The adapter comes back
+    /// as those of these commands left it that were sent.
+    ///
+    /// # Example
+    ///
+    /// ```
+    /// let settings = Settings {
+    ///     window: 2,
+    ///     open_requests: 4,
+    /// };
+    /// match Stack::start(alloc, adapter, settings) {
+    ///     Ok(stack) => Ok(stack),
+    ///     Err(why) => match why.fault {
+    ///         StartFault::NoMemory => Err(AllocError),
+    ///         fault => panic!(rt; "{fault:?}"),
+    ///     },
+    /// }
+    /// ```
+    pub fn start(alloc: Global, adapter: A, settings: Settings) -> Result<Stack<A>, NotStarted<A>>
         requires idle { IsIdle (A.view adapter) }
         requires unasked { (A.view adapter).accepted ≡ 0 }
         ensures view { IfOk result (IsFirstView (A.view adapter) settings) }
-        ensures fault { IfErr result (λ fault. (spent : A) × IsSpent (A.view adapter) settings fault (A.view spent)) }
+        ensures fault { IfErr result (λ why. IsSpent (A.view adapter) settings why.fault (A.view why.adapter)) }
     {
         match manager_over(alloc, adapter, settings) {
             Ok(manager) => Ok(Stack { manager }),
-            Err(fault) => Err(fault),
+            Err(why) => Err(why),
         }
+    }
+
+    /// Gives the adapter back, as it is, with what is on its tags. The handles, the open requests and the answers that
+    /// nobody took are gone.
+    pub fn into_adapter(self) -> A
+        ensures { A.view result ≡ self.adapter }
+    {
+        let Stack { manager } = self;
+        adapter_below(manager.into_device())
     }
 
     /// Carries out one event; its labels and answers then wait to be taken. All labels of the step before have to be
     /// taken. Only a read, a write or a flush takes memory, before anything is changed but what the adapter has
     /// reserved for a write.
+    ///
+    /// # Example
+    ///
+    /// ```
+    /// let reply = carrier.step(alloc, event);
+    /// let mut labels = Vec::new(alloc);
+    /// while let Some(label) = carrier.take_label() {
+    ///     labels.push(label)?;
+    /// }
+    /// ```
     pub fn step(&mut self, alloc: Global, event: Event) -> Reply
         requires taken { self.old.labels ≡ [] }
         ensures right { IsRight self.old event result self.new }
@@ -195,6 +230,15 @@ impl<A: Adapter> Stack<A> {
 
     /// Takes the waiting answer with the lowest number. Answers wait from step to step, one for each `Answer` label of
     /// a request that was open.
+    ///
+    /// # Example
+    ///
+    /// ```
+    /// match carrier.take_answer() {
+    ///     Some(answer) => tell_answer(&mut text, answer)?,
+    ///     None => break,
+    /// }
+    /// ```
     pub fn take_answer(&mut self) -> Option<Answer>
         ensures { TakesAnswer self.old result self.new }
     {

@@ -6,8 +6,9 @@ ghost use Rattle.probe.specs.Exchange.{IsIdle, IsSameDisk};
 ghost use Rattle.probe.specs.Probing.{IsProbed, IsReadBy, asked_by_probe};
 ghost use Rattle.io_manager.specs.Opening.{AreFirsts};
 ghost use Rattle.compose.specs.Opening.{AreInRange, IsFirstView, IsSpent, IsStartFault};
+ghost use Rattle.compose.specs.declared.StartFault.TheVariants.{NoMemory};
 
-use crate::{Settings, StartFault};
+use crate::{NotStarted, Settings, StartFault};
 use adapter::Adapter;
 use class_disk::Disk;
 use hold_filter::Filter;
@@ -16,16 +17,15 @@ use partition::Partitions;
 use port::Port;
 use probe::{ProbeFault, Probed, probe};
 use sector::Extent;
-use std::alloc::{AllocError, Global};
+use std::alloc::Global;
 
-impl From<AllocError> for StartFault {
+impl<A: Adapter> From<NotStarted<A>> for StartFault {
     ghost use Rattle.std.specs.Prelude.{◌≡◌};
-    ghost use Rattle.compose.specs.declared.StartFault.TheVariants.{NoMemory};
 
-    ghost from_gives = { λ _ fault. fault ≡ NoMemory };
+    ghost from_gives = { λ why fault. fault ≡ why.fault };
 
-    fn from(_refused: AllocError) -> StartFault {
-        StartFault::NoMemory
+    fn from(why: NotStarted<A>) -> StartFault {
+        why.fault
     }
 }
 
@@ -91,8 +91,21 @@ fn first_sectors_of(partitions: &[Extent]) -> [u64; 4]
     firsts
 }
 
-/// The manager of the partitions over a hold filter, the class driver and a port.
-pub(crate) type Manager<A> = IoManager<Partitions<Filter<Disk<Port<A>>>>>;
+/// The partitions over a hold filter, the class driver and a port.
+type Layers<A> = Partitions<Filter<Disk<Port<A>>>>;
+
+/// The manager of these.
+pub(crate) type Manager<A> = IoManager<Layers<A>>;
+
+/// Gives the adapter below all layers back, as it is.
+pub(crate) fn adapter_below<A: Adapter>(layers: Layers<A>) -> A
+    ensures { A.view result ≡ layers.adapter }
+{
+    let filter = layers.into_device();
+    let disk = filter.into_device();
+    let port = disk.into_device();
+    port.into_adapter()
+}
 
 /// The I/O manager of a stack over an adapter, as [`crate::Stack::start`] makes it.
 ///
@@ -103,19 +116,25 @@ pub(crate) fn manager_over<A: Adapter>(
     alloc: Global,
     mut adapter: A,
     settings: Settings,
-) -> Result<Manager<A>, StartFault>
+) -> Result<Manager<A>, NotStarted<A>>
     requires idle { IsIdle (A.view adapter) }
     requires unasked { (A.view adapter).accepted ≡ 0 }
     ensures view { IfOk result (IsFirstView (A.view adapter) settings) }
     ensures kept { IfOk result (λ manager. IsTrue manager.keeps) }
-    ensures fault { IfErr result (λ fault. (spent : A) × IsSpent (A.view adapter) settings fault (A.view spent)) }
+    ensures fault { IfErr result (λ why. IsSpent (A.view adapter) settings why.fault (A.view why.adapter)) }
 {
-    let probed = prepare(alloc, &mut adapter, settings)?;
+    let probed = match prepare(alloc, &mut adapter, settings) {
+        Ok(probed) => probed,
+        Err(fault) => return Err(NotStarted { fault, adapter }),
+    };
     let max_transfer = adapter.max_transfer();
     let depth = adapter.depth();
     let keeps_bytes = adapter.keeps_bytes();
     let first_sectors = first_sectors_of(probed.partitions.as_slice());
-    let port = Port::new(alloc, adapter)?;
+    let port = match Port::new(alloc, adapter) {
+        Ok(port) => port,
+        Err(adapter) => return Err(without_memory(adapter)),
+    };
     let disk = Disk::new(alloc, port, probed.sector_size as u32);
     let filter = Filter::new(alloc, disk, settings.window as usize);
     let partitions = Partitions::new(alloc, filter, probed.partitions);
@@ -127,6 +146,19 @@ pub(crate) fn manager_over<A: Adapter>(
         keeps_bytes,
         first_sectors,
     };
-    let manager = IoManager::new(alloc, partitions, limits)?;
-    Ok(manager)
+    match IoManager::new(alloc, partitions, limits) {
+        Ok(manager) => Ok(manager),
+        Err(layers) => Err(without_memory(adapter_below(layers))),
+    }
+}
+
+/// Memory was refused behind the probe.
+fn without_memory<A: Adapter>(adapter: A) -> NotStarted<A>
+    ensures fault { result.fault ≡ NoMemory }
+    ensures same { A.view result.adapter ≡ A.view adapter }
+{
+    NotStarted {
+        fault: StartFault::NoMemory,
+        adapter,
+    }
 }

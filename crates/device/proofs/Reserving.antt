@@ -1,13 +1,14 @@
 -- What the adapter reserves, by one call after the other.
 use Rattle.std.proofs.Common.{◌≡◌, ◌⊎◌, inl, inr, ℕ, ◌+◌, List, [], ◌∷◌, Option, Some, None, refl, sym, ap, subst, ◌∙◌, arith}
-use Rattle.std.specs.Prelude.{slice_get}
+use Rattle.std.specs.Prelude.{slice_get, All}
+use Rattle.std.proofs.lemmas.List.Elements.{All-weaker}
 use Rattle.sector.specs.declared.Extent.{Extent}
 use Rattle.sector.specs.Extents.{CoversMoreNear, IsIn, IsInSome, IsNear}
 use Rattle.adapter.specs.View.{AdapterView}
 use Rattle.machine.specs.declared.Request.{Request}
 use Rattle.machine.specs.Rules.{Rules, home}
-use Rattle.device.specs.View.{DeviceView, sectors_asked}
-use Rattle.device.specs.Served.{Reserves, ReservesNear}
+use Rattle.device.specs.View.{DeviceView, Packet, Reserved, IsOffRooms, room_at, sectors_asked}
+use Rattle.device.specs.Served.{HasOtherSpot, Reserves, ReservesNear}
 
 near_then : (run : ℕ) (extent : Extent) (old mid new : List Extent) → CoversMoreNear run extent old mid → CoversMoreNear run extent mid new
     → CoversMoreNear run extent old new
@@ -77,3 +78,15 @@ home_of_whole rules volume i count one top =
     home_at rules volume i
     ∙ ap (λ (es : List Extent). at_home (slice_get es volume) i) one
     ∙ ap (λ (v : ℕ). at_home (slice_get (disk ∷ []) v) i) top ∙ (let e : disk.first + i ≡ i = omega arith in e)
+
+-- WHOSE SPOT IT IS
+
+none_some : {X : Type 0} (x : X) → None ≡ Some x → ⊥
+none_some x e = absurd (cc (e))
+
+-- a spot that is reserved is that of no packet whose spot is vacant
+pub packets_apart : (rooms : List (Option Reserved)) (spot : ℕ) (reserved : Reserved) (packets : List Packet) → room_at rooms spot ≡ Some reserved
+    → All (IsOffRooms rooms) packets → All (HasOtherSpot spot) packets
+packets_apart rooms spot reserved packets is off =
+    All-weaker (IsOffRooms rooms) (HasOtherSpot spot)
+    (λ packet vacant same. none_some reserved (sym vacant ∙ ap (room_at rooms) same ∙ is)) packets off

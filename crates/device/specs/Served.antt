@@ -63,9 +63,14 @@ pub record Reserves (old new : DeviceView) : Type 0 where
   pub same : new ≡ record old { rooms = new.rooms; adapter = record old.adapter { reserved = new.adapter.reserved } }
   pub adapter : ReservesMore old.adapter new.adapter
 
--- a spot that was vacant is reserved for the request
+-- the packet has another spot
+abbrev pub HasOtherSpot : ℕ → Packet → Type 0
+HasOtherSpot spot packet = packet.spot ≢ spot
+
+-- a spot that was vacant, and that no packet has, is reserved for the request
 pub record ReservesSpot (old : DeviceView) (spot : ℕ) (request : Request) (new : DeviceView) : Type 0 where
   pub reserves : Reserves old new
+  pub apart : All (HasOtherSpot spot) old.packets
   pub room : SetsRoom old.rooms spot None (Some (whole_for request)) new.rooms
 
 -- no spot is reserved
@@ -287,13 +292,13 @@ pub record AwaitsRestart (rules : Rules) (s : State) (o : OpenRequest) : Type 0 
   pub not_removing : IsFalse s.removing
   pub back : Any IsBack o.marks
 
--- some place of the request has not ended, or still awaits a restart
-abbrev pub IsUnfinished : Rules → State → OpenRequest → Type 0
-IsUnfinished rules s o = All (HasEnded rules s o) o.marks → AwaitsRestart rules s o
+-- where each place of the request has ended, it still awaits a restart
+abbrev pub AwaitsRestartIfEnded : Rules → State → OpenRequest → Type 0
+AwaitsRestartIfEnded rules s o = All (HasEnded rules s o) o.marks → AwaitsRestart rules s o
 
 -- nothing that has ended waits, and the layer is settled
 pub record HandsUpNone (old new : DeviceView) : Type 0 where
-  pub unfinished : All (IsUnfinished old.rules old.state) old.state.requests
+  pub unfinished : All (AwaitsRestartIfEnded old.rules old.state) old.state.requests
   pub settled : Settled old.rules old.state
   pub same : new ≡ old
 

@@ -1,11 +1,12 @@
 //! A medium: the sectors of a disk, read and written by extents.
 //!
-//! It promises to the crate above, by the contract of [`Medium`]: it is seen as a list of sectors, each of
-//! `sector_size` bytes; a read gives the bytes that stand in its extent, a write replaces the sectors of its extent
-//! alone, and one whose extent holds a bad sector fails, changes nothing and is counted. No other read or write fails.
-//! [`VecDisk`] keeps all sectors in one block of memory, [`SparseDisk`] only the chunks that were reserved.
+//! # Promises
 //!
-//! It doesn't promise that anything outlives the process.
+//! `VecDisk` and `SparseDisk` keep [`Medium`]: a call fails exactly where its extent has a bad sector, and then only
+//! counts (`refused`, `fails`, `buffer`); else it reads or replaces its extent (`reads`, `writes`). `VecDisk::reserve`
+//! never fails (`takes_none`). `SparseDisk::reserve` changes nothing that is read (`reserves`), takes just the chunks
+//! of its extent (`near`, `run`), and doesn't fail where they are there (`ready`). `SparseDisk::new` is blank, with no
+//! chunk (`blank`, `unreserved`); `starting_with` adds the first sectors' chunks alone (`starts`, `only`).
 #![tactic(auto)]
 
 mod bad_list;

@@ -1,7 +1,8 @@
 //! What a history shows of each sector, as of a register, that a judge of registers may judge.
 //!
-//! Where what some sector shows has no schedule, no run of the sector machine explains the history
-//! (`RefusedAreUnexplained`).
+//! # Promises
+//!
+//! If what some sector shows (`sights_of`) has no schedule, no run explains the history (`refused_are_unexplained`).
 #![tactic(auto)]
 
 ghost use Rattle.history.specs.Refusing.{RefusedAreUnexplained, SightsAreScheduled};

@@ -1,12 +1,16 @@
 //! Histories: what the clients of a service saw of it, calls and answers with their bytes, and no label of its device.
 //!
 //! A history is explained where some run of the sector machine has just these calls and answers (`IsExplained`). Each
-//! sector of an explained history has a schedule: the history with the moments at which its requests take effect on that
-//! sector, as on a register (Herlihy and Wing: a linearization). So a history of which some sector has no schedule is
-//! explained by no run, however the service cuts and orders its requests.
+//! sector of an explained history has a schedule: the history with the moments at which its requests take effect on
+//! that sector, as on a register (Herlihy and Wing: a linearization). So a history of which some sector has no schedule
+//! is explained by no run, however the service cuts and orders its requests.
 //!
-//! Each law is the contract of a function with an empty body. Nothing is said of loss of power, and it is not said that
-//! schedules of all sectors make a run.
+//! # Promises
+//!
+//! Each sector of an explained history has a schedule as a register (`explained_are_scheduled`), so a history of which
+//! some sector has none is explained by no run. Calls count from 1 (`explained_are_numbered`). A schedule stays one
+//! where a call is seen earlier or an answer later (`schedules_widen`). That schedules of all sectors make a run is not
+//! said.
 #![tactic(auto)]
 
 ghost use Rattle.history_laws.specs.Laws.{ExplainedAreNumbered, ExplainedAreScheduled};

@@ -1,9 +1,10 @@
 -- What each call is asked and gives, over what was shown.
 use Rattle.std.proofs.Common.{◌≡◌, ◌<◌, ◌≤◌, inl, inr, ℕ, ◌+◌, false, Option, Some, None}
 use Rattle.std.proofs.Common.{refl}
-use Rattle.std.proofs.Common.{sym, subst, ap, ◌∙◌, length, List, []}
-use Rattle.std.specs.Prelude.{IsFalse}
+use Rattle.std.proofs.Common.{sym, subst, ap, ◌∙◌, length, List, [], map}
+use Rattle.std.specs.Prelude.{All, IsFalse}
 use Rattle.std.proofs.lemmas.Bool.{cases_eq}
+use Rattle.std.proofs.lemmas.List.Elements.{All-append, All-map}
 use Rattle.std.proofs.lemmas.List.Sorted.{IsPermutation-refl}
 use Rattle.irp.specs.declared.Irp.{Irp}
 use Rattle.machine.specs.declared.Request.{Request}
@@ -12,15 +13,16 @@ use Rattle.machine.specs.Frame.{with_window}
 use Rattle.adapter.specs.View.{AdapterView, ReservesMore}
 use Rattle.device.specs.View.{DeviceView, Reserved, IsBounded, IsOrderly, IsReady, IsReserved, AsksInLocation}
 use Rattle.device.specs.View.{Carries, request_at, room_at, whole_for}
-use Rattle.device.specs.Served.{SameRooms, SetsRoom, Reserves, ReservesSpot, ReservesNone, ReservesNear, Frees}
+use Rattle.device.specs.Served.{HasOtherSpot, SameRooms, SetsRoom, Reserves, ReservesSpot, ReservesNone, ReservesNear, Frees}
 use Rattle.hold_filter.specs.inside.TableView.{Limits, TableView, here}
 use Rattle.hold_filter.specs.inside.TableCalls.{IsCovered, Covers}
-use Rattle.hold_filter.specs.inside.View.{without, view_of}
-use Rattle.hold_filter.specs.inside.Invariant.{RoomsKept, IsInHand, IsAdmitted, stack_over}
+use Rattle.hold_filter.specs.inside.View.{packet_below, packet_here, packets_of, without, view_of}
+use Rattle.hold_filter.specs.inside.Invariant.{RoomsKept, IsInHand, IsAdmitted}
+use Rattle.hold_filter.specs.Opening.{stack_over}
 use Rattle.hold_filter.proofs.Sizing.{admitted}
 use Rattle.hold_filter.proofs.Orderly.{some_bytes}
 use Rattle.hold_filter.proofs.Moving.{in_hand}
-use Rattle.hold_filter.proofs.Rooms.{off_shown, without_off, sets_beside, same_without}
+use Rattle.hold_filter.proofs.Rooms.{IsOff, off_shown, without_off, sets_beside, same_without}
 use Rattle.hold_filter.proofs.Spots.{kept_more, kept_less, kept_wider, kept_same, off_all}
 use Rattle.hold_filter.proofs.Submitting.{MayTakeIn}
 
@@ -200,15 +202,23 @@ module _ (stack_size : ℕ) (v : DeviceView) (b : TableView) (k : IsInHand stack
           (kept_more v.rules v.rooms v.packets b.held b.ended b1.places wider v1.rooms v.packets spot
           (whole_for q) h.room wider.taken fits covered) k,
       subst (λ (x : DeviceView). ReservesSpot x spot q (view_of v1 b1)) shown
-          (record { reserves = reserves_shown v v1 b b1 b1.places covers.after h.reserves; room = room_shown }),
+          (record { reserves = reserves_shown v v1 b b1 b1.places covers.after h.reserves; apart = apart; room = room_shown }),
     )
       where
+        others : All (IsOff spot) (here b)
+        others = off_all v.rooms spot (here b) k.kept.rooms.reserved h.room.was
+
+        apart : All (HasOtherSpot spot) (packets_of v b)
+        apart =
+            All-append (HasOtherSpot spot) (map packet_below v.packets) (map packet_here (here b))
+            (All-map (HasOtherSpot spot) packet_below v.packets h.apart)
+            (All-map (HasOtherSpot spot) packet_here (here b) others)
+
         room_shown : SetsRoom (without v.rooms (here b)) spot None (Some (whole_for q)) (without v1.rooms (here b1))
         room_shown =
             subst (λ (y : TableView). SetsRoom (without v.rooms (here b)) spot None (Some (whole_for q))
             (without v1.rooms (here y))) (sym covers.after)
-            (sets_beside v.rooms v1.rooms (here b) spot None (Some (whole_for q))
-            (off_all v.rooms spot (here b) k.kept.rooms.reserved h.room.was) h.room)
+            (sets_beside v.rooms v1.rooms (here b) spot None (Some (whole_for q)) others h.room)
 
     -- or the filter has none, and the room below was given back
     pub given_back : (v2 : DeviceView) → IsOrderly v2 → Frees v1 spot v2

@@ -10,7 +10,7 @@ use Rattle.machine.specs.Answering.{HasEnded}
 use Rattle.machine.specs.Frame.{with_window}
 use Rattle.machine.specs.Window.{IsLate, IsWaiting, HasReleased}
 use Rattle.device.specs.View.{DeviceView}
-use Rattle.device.specs.Served.{HandsUpNone, IsUnfinished, AwaitsRestart}
+use Rattle.device.specs.Served.{HandsUpNone, AwaitsRestartIfEnded, AwaitsRestart}
 use Rattle.machine.proofs.Commuting.{untouched_ends_not}
 use Rattle.machine.proofs.Window.{Settled-framed}
 use Rattle.hold_filter.specs.declared.table.Held.{Held}
@@ -74,28 +74,28 @@ module _ (stack_size : ℕ) (v : DeviceView) (b : TableView) (k : IsInHand stack
       (λ e goes. goes.not_cancelled) b.held k.kept.can_go)
 
   -- nor has ended
-  unfinished_here : All (IsUnfinished (with_window (Some b.window) v.rules) (state_of v b))
+  unfinished_here : All (AwaitsRestartIfEnded (with_window (Some b.window) v.rules) (state_of v b))
       (requests_here v.rules b)
   unfinished_here = by b.removing refl
     where
       by : (removing : Bool) → b.removing ≡ removing
-          → All (IsUnfinished (with_window (Some b.window) v.rules) (state_of v b)) (requests_here v.rules b)
+          → All (AwaitsRestartIfEnded (with_window (Some b.window) v.rules) (state_of v b)) (requests_here v.rules b)
       by true is =
-          All-same (IsUnfinished (with_window (Some b.window) v.rules) (state_of v b)) (requests_here v.rules b) []
+          All-same (AwaitsRestartIfEnded (with_window (Some b.window) v.rules) (state_of v b)) (requests_here v.rules b) []
           (none_here (none.none_held is))
-          (All-nil (IsUnfinished (with_window (Some b.window) v.rules) (state_of v b)))
+          (All-nil (AwaitsRestartIfEnded (with_window (Some b.window) v.rules) (state_of v b)))
       by false is =
-          All-map (IsUnfinished (with_window (Some b.window) v.rules) (state_of v b)) open_as (here b)
+          All-map (AwaitsRestartIfEnded (with_window (Some b.window) v.rules) (state_of v b)) open_as (here b)
           (λ i d low ended. absurd
           (untouched_not_ended (with_window (Some b.window) v.rules) (state_of v b) (open_as (get_or (here b) i d))
           _
           (timely i d low) (sym k.kept.removing ∙ is)
           (has_places v.rules (are_late b) (get_or (here b) i d) (k.kept.asked i d low)) ended))
 
-  unfinished_below : All (IsUnfinished v.rules v.state) v.state.requests
-      → All (IsUnfinished (with_window (Some b.window) v.rules) (state_of v b)) v.state.requests
+  unfinished_below : All (AwaitsRestartIfEnded v.rules v.state) v.state.requests
+      → All (AwaitsRestartIfEnded (with_window (Some b.window) v.rules) (state_of v b)) v.state.requests
   unfinished_below all =
-      All-weaker (IsUnfinished v.rules v.state) (IsUnfinished (with_window (Some b.window) v.rules) (state_of v b))
+      All-weaker (AwaitsRestartIfEnded v.rules v.state) (AwaitsRestartIfEnded (with_window (Some b.window) v.rules) (state_of v b))
       (λ o unfinished ended. let a : AwaitsRestart v.rules v.state o = unfinished ended in
       record {
         in_pieces = a.in_pieces;
@@ -109,7 +109,7 @@ module _ (stack_size : ℕ) (v : DeviceView) (b : TableView) (k : IsInHand stack
   pub none_up : (v' : DeviceView) → HandsUpNone v v' → HandsUpNone (view_of v b) (view_of v' b0)
   none_up v' h =
       let up : HandsUpNone (view_of v b) (view_of v b) = record {
-        unfinished = All-append (IsUnfinished (with_window (Some b.window) v.rules) (state_of v b)) v.state.requests
+        unfinished = All-append (AwaitsRestartIfEnded (with_window (Some b.window) v.rules) (state_of v b)) v.state.requests
             (requests_here v.rules b) (unfinished_below h.unfinished) unfinished_here;
         settled = Settled-framed v.rules b.window (frame_of v.rules b) v.state k.kept.some_window
             k.kept.below.no_window

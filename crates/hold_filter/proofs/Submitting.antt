@@ -38,7 +38,8 @@ use Rattle.hold_filter.specs.inside.View.{requests_here, frame_of, state_of, vie
 use Rattle.hold_filter.specs.inside.Releases.{MaySend, Sends, Releases, NoneMayGo, Spares}
 use Rattle.hold_filter.specs.inside.Invariant.{IsBefore, AreInTurn, IsFrom, IsAsked, IsAtOwn}
 use Rattle.hold_filter.specs.inside.Invariant.{CanGo}
-use Rattle.hold_filter.specs.inside.Invariant.{EntryCanGo, FilterKept, IsInHand, stack_over}
+use Rattle.hold_filter.specs.inside.Invariant.{EntryCanGo, FilterKept, IsInHand}
+use Rattle.hold_filter.specs.Opening.{stack_over}
 use Rattle.hold_filter.proofs.Lists.{All-first, All-second, All-from_map}
 use Rattle.hold_filter.proofs.Here.{last_first}
 use Rattle.device.proofs.Bounded.{carries_bytes}

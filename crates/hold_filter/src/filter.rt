@@ -63,6 +63,14 @@ impl<D: Device> Filter<D> {
 }
 
 impl<D: Shown> Filter<D> {
+    /// Gives the device below back, as it is. The packets that the filter has are gone.
+    pub fn into_device(self) -> D
+        ensures adapter { (D.view result).adapter ≡ self.shown.adapter }
+    {
+        let Filter { parts } = self;
+        parts.into_device()
+    }
+
     /// How many requests the filter holds: none once the device is removed, since those that it held have ended.
     pub fn held(&self) -> usize
         ensures { result ≡ held_count self.now }

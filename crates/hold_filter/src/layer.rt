@@ -5,7 +5,7 @@ ghost use Rattle.std.proofs.Common.{ap};
 ghost use Rattle.linked.specs.Queue.{VisitsAtMost};
 ghost use Rattle.device.specs.Served.{CancelsAt};
 ghost use Rattle.hold_filter.specs.Shown.{CancelsHeld, HoldsNone};
-ghost use Rattle.hold_filter.specs.inside.Invariant.{stack_over};
+ghost use Rattle.hold_filter.specs.Opening.{stack_over};
 
 use crate::filter::Filter;
 use crate::packets::hand_up;

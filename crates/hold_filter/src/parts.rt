@@ -27,6 +27,15 @@ impl<D: Shown> Drop for Parts<D> {
     }
 }
 
+impl<D: Shown> Parts<D> {
+    pub fn into_device(self) -> D
+        ensures { D.view result ≡ D.view self.device }
+    {
+        let Parts { device, table: _ } = self;
+        device
+    }
+}
+
 impl<D: Device> Parts<D> {
     /// Sends a packet to the device below.
     pub fn send(&mut self, irp: Box<Irp>, room: Room)

@@ -103,6 +103,16 @@ impl<N: Naming> Client<N> {
     /// As the stack refuses calls. A call that reached the trace is refused with the places of its two labels. With
     /// none: `DeletePending` where the gate is closed, [`Reason::TooManyTickets`] with 64 tickets out,
     /// `InsufficientResources` where any memory for it was refused, and `DeviceBusy` once numbers are used up.
+    ///
+    /// # Example
+    ///
+    /// ```
+    /// let buffer = bytes(bench.alloc, 0, 512)?;
+    /// match client.issue(bench.rt, bench.host, Call::Read { offset, buffer }) {
+    ///     Ok(ticket) => Ok(ticket),
+    ///     Err(_) => Err(AllocError),
+    /// }
+    /// ```
     pub fn issue<M: Medium, R: Wait>(
         &mut self,
         rt: &R,
@@ -154,6 +164,15 @@ impl<N: Naming> Client<N> {
 
     /// Marks the ticket's request for cancellation, with no lock: `Gone` where it was answered. The next step that
     /// looks under the book's lock carries it out; the mark itself makes none.
+    ///
+    /// # Example
+    ///
+    /// ```
+    /// let marking = first.mark_cancel(host, &ticket);
+    /// let refused = read_past(bench, second);
+    /// holding.let_go(rt);
+    /// let answered = first.wait(rt, host, ticket);
+    /// ```
     pub fn mark_cancel<M: Medium>(&mut self, host: &Host<M, N>, ticket: &Ticket<N>) -> Marking
         ensures marked { IsMarked ticket.now.slot ticket.now.number self.old.seat result self.new.seat }
         ensures same { self.new ≡ record self.old { seat = self.new.seat } }

@@ -157,6 +157,15 @@ impl<M: Medium, N: Naming> Host<M, N> {
     /// # Errors
     ///
     /// [`HostFault::NoMemory`].
+    ///
+    /// # Example
+    ///
+    /// ```
+    /// match Host::<M, N>::new(alloc, opened, journal, words) {
+    ///     Ok((host, keeper, clients)) => Ok((host, keeper, clients)),
+    ///     Err(_) => Err(AllocError),
+    /// }
+    /// ```
     pub fn new(
         alloc: Global,
         opened: Opened,

@@ -88,8 +88,10 @@ fn start_over<A: Adapter>(
     };
     match Stack::start(alloc, adapter, settings) {
         Ok(stack) => Ok((stack, sizes)),
-        Err(StartFault::NoMemory) => Err(AllocError),
-        Err(fault) => panic!(rt; "{fault:?}"),
+        Err(why) => match why.fault {
+            StartFault::NoMemory => Err(AllocError),
+            fault => panic!(rt; "{fault:?}"),
+        },
     }
 }
 

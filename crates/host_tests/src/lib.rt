@@ -1,5 +1,9 @@
-//! Tests of a book beside its journal, and of a host over both: in one thread, and with lanes of its own. The traces that
-//! they make are worked by hand.
+//! Tests of a book beside its journal, and of a host over both: in one thread, and with lanes of its own. The traces
+//! that they make are worked by hand.
+//!
+//! # Promises
+//!
+//! Nothing.
 #![tactic(auto)]
 
 #[cfg(test)]

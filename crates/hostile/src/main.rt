@@ -10,8 +10,11 @@
 //!
 //! `hostile` takes a fixed seed, and `hostile SEED RUNS` makes this many random runs. Run n has the seed SEED + n, so a
 //! wrong one is made again by its own seed and 1. A line is printed for each sweep, and one for the first wrong run of
-//! a sweep. The exit status is 1 where a run was wrong, and 2 where there is no verdict. The program promises nothing
-//! by contract: it is a test.
+//! a sweep. The exit status is 1 where a run was wrong, and 2 where there is no verdict.
+//!
+//! # Promises
+//!
+//! Nothing: it is a test.
 #![tactic(auto)]
 
 mod changed;

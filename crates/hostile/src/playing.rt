@@ -38,8 +38,12 @@ pub fn play<A: Adapter>(
     };
     let mut stack = match Stack::start(alloc, adapter, settings) {
         Ok(stack) => stack,
-        Err(StartFault::NoMemory) => return Err(HostileFault::NoMemory),
-        Err(_) => return Ok(told),
+        Err(why) => {
+            return match why.fault {
+                StartFault::NoMemory => Err(HostileFault::NoMemory),
+                _ => Ok(told),
+            };
+        }
     };
     told.is_started = true;
     play_steps(alloc, &mut stack, steps, &mut told)?;
@@ -101,7 +105,7 @@ fn labels_of<A: Adapter>(alloc: Global, stack: &mut Stack<A>) -> Result<Vec<Labe
     ensures { OnOk result (stack.new.labels ≡ []) }
 {
     let mut labels = Vec::new(alloc);
-    while let Some(label) = stack.take_label() {
+    while let Some(label) = stack.take_shown() {
         labels.push(label)?;
     }
     Ok(labels)

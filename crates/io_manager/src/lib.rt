@@ -1,14 +1,18 @@
 //! The I/O manager of a disk's device stack: handles on its partitions, the requests that are open on them, and the
 //! plug and play calls of its removal. Calls and adapter steps go in; answers, bytes and labels come out.
 //!
-//! Each call promises, by its clause `right`, that what it tells is a run of the sector machine of the topmost device,
-//! with open requests counted; that the adapter moved by just the device labels among them, behind what the call of a
-//! write reserved; and that the call's row of the table (`specs/Right`) holds. [`IoManager::shows_whole`] says what
-//! holds between two calls: what is shown is settled, and fits together. It is proved over any device that holds
-//! (`Hold`) and takes packets with a buffer. All that a request needs is made before it is admitted: its packet (WDK:
-//! IoAllocateIrp), its room in the device below, and the buffers and places of its labels and its answer. Where no
-//! labels are kept ([`IoManager::keep_labels`]) contracts alone read them. It does not promise that a request
-//! completes, nor an order between requests that overlap.
+//! # Promises
+//!
+//! Each call is `right`: its labels, then the device's, answers by rising number and a removal's end are a run of the
+//! machine; the adapter moved by just its own; no sector outside all partitions changed; its row of `specs/Right`
+//! holds. A close, cancel, mark or query starts nothing (`no_device`), an act or reset answers nothing (`ends_none`).
+//! Between calls all is settled and fits together (`shows_whole`, `in_order`). `take_answer_of` takes just that answer
+//! (`takes`), `first_answer` shows the next (`IsNextAnswer`). `admits` tells what a call would open; `book` books alone
+//! (`BooksPiece`). `refuse` is the step of the refused call, with any buffer of that length (`Refuses`). With no label
+//! kept (`keep_labels`) each call is the same. A refused call opens nothing and gives its bytes back: for want of
+//! numbers nothing changed (`IsTurnedAway`, `IsUnmoved`), for want of memory only a write's reservations
+//! (`ReservesAlone`). A write's call alone reserves sectors, in runs with a sector of its own (`AdapterMoves`,
+//! `reserves_none`). Not promised: that a cancelled request is answered CANCELLED where another cause fits too.
 #![tactic(auto)]
 
 mod admission;

@@ -55,6 +55,22 @@ impl<D: Shown> Model for IoManager<D> {
     } };
 }
 
+impl<D: Shown> IoManager<D> {
+    /// Gives the device back, as it is, with what was sent there. The handles, and the answers that nobody took, are
+    /// gone.
+    pub fn into_device(self) -> D
+        ensures { (D.view result).adapter ≡ self.adapter }
+    {
+        let IoManager { parts } = self;
+        let Parts {
+            device,
+            limits: _,
+            tables: _,
+        } = parts;
+        device
+    }
+}
+
 impl<D: Device> IoManager<D> {
     /// Gives a handle on a partition, counted from 0 (WDK: IRP_MJ_CREATE). It takes no memory.
     ///

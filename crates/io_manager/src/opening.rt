@@ -1,6 +1,6 @@
 //! A manager before its first call: empty tables over a device of which nothing was asked yet.
 
-ghost use Rattle.std.specs.Prelude.{◌≡◌, ◌≤◌, [], IfOk, IsFalse};
+ghost use Rattle.std.specs.Prelude.{◌≡◌, ◌≤◌, [], IfErr, IfOk, IsFalse};
 ghost use Rattle.io_manager.specs.inside.Sound.{HasPlaces};
 ghost use Rattle.io_manager.specs.Opening.{IsUnasked, AreFor, AreEmpty, IsFirstView};
 
@@ -69,16 +69,19 @@ impl<D: Device> IoManager<D> {
     ///
     /// # Errors
     ///
-    /// [`AllocError`] where memory for these was refused.
-    pub fn new(alloc: Global, device: D, limits: Limits) -> Result<IoManager<D>, AllocError>
+    /// The device, as it was, where memory for these was refused.
+    pub fn new(alloc: Global, device: D, limits: Limits) -> Result<IoManager<D>, D>
         requires takes_buffers { IsFalse D.takes_srb }
         requires locations { D.stack_size ≤ 4 }
         requires unasked { IsUnasked (D.view device) }
         requires limits { AreFor (D.view device) limits }
         ensures view { IfOk result (IsFirstView limits (D.view device)) }
+        ensures refused { IfErr result (λ back. D.view back ≡ D.view device) }
     {
         device.shows_order();
-        let tables = Tables::new(alloc, &limits)?;
+        let Ok(tables) = Tables::new(alloc, &limits) else {
+            return Err(device);
+        };
         let parts = Parts {
             device,
             limits,

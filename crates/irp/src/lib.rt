@@ -1,10 +1,11 @@
-//! The request packet: its stack locations, one for each driver on its way down, and its completion, which climbs
-//! back up through them.
+//! The request packet: its stack locations, one for each driver on its way down, and its completion, which climbs back
+//! up through them.
 //!
-//! It promises to the drivers that a completed packet goes to the routine of the nearest location above that asks for
-//! this outcome, or is finished where none does (`complete` and `resume`, by `Climbs`); that each packet is finished
-//! at most once, since both take it away; and that a cancel routine is taken at most once
-//! (`Irp::take_cancel_routine`, by `once`). It does not promise that a driver completes the packets that it keeps.
+//! # Promises
+//!
+//! `complete`, `resume`: a packet climbs to the nearest location above that asks for this outcome, or is finished where
+//! none does (`climbs`), with its cancel routine (`cancel_routine`). `next_location`, `copy_to_next`, `skip`,
+//! `set_completion` are exact (`locations`, `asks`, `kept`).
 #![tactic(auto)]
 
 mod completion;

@@ -1,6 +1,9 @@
-//! What tests of journals compare: the entries of a journal, one after the other, on a disk as it was before.
+//! What tests of journals compare: [`replay`] puts the entries of a journal, one after the other, on a disk as it was
+//! before.
 //!
-//! It promises nothing: [`replay`] is run by the tests of stacks and hosts whose sectors stand in a journal.
+//! # Promises
+//!
+//! Nothing: tests call it.
 #![tactic(auto)]
 
 #[cfg(test)]

@@ -5,13 +5,13 @@
 //! then just that; every other event is the stack's alone. Memory for the acts of a request is taken before its call
 //! is.
 //!
-//! What it is for ([`Journaled::shows_run`]): all labels that were shown are a run of the machine whose acts read and
-//! write its arrays, from the sectors that the journal was opened with to those that it has now, though the stack
-//! itself has no sector but a copy of the first. So whatever holds of the runs of that machine holds of these labels.
+//! # Promises
 //!
-//! Promised besides, by the contract of [`Journaled::step`]: each event is a right step of the stack, from where its
-//! act was booked, or is refused for want of memory (`right`), and act n of all labels is that of entry n (`told`). Not
-//! promised: that a request completes, nor which completion a piece comes back with that the journal failed.
+//! Each event is a right step, or memory is refused (`right`). Act n of all labels is of entry n (`told`). A step that
+//! opens a request makes room for its pieces under its number; no other reserves anything (`room` of `step`). An
+//! answer's label gives its request's room back, and no other does (`room` of `take_label`). All labels are a run of
+//! the faithful machine over the journal's sectors (`shows_run`), which `into_parts` gives with their entries
+//! (`replays`).
 #![tactic(auto)]
 
 mod acting;

@@ -61,6 +61,15 @@ fn judged(
 /// # Errors
 ///
 /// [`NoVerdict`] where memory was refused, or a count has no room left.
+///
+/// # Example
+///
+/// ```
+/// let whole = match judge(alloc, &rules, arrays, run.told.labels.as_slice())? {
+///     Verdict::Run(_) => None,
+///     Verdict::Stops(at) => Some(at),
+/// };
+/// ```
 #[tactic(auto, using(crate::proofs::Judged::exactly))]
 pub fn judge(
     alloc: Global,

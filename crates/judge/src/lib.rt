@@ -1,29 +1,23 @@
 //! A checker of runs of the sector machine: it takes the rules of a machine, its sectors and a list of labels, whoever
 //! recorded them, and says whether the labels are a run.
 //!
-//! `judge` promises by its clauses `exact` and `verdict`: it answers a run exactly where some state follows from the
-//! opening one by the labels (`IsRun`). It then gives all states that do, each in one order of its requests and pieces
-//! (`AreReached`). Else it names the first label that no step allows (`StopsAt`). `Machine::is_settled` says whether a
-//! state is `Settled`. Most labels lead to one state at most. A start may lead to several, one for each request that
-//! may make it: the blocks of two flushes, or of two reads of one sector, are the same. The checker follows each of
-//! these states. A block has to be the plain one of its command (`IsBlockOf`). Of a block that holds more,
-//! [`StartRule::NotPlain`] tells the first such byte.
-//!
-//! `Machine::broken` names a rule that a line breaks, and none exactly where some step goes by the line (`exact`).
-//! The line breaks that rule in that state (`breaks`), which refutes each step (`breaking_refutes`).
-//! [`stepwise::Judge`] takes labels one by one (`take`), or lines (`take_line`: `taken`, `refused`). A line may name
-//! the request of its start, and leads to one state at most from each. `Machine::undone` names what a state that isn't
-//! settled leaves undone (`exact`, `left`).
-//!
-//! A label is judged once: the rule that it breaks is looked for, and where there is none the machine changes with no
-//! further look.
+//! Most labels lead to one state at most. A start may lead to several, one for each request that may make it: the
+//! blocks of two flushes, or of two reads of one sector, are the same. The checker follows each of these states. A
+//! block has to be the plain one of its command (`IsBlockOf`).
 //!
 //! Requests are cut as this stack cuts them: pieces begin at multiples of the longest transfer, and what came back busy
 //! restarts as often as the busy limit allows. A stack that cuts elsewhere is refused for it, unless the rules say that
 //! any cut will do (`any_cut`): a piece then begins at any place that waits to be sent, and restarts are not counted.
 //!
-//! It doesn't promise to be fast, and `NoVerdict` meets any contract but that of `Judge::take` where it is for too many
-//! readings (`IsRefusal`): tests show verdicts.
+//! # Promises
+//!
+//! `judge` answers a run exactly where some state follows by the labels (`exact`), with every such state, or else names
+//! the first label that no step allows (`verdict`). `Machine::is_settled` is exact, and `Machine::undone` names nothing
+//! exactly where it holds (`exact`, `left`). `Machine::broken` names no rule exactly where a step goes by the line
+//! (`exact`), else one that the line breaks (`breaks`), which refutes each step (`breaking_refutes`). `stepwise::Judge`
+//! goes label by label, or line by line: a line that names the request of its start is taken exactly where a step makes
+//! a piece of that request (`taken`, `refused`). `NoVerdict`: want of memory, at any time, or more than 1,024 readings
+//! (`IsRefusal`).
 #![tactic(auto)]
 
 mod adapter_labels;

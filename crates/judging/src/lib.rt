@@ -1,21 +1,13 @@
 //! What the program `stackjudge` can be asked to do, but for its files and its output: whether a trace that was
 //! recorded is a run of the machine that some settings describe, the trace of a script, and a picture of a trace.
 //!
-//! It promises to the program:
+//! # Promises
 //!
-//! - [`opened::read_standard`] (`read`, `fault`): what a trace is judged by is the settings of an input, whose
-//!   partitions a stack can be started with; else the settings are blamed, or their partitions.
-//! - [`checking::check`] (`printed`, `fault`, `told`): `legal` is printed exactly where the lines of a trace are a run of
-//!   the settings' machine, in the partitions that are there. It has passed exactly where that run leaves what is asked
-//!   for. Else the number of the first line is printed that no step of the machine allows, and it breaks a rule; or
-//!   that is a call in no partition. Where the trace is blamed nothing else is printed.
-//! - [`scripts::record_script`] (`text`, `fault`): what is written of a script is just the lines of the labels of its
-//!   steps, from the stack that its settings start.
-//! - [`words::command`] (`asked`, `fault`): the paths and flags are those that the parser of the command line found
-//!   under their names, and only words that ask for no command are refused.
-//!
-//! The words of the rule, and of what is open, at the adapter or undone, are only tested, and so are what [`drawing::draw`]
-//! draws and the lines of [`progress::Progress`]. It does not promise what a file holds, nor that there is memory.
+//! `read_standard`: an input's settings, whose partitions are a map (`read`), or why not (`fault`). `check` prints
+//! `legal` exactly for a run of the settings' machine, and passes exactly where some state that it leads to has what is
+//! asked for (`IsLegal`, `Meets`); else it prints the first line that is refused, and for what (`IsFirstRefused`,
+//! `printed`). Without a verdict: why (`fault`), and what was written before (`told`). `record_script`: `text`,
+//! `fault`. `command`: `asked`, `fault`. A rule's words, pictures and progress are only tested.
 #![tactic(auto)]
 
 pub mod checking;

@@ -1,13 +1,11 @@
 //! The text of a trace, one label a line, behind a start with the request that its piece is of. It tells all that a
 //! label holds, so a trace can be stored, sent and read again.
 //!
-//! [`write_line`] promises to the crate above, by its clauses `text` and `spelled`, that a line is written behind a text
-//! as its own text and nothing else. [`read_line`] promises, by `spelled`, `only`, `again` and `fault`, that a text is
-//! read as the one line whose text it is, and refused only where no line has this text or memory was refused. What is
-//! written is therefore read as the line that it was, and what is read would be written as the text that it was.
-//! [`write_short_line`] (`text`) writes a label as a script's transcript tells it, which is not read again.
+//! # Promises
 //!
-//! The crate does not promise that lines are a run of the machine.
+//! Behind a text in memory `write_line` writes just a line's text, with the request of a start where it is given (`text`,
+//! `spelled`); `write_short_line` a label in short (`text`). `read_line` gives a text's one line (`spelled`, `only`), and
+//! blames a word only where there is none (`fault`).
 #![tactic(auto)]
 
 mod numerals;

@@ -1,17 +1,16 @@
-//! Lanes: one thread for each tag of a disk, which has the adapter carry out the pieces started on it, and a worker, which
-//! finishes the pieces that the lanes hand over through a bounded queue. A lane stands for what a device does with one tag on its own; an item in the
-//! queue for a completed SRB that StorPortNotification (RequestComplete) hands to the port; the worker for the port's
-//! completion DPC.
+//! Lanes: one thread for each tag of a disk, which has the adapter carry out the pieces started on it, and a worker,
+//! which finishes the pieces that the lanes hand over through a bounded queue. A lane stands for what a device does
+//! with one tag on its own; an item in the queue for a completed SRB that StorPortNotification (RequestComplete) hands
+//! to the port; the worker for the port's completion DPC.
 //!
-//! A [`Pass`] stands for the right to put items of one tag, or, the worker's, to take items; its view is what it put or took.
-//! What is promised to the crate above:
-//! - what the worker took, then what the queue holds, is in each lane's part just what that lane put, in its order: items of
-//!   its own tag with rising counts (`QueueKept`, which holds between any two steps; `taken_is_put`, `in_order`);
-//! - [`serve_lane`] puts items of its own tag alone, with the next counts (`put`);
-//! - [`serve_completions`] ends only where it had taken all that had been put at one moment (`took`, `emptied`).
+//! A [`Pass`] stands for the right to put items of one tag, or, the worker's, to take items; its view is what it put or
+//! took.
 //!
-//! What is not promised: that a lane or the worker gets on or ends; what they have the desk do, and when, is tested.
-//! Where the worker's pass is dropped, nothing more is taken. Where a lane's is, nothing more of its tag is put.
+//! # Promises
+//!
+//! Each lane's items are taken in the order in which it put them (`QueueKept`, `taken_is_put`, `in_order`).
+//! `serve_lane` puts items of its own tag alone (`lane`, `put`). `serve_completions` ends only where it knew the queue
+//! empty (`took`, `emptied`). `new`: `capacity`, `passes`. What the desk is asked to do, and when, is only tested.
 #![tactic(auto)]
 
 ghost use Rattle.std.specs.Prelude.{◌≡◌, ◌≤◌, ◌+◌, ◌^◌, ◌⊎◌, [], IfErr, IfOk, MatchOption, MatchResult, false, true, length};

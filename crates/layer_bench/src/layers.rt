@@ -30,7 +30,9 @@ pub fn port(alloc: Global) -> Result<Port<MemAdapter<VecDisk>>, AllocError>
     ensures served { IfOk result (λ port. IsServed true (⟦<Port<MemAdapter<VecDisk>> as Shown>⟧.view port) 1) }
 {
     let adapter = adapter(alloc)?;
-    let port = Port::new(alloc, adapter)?;
+    let Ok(port) = Port::new(alloc, adapter) else {
+        return Err(AllocError);
+    };
     Ok(port)
 }
 
@@ -39,7 +41,9 @@ pub fn disk(alloc: Global) -> Result<Disk<Port<MemAdapter<VecDisk>>>, AllocError
     ensures served { IfOk result (λ disk. IsServed false (⟦<Disk<Port<MemAdapter<VecDisk>>> as Shown>⟧.view disk) 1) }
 {
     let adapter = adapter(alloc)?;
-    let port = Port::new(alloc, adapter)?;
+    let Ok(port) = Port::new(alloc, adapter) else {
+        return Err(AllocError);
+    };
     let disk = Disk::new(alloc, port, 512);
     Ok(disk)
 }

@@ -2,8 +2,9 @@
 //! over the port, each to its end before the next, and prints how many succeeded. `bench/run` runs it and takes the
 //! time.
 //!
-//! It promises, by the contract of [`client::carry`], that no more requests succeed than were asked for. It promises
-//! nothing of times. That all succeed is tested by what it prints.
+//! # Promises
+//!
+//! `client::carry`: no more requests succeed than were asked for.
 #![tactic(auto)]
 
 mod client;

@@ -1,6 +1,10 @@
 //! Tests of the libraries beside the stack and over it, by those of their public calls that no program makes, or only
 //! where something fails: the judge by other rules, labels that no run has, readers and writers that fail, a second
 //! thread, volumes, and what settings give. What the programs print and say is compared by the cases in `examples/`.
+//!
+//! # Promises
+//!
+//! Nothing.
 #![tactic(auto)]
 
 #[cfg(test)]

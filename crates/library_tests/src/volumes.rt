@@ -65,9 +65,11 @@ fn volume_on<A: Adapter>(
     };
     match Volume::start(alloc, adapter, settings, 0) {
         Ok(volume) => Ok(volume),
-        Err(OpenFault::Start(StartFault::NoMemory)) => Err(AllocError),
-        Err(OpenFault::Refused(Refusal::InsufficientResources)) => Err(AllocError),
-        Err(fault) => panic!(rt; "{fault:?}"),
+        Err(why) => match why.fault {
+            OpenFault::Start(StartFault::NoMemory) => Err(AllocError),
+            OpenFault::Refused(Refusal::InsufficientResources) => Err(AllocError),
+            fault => panic!(rt; "{fault:?}"),
+        },
     }
 }
 

@@ -1,10 +1,12 @@
-//! The sector machine: partitions of sectors, open requests with a mark on each sector, pieces at the adapter, and three
-//! flags, moved by labels.
+//! The sector machine: partitions of sectors, open requests with a mark on each sector, pieces at the adapter, and
+//! three flags, moved by labels.
 //!
-//! In `specs/` stand the definitions: requests, labels, the state, the rule of each label, runs and settled states. The
-//! contracts of the layers and of the stack cite them. It knows no packet, no queue and no lock, and has no code: it
-//! promises nothing by itself. Laws over whole runs stand in `machine_laws`, runs computed from the definitions in
-//! `worked_runs`.
+//! In `specs/` stand the definitions that the contracts of all layers cite: requests, labels, the state, the rule of
+//! each label, runs and settled states. The machine knows no packet, no queue and no lock.
+//!
+//! # Promises
+//!
+//! Definitions alone.
 #![tactic(auto)]
 
 use ntstatus::NtStatus;

@@ -1,18 +1,15 @@
 //! The laws of the sector machine over whole runs. Each is the contract of a function with an empty body, and a call of
 //! it gives the law to the caller.
 //!
-//! They hold at each state that a run reaches from an opening state whose arrays have the sectors of their
-//! partitions (`goes_on`), whoever made the run: the whole stack or one layer of it. `removed_is_last` holds whatever
-//! the arrays are, and those on numbers from other states too.
+//! They hold at each state that a run reaches from an opening state whose arrays have the sectors of their partitions
+//! (`goes_on`), whoever made the run: the whole stack or one layer of it. `removed_is_last` holds whatever the arrays
+//! are, and those on numbers from other states too.
 //!
-//! - `solo_reads`, `solo_writes`, `failed_writes`: what a request that no other write meets has read or written.
-//! - `keeps_arrays`, `keeps_sectors`, `keeps_lengths`: what a label may change of the arrays, whoever else is at work.
-//! - `answered_are_over`, `removed_is_last`, `numbers_are_used_once`: what comes no more.
-//! - `numbers_rise`, `calls_await_answers`: which numbers calls and answers have.
-//! - `labels_run_out`: how many labels may still come; `counts_labels_left`: that number, by hand.
-//! - `goes_on`, `labels_are_of_one`: how a run is taken apart, so that the laws fit its labels.
+//! # Promises
 //!
-//! Nothing is said of requests that overlap as to their order, nor that any request is ever answered.
+//! Each law is the contract of the function of its name: on solo requests (`solo_reads`, `solo_writes`,
+//! `failed_writes`), on what a label may change, on what comes no more, on numbers, on how many labels may still come
+//! (`labels_run_out`), and on how a run is taken apart.
 #![tactic(auto)]
 
 ghost use Rattle.machine_laws.specs.Booked.{EntriesAreOfRuns, JournalsCloseRuns};

@@ -1,14 +1,14 @@
 //! The partition table of a master boot record: 512 bytes of sector 0, with four entries and a signature.
 //!
-//! The crate above is promised: [`parse`] answers exactly what the bytes say (`answer`, `told_by` of `specs/Faults`):
-//! the partitions of the used entries in table order just where no fault stands, and else the first fault; what it
-//! finds are disjoint extents in the disk without sector 0 (`map`). [`render`] writes one list of bytes for its entries
-//! (`bytes`, `whole`), and that says what the rules say of the entries handed in, faults too (`read_back`), also where
-//! bytes follow it (`followed`). No call takes memory.
-//!
 //! Nothing is said of the code in front of the table, nor of the bytes of an entry for cylinder, head and sector: they
 //! are written as 0 and ignored when read. A type is used or unused and no more: a table within an extended partition
 //! (05h, 0Fh) and one behind a protective entry (EEh) are not looked for.
+//!
+//! # Promises
+//!
+//! `parse` says exactly what sector 0 says (`answer`, `told_by`): disjoint extents in the disk without sector 0
+//! (`map`), or the first fault. `render` writes one list of 512 bytes (`bytes`, `whole`), which says just its entries,
+//! faults too (`read_back`), also where bytes follow (`followed`).
 #![tactic(auto)]
 
 mod reading;

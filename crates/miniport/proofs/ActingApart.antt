@@ -1,5 +1,5 @@
 -- A piece that ends as it was booked, as an adapter whose sectors stand elsewhere shows it.
-use Rattle.std.proofs.Common.{◌≡◌, ◌≢◌, ◌<◌, ◌≤◌, inl, inr, ℕ, ◌+◌, ◌*◌, ◌==◌, ◌&&◌, not, Bool, true, false, IsTrue, IsFalse, List, [], ◌∷◌, length, slice_set, slice_range, All, Option, Some, None, Ok, MatchBool, IsPermutation, refl, sym, ap, subst, ◌∙◌, arith, length-set, set-set, if◌then◌else◌}
+use Rattle.std.proofs.Common.{◌≡◌, ◌≢◌, ◌<◌, ◌≤◌, inl, inr, ℕ, ◌+◌, ◌*◌, ◌==◌, ◌&&◌, not, Bool, true, false, IsTrue, List, [], ◌∷◌, length, slice_set, All, Some, None, Ok, MatchBool, IsPermutation, refl, sym, ap, subst, ◌∙◌, arith, length-set, if◌then◌else◌}
 use Rattle.std.specs.List.{concat}
 use Rattle.std.specs.Simd.{first_chunks}
 use Rattle.std.proofs.lemmas.List.{nil_from_length}
@@ -14,16 +14,16 @@ use Rattle.srb.specs.declared.Completion.{Completion}
 use Rattle.srb.specs.declared.Entry.{Entry}
 use Rattle.srb.specs.declared.Class.TheVariants.{Bad}
 use Rattle.srb.specs.Fate.{class_of}
-use Rattle.adapter.specs.Performing.{Performs, Tells, CarriesOut}
-use Rattle.adapter.specs.View.{TagInUse, AdapterView, IsInOrder, IsOn, IsAsBooked, ActsOn, FaultsOn, acted}
+use Rattle.adapter.specs.Performing.{Performs, CarriesOut}
+use Rattle.adapter.specs.View.{TagInUse, AdapterView, IsInOrder, IsAsBooked, ActsOn, FaultsOn}
 use Rattle.adapter.specs.Calls.{IsBooked, ActsOrFaults, ActsNot}
-use Rattle.adapter.specs.Booking.{MayBeOf, IsOfSrb}
+use Rattle.adapter.specs.Booking.{MayBeOf}
 use Rattle.adapter.proofs.Booked.{on_tag_once, is_there}
 use Rattle.disk.specs.inside.Chunks.{All-first_chunks}
 use Rattle.disk.specs.Medium.{MediumView, HasWholeSectors}
 use Rattle.disk.proofs.Cutting.{length-first_chunks, concat-first_chunks}
 use Rattle.miniport.specs.declared.on_tag.OnTag.{OnTag}
-use Rattle.miniport.specs.declared.on_tag.Progress.TheVariants.{Untouched, Failed as Refused}
+use Rattle.miniport.specs.declared.on_tag.Progress.TheVariants.{Untouched}
 use Rattle.miniport.specs.declared.on_tag.Booking.{Booking}
 use Rattle.miniport.specs.declared.on_tag.Booking.TheVariants.{Nothing, Bytes, Failure}
 use Rattle.miniport.specs.declared.carrying.Outcome.{Outcome}
@@ -43,7 +43,6 @@ use Rattle.miniport.proofs.Keeping.{in_order, moved_piece, failed_piece, move_ke
 use Rattle.miniport.proofs.Sectors.{length-extent, All-extent, moved_transfer}
 use Rattle.miniport.proofs.Showing.{shows_acted, untouched_is_fresh, faults}
 use Rattle.miniport.proofs.TagsInUse.{taken_first, filled, tags_differ}
-use Rattle.adapter.proofs.Performing.{Performs-length}
 
 -- WHAT THE BOOKED BYTES ARE
 

@@ -1,12 +1,9 @@
 -- What may act, and what is booked of it.
-use Rattle.std.proofs.Common.{◌≡◌, ◌≢◌, ◌<◌, ◌≤◌, ℕ, zero, suc, ◌+◌, ◌==◌, Bool, true, false, List, [], ◌∷◌, length, map, slice_set, Option, Some, None, Result, Ok, Err, refl, sym, ap, subst, ◌∙◌, arith}
-use Rattle.srb.specs.declared.Srb.{Srb}
+use Rattle.std.proofs.Common.{◌≡◌, ℕ, Bool, false, slice_set, Some, None, Result, refl, ap, subst}
 use Rattle.srb.specs.declared.Entry.{Entry}
 use Rattle.srb.specs.declared.Completion.{Completion}
-use Rattle.srb.specs.Fate.{Fresh}
-use Rattle.adapter.specs.View.{TagInUse, AdapterView}
 use Rattle.adapter.specs.Calls.{HasNoneFresh}
-use Rattle.adapter.specs.Booking.{IsArmed, Books, IsBookable, with_booked, booked_on}
+use Rattle.adapter.specs.Booking.{IsArmed, Books}
 use Rattle.disk.specs.Medium.{MediumView}
 use Rattle.miniport.specs.declared.on_tag.OnTag.{OnTag}
 use Rattle.miniport.specs.declared.on_tag.Progress.{Progress}

@@ -1,5 +1,5 @@
 -- What is booked of a piece, as an adapter whose sectors stand elsewhere shows it.
-use Rattle.std.proofs.Common.{◌≡◌, ◌≢◌, ◌<◌, ◌≤◌, inl, inr, ℕ, zero, suc, ◌+◌, ◌==◌, Bool, true, false, List, [], ◌∷◌, length, map, slice_set, sum_by, Option, Some, None, Result, Ok, Err, MatchBool, refl, sym, ap, subst, ◌∙◌, arith, length-set, set-set, zero-add, if◌then◌else◌}
+use Rattle.std.proofs.Common.{◌≡◌, ◌≢◌, ◌<◌, ◌≤◌, inl, inr, ℕ, zero, suc, ◌+◌, ◌==◌, Bool, true, false, List, [], ◌∷◌, length, map, slice_set, sum_by, Option, Some, None, Result, Ok, Err, MatchBool, refl, sym, ap, subst, ◌∙◌, arith, length-set, set-set, zero-add}
 use Rattle.std.proofs.lemmas.Bool.Decides.{Decides-eqb, eqb_tells}
 use Rattle.std.proofs.lemmas.List.{nil_from_length}
 use Rattle.cdb.specs.declared.Cdb.{Cdb}
@@ -7,14 +7,14 @@ use Rattle.cdb.specs.declared.Cdb.TheVariants.{Read10, Write10, Sync10, ReadCapa
 use Rattle.srb.specs.declared.Srb.{Srb}
 use Rattle.srb.specs.declared.Entry.{Entry}
 use Rattle.srb.specs.declared.Kind.{Kind}
-use Rattle.srb.specs.declared.Kind.TheVariants.{Read, Write, Flush}
+use Rattle.srb.specs.declared.Kind.TheVariants.{Read, Write}
 use Rattle.srb.specs.declared.Booked.{Booked}
 use Rattle.srb.specs.declared.Booked.TheVariants.{Copied, Taken, Sent, Failed}
 use Rattle.srb.specs.declared.Completion.{Completion}
 use Rattle.srb.specs.declared.Class.TheVariants.{Bad}
-use Rattle.srb.specs.Fate.{Fate, Fresh, class_of}
-use Rattle.adapter.specs.View.{TagInUse, AdapterView, IsInOrder}
-use Rattle.adapter.specs.Booking.{Books, IsBookable, IsFlushOf, IsTransferOf, MayBeOf, Suits, IsOfSrb, handed, handed_of, with_booked, booked_on}
+use Rattle.srb.specs.Fate.{Fate, class_of}
+use Rattle.adapter.specs.View.{TagInUse, IsInOrder}
+use Rattle.adapter.specs.Booking.{Books, IsBookable, IsFlushOf, IsTransferOf, MayBeOf, Suits, handed, handed_of, with_booked, booked_on}
 use Rattle.adapter.proofs.Handed.{handed_on}
 use Rattle.adapter.proofs.Booked.{on_tag_once, is_there, suits_long}
 use Rattle.disk.specs.Medium.{MediumView, HasWholeSectors}
@@ -22,13 +22,12 @@ use Rattle.miniport.specs.declared.check.Sizes.{Sizes}
 use Rattle.miniport.specs.declared.on_tag.OnTag.{OnTag}
 use Rattle.miniport.specs.declared.on_tag.Progress.{Progress}
 use Rattle.miniport.specs.declared.on_tag.Progress.TheVariants.{Untouched}
-use Rattle.miniport.specs.declared.on_tag.Booking.TheVariants.{Bytes, Failure}
 use Rattle.miniport.specs.Apart.{apart}
 use Rattle.miniport.specs.inside.Apart.{SuitsPiece, CanBook, CannotBook, BooksIn}
 use Rattle.miniport.specs.Carrying.{with_data}
 use Rattle.miniport.specs.inside.Slots.{Table, Fits, MayBecome, piece_at, in_use_of, tags_of, fate_of, booked_piece, booked_with, with_slot}
 use Rattle.miniport.specs.Memory.{MemView, shown_of, view_of}
-use Rattle.miniport.specs.inside.Memory.{AdapterKept, IsPieceRight, HasBooked, failures_left, left_by}
+use Rattle.miniport.specs.inside.Memory.{AdapterKept, IsPieceRight, failures_left}
 use Rattle.miniport.proofs.TagsInUse.{taken_first, tags_differ}
 use Rattle.miniport.proofs.Pieces.{pieces_set, left_after_set}
 use Rattle.miniport.proofs.Keeping.{in_order}

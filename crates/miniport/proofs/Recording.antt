@@ -1,5 +1,5 @@
 -- What labels tell stays, while the pieces that acted stay on their tags.
-use Rattle.std.proofs.Common.{◌≡◌, ◌≢◌, ◌<◌, ◌≤◌, inl, inr, ℕ, Bool, IsTrue, IsFalse, List, [], ◌∷◌, ◌++◌, length, map, take, drop, get_or, slice_set, All, Option, Some, None, MatchOption, refl, sym, ap, ◌∙◌, subst, arith, add-one, append_assoc, set-set, true, ◌+◌}
+use Rattle.std.proofs.Common.{◌≡◌, ◌<◌, ◌≤◌, inl, inr, ℕ, Bool, List, [], ◌∷◌, ◌++◌, length, map, take, drop, get_or, slice_set, All, Option, Some, None, MatchOption, refl, sym, ap, ◌∙◌, subst, arith, add-one, append_assoc, set-set, true, ◌+◌}
 use Rattle.std.proofs.lemmas.List.{get_or-set_same, get_or-set_other, set_past, set-get_or, map-append, drop_all, take_all, take_more}
 use Rattle.std.proofs.Math.Seq.{drop-cons}
 use Rattle.std.proofs.lemmas.List.Elements.{All-nil, All-cons, All-head, All-tail, All-weaker, All-append, All-drop}

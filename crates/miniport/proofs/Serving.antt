@@ -1,5 +1,5 @@
 -- What each call of the adapter in memory leaves, from what it shows before.
-use Rattle.std.proofs.Common.{◌≡◌, ◌<◌, ◌≤◌, ◌^◌, ℕ, ◌+◌, Bool, IsTrue, true, false, List, [], ◌∷◌, length, get_or, All, Option, Some, None, MatchBool, MatchOption, IfSome, is_some, refl, sym, ap, ◌∙◌, subst, arith}
+use Rattle.std.proofs.Common.{◌≡◌, ◌<◌, ◌≤◌, ◌^◌, ℕ, ◌+◌, Bool, IsTrue, true, false, List, [], length, get_or, All, Option, Some, None, MatchBool, MatchOption, IfSome, is_some, refl, sym, ap, ◌∙◌, subst, arith}
 use Rattle.std.specs.Prelude.{Any}
 use Rattle.srb.specs.declared.Srb.{Srb}
 use Rattle.srb.specs.declared.Completion.{Completion}

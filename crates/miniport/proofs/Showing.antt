@@ -11,7 +11,7 @@ use Rattle.srb.specs.declared.Completion.{Completion}
 use Rattle.srb.specs.declared.Class.TheVariants.{Bad}
 use Rattle.srb.specs.Fate.{Fresh, Acted, class_of}
 use Rattle.adapter.specs.Performing.{Performs}
-use Rattle.adapter.specs.View.{TagInUse, AdapterView, IsFree, Accepts, ActsOn, FaultsOn, ReturnsOn, MayReturn, acted}
+use Rattle.adapter.specs.View.{TagInUse, IsFree, Accepts, ActsOn, FaultsOn, ReturnsOn, MayReturn, acted}
 use Rattle.adapter.proofs.Joining.{unspoiled}
 use Rattle.disk.specs.Medium.{MediumView}
 use Rattle.miniport.specs.declared.on_tag.OnTag.{OnTag}

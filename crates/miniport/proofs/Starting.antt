@@ -1,5 +1,5 @@
 -- An adapter in memory keeps all that it keeps from the first.
-use Rattle.std.proofs.Common.{◌≡◌, ◌≤◌, ◌^◌, ◌⊎◌, ℕ, zero, suc, ◌+◌, true, List, [], length, replicate, sum_by, Option, None, refl, sym, subst, arith}
+use Rattle.std.proofs.Common.{◌≡◌, ◌≤◌, ◌^◌, ◌⊎◌, ℕ, zero, suc, true, [], length, replicate, sum_by, Option, None, refl, sym, subst, arith}
 use Rattle.std.proofs.lemmas.List.{length-replicate}
 use Rattle.std.proofs.lemmas.List.Sums.{sum_by-cons}
 use Rattle.disk.specs.Medium.{MediumView}

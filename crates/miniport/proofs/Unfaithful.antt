@@ -1,12 +1,12 @@
 -- What an adapter in memory does, it does too as one that isn't faithful to its sectors, but for its acts.
-use Rattle.std.proofs.Common.{◌≡◌, ℕ, List, [], ◌∷◌, ◌++◌, map, Option, Some, None, MatchOption, refl, ap}
+use Rattle.std.proofs.Common.{ℕ, List, [], ◌∷◌, map, Option, Some, None, MatchOption, ap}
 use denote.Ref.{Bor}
 use Rattle.srb.specs.declared.Srb.{Srb}
 use Rattle.srb.specs.declared.Class.{Class}
 use Rattle.srb.specs.declared.Completion.{Completion}
 use Rattle.srb.specs.declared.DeviceLabel.{DeviceLabel}
 use Rattle.srb.specs.Fate.{class_of}
-use Rattle.adapter.specs.View.{TagInUse, AdapterView, IsInOrder, IsOn, Accepts, ReturnsOn, ReservesMore, NotesReset, MovesByAll}
+use Rattle.adapter.specs.View.{TagInUse, AdapterView, IsInOrder, IsOn, Accepts, ReturnsOn, ReservesMore, MovesByAll}
 use Rattle.adapter.specs.Calls.{HasNoneFresh, Finishes, FinishesNot, Resets, LeavesFirst, HasNoLabel, fault_of}
 use Rattle.adapter.specs.Booking.{IsArmed}
 use Rattle.miniport.specs.Apart.{apart}

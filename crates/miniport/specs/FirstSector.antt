@@ -1,7 +1,6 @@
 -- What a disk shows of which only the first sector is there.
 use Rattle.std.specs.Prelude.{◌≡◌, ℕ, ◌-◌, List, [], ◌∷◌, length, replicate, All}
 use Rattle.std.specs.List.{range_with_len}
-use Rattle.std.proofs.Common.{arith}
 use Rattle.std.proofs.lemmas.List.{length-replicate}
 use Rattle.std.proofs.lemmas.List.Elements.{All-cons, All-replicate}
 use Rattle.sector.specs.Extents.{IsSector}

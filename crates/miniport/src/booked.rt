@@ -1,6 +1,6 @@
 //! An adapter that has the first sector alone: what its acts do is booked, but for piece 0.
 
-ghost use Rattle.std.specs.Prelude.{◌≡◌, ◌⊎◌, ◌≤◌, ◌^◌, [], false, length, IfOk, IsTrue};
+ghost use Rattle.std.specs.Prelude.{◌≡◌, ◌⊎◌, ◌≤◌, ◌^◌, [], false, true, length, IfOk, IsTrue};
 ghost use Rattle.miniport.specs.Memory.{MemView};
 ghost use Rattle.miniport.specs.Apart.{IsNewBooked};
 

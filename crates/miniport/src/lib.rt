@@ -1,11 +1,11 @@
 //! The adapter in memory.
 //!
-//! [`MemAdapter`] keeps the contract of [`Adapter`] over any medium. It fails a command exactly by the first row that
-//! fits of one table (`fault_of`, in `by_table` of its `act`), with that row's completion, and it counts each failure.
-//! [`BookedAdapter`] has the first sector alone: all acts but piece 0's are booked. [`OnceAdapter`] is an adapter in
-//! memory of which one act fails, whatever it asks for (`once` of its `act`).
+//! # Promises
 //!
-//! It doesn't promise that a piece ever acts, nor that what was written outlives the process.
+//! `MemAdapter` keeps [`Adapter`], faithfully, over any medium. It faults exactly where its table or a reset says
+//! (`by_table`, `completion`, `due`); failures stay within twice the pieces (`twice`). [`MemAdapter::noting`] keeps no
+//! label's bytes. `OnceAdapter` fails one act more (`once`, `before`). `BookedAdapter` acts as was booked; how a booked
+//! failure comes back, and what `Taken` leaves, is only tested.
 #![tactic(auto)]
 
 mod booked;

@@ -1,25 +1,16 @@
 //! The NBD protocol of a server: the fixed newstyle handshake, and requests with simple replies, over any [`Array`].
 //!
-//! It promises to the crate above, by the contract of [`serve`] (`IsSession` of `specs/Handshake`): the client's stream
-//! began with the bytes of its flags, of some options and of some requests. What was written is the greeting and then
-//! just their replies, in order. The array moved by just these requests, one after the other: each by its command, or
-//! not at all, or as the array may fail it. No request was served but behind an option that leads to requests. A
-//! request is a whole one: its 28 bytes, and the bytes of a write behind it, also where it is refused. The stream also
-//! has the bytes that ended the session.
-//!
-//! [`parse_request`], [`command_of`], [`parse_option`], [`write_reply`] and [`write_replies`] promise what the bytes of
-//! requests and options mean, and what the bytes of replies are. [`one_spelling`] says that a request has one spelling.
-//!
-//! How an array may fail is a relation of its own (`fails` of [`Array`]). A failure is told only where a call of the
-//! array failed, by the error of that fault; or as ENOMEM where memory was refused before the call, which was then not
-//! made; of zeros, earlier pieces may stand (`Fails`, `StopsClearing` of `specs/Carrying`).
-//!
-//! Where a reader or a writer doesn't tell its bytes, only what became of the array is promised; and of a session that
-//! ends by a failed writer ([`End::Output`]), nothing of what was written. The crate doesn't promise that a flush and a
-//! write past caches reach the array as such; tests show that.
-//!
 //! No contract says when replies are passed on. [`serve`] passes each on at once. [`serve_over`] may pass several on
 //! together, but does so before it waits for more bytes of the client.
+//!
+//! # Promises
+//!
+//! `serve` is a session (`IsSession`): the handshake tells write protection (NBD_FLAG_READ_ONLY), then come just the
+//! replies to the requests read, in order; the array moved by just these, failures within their bytes. In bounds only
+//! the array or memory fails (`Fails`), and a flush never for memory (`Flushes`). `serve_over`: the same over a
+//! storage's own relation (`Backing`, `IsSessionOver`). `parse_request`, `command_of`, `parse_option`, `write_reply`,
+//! `write_replies` are exact, with one spelling a request (`one_spelling`). Only tested: that a flush and a write past
+//! caches reach the array as such.
 #![tactic(auto)]
 
 mod arrays;

@@ -1,24 +1,15 @@
 //! This program serves a partition of a disk to one NBD client, on standard input and output. The disk is in memory, or
 //! in a file.
 //!
-//! A relay that starts a program for each connection makes it a server:
-//! `socat UNIX-LISTEN:disk.sock EXEC:"nbd_disk CONFIG"`.
+//! A relay that starts a program for each connection makes it a server: `socat UNIX-LISTEN:disk.sock EXEC:"nbd_disk
+//! CONFIG"`.
 //!
-//! It promises:
+//! Each client has a disk in memory of its own; a file is locked for one.
 //!
-//! - [`serving::serve_disk`] (`served`): what a session over a disk in memory has read and written is a session of the
-//!   NBD protocol, over the bytes of the partition of the settings' disk, which are zeros at its start.
-//! - [`serving::serve_file`]: over a file the stack answered each success, with just the calls to the file that the
-//!   pieces of the requests made.
-//! - [`serving::check_apart`]: a disk's file that is CONFIG or standard output is refused.
-//! - [`serving::command`]: paths and partition are those that the parser of the command line found under their names,
-//!   and only words that ask for nothing that can be served are refused.
-//! - [`Error`]'s text and [`Ending`](startup::Ending): the line and the exit status of each fault, as [`startup::say`]
-//!   and [`startup::ended`] give them.
+//! # Promises
 //!
-//! No contract tells the bytes of standard input and output themselves, or what a file does. What is promised is
-//! promised of readers and writers that tell their bytes. Each client has a disk in memory of its own; a file is locked
-//! for one.
+//! What `serving` and `startup` promise, for readers and writers that tell their bytes. Of files, standard input and
+//! output nothing is promised.
 #![tactic(auto)]
 
 mod found;

@@ -1,7 +1,8 @@
 //! A list that contracts alone read.
 //!
-//! It promises to the crates above that a [`Noted`] is seen as the list that its maker names, and that it is of no
-//! bytes. It promises nothing of where the list comes from: who makes one says that.
+//! # Promises
+//!
+//! A [`Noted`] is seen as the list that its maker names, and has no bytes. `unsafe`: `Send`.
 #![tactic(auto)]
 
 mod list;

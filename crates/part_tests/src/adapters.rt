@@ -1,6 +1,6 @@
 //! Each row of the table, runs of two tags, resets, and what is due where nothing was done.
 
-ghost use Rattle.std.specs.Prelude.{◌≡◌, ◌≤◌, ◌<◌, ◌^◌, ◌+◌, length, IfOk, OnOk};
+ghost use Rattle.std.specs.Prelude.{◌≡◌, ◌≤◌, ◌<◌, ◌^◌, ◌+◌, length, IfOk, IsTrue, OnOk};
 
 use crate::expect::{same, same_at};
 use crate::steps::Told::{Acts, Bad, Faults, Starts};
@@ -10,7 +10,7 @@ use disk::VecDisk;
 use miniport::{Adapter, MemAdapter, OnceAdapter};
 use ntstatus::Sense;
 use sector::{Bytes, Extent, LabelRoom};
-use srb::{CommandBlock, Completion, Srb, SrbFlags, SrbFunction};
+use srb::{CommandBlock, Completion, DeviceLabel, Srb, SrbFlags, SrbFunction};
 use std::alloc::Global;
 use std::process::Abort;
 use std::test::Fail;
@@ -95,7 +95,7 @@ pub(crate) fn put<A: Adapter>(
 ) -> Result<(), Fail>
     requires few { (A.view adapter.old).accepted < 2 ^ 100 }
     requires place { length (A.view adapter.old).labels < 64 }
-    requires buffers { length srb.data ≤ srb.for_label }
+    requires buffers { IsTrue (A.view adapter.old).keeps_bytes → length srb.data ≤ srb.for_label }
     ensures accepted { OnOk result ((A.view adapter.new).accepted ≡ (A.view adapter.old).accepted + 1) }
     ensures labels { OnOk result (length (A.view adapter.new).labels ≡ length (A.view adapter.old).labels + 1) }
 {
@@ -449,4 +449,57 @@ fn tags_serve_at_once_and_resets_are_met(rt: HostRuntime) -> Result<(), Fail> {
     same(&rt, &once.max_transfer(), &64);
     assert!(rt; once.is_faithful() && once.failures() == 0);
     run(&rt, alloc, once, &SECOND_ACT_FAILS)
+}
+
+/// The disk of an adapter of one tag, of whose labels contracts alone read the bytes.
+fn noting_disk(alloc: Global) -> Result<MemAdapter<VecDisk>, Fail>
+    ensures accepted { IfOk result (λ a. a.shown.accepted ≡ 0) }
+    ensures labels { IfOk result (λ a. length a.shown.labels ≡ 0) }
+{
+    let bad = vec![in alloc; 3]?;
+    let disk = VecDisk::new(alloc, 512, 4, bad)?;
+    let adapter = MemAdapter::new(alloc, disk, 64, 1, false)?;
+    Ok(adapter.noting())
+}
+
+/// The SRB of a write, with room for its label's bytes or none.
+fn write_with(alloc: Global, room: bool) -> Result<Srb, Fail>
+    ensures { IfOk result (λ s. IsTrue room → length s.data ≤ s.for_label) }
+{
+    let srb = transfer(alloc, 0x2A, 0, 0xA5)?;
+    if room {
+        return Ok(srb);
+    }
+    let for_label = LabelRoom::none(alloc);
+    Ok(Srb { for_label, ..srb })
+}
+
+/// Checks the label of a write's act, and the SRB that comes back.
+fn acts_with<A: Adapter>(
+    rt: &impl Abort,
+    alloc: Global,
+    mut adapter: A,
+    want: &[u8],
+) -> Result<(), Fail>
+    requires few { (A.view adapter).accepted ≡ 0 }
+    requires labels { length (A.view adapter).labels ≡ 0 }
+{
+    let srb = write_with(alloc, adapter.keeps_bytes())?;
+    put(rt, &mut adapter, 0, 1, srb)?;
+    act(rt, &mut adapter, 0);
+    assert!(rt; is_told(adapter.take_label(), &Starts(1, 0)));
+    let label = adapter.take_label();
+    let is_wanted =
+        matches!(&label, Some(DeviceLabel::Act { bytes, .. }) if bytes.as_slice() == want);
+    assert!(rt; is_wanted);
+    let (srb, _) = finish(&mut adapter, 0)?;
+    same(rt, &srb.data.as_slice(), &[0xA5; 512].as_slice());
+    Ok(())
+}
+
+#[test]
+fn labels_keep_their_bytes_or_none(rt: HostRuntime) -> Result<(), Fail> {
+    let alloc = rt.alloc();
+    acts_with(&rt, alloc, disk_of(alloc, 1, false)?, &[0xA5; 512])?;
+    acts_with(&rt, alloc, noting_disk(alloc)?, &[])
 }

@@ -52,7 +52,9 @@ fn port(
     let Ok(adapter) = MemAdapter::new(alloc, disk, transfer, 2, false) else {
         return Err(AllocError);
     };
-    let port = Port::new(alloc, adapter)?;
+    let Ok(port) = Port::new(alloc, adapter) else {
+        return Err(AllocError);
+    };
     Ok(port)
 }
 

@@ -1,9 +1,13 @@
 //! Tests of the parts below the layers and beside them, by their public calls: statuses, sectors, command blocks, SRBs,
-//! IRPs, disks, adapters, a disk in a file, queues, partition tables, the probe, removal, the gate, marks, histories and
-//! lanes. Tests of the layers `port`, `class_disk`, `hold_filter` and `partition`, each over an adapter in memory and by
-//! the contract of a layer.
+//! IRPs, disks, adapters, a disk in a file, queues, partition tables, the probe, removal, the gate, marks, histories
+//! and lanes. Tests of the layers `port`, `class_disk`, `hold_filter` and `partition`, each over an adapter in memory
+//! and by the contract of a layer.
 //!
 //! A test ends well, or for want of memory: `.ci/refused_memory.py` refuses each request for memory in turn.
+//!
+//! # Promises
+//!
+//! Nothing.
 #![tactic(auto)]
 
 #[cfg(test)]

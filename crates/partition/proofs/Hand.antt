@@ -3,6 +3,7 @@ use Rattle.std.proofs.Common.{◌≡◌, ◌≢◌, ◌⊎◌, inl, inr, ℕ, Bo
 use Rattle.std.specs.Prelude.{All, IsPermutation, MatchBool}
 use Rattle.std.proofs.lemmas.Bool.{cases_eq}
 use Rattle.std.proofs.lemmas.List.Sorted.{IsPermutation-refl, IsPermutation-sym, All-permutation}
+use Rattle.std.proofs.lemmas.List.Elements.{All-map}
 use Rattle.sector.specs.declared.Extent.{Extent}
 use Rattle.sector.specs.Extents.{CoversMoreNear}
 use Rattle.srb.specs.declared.Completion.{Completion}
@@ -14,13 +15,13 @@ use Rattle.machine.specs.Rules.{Rules, home}
 use Rattle.machine.specs.Sending.{array_at}
 use Rattle.machine.specs.Holding.{Cancels}
 use Rattle.device.specs.View.{DeviceView, Packet, Reserved, IsOrderly, IsOffRooms, IsBounded, IsReady, KeepsOutside, request_of, room_at, sectors_asked, whole_for}
-use Rattle.device.specs.Served.{SameRooms, SetsRoom, IsBeside, Reserves, ReservesSpot, ReservesNone, ReservesNear, Frees, BooksPiece, ActsOrFaults, ActsNot, Finishes, FinishesNot, Resets, CancelsIfOpen, CancelsAt, NoneToCancel, DrainsAll, PausesAll, ResumesAll, HandsUpNone, TakesLabel, ForgetsLabels}
+use Rattle.device.specs.Served.{HasOtherSpot, SameRooms, SetsRoom, IsBeside, Reserves, ReservesSpot, ReservesNone, ReservesNear, Frees, BooksPiece, ActsOrFaults, ActsNot, Finishes, FinishesNot, Resets, CancelsIfOpen, CancelsAt, NoneToCancel, DrainsAll, PausesAll, ResumesAll, HandsUpNone, TakesLabel, ForgetsLabels}
 use Rattle.device.proofs.Reserving.{home_of_whole}
 use Rattle.partition.specs.OnDisk.{rules_over, on_disk}
 use Rattle.partition.specs.Opening.{IsWholeDisk}
 use Rattle.partition.specs.inside.Rooms.{for_wanted, rooms_with, wanted_at, Notes}
 use Rattle.partition.specs.inside.Invariant.{IsKept, IsNotedAt, IsOnDisk, IsWantedFor}
-use Rattle.partition.specs.Shown.{view_of, shown_of}
+use Rattle.partition.specs.Shown.{packet_above, view_of, shown_of}
 use Rattle.partition.proofs.Steps.{Keeps}
 use Rattle.partition.proofs.Settled.{IsOrderly-over, disk_is}
 use Rattle.partition.proofs.Moving.{GoesOn, ActsOver, acts_over, finishes_over, resets_over, cancels_over, cancels_at_over, drains_over, pauses_over, resumes_over, hands_up_none, goes_same}
@@ -301,6 +302,7 @@ spot_reserved locations_below table wanted wanted' v v' spot r h bounded reserve
     let before : All (IsNotedAt wanted) v'.packets = subst (λ (ps : List Packet). All (IsNotedAt wanted) ps) (sym same_packets) h.noted in (
       record {
         reserves = reserves_shown table wanted wanted' v v' reserves.reserves;
+        apart = All-map (HasOtherSpot spot) packet_above v.packets reserves.apart;
         room = rooms_noted wanted wanted' v.rooms v'.rooms spot r (whole_for (on_disk rules r)) reserves.room notes;
       },
       kept_with locations_below table wanted wanted' v v' h (goes_reserved table v v' h.on_disk reserves.reserves) orderly

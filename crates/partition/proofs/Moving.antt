@@ -20,7 +20,7 @@ use Rattle.machine.proofs.Permuting.{flips}
 use Rattle.machine.proofs.Placed.{ArePlaced-FreeStep, ArePlaced-Drains}
 use Rattle.machine.specs.declared.Label.TheVariants.{Cancel, Pause, Resume}
 use Rattle.device.specs.View.{DeviceView, Packet, IsOrderly, packet_number}
-use Rattle.device.specs.Served.{Moves, IsBeside, IsFreshOn, ActsOrFaults, ActsNot, Finishes, FinishesNot, Resets, CancelsIfOpen, CancelsAt, IsAt, HasOtherNumber, DrainsAll, PausesAll, ResumesAll, HandsUpNone, AwaitsRestart, IsUnfinished, NoneToCancel}
+use Rattle.device.specs.Served.{Moves, IsBeside, IsFreshOn, ActsOrFaults, ActsNot, Finishes, FinishesNot, Resets, CancelsIfOpen, CancelsAt, IsAt, HasOtherNumber, DrainsAll, PausesAll, ResumesAll, HandsUpNone, AwaitsRestart, AwaitsRestartIfEnded, NoneToCancel}
 use Rattle.machine.specs.Answering.{HasEnded}
 use Rattle.partition.specs.inside.Noted.{asked}
 use Rattle.partition.specs.OnDisk.{rules_over}
@@ -354,7 +354,7 @@ module _ (table : List Extent) (old new : DeviceView) (k : IsOnDisk table old) (
   hands_up_none h = (
     record {
       unfinished =
-          each old.rules table old.packets (IsUnfinished old.rules old.state) (IsUnfinished shown.rules shown.state) still_unfinished
+          each old.rules table old.packets (AwaitsRestartIfEnded old.rules old.state) (AwaitsRestartIfEnded shown.rules shown.state) still_unfinished
           old.state.requests h.unfinished;
       settled = Settled-over old.rules table old.packets old.state h.settled;
       same = shown_same h.same;
@@ -362,8 +362,8 @@ module _ (table : List Extent) (old new : DeviceView) (k : IsOnDisk table old) (
     goes_same h.same,
   )
     where
-      still_unfinished : (o : OpenRequest) → IsUnfinished old.rules old.state o
-          → IsUnfinished shown.rules shown.state (as_called shown.rules old.packets o)
+      still_unfinished : (o : OpenRequest) → AwaitsRestartIfEnded old.rules old.state o
+          → AwaitsRestartIfEnded shown.rules shown.state (as_called shown.rules old.packets o)
       still_unfinished o unfinished ended =
           let awaits : AwaitsRestart old.rules old.state o =
           unfinished (All-weaker (HasEnded shown.rules shown.state (as_called shown.rules old.packets o)) (HasEnded old.rules old.state o)

@@ -1,14 +1,11 @@
 //! The partition driver: one volume for each partition of a disk, over the layer that has the whole disk as its one
 //! volume.
 //!
-//! It promises to the layer above, by the contract of [`Device`]: the machine of the layer below, with one array a
-//! partition (`shown_of`), which [`Partitions::new`] opens (`opening`). Sector i of a partition is the disk's sector
-//! `first + i` (`on_disk`); requests keep their numbers and their spots. No act changes a sector of another partition
-//! (`acts`) or one of none (`outside`). Each call passes on to the layer below with no search. What a spot is reserved
-//! for stands in an array by spots, which `reserve` lengthens; no other call takes memory. Over a layer that holds
-//! requests the partition driver holds them too ([`device::Hold`]).
+//! # Promises
 //!
-//! It promises no more than the layer below: not that a packet comes back, nor in which order.
+//! `Partitions<D>` is a `Device` over a whole disk, and a `Hold` over one (`opening`). No act changes another
+//! partition's sectors (`acts`) or those of none (`outside`). Sector i of a partition is the disk's sector `first + i`
+//! (`on_disk`). Requests keep their numbers and spots.
 #![tactic(auto)]
 
 ghost use Rattle.std.specs.Prelude.{◌≡◌, ◌<◌};
@@ -56,6 +53,21 @@ impl<D: Shown> Model for Partitions<D> {
     ghost view = { λ s. shown_of s.parts.table.items s.parts.wanted.items (D.view s.parts.device) };
 
     ghost invariant = { λ s. IsKept D.stack_size s.parts.table.items s.parts.wanted.items (D.view s.parts.device) };
+}
+
+impl<D: Shown> Partitions<D> {
+    /// Gives the layer below back, as it is.
+    pub fn into_device(self) -> D
+        ensures adapter { (D.view result).adapter ≡ self.adapter }
+    {
+        let Partitions { parts } = self;
+        let Parts {
+            device,
+            table: _,
+            wanted: _,
+        } = parts;
+        device
+    }
 }
 
 impl<D: Device> Partitions<D> {

@@ -1,10 +1,10 @@
 //! The PnP state of a device object, and the requests of the PnP manager that move it: a query before a removal, its
 //! cancellation, an orderly removal and a surprise removal.
 //!
-//! The crate above is promised that each call answers exactly by one table, `next` of `specs/Table`; and, by
-//! `removal_is_for_good`, that a removal never ends but in `Removed`, which no request leaves. No call takes memory.
-//! Nothing is said of what a device does in a state: who keeps one tells the device, and says by [`State::drained`]
-//! that nothing is open any more.
+//! # Promises
+//!
+//! Each call goes by one table, `next` (`from_gives`). A removal ends only in `Removed`, for good, and an orderly one
+//! comes after a query (`removal_is_for_good`).
 #![tactic(auto)]
 
 ghost use Rattle.std.specs.Prelude.{◌≡◌};

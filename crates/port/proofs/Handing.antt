@@ -21,7 +21,7 @@ use Rattle.machine.specs.Answering.{HasEnded, HasCause, Cause, Answers, is_done,
 use Rattle.machine.specs.Settled.{Settled, IsHeld, WaitsIfCancelled, Waits, IsHeldBack, HasMore, IsAtWork, has_out}
 use Rattle.device.specs.View.{Carries, payload_bytes, transfer_length}
 use Rattle.port.proofs.Lists.{length-cut}
-use Rattle.device.specs.Served.{HandsUp, HandsUpNone, IsUnfinished, sectors_moved, IsBack}
+use Rattle.device.specs.Served.{HandsUp, HandsUpNone, AwaitsRestartIfEnded, sectors_moved, IsBack}
 use Rattle.machine.proofs.Same.{IsSame-refl}
 use Rattle.machine.specs.declared.Label.TheVariants.{Answer}
 use Rattle.machine.proofs.Numbers.{AreDistinct-Step}
@@ -69,19 +69,19 @@ module _ (b : TableView) (v : AdapterView) (rooms : List Request) (k : IsInHand 
       let w : IsOnTag (rules_of b.sizes) b.started (get_or v.tags i d) = k.kept.at_work i d low in
       rw w.on_tag (started_by _ Out _ (places_some b.sizes w.held.request (kept_sector_some b v rooms k.kept) w.bounded) refl refl)
 
-  unfinished : All (IsUnfinished (rules_of b.sizes) (state_of b v)) (requests_of b v)
+  unfinished : All (AwaitsRestartIfEnded (rules_of b.sizes) (state_of b v)) (requests_of b v)
   unfinished =
       let rules : Rules = rules_of b.sizes in
       let s : State = state_of b v in
       let some : 0 < b.sizes.sector_size = kept_sector_some b v rooms k.kept in
-      all_three b v (IsUnfinished rules s)
+      all_three b v (AwaitsRestartIfEnded rules s)
       (λ i d low all. let w : IsWaiting rules v (get_or b.waiting i d) = k.kept.waiting i d low in
       absurd (unended rules s (waiting_open rules (get_or b.waiting i d)) Untouched _ (places_some b.sizes (get_or b.waiting i d).request some w.room.bounded)
       (untouched_ends_not rules s (waiting_open rules (get_or b.waiting i d)) w.not_cancelled (stays_by b.removing b.waiting i low k.kept.removing)) all))
       (λ i d low all. let w : IsOnTag rules b.started (get_or v.tags i d) = k.kept.at_work i d low in
       absurd (unended rules s (open_on rules b.started (get_or v.tags i d)) Out _ (subst (λ (e : PacketEntry). 0 < places_of rules e.request) (sym (ap entry_or_nobody w.on_tag)) (places_some b.sizes w.held.request some w.bounded))
       (out_ends_not rules s (open_on rules b.started (get_or v.tags i d))) all))
-      (no_done (λ d. IsUnfinished rules s (done_open rules d)))
+      (no_done (λ d. AwaitsRestartIfEnded rules s (done_open rules d)))
 
   no_pieces : map (piece_on (rules_of b.sizes) b.started) v.tags ≡ [] → (v.tags ≡ []) × (b.waiting ≡ [])
   no_pieces e =

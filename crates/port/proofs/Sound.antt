@@ -13,13 +13,13 @@ use Rattle.machine.specs.declared.Request.{Request}
 use Rattle.srb.specs.declared.Kind.TheVariants.{Write}
 use Rattle.machine.specs.Holding.{Cancels}
 use Rattle.device.specs.View.{DeviceView, Reserved, room_at, whole_for, IsBounded, Carries}
-use Rattle.device.specs.Served.{SameRooms, ReservesSpot, ReservesNone, ReservesNear, Frees, CancelsIfOpen, CancelsAt, IsBeside, NoneToCancel}
-use Rattle.device.proofs.Reserving.{home_of_whole}
+use Rattle.device.specs.Served.{HasOtherSpot as SpotApart, SameRooms, SetsRoom, ReservesSpot, ReservesNone, ReservesNear, Frees, CancelsIfOpen, CancelsAt, IsBeside, NoneToCancel}
+use Rattle.device.proofs.Reserving.{home_of_whole, packets_apart}
 use Rattle.port.specs.declared.queues.Waiting.{Waiting}
 use Rattle.port.specs.declared.queues.Ended.{Ended}
 use Rattle.port.specs.inside.TableView.{TableView, held_at, spot_in}
 use Rattle.port.specs.inside.TableCalls.{HasOtherSpot, IsEndedTaken, AddsPlace, RemovesPlace, Queued, TakesDone, IsEmpty}
-use Rattle.port.specs.Shown.{rules_of, view_of, reserved_in, reserved_of, of_waiting, of_tag, of_done}
+use Rattle.port.specs.Shown.{rules_of, view_of, packets_of, reserved_in, reserved_of, of_waiting, of_tag, of_done}
 use Rattle.port.specs.inside.Invariant.{PortKept, IsInHand, IsSound, IsTaken}
 use Rattle.port.specs.inside.Order.{any_order_lem}
 use Rattle.port.proofs.Places.{Slots, at_slot, sets_room, same_shown, one_more, one_less, all_right, all_left, from_map, away_of}
@@ -95,16 +95,26 @@ reserves_none_shown b c v v' e h =
       room = λ k. refl;
     }))
 
-pub reserves_spot_shown : (b c d : TableView) (v v' : AdapterView) (r : Request) (spot : ℕ) → c ≡ b → AddsPlace c spot r d → ReservesMore v v' → ReservesSpot (view_of b v) spot r (view_of d v')
-reserves_spot_shown b c d v v' r spot e f h =
+pub reserves_spot_shown : (b c d : TableView) (v v' : AdapterView) (r : Request) (spot : ℕ) → c ≡ b → AddsPlace c spot r d → ReservesMore v v' → IsSound d v' → ReservesSpot (view_of b v) spot r (view_of d v')
+reserves_spot_shown b c d v v' r spot e f h k =
     subst (λ (y : TableView). ReservesSpot (view_of y v) spot r (view_of d v')) e
     (subst (λ (x : AdapterView). ReservesSpot (view_of c v) spot r (view_of d x)) (sym h.after) (record {
       reserves = record {
         same = ap (λ (x : TableView). record (view_of x (record v { reserved = h.reserved })) { rooms = map reserved_in d.rooms }) f.after;
         adapter = subst (ReservesMore v) h.after h;
       };
-      room = sets_room c.rooms spot None (Some (Some r)) d.rooms f.slot;
+      apart = apart;
+      room = set;
     }))
+  where
+    set : SetsRoom (map reserved_in c.rooms) spot None (Some (whole_for r)) (map reserved_in d.rooms)
+    set = sets_room c.rooms spot None (Some (Some r)) d.rooms f.slot
+
+    same_packets : packets_of d v' ≡ packets_of c v
+    same_packets = ap (λ (x : TableView). packets_of x v') f.after ∙ ap (λ (x : AdapterView). packets_of c x) h.after
+
+    apart : All (SpotApart spot) (packets_of c v)
+    apart = subst (All (SpotApart spot)) same_packets (packets_apart (map reserved_in d.rooms) spot (whole_for r) (packets_of d v') set.is k.orderly.vacant)
 
 pub sound_freed : (b b' : TableView) (v : AdapterView) (spot : ℕ) → RemovesPlace b spot b' → IsSound b v → IsSound b' v
 sound_freed b b' v spot e k =

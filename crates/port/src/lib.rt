@@ -1,18 +1,13 @@
 //! The port: it queues the packets of the disk, and hands their SRBs to an adapter by tags.
 //!
-//! It promises to the layer above, by the contract of [`Device`]: one volume, which is the whole disk; a packet's SRB
-//! is the one command of its one piece. Packets wait first in, first out, and none waits while a tag is free
-//! (`IsSending`); the front one starts on the lowest free tag. A busy return ends its packet as DEVICE_BUSY, a packet
-//! that is cancelled while it waits ends as CANCELLED (by SRB_STATUS_REQUEST_FLUSHED), and one that waits at a removal
-//! as NO_SUCH_DEVICE (by SRB_STATUS_NO_DEVICE). Each goes up with the cancel routine that it came with
-//! (`brings_routine`). By its spot a packet that waits is found in a few steps, also in a long queue (`visits` of
-//! [`Port::cancel_at`](Device::cancel_at)). No call but `reserve` takes memory.
+//! # Promises
 //!
-//! It doesn't promise that a packet at the adapter ever comes back, nor that packets end in the order in which they
-//! came.
+//! `Port<A>` is a `Device` over any adapter, and shows one volume, the whole disk (`opening`). Packets start in turn,
+//! on the lowest free tag, and wait only while all are in use (`IsSending`). `cancel_at` visits three entries of the
+//! queue at most (`visits`).
 #![tactic(auto)]
 
-ghost use Rattle.std.specs.Prelude.{◌≡◌, IfOk};
+ghost use Rattle.std.specs.Prelude.{◌≡◌, IfErr, IfOk};
 ghost use Rattle.port.specs.Opening.{IsFresh, opening_view};
 
 mod layer;
@@ -21,7 +16,7 @@ mod table_calls;
 
 use adapter::Adapter;
 use queues::{Queues, Sizes};
-use std::alloc::{AllocError, Global};
+use std::alloc::Global;
 use std::marker::Model;
 
 /// The adapter and the packets, which are in order between two calls of the port and not within one.
@@ -61,10 +56,11 @@ impl<A: Adapter> Port<A> {
     ///
     /// # Errors
     ///
-    /// [`AllocError`] where the memory for the tags was refused.
-    pub fn new(alloc: Global, adapter: A) -> Result<Port<A>, AllocError>
+    /// The adapter, as it was, where the memory for the tags was refused.
+    pub fn new(alloc: Global, adapter: A) -> Result<Port<A>, A>
         requires { IsFresh (A.view adapter) }
         ensures opening { IfOk result (λ port. port.shown ≡ opening_view (A.view adapter)) }
+        ensures refused { IfErr result (λ back. A.view back ≡ A.view adapter) }
     {
         let sizes = Sizes {
             sector_size: adapter.sector_size(),
@@ -74,8 +70,19 @@ impl<A: Adapter> Port<A> {
             faithful: adapter.is_faithful(),
             keeps_bytes: adapter.keeps_bytes(),
         };
-        let queues = Queues::new(alloc, sizes)?;
+        let Ok(queues) = Queues::new(alloc, sizes) else {
+            return Err(adapter);
+        };
         let parts = Parts { adapter, queues };
         Ok(Port { parts })
+    }
+
+    /// Gives the adapter back, as it is, with what is on its tags. The packets that the port has are gone.
+    pub fn into_adapter(self) -> A
+        ensures adapter { A.view result ≡ self.shown.adapter }
+    {
+        let Port { parts } = self;
+        let Parts { adapter, queues: _ } = parts;
+        adapter
     }
 }

@@ -1,14 +1,12 @@
-//! What a disk says of itself: its sizes and its partitions, asked of an adapter before anything else is.
+//! What a disk says of itself: its sizes and its partitions, asked of an adapter before anything else is, by READ
+//! CAPACITY(10), where that can't tell the number of sectors READ CAPACITY(16) as well, and READ(10) of sector 0. No
+//! table within a partition is read.
 //!
-//! [`probe`] sends READ CAPACITY(10), where that can't tell the number of sectors READ CAPACITY(16) as well, and
-//! READ(10) of sector 0, one after the other, each in the one block that is spelled so, and takes their labels. The
-//! crate above is promised, for any adapter: what is found are just the disk's sizes and just the partitions that the
-//! table in sector 0 says, which are a map of the disk (`probed`); each command was exchanged as piece 0 on tag 0, and
-//! came back good (`read`); and the disk is as it was, with nothing on its tags and no label left (`same`). A fault has
-//! its cause, after which no command was sent: one that came back bad, with its status and a failure counted; a table
-//! that was read and is wrong; or memory refused (`fault`).
+//! # Promises
 //!
-//! It doesn't promise that memory suffices. Only the table in sector 0 is read, and none within a partition.
+//! `probe` finds just the disk's sizes and partitions (`probed`), by plain commands one by one, each as piece 0 on tag
+//! 0 (`read`, `IsReading`). The disk stays as it was (`same`). A fault has its cause, after which no command was sent
+//! (`fault`).
 #![tactic(auto)]
 
 mod capacity;

@@ -1,9 +1,10 @@
 //! Input that a second thread reads on from: while a command is carried out, it fetches the bytes of a long write that
 //! comes next.
 //!
-//! Promised: [`ReadAhead`] gives just the bytes of its input, in their order (`given` of [`ReadAhead::new`], and the
-//! contracts of `Read` and [`Ahead`]). Not promised: which thread reads, and when. Of the input no more is taken than
-//! the bytes of a write whose header has come, and those behind them that the input's own buffer takes along.
+//! # Promises
+//!
+//! `ReadAhead` gives just its input's bytes, in order (`given`; `Ahead`). What failed is told as UnexpectedEof, and
+//! just the payload of the write that comes is taken ahead, at most 32 MiB (`lost`, `brings`, `few`).
 #![tactic(auto)]
 
 ghost use Rattle.std.specs.Prelude.{◌≡◌, ◌≤◌, IfErr, IfSome, length};

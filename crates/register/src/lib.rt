@@ -1,7 +1,11 @@
-//! What was seen of one register, calls and answers, and its schedules: moments between each call and its answer at which
-//! the operations take effect one after the other (Herlihy and Wing: linearizations).
+//! What was seen of one register, calls and answers, and its schedules: moments between each call and its answer at
+//! which the operations take effect one after the other (Herlihy and Wing: linearizations).
 //!
 //! An operation that failed or was never answered may have taken effect, once, before its end.
+//!
+//! # Promises
+//!
+//! Definitions alone.
 #![tactic(auto)]
 
 ghost use Rattle.register.specs.Schedules.{PrefixesAreScheduled};

@@ -1,7 +1,12 @@
 //! A judge of one register: it says of what was seen of it, calls and answers, whether some schedule explains them.
 //!
-//! `judge` passes only what some schedule explains, and refuses only what none does (`right`): `Refused` tells how many of
-//! the sights suffice for that. It keeps each state that the register may have, and gives up at too many (`Undecided`).
+//! It keeps each state that the register may have.
+//!
+//! # Promises
+//!
+//! `judge` passes only what some schedule explains, refuses only what none does, and tells how many sights suffice
+//! (`right`). It is `Undecided` with more than 16 operations open or 1,024 states left, or where numbers don't rise or
+//! what isn't open ends.
 #![tactic(auto)]
 
 mod keeping;

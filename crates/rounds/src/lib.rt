@@ -2,11 +2,11 @@
 //! completion worker. A program with clients of its own starts the lanes by [`start_lanes`], and ends them by
 //! [`remove`].
 //!
-//! It promises to the crate above, by the contract of [`run`], that no more calls have succeeded than were made
-//! (`most`), that the entries of the journal give the sectors (`replays`), that the trace is a run of the sector machine
-//! whose acts read and write them, its acts the first entries (`run`), and that a partition is missed only where the
-//! stack has none (`fault`). Each client compares at run time what it reads with what it wrote, and a [`Tally`]
-//! counts what differed. The crate promises nothing of progress.
+//! # Promises
+//!
+//! `remove`: which receipts the keeper has then (`told`). `run`: no more succeed than two a round and client (`most`);
+//! the journal's entries give the sectors (`replays`); the trace is a faithful run (`run`); a partition is missed only
+//! where there is none (`fault`).
 #![tactic(auto)]
 
 mod client;

@@ -42,10 +42,7 @@ pub(crate) fn new_volume(
 /// # Errors
 ///
 /// As [`config_of`] and [`start_status`] say.
-pub(crate) fn new_stack(
-    alloc: Global,
-    text: &[u8],
-) -> Result<MemoryStack, NtStatus>
+pub(crate) fn new_stack(alloc: Global, text: &[u8]) -> Result<MemoryStack, NtStatus>
     ensures stack { IfOk result (IsNewStack text.now) }
     ensures fault { IfErr result (λ status. status ≢ Success) }
     ensures why { IfErr result (IsStackStatus text.now) }
@@ -100,10 +97,7 @@ pub(crate) fn volume_of(
 /// # Errors
 ///
 /// As [`start_status`] says.
-pub(crate) fn stack_of(
-    alloc: Global,
-    config: Config,
-) -> Result<MemoryStack, NtStatus>
+pub(crate) fn stack_of(alloc: Global, config: Config) -> Result<MemoryStack, NtStatus>
     requires { AreInRange config }
     ensures stack { IfOk result (IsFirstOf config) }
     ensures fault { IfErr result (λ status. status ≢ Success) }

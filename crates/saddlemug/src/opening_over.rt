@@ -75,7 +75,7 @@ pub(crate) fn new_over(alloc: Global, disk: &StackDisk, first: &[u8]) -> Result<
     let sizes = sizes_of(&adapter);
     match Stack::start(alloc, adapter, disk.limits()) {
         Ok(stack) => with_places(alloc, stack, sizes),
-        Err(fault) => Err(start_status(fault)),
+        Err(why) => Err(start_status(why.fault)),
     }
 }
 

@@ -1,15 +1,10 @@
 //! A script of events: its lines, what they ask a stack for, and what is printed of a stack that carries them out.
 //!
-//! It promises to the crate above:
+//! # Promises
 //!
-//! - [`lines`] (`events`, `fault`): the lines of a script are read as the events that they ask for, or the first bad
-//!   one is named.
-//! - [`event`]: which event of a stack an order is.
-//! - [`write_reply`]: the line of a reply.
-//! - [`play`] (`text`, `fault`): where it succeeds it wrote just the text of these lines in some [`Style`], carried out
-//!   one after the other by the stack that it was given.
-//!
-//! It does not promise that a writer takes all.
+//! `lines`: the orders that the text spells (`events`), or its first bad line (`fault`). `play` wrote, as a transcript,
+//! each line, its reply and a right step's labels, or as a trace those labels alone (`text`); a trace wants a stack whose
+//! labels keep their bytes (`bytes`). `write_reply` writes a reply's line.
 #![tactic(auto)]
 
 ghost use Rattle.script.specs.Faults.{IsOfWrite};

@@ -11,7 +11,7 @@ pub record AskTheSame (one other : Srb) : Type 0 where
   pub as_long : length one.data ≡ length other.data
   pub same_bytes : (lba count : ℕ) (fua : Bool) → AsksToWrite one.block lba count fua → one.data ≡ other.data
 
--- the other asks for just what the first does, with no sense data and no room for a label
+-- the copy asks for just what the SRB does
 pub record IsCopy (kind : Kind) (srb copy : Srb) : Type 0 where
   pub same_block : copy.block ≡ srb.block
   pub same_function : copy.function ≡ srb.function

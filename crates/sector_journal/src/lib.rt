@@ -4,12 +4,14 @@
 //! over an adapter that holds no sectors reserves room as a request is admitted, arms each piece as it starts, lets it
 //! act here, and books what came of it with the adapter. Acts take no memory.
 //!
-//! It promises to the crate above, whatever calls are made in whatever order: the entries, replayed from the sectors
-//! that the journal was opened with, give its sectors, and the bytes of each read are what stood at its place. Each
-//! entry names the arming by which its piece acted, and is of what was armed there. What was claimed of an arming or of
-//! an entry stands for good, so a thread that held the journal's lock once knows later what stands there.
+//! # Promises
 //!
-//! It doesn't promise that a piece which may act ever does, nor that sectors outlive the process.
+//! Over any `Medium`, the entries always replay from the first sectors to the present ones (`shows_rule`). `act`
+//! carries out the tag's armed piece, with its entry last, or fails it with none. `arm` is exact (`decides`, `arms`)
+//! and takes one buffer of its length (`same_room`). Receipts stand (`receipt`, `check`, `arming_receipt`,
+//! `check_armings`), and each entry names its arming (`shows_armings`). `reserve` makes places and just its request's
+//! buffers (`admits`), none where it is refused (`refused`), and reserves only runs near its extent (`near`). `release`
+//! keeps the buffers that other requests may yet need (`kept`), `disarm` its piece's (`back`).
 #![tactic(auto)]
 
 mod acted;

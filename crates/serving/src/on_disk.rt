@@ -299,7 +299,7 @@ fn started(alloc: Global, config: &Config, first: Vec<u8>) -> Result<Stack<Booke
     };
     match Stack::start(alloc, adapter.noting(), settings) {
         Ok(stack) => Ok(stack),
-        Err(fault) => Err(Error::Startup(startup::Error::Start(fault))),
+        Err(why) => Err(Error::Startup(startup::Error::Start(why.fault))),
     }
 }
 

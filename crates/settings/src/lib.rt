@@ -1,13 +1,11 @@
-//! The settings of a disk in memory, of the adapter over it and of the stack over both: how they are read, and the adapter
-//! that they give.
+//! The settings of a disk in memory, of the adapter over it and of the stack over both: how they are read, and the
+//! adapter that they give.
 //!
-//! It promises to the crate above, by the contract of [`document::config`] (`settings`, `in_range`, `fault`), that settings which
-//! were accepted are those of the document, each in its range, or its default, and that a document is refused for its
-//! first fault, or for want of memory; by [`new_adapter`] (`new`, `says`), that the adapter is the one of the settings, over
-//! a disk of zeros with their partition table, and that this table says what their partitions say, faults too. Settings
-//! need no document: [`new_adapter`] takes all that are in range, and so do [`new_disk`], which gives that disk alone
-//! (`new`), and [`table_sector`], which gives its sector 0 (`bytes`).
-//! It does not promise that memory for a disk is there.
+//! # Promises
+//!
+//! `document::config`: the settings of a document without a fault (`settings`), else its first fault, or want of memory
+//! (`fault`). `new_disk` and `new_adapter` give zeros with a table that says the settings' partitions, and a fresh
+//! adapter over them (`new`, `says`, `extents`, `blank`); `table_sector` is that sector 0 (`bytes`, `says`).
 #![tactic(auto)]
 
 pub mod document;

@@ -8,7 +8,7 @@ use crate::disks::{MIDDLE, TWO, Table, adapter, disk};
 use crate::expect::{same, same_text};
 use crate::playing::{play, run, stack_on};
 use adapter::Adapter;
-use compose::{Event, Handle, MbrFault, Settings, Stack, StartFault};
+use compose::{Event, Handle, MbrFault, NotStarted, Settings, Stack, StartFault};
 use miniport::OnceAdapter;
 use ntstatus::NtStatus;
 use sector::Bytes;
@@ -21,8 +21,9 @@ const UNUSED: (u8, u32, u32) = (0, 0, 0);
 /// A disk by its table and its bad sector, the limits of requests at work and open, and what stops a start.
 type Start<'a> = (Table<'a>, u64, (u32, u32), Option<StartFault>);
 
-/// Returns what stops a start, if anything.
+/// Returns what stops a start, if anything. The adapter comes back either way.
 fn fault<A: Adapter>(
+    rt: &impl Abort,
     alloc: Global,
     adapter: A,
     settings: Settings,
@@ -30,10 +31,15 @@ fn fault<A: Adapter>(
     requires idle { IsIdle (A.view adapter) }
     requires unasked { (A.view adapter).accepted ≡ 0 }
 {
-    match Stack::start(alloc, adapter, settings) {
-        Ok(_stack) => Ok(None),
-        Err(StartFault::NoMemory) => Err(AllocError),
-        Err(fault) => Ok(Some(fault)),
+    let sectors = adapter.sectors();
+    let (adapter, fault) = match Stack::start(alloc, adapter, settings) {
+        Ok(stack) => (stack.into_adapter(), None),
+        Err(NotStarted { fault, adapter }) => (adapter, Some(fault)),
+    };
+    same(rt, &adapter.sectors(), &sectors);
+    match fault {
+        Some(StartFault::NoMemory) => Err(AllocError),
+        fault => Ok(fault),
     }
 }
 
@@ -46,7 +52,7 @@ fn start_all(rt: &impl Abort, alloc: Global, rows: &[Start]) -> Result<(), Alloc
             window: *window,
             open_requests: *open_requests,
         };
-        same(rt, &fault(alloc, adapter, settings)?, wanted);
+        same(rt, &fault(rt, alloc, adapter, settings)?, wanted);
     }
     Ok(())
 }

@@ -1,7 +1,7 @@
 //! Stacks whose sectors stand in a journal: they show the same as stacks over a disk, row by row, and the entries of
 //! the journal, replayed on a fresh disk, read the same bytes and leave the same sectors.
 
-ghost use Rattle.std.specs.Prelude.{◌≡◌, [], IfOk, IsFalse};
+ghost use Rattle.std.specs.Prelude.{◌≡◌, [], IfOk, IsFalse, IsTrue};
 ghost use Rattle.disk.specs.Medium.{HasWholeSectors};
 ghost use Rattle.probe.specs.Exchange.{IsIdle};
 ghost use Rattle.journaled.specs.Opening.{IsStarted};
@@ -55,9 +55,12 @@ fn started_apart<A: Adapter>(
     requires unasked { (A.view adapter).accepted ≡ 0 }
     ensures started { IfOk result IsStarted }
     ensures apart { IfOk result (λ s. IsFalse s.adapter.faithful) }
+    ensures bytes { IfOk result (λ s. IsTrue s.rules.keeps_bytes) }
     ensures sizes { IfOk result (λ s. (s.rules.sector_size ≡ 512) × (s.rules.disk_sectors ≡ 4096)) }
     ensures taken { IfOk result (λ s. s.labels ≡ []) }
 {
+    let keeps_bytes = adapter.keeps_bytes();
+    assert!(rt; keeps_bytes);
     let size = adapter.sector_size();
     let sectors = adapter.sectors();
     let faithful = adapter.is_faithful();
@@ -69,8 +72,10 @@ fn started_apart<A: Adapter>(
     };
     match Stack::start(alloc, adapter, settings) {
         Ok(stack) => Ok(stack),
-        Err(StartFault::NoMemory) => Err(AllocError),
-        Err(fault) => panic!(rt; "{fault:?}"),
+        Err(why) => match why.fault {
+            StartFault::NoMemory => Err(AllocError),
+            fault => panic!(rt; "{fault:?}"),
+        },
     }
 }
 
@@ -87,6 +92,7 @@ fn adapter_apart(alloc: Global) -> Result<BookedAdapter, AllocError>
 fn stack_apart(rt: &impl Abort, alloc: Global) -> Result<Stack<BookedAdapter>, AllocError>
     ensures started { IfOk result IsStarted }
     ensures apart { IfOk result (λ s. IsFalse s.adapter.faithful) }
+    ensures bytes { IfOk result (λ s. IsTrue s.rules.keeps_bytes) }
     ensures sizes { IfOk result (λ s. (s.rules.sector_size ≡ 512) × (s.rules.disk_sectors ≡ 4096)) }
     ensures taken { IfOk result (λ s. s.labels ≡ []) }
 {

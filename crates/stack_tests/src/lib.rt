@@ -1,5 +1,9 @@
-//! Tests of the whole stack, over a disk in memory and over a journal: calls that no program makes, pieces that fail, and
-//! refused memory. What a script shows stands in `examples/rows`.
+//! Tests of the whole stack, over a disk in memory and over a journal: calls that no program makes, pieces that fail,
+//! and refused memory. What a script shows stands in `examples/rows`.
+//!
+//! # Promises
+//!
+//! Nothing.
 #![tactic(auto)]
 
 #[cfg(test)]

@@ -1,6 +1,6 @@
 //! Scripts, carried out by a stack or by what does as a stack does, and what they show.
 
-ghost use Rattle.std.specs.Prelude.{◌≡◌, [], IfOk, OnOk};
+ghost use Rattle.std.specs.Prelude.{◌≡◌, [], IfOk, IsTrue, OnOk};
 ghost use Rattle.probe.specs.Exchange.{IsIdle};
 ghost use Rattle.script.specs.Events.{AreNamed};
 
@@ -15,7 +15,7 @@ use std::process::Abort;
 
 /// What carries events out one by one, as a stack does.
 pub(crate) trait Carrier {
-    ghost use Rattle.std.specs.Prelude.{◌≡◌, ◌∷◌, List, [], MatchOption};
+    ghost use Rattle.std.specs.Prelude.{◌≡◌, ◌+◌, List, [], MatchOption, length};
     ghost use Rattle.machine.specs.declared.Label.{Label};
 
     /// The labels that were not taken yet.
@@ -24,8 +24,9 @@ pub(crate) trait Carrier {
     fn step(&mut self, alloc: Global, event: Event) -> Reply
         requires { labels self.old ≡ [] };
 
+    /// Takes the earliest label, as memory has it.
     fn take_label(&mut self) -> Option<Label>
-        ensures { MatchOption result ((labels self.old ≡ []) × (labels self.new ≡ [])) (λ label. labels self.old ≡ label ∷ labels self.new) };
+        ensures { MatchOption result ((labels self.old ≡ []) × (labels self.new ≡ [])) (λ _. length (labels self.old) ≡ length (labels self.new) + 1) };
 
     fn take_answer(&mut self) -> Option<Answer>
         ensures { labels self.new ≡ labels self.old };
@@ -39,7 +40,7 @@ impl<A: Adapter> Carrier for Stack<A> {
     }
 
     fn take_label(&mut self) -> Option<Label> {
-        self.take_label()
+        self.take_shown()
     }
 
     fn take_answer(&mut self) -> Option<Answer> {
@@ -55,16 +56,21 @@ pub(crate) fn stack_on<A: Adapter>(
 ) -> Result<Stack<A>, AllocError>
     requires idle { IsIdle (A.view adapter) }
     requires unasked { (A.view adapter).accepted ≡ 0 }
-    ensures { IfOk result (λ stack. stack.labels ≡ []) }
+    ensures taken { IfOk result (λ stack. stack.labels ≡ []) }
+    ensures bytes { IfOk result (λ stack. IsTrue stack.rules.keeps_bytes) }
 {
+    let keeps_bytes = adapter.keeps_bytes();
+    assert!(rt; keeps_bytes);
     let settings = Settings {
         window: 2,
         open_requests: 4,
     };
     match Stack::start(alloc, adapter, settings) {
         Ok(stack) => Ok(stack),
-        Err(StartFault::NoMemory) => Err(AllocError),
-        Err(fault) => panic!(rt; "{fault:?}"),
+        Err(why) => match why.fault {
+            StartFault::NoMemory => Err(AllocError),
+            fault => panic!(rt; "{fault:?}"),
+        },
     }
 }
 
@@ -222,7 +228,8 @@ pub(crate) fn run<A: Adapter>(
     script: &str,
     wanted: &[u8],
 ) -> Result<(), AllocError>
-    requires { stack.old.labels ≡ [] }
+    requires taken { stack.old.labels ≡ [] }
+    requires bytes { IsTrue stack.old.rules.keeps_bytes }
 {
     let lines = lines_of(rt, alloc, script)?;
     let shown = match stack.run(alloc, events_of(alloc, lines.as_slice())?) {

@@ -1,9 +1,9 @@
 //! This program says whether a trace is a run of the machine that some settings describe, writes the trace of a script,
 //! or draws a trace.
 //!
-//! The crates `judging` ([`command`], [`read_standard`], [`check`], [`record_script`], [`Error`]) and `startup` ([`ended`]) promise what
-//! its words ask for, what is printed (but no picture), and which line and exit status a fault has. This crate has only
-//! its arguments, files and output, of which nothing is promised: no contract says what a file holds.
+//! # Promises
+//!
+//! What `judging` and `startup` promise. Of files and output nothing is promised.
 #![tactic(auto)]
 
 use judging::Error;

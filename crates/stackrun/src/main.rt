@@ -1,9 +1,9 @@
 //! This program runs a script of events through a stack over a disk in memory, and prints the trace. Or it runs clients
 //! in threads of their own over such a stack, and prints their tally.
 //!
-//! The crates `commands` ([`command`], [`trace`], [`clients`], [`Error`]) and `startup` ([`ended`]) promise what its
-//! words ask for, what is printed, and which line and exit status a fault has. This crate has only its arguments,
-//! files, threads and output, of which nothing is promised: no contract says what a file holds.
+//! # Promises
+//!
+//! What `commands` and `startup` promise. Of files, threads and output nothing is promised.
 #![tactic(auto)]
 
 use commands::Error;

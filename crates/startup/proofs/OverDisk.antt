@@ -195,12 +195,12 @@ module _ (c : Config) (view : MemView) (new : IsNewAdapter c view)
         partition = is_on;
       }
 
-  pub not_opened : AreInRange c → HasBlankPartitions c view.shown.sectors → (p : ℕ) (why : OpenFault) → IsOpenFaultOver view.shown (limits_of c) p why → IsOpenFault c p why
-  not_opened settings blank p (NotStarted fault) h = not_started settings blank fault h.0 h.1
-  not_opened settings blank p (Refused InvalidParameter) h = subst (λ (es : List Extent). length es ≤ p) (same_extents c view.shown (shows_disk blank) h.0 h.1.told) h.2
-  not_opened settings blank p (Refused DeviceBusy) h = absurd h
-  not_opened settings blank p (Refused InsufficientResources) h = absurd h
-  not_opened settings blank p (Refused InvalidHandle) h = absurd h
-  not_opened settings blank p (Refused DeletePending) h = absurd h
-  not_opened settings blank p (Refused InvalidDeviceRequest) h = absurd h
-  not_opened settings blank p (Refused NotFound) h = absurd h
+  pub not_opened : AreInRange c → HasBlankPartitions c view.shown.sectors → (p : ℕ) (why : OpenFault) (after : AdapterView) → IsOpenFaultOver view.shown (limits_of c) p why after → IsOpenFault c p why
+  not_opened settings blank p (NotStarted fault) after h = not_started settings blank fault after h
+  not_opened settings blank p (Refused InvalidParameter) after h = subst (λ (es : List Extent). length es ≤ p) (same_extents c view.shown (shows_disk blank) h.0.0 h.0.1.told) h.0.2
+  not_opened settings blank p (Refused DeviceBusy) after h = absurd h.0
+  not_opened settings blank p (Refused InsufficientResources) after h = absurd h.0
+  not_opened settings blank p (Refused InvalidHandle) after h = absurd h.0
+  not_opened settings blank p (Refused DeletePending) after h = absurd h.0
+  not_opened settings blank p (Refused InvalidDeviceRequest) after h = absurd h.0
+  not_opened settings blank p (Refused NotFound) after h = absurd h.0

@@ -1,18 +1,14 @@
 //! How a program begins and ends that runs a stack over a disk in memory. Its settings are read, the stack or a volume
 //! of a partition is opened, and a fault is said, with an exit status.
 //!
-//! It promises to the crate above:
-//!
-//! - [`read_settings`] (`read`, `in_range`): settings are those of all that their input has.
-//! - [`start`] (`view`, `fault`) and [`open`] (`volume`, `fault`): the stack and the volume are those of the settings'
-//!   disk, which is zeros but for its partition table; or why there is none.
-//! - [`Error`]'s text: the words for each fault.
-//! - [`ended`] (`status`, `silent`): the exit status, and that nothing is said without a fault; [`say`]: the line.
-//!
 //! [`hold_standard`] keeps files off the numbers of standard descriptors that are closed; no contract says so.
 //!
-//! An [`Input`] that can't be opened says so when it is read. The crate does not promise that there is memory. Of
-//! several faults of a text the first is told (`told`, `fault`).
+//! # Promises
+//!
+//! `read_settings`: an input's settings (`read`, `in_range`), or why not (`fault`, `told`). `settings_of`: `settings`,
+//! `fault`. `start`: the opening stack (`view`, `first`); `start_apart`: the disk, and the opening stack beside it
+//! (`stack`, `disk`, `count`); `open`: a volume of zeros (`volume`); each or `fault`. `Error`: `output`. `ended`:
+//! `status`, `silent`. `fault_of`: `memory`, `otherwise`. `Input::of`: the file, or why not.
 #![tactic(auto)]
 
 mod apart;

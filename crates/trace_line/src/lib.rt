@@ -1,8 +1,12 @@
 //! A line of a trace, and runs of lines.
 //!
 //! A [`Line`] is a label of the sector machine. Behind a start it may tell the request that the piece is of. `LineStep`
-//! says which steps go by a line: those by its label, where the piece that starts is of the request that the line tells.
-//! A `LineRun` is a run by lines.
+//! says which steps go by a line: those by its label, where the piece that starts is of the request that the line
+//! tells. A `LineRun` is a run by lines.
+//!
+//! # Promises
+//!
+//! Definitions alone.
 #![tactic(auto)]
 
 use machine::Label;

@@ -1,13 +1,14 @@
 //! A trace to look at: a picture of it, as an SVG or as Trace Event JSON.
 //!
 //! [`Picture::take`] is given the labels of a trace one after the other, legal or not, and keeps their numbers and no
-//! bytes. [`Picture::write_svg`] writes one self-contained SVG without scripts: the lines of the trace run to the right, a
-//! row a tag with its pieces, a row a request (shared above 400 lines) with its call, pieces, cancel and answer, and bands
-//! for pauses and removals.
-//! [`Picture::write_events`] writes what Perfetto and Chrome's tracing page open.
+//! bytes. [`Picture::write_svg`] writes one self-contained SVG without scripts: the lines of the trace run to the
+//! right, a row a tag with its pieces, a row a request (shared above 400 lines) with its call, pieces, cancel and
+//! answer, and bands for pauses and removals. [`Picture::write_events`] writes what Perfetto and Chrome's tracing page
+//! open.
 //!
-//! It promises to the crate above that each call returns, whatever the labels, and that want of memory is told. What is
-//! written is only tested. It does not promise that a writer takes all.
+//! # Promises
+//!
+//! Each call returns, whatever the labels, and want of memory is told. What is written is only tested.
 #![tactic(auto)]
 
 mod command;

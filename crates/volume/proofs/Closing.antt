@@ -150,6 +150,15 @@ silent_open old partition (Requested id) new h = absurd h.replies
 silent_open old partition (Answered answer) new h = absurd h.replies
 silent_open old partition Ignored new h = absurd h.replies
 
+-- the adapter is as it was
+pub still_open : (old : ManagerView) (partition : ℕ) (reply : Reply) (new : ManagerView) → IsRight (OpenReplies old partition reply new) old new → new.adapter ≡ old.adapter
+still_open old partition (HandleReply given) new h = h.replies.0.same_adapter
+still_open old partition (Refused reason bytes) new h = h.replies.1.unmoved.same_adapter
+still_open old partition Done new h = absurd h.replies
+still_open old partition (Requested id) new h = absurd h.replies
+still_open old partition (Answered answer) new h = absurd h.replies
+still_open old partition Ignored new h = absurd h.replies
+
 same_as_itself : (n : ℕ) → (n == n) ≡ true
 same_as_itself n = grind (arith, nat_tests)
 

@@ -2,7 +2,8 @@
 use Rattle.std.specs.Prelude.{◌≡◌, ◌<◌, ◌≤◌, ◌⊎◌, ℕ, List, Some, length, IsTrue}
 use Rattle.sector.specs.declared.Extent.{Extent}
 use Rattle.adapter.specs.View.{AdapterView}
-use Rattle.probe.specs.Probing.{HasPartitions}
+use Rattle.probe.specs.Exchange.{IsSameDisk}
+use Rattle.probe.specs.Probing.{HasPartitions, IsReadBy, asked_by_probe}
 use Rattle.compose.specs.declared.Settings.{Settings}
 use Rattle.compose.specs.Opening.{IsSpent}
 use Rattle.io_manager.specs.declared.Handle.{Handle}
@@ -40,7 +41,9 @@ abbrev pub IsRefusedOf : AdapterView → ℕ → Refusal → Type 0
 IsRefusedOf disk p InvalidParameter = (partitions : List Extent) × HasPartitions disk partitions × (length partitions ≤ p)
 IsRefusedOf disk p _ = ⊥
 
--- why no volume could be opened over this disk: no stack could be started, or its partition was refused
-abbrev pub IsOpenFault : AdapterView → Settings → ℕ → OpenFault → Type 0
-IsOpenFault disk settings p (Start fault) = (after : AdapterView) × IsSpent disk settings fault after
-IsOpenFault disk settings p (RefusedOpen reason) = IsRefusedOf disk p reason
+-- why no volume could be opened over this disk, and what is left of it: no stack could be started, or one was, and its
+-- partition was refused
+abbrev pub IsOpenFault : AdapterView → Settings → ℕ → OpenFault → AdapterView → Type 0
+IsOpenFault disk settings p (Start fault) after = IsSpent disk settings fault after
+IsOpenFault disk settings p (RefusedOpen reason) after =
+    IsRefusedOf disk p reason × IsSameDisk (asked_by_probe disk) disk after × IsReadBy disk after

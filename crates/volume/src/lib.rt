@@ -1,19 +1,18 @@
 //! One partition of a stack as an array of bytes. Each call carries its request from its call to its answer.
 //!
-//! A [`Volume`] owns a stack on which nothing else is open, and a handle on one partition of it. It promises to its
-//! user: a read that succeeds gives just the bytes of the partition ([`Volume::read`], clause `reads`); a write that
-//! succeeds has replaced just its bytes, and nothing else of the disk ([`Volume::write`], `writes`); a flush and a read
-//! change nothing (`same`). A failure names its status, and says what may have changed. A request that was refused
-//! changed nothing. After a write that failed, each sector of its extent is as it was or as it was to be, and nothing
-//! else changed. No command was sent for a request that was refused; one at least was sent for a request that failed,
-//! and for a flush that succeeded (`sent`). No call but the opening and the closing changes how many handles are open;
-//! a close leaves one fewer ([`Volume::close`], `closed`).
+//! A [`Volume`] owns a stack on which nothing else is open, and a handle on one partition of it.
 //!
-//! It promises nothing of power loss, nor that a call succeeds, nor that a write past caches goes as such. Its stack
-//! stands on an adapter whose acts read and write the sectors that it shows.
+//! # Promises
+//!
+//! Over a faithful adapter with nothing else open: a read gives just its bytes (`reads`), a write replaces its own
+//! (`writes`), else the disk stays (`same`). A failed write leaves each of its sectors old or new (`WritesSome`). Each
+//! result is its request's one answer, with write-through as asked (`answered`). A refused request sent no command, a
+//! failed one or a done flush some (`sent`). `open`, `start`: the disk's bytes and one handle more (`content`,
+//! `handles`), or why not (`why`, `fault`). `close`: one handle fewer (`closed`), the bytes as they were (`same`).
 #![tactic(auto)]
 
-use compose::StartFault;
+use adapter::Adapter;
+use compose::{Stack, StartFault};
 use io_manager::Refusal;
 use ntstatus::NtStatus;
 
@@ -45,7 +44,7 @@ pub enum Error {
     Failed(NtStatus),
 }
 
-/// Why no volume could be opened over an adapter, which is spent.
+/// Why no volume could be opened over an adapter.
 #[derive(Debug, Clone, Copy, PartialEq, Eq, thiserror::Error)]
 pub enum OpenFault {
     /// No stack could be started.
@@ -54,4 +53,18 @@ pub enum OpenFault {
     /// There is no such partition.
     #[error("the partition was refused: {0:?}")]
     Refused(Refusal),
+}
+
+/// Why no volume could be opened over an adapter, and the adapter.
+#[derive(Drop)]
+pub struct NotOpened<A: Adapter> {
+    pub fault: OpenFault,
+    pub adapter: A,
+}
+
+/// Why a partition of a stack could not be opened, and the stack.
+#[derive(Drop)]
+pub struct Unopened<A: Adapter> {
+    pub reason: Refusal,
+    pub stack: Stack<A>,
 }

@@ -61,6 +61,13 @@ impl<A: Adapter> Volume<A> {
     /// # Errors
     ///
     /// As [`Error`] says. Nothing has changed.
+    ///
+    /// # Example
+    ///
+    /// ```
+    /// let buffer = filled(alloc, 0, length)?;
+    /// read_gives(volume.read(alloc, offset, buffer), given)
+    /// ```
     pub fn read(&mut self, alloc: Global, offset: u64, buffer: Bytes) -> Result<Bytes, Error>
         ensures reads { MatchResult result (Reads self.old.content offset (length buffer)) (IsFault self.old (AreInBounds self.old.content offset (length buffer))) }
         ensures answered { IsToldAsAnswered self.old (read_of self.old offset (length buffer)) result self.new }
@@ -89,6 +96,13 @@ impl<A: Adapter> Volume<A> {
     ///
     /// As [`Error`] says. A write that was refused has changed nothing. After one that failed, each sector of the write
     /// is as it was or was written, and nothing else has changed.
+    ///
+    /// # Example
+    ///
+    /// ```
+    /// let bytes = filled(alloc, byte, length)?;
+    /// gives(volume.write(alloc, offset, bytes, through), given)
+    /// ```
     pub fn write(
         &mut self,
         alloc: Global,

@@ -5,8 +5,9 @@
 //! `impossible` has what wrong bodies would do. A run there leads to a state, and from that state no step of the wrong
 //! kind leads anywhere.
 //!
-//! The runs are examples: they say nothing of other sizes or orders, which is what the laws of `machine_laws` are for.
-//! No crate stands on this one.
+//! # Promises
+//!
+//! Each run is the contract of a function.
 #![tactic(auto)]
 
 pub mod impossible;

@@ -14,7 +14,7 @@ use Rattle.device.specs.View.{transfer_length, IsOrderly, IsBounded}
 use Rattle.device.specs.inside.Out.{Ticket}
 use Rattle.class_disk.specs.inside.Rooms.{AllOut}
 use Rattle.class_disk.specs.inside.Owners.{AreOwnedFrom}
-use Rattle.device.specs.Served.{sectors_moved, IsUnfinished, IsAt}
+use Rattle.device.specs.Served.{sectors_moved, AwaitsRestartIfEnded, IsAt}
 use Rattle.class_disk.specs.declared.parts.Part.{Part}
 use Rattle.class_disk.specs.declared.parts.Progress.{Progress}
 use Rattle.class_disk.specs.declared.parts.Progress.TheVariants.{Ready, Below, Ended as HasEnded}
@@ -29,7 +29,8 @@ use Rattle.class_disk.specs.inside.TableCalls.{bytes_from}
 use Rattle.class_disk.specs.inside.Joint.{Note, Sent, Kept, Known, Joint, known_of, shown_mark, below}
 use Rattle.class_disk.specs.inside.Invariant.{IsSound, Keeps, HasSome, IsOver, noted_busy}
 use Rattle.class_disk.specs.Opening.{TakesParts, most_over}
-use Rattle.class_disk.specs.Shown.{class_rules, IsPort, shown_state}
+use Rattle.class_disk.specs.Shown.{class_rules, IsPort}
+use Rattle.class_disk.specs.inside.Machine.{shown_state}
 
 -- WHAT THE CLASS DRIVER KNOWS OF A REQUEST
 
@@ -294,7 +295,7 @@ pub record IsInHand (v : DeviceView) (b : TableView) : Type 0 where
   pub coupled : IsCoupled v b
   pub rooms_out : AllOut v (tickets b)
   -- no packet that has ended waits below
-  pub unfinished : All (IsUnfinished v.rules v.state) v.state.requests
+  pub unfinished : All (AwaitsRestartIfEnded v.rules v.state) v.state.requests
   pub settled : Settled v.rules v.state
   pub kept : AreKept (class_rules v.rules) b
   pub below : AreBelow v b

@@ -21,7 +21,7 @@ use Rattle.class_disk.specs.declared.parts.Progress.TheVariants.{Ready}
 use Rattle.class_disk.specs.declared.parts.TransferPacket.{TransferPacket}
 use Rattle.class_disk.specs.declared.parts.PartId.{PartId}
 use Rattle.class_disk.specs.inside.Joint.{Known, Joint, known_of, below, above}
-use Rattle.class_disk.specs.PortRules.{below_rules}
+use Rattle.class_disk.specs.inside.PortRules.{below_rules}
 use Rattle.class_disk.specs.inside.Invariant.{IsSound, Keeps, EndedAre, NeverSent, IsNothing, IsOver, HasSome}
 use Rattle.class_disk.specs.Shown.{class_rules, IsPort}
 use Rattle.class_disk.specs.declared.Sizes.{Sizes}

@@ -1,6 +1,6 @@
 -- What the filter keeps.
 use Rattle.std.specs.Prelude.{◌≡◌, ◌<◌, ◌≤◌, ◌⊎◌, ℕ, ◌+◌, ◌^◌, ◌==◌, Bool, false, List, [], ◌∷◌, ◌++◌, map, length}
-use Rattle.std.specs.Prelude.{Option, Some, None, is_none, IsTrue, IsFalse, All, eqb, nat_lt, if◌then◌else◌}
+use Rattle.std.specs.Prelude.{Option, Some, None, is_none, IsTrue, IsFalse, All, eqb}
 use Rattle.std.specs.List.{IsDistinct}
 use Rattle.irp.specs.declared.StackLocation.{StackLocation}
 use Rattle.machine.specs.declared.ClientRequest.{ClientRequest}
@@ -33,11 +33,6 @@ IsCancelled held = IsTrue held.irp.value.cancelled
 -- the packet's number is not below this one
 abbrev pub IsFrom : ℕ → ℕ × Held → Type 0
 IsFrom next e = next ≤ e.1.irp.value.number
-
--- stack locations from the filter on: one more than the layers below need. A packet has four, so no more than five are
--- counted
-abbrev pub stack_over : ℕ → ℕ
-stack_over below = if nat_lt below 5 then below + 1 else below
 
 -- the device below has a location of its own and no window
 pub record IsBelow (stack_size : ℕ) (v : DeviceView) : Type 0 where

@@ -26,6 +26,6 @@ pub returns-in-Err-clause-fault : goal.returns-in-Err-clause-fault
 returns-in-Err-clause-fault c = record {
   adapter = c.noting.result;
   new = new c;
-  after = apart c.in-Err.ensures.fault.0.shown;
-  spent = c.in-Err.ensures.fault.1;
+  after = apart c.in-Err.why.adapter.shown;
+  spent = c.in-Err.ensures.fault;
 }

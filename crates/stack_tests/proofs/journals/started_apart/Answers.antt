@@ -1,4 +1,4 @@
-use Rattle.std.proofs.Common.{◌≡◌, false, length, sym, ap, ◌∙◌, rules}
+use Rattle.std.proofs.Common.{◌≡◌, false, true, length, sym, ap, ◌∙◌, rules}
 use Rattle.stack_tests.proofs.journals.started_apart.Goals as goal
 
 pub returns-in-Ok-clause-apart : goal.returns-in-Ok-clause-apart
@@ -14,3 +14,8 @@ returns-in-Ok-clause-sizes g c =
       ap (λ r. r.sector_size) c.in-Ok.ensures.view.rules ∙ sym c.sector_size-size.ensures.exact ∙ size,
       ap (λ r. r.disk_sectors) c.in-Ok.ensures.view.rules ∙ sym c.sectors-sectors.ensures.exact ∙ many,
     )
+
+pub returns-in-Ok-clause-bytes : goal.returns-in-Ok-clause-bytes
+returns-in-Ok-clause-bytes g c =
+    let told : c.keeps_bytes-keeps_bytes.result ≡ true = search rules in
+    ap (λ r. r.keeps_bytes) c.in-Ok.ensures.view.rules ∙ (sym c.keeps_bytes-keeps_bytes.ensures ∙ told)

@@ -15,12 +15,12 @@ returns-in_err-first-clause-fault c =
 
 pub returns-in_err-stack-clause-fault : goal.returns-in_err-stack-clause-fault
 returns-in_err-stack-clause-fault c =
-    let given : c.from_residual-in_err-stack.result ≡ Err c.in_err-stack.field-0.0 = search rules in
+    let given : c.from_residual-in_err-stack.result ≡ Err c.in_err-stack.field-0.0.fault = search rules in
     let shows = shows_apart c.args.config (shown c.in-Ok.disk) c.in-Ok.ensures.new c.in-Ok.ensures.count c.in_ok-first.first.items c.in-Ok-new.adapter c.in_ok-first.ensures.bytes c.in-Ok-new.ensures.new
     c.in_ok-first.ensures.long c.in-Ok.ensures.says c.new_disk.ensures.extents c.in-Ok.ensures.blank in
     rw given (not_started_apart c.args.config (shown c.in-Ok.disk) c.in-Ok.ensures.new c.in-Ok.ensures.count c.in_ok-first.first.items c.in-Ok-new.adapter c.in_ok-first.ensures.bytes c.in-Ok-new.ensures.new
-    c.requires shows c.in_err-stack.field-0.0 (apart c.in_err-stack.ensures.fault.0.shown)
-    (subst (λ (s : Settings). IsSpent (apart c.in-Ok-new.adapter.shown) s c.in_err-stack.field-0.0 (apart c.in_err-stack.ensures.fault.0.shown)) c.limits_of-limits.ensures c.in_err-stack.ensures.fault.1))
+    c.requires shows c.in_err-stack.field-0.0.fault (apart c.in_err-stack.field-0.0.adapter.shown)
+    (subst (λ (s : Settings). IsSpent (apart c.in-Ok-new.adapter.shown) s c.in_err-stack.field-0.0.fault (apart c.in_err-stack.field-0.0.adapter.shown)) c.limits_of-limits.ensures c.in_err-stack.ensures.fault))
 
 pub returns-clause-stack : goal.returns-clause-stack
 returns-clause-stack c =

@@ -19,7 +19,7 @@ returns-clause-first c = record {
 
 pub returns-in_err-stack-clause-fault : goal.returns-in_err-stack-clause-fault
 returns-in_err-stack-clause-fault c =
-    let given : c.from_residual.result ≡ Err c.in_err-stack.field-0.0 = search rules in
+    let given : c.from_residual.result ≡ Err c.in_err-stack.field-0.0.fault = search rules in
     rw given (not_started c.args.config c.in-Ok.adapter c.in-Ok.ensures.new c.in-Ok.ensures.says c.new_adapter.ensures.extents c.requires c.in-Ok.ensures.blank
-    c.in_err-stack.field-0.0 c.in_err-stack.ensures.fault.0.shown
-    (subst (λ (s : Settings). IsSpent c.in-Ok.adapter.shown s c.in_err-stack.field-0.0 c.in_err-stack.ensures.fault.0.shown) c.limits_of-settings.ensures c.in_err-stack.ensures.fault.1))
+    c.in_err-stack.field-0.0.fault c.in_err-stack.field-0.0.adapter.shown
+    (subst (λ (s : Settings). IsSpent c.in-Ok.adapter.shown s c.in_err-stack.field-0.0.fault c.in_err-stack.field-0.0.adapter.shown) c.limits_of-settings.ensures c.in_err-stack.ensures.fault))

@@ -5,7 +5,7 @@ use Rattle.io_manager.specs.declared.Reply.TheVariants.{Handle as HandleReply}
 use Rattle.io_manager.specs.Shown.{ManagerView}
 use Rattle.volume.specs.Shown.{content_of, handle_count}
 use Rattle.volume.specs.Ready.{IsReady}
-use Rattle.volume.proofs.Closing.{IsSilent, given_known, given_on, ready_still, refused_open, same_content, silent_open}
+use Rattle.volume.proofs.Closing.{IsSilent, given_known, given_on, ready_still, refused_open, same_content, silent_open, still_open}
 use Rattle.volume.proofs.Handles.{one_more}
 use Rattle.volume.proofs.Untraced.{read_stepped, untraced}
 use Rattle.volume.proofs.opening.open_handle.Goals.{in-Handle, in-Refused}
@@ -22,6 +22,11 @@ returns-clause-content g c =
     let silent : IsSilent (untraced c.args.stack.now) c.step-reply.ensures.steps.stepped = silent_open _ c.args.partition c.step-reply.result c.step-reply.ensures.steps.stepped c.step-reply.ensures.steps.right in
     ap (λ (v : ManagerView). content_of v c.args.partition) c.step-reply.ensures.steps.after
     ∙ same_content c.args.stack.now c.requires.ready c.step-reply.ensures.steps.stepped silent.told silent.by (read_stepped _ _ _ _ c.step-reply.ensures.steps c.step-reply.ensures.between) silent.own silent.device c.args.partition
+
+pub returns-clause-adapter : goal.returns-clause-adapter
+returns-clause-adapter g c =
+    ap (λ (v : ManagerView). v.adapter) c.step-reply.ensures.steps.after
+    ∙ still_open (untraced c.args.stack.now) c.args.partition c.step-reply.result c.step-reply.ensures.steps.stepped c.step-reply.ensures.steps.right
 
 pub returns-clause-opens : goal.returns-clause-opens
 returns-clause-opens g c =

@@ -7,13 +7,11 @@ invariant_of-result g c = record {
   locations = c.requires.locations;
   vacant = c.requires.unasked.vacant;
   kept =
-      ManagerKept-opening c.args.limits (g.D.Shown.view c.args.device) c.in_ok-tables.tables c.shows_order.ensures.order c.requires.unasked c.requires.limits
-      c.in_ok-tables.ensures.empty c.in_ok-tables.ensures.places;
+      ManagerKept-opening c.args.limits (g.D.Shown.view c.args.device) c.in-Ok.tables c.shows_order.ensures.order c.requires.unasked c.requires.limits
+      c.in-Ok.ensures.empty c.in-Ok.ensures.places;
 }
 
-pub returns : goal.returns
-returns g c = record {
-  view =
-      first_view c.args.limits (g.D.Shown.view c.args.device) c.in_ok-tables.tables c.shows_order.ensures.order c.requires.unasked c.requires.limits
-      c.in_ok-tables.ensures.empty c.in_ok-tables.ensures.places;
-}
+pub returns-clause-view : goal.returns-clause-view
+returns-clause-view g c =
+    first_view c.args.limits (g.D.Shown.view c.args.device) c.in-Ok.tables c.shows_order.ensures.order c.requires.unasked c.requires.limits
+    c.in-Ok.ensures.empty c.in-Ok.ensures.places

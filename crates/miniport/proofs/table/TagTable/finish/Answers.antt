@@ -1,4 +1,4 @@
-use Rattle.std.proofs.Common.{◌≡◌, ◌∙◌, List, All, ap, arith, map, refl, subst, sym}
+use Rattle.std.proofs.Common.{◌∙◌, List, All, ap, arith, map, refl, subst, sym}
 use Rattle.miniport.specs.declared.recorded.Recorded.{Recorded}
 use Rattle.miniport.specs.inside.Recorded.{IsTellable, told_of}
 use Rattle.miniport.proofs.Recording.{all_told, all_told_more, finished, kept_so_far, nothing_finished, one_more_kept}

@@ -1,4 +1,4 @@
-use Rattle.std.proofs.Common.{None, ◌∙◌, ap, sym}
+use Rattle.std.proofs.Common.{None, ◌∙◌, ap}
 use Rattle.miniport.specs.inside.Slots.{Table, piece_at}
 use Rattle.miniport.proofs.Recording.{keeps_untouched, on_some, view_set}
 use Rattle.miniport.proofs.table.TagTable.take_untouched.Goals as goal

@@ -41,7 +41,9 @@ invariant_of-self-2 g c =
 
 pub returns-clause-reserved : goal.returns-clause-reserved
 returns-clause-reserved g c =
-    rw (← shown_is c.self.view_is) (reserves_spot_shown (books_of c.self.inside.parts.queues) (books_of c.reserve_extent.new.self.queues) (books_of c.add_place.new.self) _ _ _ _ c.reserve_extent.ensures.queues c.in_ok-spot.ensures.added c.reserve_extent.ensures.reserves)
+    rw (← shown_is c.self.view_is) (reserves_spot_shown (books_of c.self.inside.parts.queues) (books_of c.reserve_extent.new.self.queues) (books_of c.add_place.new.self) _ _ _ _ c.reserve_extent.ensures.queues c.in_ok-spot.ensures.added c.reserve_extent.ensures.reserves
+    (sound_made (books_of c.self.inside.parts.queues) (books_of c.reserve_extent.new.self.queues) (books_of c.add_place.new.self) _ _ _ _ c.reserve_extent.ensures.queues c.in_ok-spot.ensures.added
+    c.reserve_extent.ensures.reserves c.reserve_extent.ensures.order (subst (λ (x : DeviceView). IsBounded x.rules c.args.request.now) (sym (shown_is c.self.view_is)) c.requires.bounded) c.in_ok-reserve_extent.ensures.reserved c.self.invariant))
 
 pub returns-in_err-reserve_extent-clause-near : goal.returns-in_err-reserve_extent-clause-near
 returns-in_err-reserve_extent-clause-near g c =

@@ -1,4 +1,6 @@
-use Rattle.std.proofs.Common.{ℕ, ◌+◌, ◌∙◌, ap}
+use Rattle.std.proofs.Common.{◌≡◌, ℕ, ◌+◌, ◌∙◌, ap, subst, sym}
+use Rattle.probe.specs.Exchange.{IsSameDisk}
+use Rattle.probe.specs.Probing.{IsReadBy, asked_by_probe}
 use Rattle.volume.proofs.Starting.{content_at_start, none_at_start, ready_at_start, refused_of}
 use Rattle.volume.proofs.volume.Volume.start.Goals as goal
 
@@ -18,8 +20,12 @@ returns-in-Ok-open-clause-content g c = record {
 
 pub returns-in-Err-open-clause-fault : goal.returns-in-Err-open-clause-fault
 returns-in-Err-open-clause-fault g c =
-    refused_of (g.A.Adapter.view c.args.adapter) c.args.settings c.sector_size-size.ensures.order c.requires.faithful c.in-Ok.stack c.in-Ok.ensures.view c.args.partition c.in-Err-open.reason
-    c.in-Err-open.ensures.why
+    let same : g.A.Adapter.view c.into_adapter-in-Err-open.result ≡ c.in-Ok.stack.adapter = c.into_adapter-in-Err-open.ensures ∙ c.in-Err-open.ensures.adapter in (
+      refused_of (g.A.Adapter.view c.args.adapter) c.args.settings c.sector_size-size.ensures.order c.requires.faithful c.in-Ok.stack c.in-Ok.ensures.view c.args.partition c.in-Err-open.reason
+          c.in-Err-open.ensures.why,
+      subst (IsSameDisk (asked_by_probe (g.A.Adapter.view c.args.adapter)) (g.A.Adapter.view c.args.adapter)) (sym same) c.in-Ok.ensures.view.same_disk,
+      subst (IsReadBy (g.A.Adapter.view c.args.adapter)) (sym same) c.in-Ok.ensures.view.read,
+    )
 
 pub returns-in-Ok-open-clause-handles : goal.returns-in-Ok-open-clause-handles
 returns-in-Ok-open-clause-handles g c =

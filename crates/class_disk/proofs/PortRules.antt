@@ -1,0 +1,11 @@
+-- The rules of the layer below, by those of the class driver.
+use Rattle.std.proofs.Common.{◌≡◌, true, ap, ◌∙◌}
+use Rattle.machine.specs.Rules.{Rules}
+use Rattle.class_disk.specs.Shown.{class_rules, IsPort}
+use Rattle.class_disk.specs.inside.PortRules.{below_rules}
+
+pub port_rules : {rules : Rules} → IsPort rules → rules ≡ below_rules (class_rules rules)
+port_rules {rules} h =
+    ap (λ n. record rules { longest = n }) h.longest
+    ∙ ap (λ b. record rules { longest = rules.max_transfer; one_piece = b }) h.one_piece
+    ∙ ap (λ n. record rules { longest = rules.max_transfer; one_piece = true; busy_limit = n }) h.first_busy
