@@ -30,7 +30,8 @@ use Rattle.traced.specs.Told.{AreNoCalls}
 use Rattle.traced.specs.Serving.{open_at}
 use Rattle.traced.specs.Shares.{ShareView}
 use Rattle.traced.specs.Opening.{IsOpenOn}
-use Rattle.traced.specs.Traced.{TracedView, HasCounted as Counts, IsServed, IsWanting, bytes_of, pages_of}
+use Rattle.asking.specs.Asking.{bytes_of}
+use Rattle.traced.specs.Traced.{TracedView, HasCounted as Counts, IsServed, IsWanting, pages_of}
 use Rattle.host.specs.declared.call.Call.{Call}
 use Rattle.host.specs.declared.call.Call.TheVariants.{Read, Write, Flush}
 use Rattle.host.specs.Calls.{FindsCall, HasCounted, IsAnsweredAtOnce, IsOpened, IsTold, Stands, asked, buffer_of, event_of, request_of}

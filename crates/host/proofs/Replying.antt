@@ -11,7 +11,8 @@ use Rattle.compose.specs.declared.Event.{Event}
 use Rattle.compose.specs.declared.Event.TheVariants.{Open, Close, Read, Write, Flush, CancelIoEx, Mark, QueryRemove, CancelRemove, Remove, SurpriseRemove, Act, Finish, Reset}
 use Rattle.compose.specs.Right.{IsRight}
 use Rattle.traced.specs.Shares.{ShareView}
-use Rattle.traced.specs.Traced.{TracedView, IsServed, bytes_of, may_want}
+use Rattle.asking.specs.Asking.{bytes_of}
+use Rattle.traced.specs.Traced.{TracedView, IsServed, may_want}
 use Rattle.book.specs.Book.{BookView, IsLastAct, IsStepped, ServesAfter, ServesEvent}
 use Rattle.host.specs.Replies.{IsPnpReply, IsReplyTo, IsTagReply}
 

@@ -1,6 +1,6 @@
 -- What is told of a stack over a journal before its first event.
 use Rattle.std.proofs.Common.{◌≡◌, ◌≤◌, ℕ, List, [], length, map, Some, sym, ap, subst, ◌∙◌, arith}
-use Rattle.std.specs.Prelude.{All}
+use Rattle.std.specs.Prelude.{All, IsTrue}
 use Rattle.std.proofs.lemmas.List.Elements.{All-nil}
 use Rattle.srb.specs.declared.Entry.{Entry}
 use Rattle.srb.specs.Replaying.{Replays}
@@ -23,9 +23,9 @@ use Rattle.journaled.specs.Opening.{IsStarted, IsUnused}
 use Rattle.journaled.specs.Told.{IsTold}
 
 module _ (stack : ManagerView) (journal : JournalView) (started : IsStarted stack) (unused : IsUnused journal) where
-  pub kept_at_first : (disk : List (List ℕ)) (max_transfer : ℕ) → StandsIn stack journal → 1 ≤ max_transfer → Replays journal.medium.sector_size disk (entries_of journal) journal.medium.sectors
+  pub kept_at_first : (disk : List (List ℕ)) (max_transfer : ℕ) → StandsIn stack journal → 1 ≤ max_transfer → IsTrue stack.rules.keeps_bytes → Replays journal.medium.sector_size disk (entries_of journal) journal.medium.sectors
       → JournaledKept disk stack journal max_transfer 1
-  kept_at_first disk max_transfer stands some replays =
+  kept_at_first disk max_transfer stands some bytes replays =
       let same : journal.medium.sectors ≡ disk = subst (λ (es : List Entry). Replays journal.medium.sector_size disk es journal.medium.sectors) (ap entries_in unused.no_entry) replays in
       record {
         stands = stands;
@@ -35,6 +35,7 @@ module _ (stack : ManagerView) (journal : JournalView) (started : IsStarted stac
           many = sym (ap (λ (xs : List (List ℕ)). length xs) same) ∙ stands.sectors;
         };
         some = some;
+        bytes = bytes;
         counts = ap (λ (ls : List Label). next_behind 1 ls) started.first.no_labels ∙ sym (ap (λ (s : State). s.next_request) started.first.state);
         before = subst (λ (rs : List Reservation). All (IsBelow stack.state.next_request) rs) (sym unused.none_open) (All-nil (IsBelow stack.state.next_request));
       }

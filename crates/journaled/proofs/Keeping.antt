@@ -1,6 +1,6 @@
 -- What a stack over a journal keeps between two calls.
 use Rattle.std.proofs.Common.{◌≡◌, ℕ, List, [], ◌∷◌, Some, length, sym, ap, subst, ◌∙◌}
-use Rattle.std.specs.Prelude.{All}
+use Rattle.std.specs.Prelude.{All, IsTrue}
 use Rattle.machine.specs.declared.Label.{Label}
 use Rattle.machine.specs.declared.Label.TheVariants.{Call, Device, Answer as AnswerLabel, Cancel, Pause, Resume, Remove as RemoveLabel, Surprise, Removed as RemovedLabel}
 use Rattle.sector.specs.Extents.{IsSector}
@@ -32,6 +32,7 @@ stepped opening old new before after max_transfer next kept taken same stands co
     many = kept.disk.many ∙ ap (λ (r : Rules). r.disk_sectors) (sym same);
   };
   some = kept.some;
+  bytes = subst (λ (r : Rules). IsTrue r.keeps_bytes) (sym same) kept.bytes;
   counts = ap (λ (n : ℕ). next_behind n new.labels) (next_is opening old before max_transfer next kept taken) ∙ counts;
   before = below;
 }
@@ -61,6 +62,7 @@ noted opening stack new before after max_transfer next next' label kept takes ke
       map = kept.map;
       disk = record { whole = kept.disk.whole; many = kept.disk.many };
       some = kept.some;
+      bytes = kept.bytes;
       counts = counts takes.0 ∙ ap (λ (ls : List Label). next_behind next ls) (sym takes.1) ∙ kept.counts;
       before = given_below stack.state.next_request label before.reservations after.reservations gives kept.before;
     })

@@ -18,7 +18,8 @@ use Rattle.sector_journal.specs.declared.reservation.Reservation.{Reservation}
 use Rattle.sector_journal.specs.Journal.{Admits, GainsRoom, JournalView, Releases, without}
 use Rattle.journaled.specs.Shown.{IsBelow, over}
 use Rattle.journaled.specs.Acting.{BooksArmed, CameTo}
-use Rattle.journaled.specs.Right.{HoldsRoom, MakesRoom, WouldOpen, is_opened, kind_asked}
+use Rattle.asking.specs.Asking.{kind_asked}
+use Rattle.journaled.specs.Right.{HoldsRoom, MakesRoom, WouldOpen, is_opened}
 use Rattle.journaled.proofs.Numbering.{IsOpened, below_more, last_goes, none_goes, step_opens, step_rises}
 
 -- WHAT AN EVENT WOULD OPEN

@@ -2,13 +2,13 @@
 use Rattle.std.specs.Prelude.{◌≡◌, ◌⊎◌, ℕ, Bool, true, false, List, [], Option, Some, None}
 use Rattle.sector.specs.declared.Extent.{Extent}
 use Rattle.srb.specs.declared.Kind.{Kind}
-use Rattle.srb.specs.declared.Kind.TheVariants.{Read as ReadKind, Write as WriteKind, Flush as FlushKind}
 use Rattle.io_manager.specs.declared.Reply.{Reply}
 use Rattle.io_manager.specs.declared.Reply.TheVariants.{Refused, Request as Requested}
 use Rattle.io_manager.specs.declared.Refusal.TheVariants.{InsufficientResources}
 use Rattle.io_manager.specs.Shown.{ManagerView}
 use Rattle.compose.specs.declared.Event.{Event}
-use Rattle.compose.specs.declared.Event.TheVariants.{Read, Write, Flush, Act}
+use Rattle.compose.specs.declared.Event.TheVariants.{Act}
+use Rattle.asking.specs.Asking.{bytes_of, kind_asked}
 use Rattle.compose.specs.Right.{IsRight, opened_by}
 use Rattle.compose.specs.StepLaws.{IsTransferEvent}
 use Rattle.sector_journal.specs.declared.reservation.Reservation.{Reservation}
@@ -28,12 +28,6 @@ pub record StepsBooked (old : JournaledView) (event : Event) (reply : Reply) (ne
   pub books : BooksFor old event booked new.journal
   pub right : IsRight booked event reply new.stack
 
--- the caller's bytes
-abbrev pub bytes_of : Event → List ℕ
-bytes_of (Read handle offset buffer) = buffer
-bytes_of (Write handle offset bytes through) = bytes
-bytes_of _ = []
-
 -- the journal has no memory for the acts of a request: nothing happens
 pub record LacksRoom (old : JournaledView) (event : Event) (reply : Reply) (new : JournaledView) : Type 0 where
   pub is_transfer : IsTransferEvent event
@@ -46,13 +40,6 @@ abbrev pub IsServed : JournaledView → Event → Reply → JournaledView → Ty
 IsServed old event reply new = StepsBooked old event reply new ⊎ LacksRoom old event reply new
 
 -- THE JOURNAL'S ROOM
-
--- the kind of the request that an event asks for
-abbrev pub kind_asked : Event → Option Kind
-kind_asked (Read handle offset buffer) = Some ReadKind
-kind_asked (Write handle offset bytes through) = Some WriteKind
-kind_asked (Flush handle) = Some FlushKind
-kind_asked _ = None
 
 -- the event would open a request of this kind, on these sectors of the disk
 pub record WouldOpen (v : ManagerView) (event : Event) (kind : Kind) (extent : Extent) : Type 0 where

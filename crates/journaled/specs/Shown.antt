@@ -1,5 +1,5 @@
 -- What a stack over a journal shows.
-use Rattle.std.specs.Prelude.{◌≡◌, ◌≤◌, ◌<◌, ◌^◌, ℕ, ◌+◌, ◌-◌, min, List, [], ◌∷◌, IsFalse, All, length}
+use Rattle.std.specs.Prelude.{◌≡◌, ◌≤◌, ◌<◌, ◌^◌, ℕ, ◌+◌, ◌-◌, min, List, [], ◌∷◌, IsFalse, IsTrue, All, length}
 use Rattle.sector.specs.Extents.{IsSector}
 use Rattle.machine.specs.Map.{IsMap}
 use Rattle.io_manager.specs.Shown.{ManagerView}
@@ -44,6 +44,7 @@ pub record JournaledKept (opening : List (List ℕ)) (stack : ManagerView) (jour
   pub map : IsMap stack.rules.disk_sectors stack.rules.partitions
   pub disk : IsDiskOf opening stack
   pub some : 1 ≤ max_transfer
+  pub bytes : IsTrue stack.rules.keeps_bytes
   pub counts : next_behind next stack.labels ≡ stack.state.next_request
   pub before : All (IsBelow stack.state.next_request) journal.reservations
 

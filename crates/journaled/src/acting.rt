@@ -24,7 +24,7 @@ use srb::{Booked, Completion, Srb};
 use std::alloc::Global;
 
 /// SPC, "Sense key and sense code definitions": HARDWARE ERROR. How a piece fails that the journal doesn't let act.
-const HARDWARE_ERROR: Completion = Completion {
+pub const HARDWARE_ERROR: Completion = Completion {
     srb_status: 0x84,
     scsi_status: 0x02,
     sense: Some(Sense {

@@ -1,6 +1,6 @@
 //! The stack and its journal: what their user calls.
 
-ghost use Rattle.std.specs.Prelude.{◌≡◌, ◌≤◌, ◌∷◌, [], List, ℕ, MatchOption};
+ghost use Rattle.std.specs.Prelude.{◌≡◌, ◌≤◌, ◌∷◌, [], List, ℕ, IsTrue, MatchOption};
 ghost use Rattle.machine.specs.declared.Label.{Label as LabelOf};
 ghost use Rattle.srb.specs.Replaying.{Replays};
 ghost use Rattle.machine.specs.Settled.{Settled, IsFinished};
@@ -53,7 +53,7 @@ where
 }
 
 impl<M: Medium, N: Naming> Journaled<M, N> {
-    /// A stack that was just started over an adapter without sectors, and a journal of the sectors of its disk, in
+    /// A stack that was just started over an adapter without sectors that keeps the bytes of labels, and a journal of the sectors of its disk, in
     /// which nothing was entered or reserved yet. `max_transfer` is that of the stack's adapter, in sectors.
     pub fn new(
         stack: Stack<BookedAdapter>,
@@ -65,6 +65,7 @@ impl<M: Medium, N: Naming> Journaled<M, N> {
         requires unused { IsUnused journal }
         requires stands { StandsIn stack journal }
         requires some { 1 ≤ max_transfer }
+        requires bytes { IsTrue stack.rules.keeps_bytes }
         ensures stack { result.stack ≡ stack }
         ensures journal { result.journal ≡ journal }
         ensures told { (arrays : List (List (List ℕ))) × IsTold arrays [] result }

@@ -1,12 +1,12 @@
-//! The laws on the entries of a trace that a step goes by.
+//! The laws that a step goes by: on the entries of a trace, and on the numbers of calls.
 
 ghost use Rattle.compose.specs.Journaled.{ArmedMayBeBooked, BookedActsAddEntries, IdleActsKeepEntries};
 ghost use Rattle.compose.specs.Journaled.{StepsKeepEntries, StepsStayApart};
 ghost use Rattle.compose.specs.StepLaws.{StepsCallOnce, StepsOpenAsTold};
 ghost use Rattle.machine_laws.specs.NumberLaws.{CallsCount, CallsRise};
 
-/// Shows the caller which steps add an entry.
-pub(crate) fn laws_of_entries()
+/// Shows the caller which steps add an entry, which keep all, and what may be booked.
+pub fn laws_of_entries()
     ensures kept { StepsKeepEntries }
     ensures idle { IdleActsKeepEntries }
     ensures booked { BookedActsAddEntries }

@@ -20,3 +20,6 @@ mod laws;
 mod reserving;
 
 pub use crate::journaled::Journaled;
+pub use crate::laws::laws_of_entries;
+pub use acting::HARDWARE_ERROR;
+pub use reserving::give_back;

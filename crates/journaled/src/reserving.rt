@@ -1,22 +1,21 @@
 //! The events that are no act: where one opens a request, the journal has room for it first.
 
 ghost use Rattle.std.specs.Prelude.{◌≡◌, ◌≤◌, ◌+◌, ℕ, [], All, IfSome, MatchBool, MatchOption, None, OnErr, OnOk, Some};
-ghost use Rattle.io_manager.specs.declared.Refusal.TheVariants.{InsufficientResources};
-ghost use Rattle.io_manager.specs.declared.Reply.TheVariants.{Refused as RefusedReply};
 ghost use Rattle.machine.specs.Map.{IsMap};
 ghost use Rattle.compose.specs.Journaled.{IsNoAct};
 ghost use Rattle.compose.specs.StepLaws.{IsTransferEvent};
 ghost use Rattle.compose.specs.Right.{opened_by};
 ghost use Rattle.sector_journal.specs.Journal.{Releases};
-ghost use Rattle.journaled.specs.Right.{HoldsRoom, IsServed, MakesRoom, WouldOpen, bytes_of, is_opened, kind_asked};
+ghost use Rattle.journaled.specs.Right.{HoldsRoom, IsServed, MakesRoom, WouldOpen, is_opened};
 ghost use Rattle.journaled.specs.Shown.{IsBelow, KeepsEntries, StandsIn, next_behind, over};
 ghost use Rattle.journaled.specs.Told.{TellsOn};
 
 use crate::laws::{laws_of_entries, laws_of_numbers};
-use compose::{Event, Refusal, Reply, Stack};
+use asking::{kind_of, refused};
+use compose::{Event, Reply, Stack};
 use disk::Medium;
 use miniport::BookedAdapter;
-use sector::{Bytes, Extent};
+use sector::Extent;
 use sector_journal::{Journal, Naming};
 use srb::Kind;
 use std::alloc::{AllocError, Global};
@@ -27,19 +26,6 @@ struct Asked {
     kind: Kind,
     /// On the disk; of a flush it is empty.
     extent: Extent,
-}
-
-/// Returns what kind of request an event asks for.
-fn kind_of(event: &Event) -> Option<Kind>
-    ensures transfer { IfSome result (λ _. IsTransferEvent event.now) }
-    ensures kind { result ≡ kind_asked event.now }
-{
-    match event {
-        Event::Read { .. } => Some(Kind::Read),
-        Event::Write { .. } => Some(Kind::Write),
-        Event::Flush { .. } => Some(Kind::Flush),
-        _ => None,
-    }
 }
 
 /// The sectors of the disk that the request of an event would move, if it would open one now.
@@ -90,27 +76,12 @@ fn make_room<M: Medium, N: Naming>(
 }
 
 /// A call that opened no request needs no room.
-fn give_back<M: Medium, N: Naming>(journal: &mut Journal<M, N>, number: u64, reply: &Reply)
+pub fn give_back<M: Medium, N: Naming>(journal: &mut Journal<M, N>, number: u64, reply: &Reply)
     ensures keeps { KeepsEntries journal.old journal.new }
     ensures room { MatchBool (is_opened reply.now) (journal.new ≡ journal.old) (Releases journal.old number journal.new) }
 {
     if !matches!(reply, Reply::Request(_)) {
         journal.release(number);
-    }
-}
-
-/// The refusal of an event for want of memory, with the caller's bytes.
-fn refused(alloc: Global, event: Event) -> Reply
-    ensures { result ≡ RefusedReply InsufficientResources (bytes_of event) }
-{
-    let bytes = match event {
-        Event::Read { buffer, .. } => buffer,
-        Event::Write { bytes, .. } => bytes,
-        _ => Bytes::new(Vec::new(alloc)),
-    };
-    Reply::Refused {
-        refusal: Refusal::InsufficientResources,
-        bytes,
     }
 }
 

@@ -1,6 +1,6 @@
 -- A step of a book.
 use Rattle.std.proofs.Common.{◌≡◌, inl, inr, ℕ, zero, suc, replicate, max, ◌+◌, ◌-◌, ◌<◌, ◌≤◌, Bool, true, false, List, [], ◌∷◌, ◌++◌, length, Option, Some, None, Result, refl, sym, ap, ◌∙◌, subst, arith, length-append}
-use Rattle.std.specs.Prelude.{IsFalse, ◌⊎◌, Contains, IfSome, remove, slice_get}
+use Rattle.std.specs.Prelude.{IsFalse, IsTrue, ◌⊎◌, Contains, IfSome, remove, slice_get}
 use Rattle.std.proofs.lemmas.Option.{slice_get_within, get_or_from_slice_get}
 use Rattle.std.proofs.lemmas.List.Elements.{Contains-append_left, Contains-append_right}
 use Rattle.std.proofs.lemmas.List.Sorted.{Contains-permutation, IsPermutation-remove, IsPermutation-sym}
@@ -129,6 +129,7 @@ module _ (laws : Laws) (rules : Rules) (opening : State) (handles : List (Option
     sound_after no_handle room = record {
       same_rules = ap (λ v. v.rules) stack_is ∙ right.same_rules ∙ sound.same_rules;
       on_grid = sound.on_grid;
+      keeps_bytes = sound.keeps_bytes;
       as_many = sound.as_many;
       same_handles = ap (λ v. v.handles) stack_is ∙ right.handles no_handle ∙ sound.same_handles;
       taken = ap (λ v. v.labels) stack_is;
@@ -249,6 +250,7 @@ pub sound_first : (rules : Rules) (opening : State) (handles : List (Option Open
 sound_first rules opening handles count stack pages slots named first entries owners room most is numbers owner = record {
   same_rules = named.same_rules;
   on_grid = subst (λ (r : Rules). IsFalse r.any_cut) named.same_rules first.on_grid;
+  keeps_bytes = subst (λ (r : Rules). IsTrue r.keeps_bytes) named.same_rules first.keeps_bytes;
   as_many = named.as_many;
   same_handles = named.same_handles;
   taken = first.no_labels;
@@ -273,6 +275,7 @@ sound_with_room rules opening handles count stack pages slots pages' room ready 
     made = record {
       same_rules = sound.same_rules;
       on_grid = sound.on_grid;
+      keeps_bytes = sound.keeps_bytes;
       as_many = sound.as_many;
       same_handles = sound.same_handles;
       taken = sound.taken;
@@ -300,6 +303,7 @@ sound_booked rules opening handles count stack pages slots tag piece what stack'
     held = record {
       same_rules = sound.same_rules;
       on_grid = sound.on_grid;
+      keeps_bytes = sound.keeps_bytes;
       as_many = sound.as_many;
       same_handles = sound.same_handles;
       taken = sound.taken;
@@ -323,6 +327,7 @@ module _ (rules : Rules) (opening : State) (handles : List (Option OpenHandle)) 
   without at taken there = record {
     same_rules = sound.same_rules;
     on_grid = sound.on_grid;
+    keeps_bytes = sound.keeps_bytes;
     as_many = sound.as_many;
     same_handles = sound.same_handles;
     taken = sound.taken;

@@ -1,6 +1,6 @@
 -- Handles opened one after another.
 use Rattle.std.proofs.Common.{◌≡◌, ◌≢◌, ℕ, zero, suc, cond, ap₂, ◌+◌, ◌<◌, ◌≤◌, List, [], ◌∷◌, ◌++◌, length, Option, Some, None, option_map, slice_index_or, refl, sym, ap, ◌∙◌, subst, arith, length-append}
-use Rattle.std.specs.Prelude.{IsFalse, slice_get, Contains, count_by, is_some, nat_le}
+use Rattle.std.specs.Prelude.{IsFalse, IsTrue, slice_get, Contains, count_by, is_some, nat_le}
 use Rattle.std.proofs.lemmas.List.Sums.{sum_by-cons}
 use Rattle.std.proofs.lemmas.Bool.{leb-false}
 use Rattle.ntstatus.proofs.First.{none_first}
@@ -44,6 +44,7 @@ no_member answer is = absurd (let low = is.1 in omega arith)
 pub first_of_new : (v : ManagerView) → IsNew v → IsFirst v
 first_of_new v new = record {
   on_grid = new.on_grid;
+  keeps_bytes = new.keeps_bytes;
   no_labels = new.no_labels;
   first = ap (λ s. s.next_request) new.state;
   none_wait = ap awaited new.state;
@@ -55,6 +56,7 @@ first_of_new v new = record {
 first_keeps : (old new : ManagerView) → IsFirst old → KeepsAll old new → IsFirst new
 first_keeps old new first keeps = record {
   on_grid = subst (λ (r : Rules). IsFalse r.any_cut) (sym keeps.same_rules) first.on_grid;
+  keeps_bytes = subst (λ (r : Rules). IsTrue r.keeps_bytes) (sym keeps.same_rules) first.keeps_bytes;
   no_labels = keeps.no_labels;
   first = ap (λ s. s.next_request) keeps.same_state ∙ first.first;
   none_wait = ap awaited keeps.same_state ∙ first.none_wait;

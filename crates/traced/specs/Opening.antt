@@ -1,5 +1,5 @@
 -- Handles opened for the clients of a traced stack, of which nothing was asked yet.
-use Rattle.std.specs.Prelude.{◌≡◌, Contains, ◌<◌, ◌≤◌, ℕ, ◌+◌, List, [], Option, Some, None, length, slice_get, slice_index_or, IsFalse}
+use Rattle.std.specs.Prelude.{◌≡◌, Contains, ◌<◌, ◌≤◌, ℕ, ◌+◌, List, [], Option, Some, None, length, slice_get, slice_index_or, IsFalse, IsTrue}
 use Rattle.machine.specs.Rules.{Rules}
 use Rattle.machine.specs.State.{opening}
 use Rattle.machine_laws.specs.LabelsLeft.{labels_left}
@@ -14,9 +14,10 @@ use Rattle.traced.specs.declared.opening.OpenFault.{OpenFault}
 use Rattle.traced.specs.declared.opening.OpenFault.TheVariants.{Refused, NoMemory}
 use Rattle.traced.specs.Serving.{open_at}
 
--- nothing was asked of the stack yet, which cuts requests on the grid of the longest transfer
+-- nothing was asked of the stack yet, which cuts requests on the grid of the longest transfer, and keeps its labels' bytes
 pub record IsNew (v : ManagerView) : Type 0 where
   pub on_grid : IsFalse v.rules.any_cut
+  pub keeps_bytes : IsTrue v.rules.keeps_bytes
   pub arrays : List (List (List ℕ))
   pub state : v.state ≡ opening arrays
   pub no_handles : v.handles ≡ []
@@ -28,6 +29,7 @@ pub record IsNew (v : ManagerView) : Type 0 where
 -- handles were opened on the stack, and nothing else was asked of it
 pub record IsFirst (v : ManagerView) : Type 0 where
   pub on_grid : IsFalse v.rules.any_cut
+  pub keeps_bytes : IsTrue v.rules.keeps_bytes
   pub no_labels : v.labels ≡ []
   pub first : v.state.next_request ≡ 1
   pub none_wait : awaited v.state ≡ []

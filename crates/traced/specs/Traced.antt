@@ -16,6 +16,7 @@ use Rattle.io_manager.specs.Right.{FitsTogether}
 use Rattle.io_manager.specs.Shown.{ManagerView}
 use Rattle.compose.specs.declared.Event.{Event}
 use Rattle.compose.specs.declared.Event.TheVariants.{Read, Write, Flush, Mark, QueryRemove}
+use Rattle.asking.specs.Asking.{bytes_of}
 use Rattle.compose.specs.Right.{IsRight}
 use Rattle.traced.specs.Serving.{open_at}
 use Rattle.traced.specs.Entries.{labels_of, AreRowed}
@@ -95,12 +96,6 @@ may_want (Write handle offset bytes through) = true
 may_want (Flush handle) = true
 may_want QueryRemove = true
 may_want _ = false
-
--- the bytes that an event hands in
-abbrev pub bytes_of : Event → List ℕ
-bytes_of (Read handle offset buffer) = buffer
-bytes_of (Write handle offset bytes through) = bytes
-bytes_of _ = []
 
 -- memory for the trace was refused, before any step: nothing happens
 pub record IsWanting (old : TracedView) (event : Event) (reply : Reply) (new : TracedView) : Type 0 where

@@ -1,6 +1,6 @@
 //! A stack with its trace.
 
-ghost use Rattle.std.specs.Prelude.{◌≡◌, ◌<◌, ◌≤◌, ◌+◌, ◌∷◌, ℕ, List, [], max, slice_get, All, Contains, IfOk, IfSome, MatchOption, OnOk, Some, None, false, true, length, replicate, IsFalse};
+ghost use Rattle.std.specs.Prelude.{◌≡◌, ◌<◌, ◌≤◌, ◌+◌, ◌∷◌, ℕ, List, [], max, slice_get, All, Contains, IfOk, IfSome, MatchOption, OnOk, Some, None, false, true, length, replicate, IsFalse, IsTrue};
 ghost use Rattle.cancel_marks.specs.Marks.{standing, starting};
 ghost use Rattle.chronicle.specs.Claims.{AllStand};
 ghost use Rattle.machine.specs.Step.{Run};
@@ -8,8 +8,6 @@ ghost use Rattle.machine_laws.specs.LabelsLeft.{labels_left, RunsUseUp};
 ghost use Rattle.machine_laws.specs.NumberLaws.{CallsAwait, CallsCount, CallsRise};
 ghost use Rattle.compose.specs.declared.Event.TheVariants.{Mark};
 ghost use Rattle.io_manager.specs.declared.Reply.{Reply as ReplyView};
-ghost use Rattle.io_manager.specs.declared.Refusal.TheVariants.{InsufficientResources};
-ghost use Rattle.io_manager.specs.declared.Reply.TheVariants.{Refused as RefusedReply};
 ghost use Rattle.io_manager.specs.Right.{BooksPiece, FitsTogether, TakesAnswerOf, as_answer};
 ghost use Rattle.adapter.specs.View.{IsInOrder};
 ghost use Rattle.adapter.specs.Calls.{HasNoneFresh};
@@ -17,7 +15,7 @@ ghost use Rattle.adapter.specs.Booking.{IsArmed, handed};
 ghost use Rattle.machine_laws.specs.Reached.{IsReached};
 ghost use Rattle.compose.specs.Right.{IsRight, opened_by};
 ghost use Rattle.traced.specs.Opening.{AreClientsOf, IsFirst};
-ghost use Rattle.traced.specs.Traced.{AreLooked, AreRowsOf, IsTraced, IsCarried, IsLooked, IsServed, IsWanting, HasCounted, bytes_of, may_want};
+ghost use Rattle.traced.specs.Traced.{AreLooked, AreRowsOf, IsTraced, IsCarried, IsLooked, IsServed, IsWanting, HasCounted, may_want};
 ghost use Rattle.traced.specs.declared.TraceEntry.{TraceEntry as EntryView};
 ghost use Rattle.traced.specs.Entries.{IsAnswerAt, IsNoAnswerTo, calls, labels_of, places};
 ghost use Rattle.traced.specs.Pages.{noted_all};
@@ -40,11 +38,12 @@ use crate::share::Share;
 use crate::sizes::StackSizes;
 use crate::slots::Slots;
 use adapter::Adapter;
+use asking::refused;
 use cancel_marks::{Marks, Seat};
 use chronicle::{Claims, History, Whole};
-use compose::{Answer, Event, Refusal, Reply, Stack};
+use compose::{Answer, Event, Reply, Stack};
 use machine::Label;
-use sector::{Bytes, Extent};
+use sector::Extent;
 use srb::{Booked, Srb};
 use std::alloc::{AllocError, Global};
 use std::marker::Model;
@@ -213,6 +212,7 @@ fn note_all<A: Adapter, N: Naming>(
 )
     requires may { MayNoteAll (length N.partitions) client pages.old stack.old.labels }
     requires room { length stack.old.labels ≤ pages.old.room }
+    requires bytes { IsTrue stack.old.rules.keeps_bytes }
     ensures stack { stack.new ≡ record stack.old { labels = [] } }
     ensures pages { pages.new ≡ noted_all client pages.old stack.old.labels }
     ensures numbers { (k : ℕ) → number_at slots.new.numbers k ≡ unless_told stack.old.labels (number_at slots.old.numbers k) }
@@ -322,21 +322,6 @@ fn make_room<N: Naming>(
         return Err(AllocError);
     };
     pages.reserve(room)
-}
-
-// The refusal of an event for want of memory, with the caller's bytes.
-fn refused(alloc: Global, event: Event) -> Reply
-    ensures { result ≡ RefusedReply InsufficientResources (bytes_of event) }
-{
-    let bytes = match event {
-        Event::Read { buffer, .. } => buffer,
-        Event::Write { bytes, .. } => bytes,
-        _ => Bytes::new(Vec::new(alloc)),
-    };
-    Reply::Refused {
-        refusal: Refusal::InsufficientResources,
-        bytes,
-    }
 }
 
 impl<A: Adapter, N: Naming> Traced<A, N> {

@@ -1,5 +1,5 @@
 -- What a traced stack keeps.
-use Rattle.std.specs.Prelude.{◌≡◌, Contains, ◌<◌, ◌≤◌, ◌^◌, ℕ, List, [], Option, Some, IsFalse}
+use Rattle.std.specs.Prelude.{◌≡◌, Contains, ◌<◌, ◌≤◌, ◌^◌, ℕ, List, [], Option, Some, IsFalse, IsTrue}
 use Rattle.machine.specs.declared.Label.{Label}
 use Rattle.machine.specs.declared.Label.TheVariants.{Answer}
 use Rattle.machine.specs.Rules.{Rules}
@@ -30,6 +30,7 @@ pub record IsSound (rules : Rules) (opening : State) (handles : List (Option Ope
   pub same_rules : stack.rules ≡ rules
   -- requests are cut on the grid, so that no labels come without end
   pub on_grid : IsFalse rules.any_cut
+  pub keeps_bytes : IsTrue rules.keeps_bytes
   pub as_many : rules.open_requests ≡ Some count
   pub same_handles : stack.handles ≡ handles
   pub taken : stack.labels ≡ []

@@ -1,5 +1,5 @@
-use Rattle.std.proofs.Common.{◌≤◌, length, sym, subst}
-use Rattle.std.specs.Prelude.{IsFalse}
+use Rattle.std.proofs.Common.{◌≤◌, ◌∙◌, length, sym, subst}
+use Rattle.std.specs.Prelude.{IsFalse, IsTrue}
 use Rattle.machine.specs.Rules.{Rules}
 use Rattle.traced.specs.Pages.{PagesView}
 use Rattle.traced.proofs.Arming.{nowhere_joined}
@@ -18,6 +18,10 @@ note_all-requires-clause-may g c =
     let l = c.laws_of_numbers.ensures in
     let laws : Laws = record { rise = l.rise; count = l.count; await = l.waiting } in
     may_note laws _ _ _ _ _ _ _ _ _ _ _ _ c.requires.sound c.requires.client c.serve_right-reply.ensures.serves
+
+pub note_all-requires-clause-bytes : goal.note_all-requires-clause-bytes
+note_all-requires-clause-bytes g c =
+    subst (λ (r : Rules). IsTrue r.keeps_bytes) (sym (c.serve_right-reply.ensures.serves.same_rules ∙ c.requires.sound.same_rules)) c.requires.sound.keeps_bytes
 
 pub returns-clause-sound : goal.returns-clause-sound
 returns-clause-sound g c =
