@@ -13,7 +13,7 @@ use Rattle.machine.specs.Sending.{fits_ten, command_for}
 use Rattle.judge.specs.Deciding.{same_truth, places_at, places_if, flush_place, places_for}
 use Rattle.judge.proofs.Deciding.{decides_truth}
 
-abbrev extent : ℕ → ℕ → Extent
+abbrev pub extent : ℕ → ℕ → Extent
 extent first count = record { first = first; count = count }
 
 home_further : (rules : Rules) (p : Option ℕ) (i j : ℕ) → home rules p (i + j) ≡ home rules p i + j
@@ -27,7 +27,7 @@ home_further rules (Some p) i j = by (slice_get rules.partitions p)
 -- a transfer is asked for by a function of its address, its number of sectors and its access
 module _ (rules : Rules) (q : ClientRequest) where
   -- the places are where the address says
-  is_there : (lba first : ℕ) → home rules q.partition (first_sector rules q) ≤ lba → first ≡ lba - home rules q.partition (first_sector rules q)
+  pub is_there : (lba first : ℕ) → home rules q.partition (first_sector rules q) ≤ lba → first ≡ lba - home rules q.partition (first_sector rules q)
       → home rules q.partition (first_sector rules q + first) ≡ lba
   is_there lba first low e =
       let further : home rules q.partition (first_sector rules q + first) ≡ home rules q.partition (first_sector rules q) + first = home_further rules q.partition (first_sector rules q) first in
@@ -47,7 +47,7 @@ module _ (rules : Rules) (q : ClientRequest) where
   if_places P true lba count h = at_places P lba count (h refl)
   if_places P false lba count h = tt
 
-  found : (test : Bool) (first count : ℕ) → test ≡ true
+  pub found : (test : Bool) (first count : ℕ) → test ≡ true
       → places_if test rules q (home rules q.partition (first_sector rules q + first)) count ≡ Some (extent first count)
   found false first count e = cc (e)
   found true first count e = here _ _ (home_further rules q.partition (first_sector rules q) first)

@@ -1,6 +1,6 @@
 -- The rule that is named of a label is one that it breaks; none is named exactly where some step goes by it.
 use Rattle.std.proofs.Common.{◌≡◌, inl, inr, ℕ, List, [], ◌∷◌, Option, Some, None, refl, sym, subst}
-use Rattle.std.specs.Prelude.{◌↔◌, not, is_some, IsNone, IfSome, MatchOption, option_map, option_to_list, if◌then◌else◌}
+use Rattle.std.specs.Prelude.{◌↔◌, not, is_some, IfSome, MatchOption, option_map, option_to_list, if◌then◌else◌}
 use Rattle.std.specs.List.{AllByRecursion}
 use Rattle.srb.specs.declared.DeviceLabel.{DeviceLabel}
 use Rattle.srb.specs.declared.DeviceLabel.TheVariants as device
@@ -10,13 +10,12 @@ use Rattle.machine.specs.Rules.{Rules}
 use Rattle.machine.specs.State.{State, Owed, IsSame, opening}
 use Rattle.machine.specs.Numbers.{AreDistinct}
 use Rattle.machine.specs.Pieces.{ArePlaced}
-use Rattle.machine.specs.Step.{FreeStep, OwingStep, Step, Run}
+use Rattle.machine.specs.Step.{FreeStep, OwingStep, Step}
 use Rattle.machine.proofs.Same.{IsSame-refl, Step-same}
 use Rattle.machine.proofs.Numbers.{AreDistinct-opening, AreDistinct-Run}
 use Rattle.machine.proofs.Placed.{ArePlaced-opening, ArePlaced-Run}
 use Rattle.trace_line.specs.declared.Line.{Line}
 use Rattle.trace_line.specs.Lines.{LabelIsOf, LineStep}
-use Rattle.judge.specs.declared.start_rules.StartRule.{StartRule}
 use Rattle.judge.specs.declared.reading.Told.{Told}
 use Rattle.judge.specs.declared.label_rules.Rule.{Rule}
 use Rattle.judge.specs.declared.label_rules.Rule.TheVariants as rule

@@ -1,25 +1,21 @@
 -- Each state that the machine's step leads to is found, up to the order of requests and pieces.
-use Rattle.std.proofs.Common.{◌≡◌, ◌<◌, ◌≤◌, inl, inr, ℕ, ◌+◌, Bool, true, false, List, [], ◌∷◌, ◌++◌, Option, Some, None, refl, sym, ◌∙◌, ap, subst, arith, length, eqb, eq-eqb}
-use Rattle.std.specs.Prelude.{IsPermutation, Contains, Result, Ok, Err}
-use Rattle.std.specs.List.{flat_map}
+use Rattle.std.proofs.Common.{◌≡◌, inl, inr, ℕ, ◌+◌, List, [], ◌∷◌, ◌++◌, Option, Some, None, refl, sym, ◌∙◌, ap, subst}
+use Rattle.std.specs.Prelude.{IsPermutation, Result, Ok, Err}
 use Rattle.std.proofs.lemmas.List.Sorted.{IsPermutation-refl, IsPermutation-sym, IsPermutation-trans, IsPermutation-cons, IsPermutation-to_front}
 use Rattle.ntstatus.specs.declared.NtStatus.{NtStatus}
-use Rattle.sector.specs.declared.Extent.{Extent}
 use Rattle.cdb.specs.declared.Cdb.{Cdb}
 use Rattle.srb.specs.declared.Class.{Class}
 use Rattle.srb.specs.declared.Class.TheVariants.{Good, Busy, Bad}
 use Rattle.srb.specs.declared.DeviceLabel.{DeviceLabel}
 use Rattle.srb.specs.declared.DeviceLabel.TheVariants.{Start, Act, Fault, Return}
-use Rattle.srb.specs.Fate.{Fate, Fresh, Acted, Faulted, is_fresh}
-use Rattle.srb.specs.declared.Kind.{Kind}
-use Rattle.srb.specs.declared.Kind.TheVariants.{Read, Write, Flush}
+use Rattle.srb.specs.Fate.{Acted, Faulted}
 use Rattle.machine.specs.declared.ClientRequest.{ClientRequest}
 use Rattle.machine.specs.declared.Label.{Label}
 use Rattle.machine.specs.declared.Label.TheVariants.{Call, Device, Answer, Cancel, Pause, Resume, Remove, Surprise, Removed}
 use Rattle.machine.specs.Rules.{Rules}
-use Rattle.machine.specs.State.{Mark, Failed, Back, OpenRequest, Piece, Owed, State, IsSame}
-use Rattle.machine.specs.Calling.{refusal, Admits, Calls, AnswersRefused, new_request}
-use Rattle.machine.specs.Sending.{Starts, Acts, Faults, Returns, LeavesMarks, command_for, new_piece, sent, with_fate, given_back, status_of_completion}
+use Rattle.machine.specs.State.{Mark, OpenRequest, Piece, Owed, State, IsSame}
+use Rattle.machine.specs.Calling.{refusal, Admits, Calls, new_request}
+use Rattle.machine.specs.Sending.{Starts, Acts, Faults, Returns, LeavesMarks, command_for, new_piece, sent, with_fate, given_back}
 use Rattle.machine.specs.Answering.{AnswersWith}
 use Rattle.machine.specs.Holding.{Cancels, as_cancelled}
 use Rattle.machine.specs.Numbers.{AreDistinct, request_number, piece_number}

@@ -1,6 +1,6 @@
 -- Labels that are taken one by one.
-use Rattle.std.proofs.Common.{◌≡◌, ◌<◌, ◌≤◌, inl, inr, ℕ, zero, suc, ◌+◌, Bool, true, false, List, [], ◌∷◌, ◌++◌, Option, Some, None, refl, sym, ◌∙◌, ap, subst, arith, length, get_or, take, drop, map}
-use Rattle.std.specs.Prelude.{All, Any, Contains, IfSome, MatchOption, not, is_some, slice_get, if◌then◌else◌}
+use Rattle.std.proofs.Common.{◌≡◌, ◌<◌, ℕ, Bool, true, false, List, [], ◌∷◌, ◌++◌, Option, Some, None, refl, sym, ap, subst, arith, length, get_or, map}
+use Rattle.std.specs.Prelude.{Any, Contains, IfSome, MatchOption, not, is_some, slice_get, if◌then◌else◌}
 use Rattle.std.specs.List.{list_any}
 use Rattle.std.proofs.lemmas.Bool.{both_ways}
 use Rattle.std.proofs.lemmas.List.Folds.{Any-from_list_any}
@@ -10,13 +10,12 @@ use Rattle.machine.specs.Rules.{Rules}
 use Rattle.machine.specs.State.{State, IsSame, opening}
 use Rattle.machine.proofs.Same.{IsSame-refl}
 use Rattle.trace_line.specs.declared.Line.{Line}
-use Rattle.trace_line.specs.Lines.{LineStep, LineRun}
+use Rattle.trace_line.specs.Lines.{LineRun}
 use Rattle.judge.specs.declared.reading.Told.{Told}
-use Rattle.judge.specs.Next.{AreNext}
 use Rattle.judge.specs.Judging.{line_of, AreLinesReached, IsLineRun}
 use Rattle.judge.specs.declared.label_rules.Rule.{Rule}
 use Rattle.judge.specs.Breaking.{HasLineStep, IsReached, LineBreaks}
-use Rattle.judge.specs.Following.{JudgeView, HasTakenLines, GoesTo, AreAlike, IsLineRefused, AllReached, HasNoStep, BreaksThere, StopsAll, Goes, SomeGoes}
+use Rattle.judge.specs.Following.{JudgeView, HasTakenLines, GoesTo, IsLineRefused, AllReached, HasNoStep, BreaksSome, StopsAll, SomeGoes}
 use Rattle.judge.specs.LabelRuling.{IsToldBy, label_rule, goes_by, rule_of_first, rule_of_all}
 use Rattle.judge.proofs.Picking.{none_any}
 use Rattle.judge.proofs.Broken.{exactly, breaks}
@@ -72,13 +71,17 @@ module _ (j : JudgeView) where
   pub refused : (arrays : List (List (List ℕ))) (lines : List Line) (line : Line) (rule : Rule) → HasTakenLines j arrays lines → StopsAll j.rules j.states line rule → IsLineRefused j.rules arrays lines line rule
   refused arrays lines line rule h stops = record {
     no_run = λ run. none run.0 (run_split j.rules (opening arrays) lines (line ∷ []) run.0 run.1);
+    each = λ s run. stops.named s (arrays, map (λ (l : Line). l.label) lines, labels_run j.rules (opening arrays) lines s run) (stuck s run);
     broken = (stops.there.1, All-contains (LineRun j.rules (opening arrays) lines) j.states stops.there.1 h.reached.each (stops.there.0, stops.there.2, stops.there.3), stops.there.4);
   }
     where
-      none : (s' : State) → (mid : State) × LineRun j.rules (opening arrays) lines mid × LineRun j.rules mid (line ∷ []) s' → ⊥
-      none s' (mid, before, (after, step, same)) =
+      stuck : (mid : State) → LineRun j.rules (opening arrays) lines mid → HasNoStep j.rules line mid
+      stuck mid before (after, step) =
           let there : Any (IsSame mid) j.states = h.reached.all mid before in
           All-contains (HasNoStep j.rules line) j.states there.1 stops.none (there.0, there.2, there.3) (after, step_same mid there.1 after after there.4 (IsSame-refl after) j.rules line step)
+
+      none : (s' : State) → (mid : State) × LineRun j.rules (opening arrays) lines mid × LineRun j.rules mid (line ∷ []) s' → ⊥
+      none s' (mid, before, (after, step, same)) = stuck mid before (after, step)
 
 -- THE RULE THAT IS NAMED AT ALL STATES
 
@@ -93,6 +96,14 @@ module _ (rules : Rules) (line : Line) (told : Told) (is : IsToldBy line told) w
   no_step : (s : State) → IsReached rules s → goes_by rules told line.label s ≡ false → HasNoStep rules line s
   no_step s reached e step = both_ways _ e (ap (λ x. not (is_some x)) ((exactly rules s line told is reached).1 step))
 
+  -- where no step goes by the line a rule is named
+  named : (s : State) → IsReached rules s → HasNoStep rules line s → BreaksSome rules line s
+  named s reached none = by (label_rule rules s told line.label) refl (breaks rules s line told is reached)
+    where
+      by : (x : Option Rule) → label_rule rules s told line.label ≡ x → IfSome x (λ rule. LineBreaks rules s line rule) → BreaksSome rules line s
+      by None e h = absurd (none ((exactly rules s line told is reached).0 e))
+      by (Some rule) e h = (rule, h)
+
   stops : (states : List State) → AllReached rules states → list_any (goes_by rules told line.label) states ≡ false → 0 < length states
       → MatchOption (rule_of_first rules told line.label (slice_get states 0)) (SomeGoes rules states line) (StopsAll rules states line)
   stops [] reached none some = absurd (omega arith)
@@ -105,6 +116,7 @@ module _ (rules : Rules) (line : Line) (told : Told) (is : IsToldBy line told) w
       by None e h = absurd (both_ways _ (none_any (goes_by rules told line.label) (x ∷ xs) none x (0, omega arith, refl)) (ap (λ r. not (is_some r)) e))
       by (Some rule) e h = record {
         none = λ k d low. no_step (get_or (x ∷ xs) k d) (reached k d low) (none_any (goes_by rules told line.label) (x ∷ xs) none (get_or (x ∷ xs) k d) (Contains-get_or (x ∷ xs) k d low));
+        named = named;
         there = (0, x, omega arith, refl, h);
       }
 

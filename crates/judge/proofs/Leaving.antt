@@ -1,5 +1,5 @@
 -- What is named is left undone; nothing is named exactly where the state is settled.
-use Rattle.std.proofs.Common.{◌≡◌, ◌<◌, ◌≤◌, ℕ, Bool, true, false, List, [], ◌∷◌, Option, Some, None, refl, sym, ◌∙◌, ap, subst, arith, length, get_or}
+use Rattle.std.proofs.Common.{◌≡◌, ◌<◌, ◌≤◌, ℕ, Bool, true, false, List, [], ◌∷◌, Option, Some, None, refl, sym, ap, subst, arith, length, get_or}
 use Rattle.std.specs.Prelude.{◌==◌, ◌↔◌, is_none, not, nat_lt, nat_le, IsTrue, IsFalse, IsNone, All, Any, Contains, IfSome, MatchOption, slice_get, if◌then◌else◌}
 use Rattle.std.specs.Bool.{Decides}
 use Rattle.std.specs.List.{find, list_any}
@@ -7,7 +7,7 @@ use Rattle.std.proofs.lemmas.List.Folds.{Any-from_list_any}
 use Rattle.std.specs.Option.{option_or}
 use Rattle.std.proofs.lemmas.Bool.{both_ways, eqb-true, ltb-true, ltb-false, leb-true, leb-false, not-true, not-false}
 use Rattle.std.proofs.lemmas.List.{nil_from_length}
-use Rattle.std.proofs.lemmas.List.Elements.{All-contains, All-nil, Contains-get_or}
+use Rattle.std.proofs.lemmas.List.Elements.{All-contains, Contains-get_or}
 use Rattle.machine.specs.Rules.{Rules}
 use Rattle.machine.specs.State.{OpenRequest, Owed, State}
 use Rattle.machine.specs.Calling.{is_full}
@@ -15,7 +15,7 @@ use Rattle.machine.specs.Settled.{has_out, started_count, IsWithin, IsHeld, Wait
 use Rattle.judge.specs.Settling.{is_held, waits_if_cancelled, is_all_sent, is_held_back, has_more, is_at_work}
 use Rattle.judge.specs.declared.undone_rules.Undone.{Undone}
 use Rattle.judge.specs.declared.undone_rules.Undone.TheVariants as what
-use Rattle.judge.specs.LeftUndone.{LeftBy, IsHeldIn, IsUndone, IsSettled, Leaves}
+use Rattle.judge.specs.LeftUndone.{LeftBy, IsUndone, IsSettled, Leaves}
 use Rattle.judge.specs.Undoing.{failing, named, first_failing, owed_undone, window_undone, removing_undone, waiting_undone, unpaused_undone, idle_undone, sending_undone, served_undone, undone, is_settled, undone_at_all}
 use Rattle.judge.proofs.Deciding.{decides_true}
 use Rattle.judge.proofs.Picking.{found_pass, found_fail, none_any}

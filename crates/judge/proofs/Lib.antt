@@ -19,6 +19,7 @@ pub mod RefutingPieces
 pub mod Refuting
 pub mod Named
 pub mod NamedPieces
+pub mod Misfits
 pub mod NamedStarts
 pub mod ReadBlocks
 pub mod Broken

@@ -1,5 +1,5 @@
 -- Steps and runs by lines do not depend on the order of requests and pieces.
-use Rattle.std.proofs.Common.{◌≡◌, ℕ, List, [], ◌∷◌, ◌++◌, Option, Some, None, map}
+use Rattle.std.proofs.Common.{ℕ, List, [], ◌∷◌, ◌++◌, Option, Some, None, map}
 use Rattle.std.proofs.lemmas.List.Sorted.{IsPermutation-sym, IsPermutation-trans, IsPermutation-cons}
 use Rattle.srb.specs.declared.DeviceLabel.{DeviceLabel}
 use Rattle.srb.specs.declared.DeviceLabel.TheVariants.{Start, Act, Fault, Return}
@@ -7,11 +7,11 @@ use Rattle.machine.specs.declared.Label.{Label}
 use Rattle.machine.specs.declared.Label.TheVariants.{Device}
 use Rattle.machine.specs.Rules.{Rules}
 use Rattle.machine.specs.State.{State, IsSame}
-use Rattle.machine.specs.Step.{Step, Run}
+use Rattle.machine.specs.Step.{Run}
 use Rattle.machine.proofs.Same.{IsSame-refl, IsSame-sym, IsSame-trans, Step-same}
 use Rattle.trace_line.specs.declared.Line.{Line}
-use Rattle.judge.specs.Judging.{plain, all_plain}
-use Rattle.trace_line.specs.Lines.{HasPieceOf, StartIsOf, DeviceIsOf, LabelIsOf, LineStep, LineRun}
+use Rattle.judge.specs.Judging.{all_plain}
+use Rattle.trace_line.specs.Lines.{StartIsOf, DeviceIsOf, LabelIsOf, LineStep, LineRun}
 
 module _ (s t s' t' : State) (same : IsSame s t) (same' : IsSame s' t') where
   start_same : (owner : Option ℕ) → StartIsOf s s' owner → StartIsOf t t' owner

@@ -1,9 +1,9 @@
 -- The rule that is named is one that the label breaks; where none is named some step goes by the label.
-use Rattle.std.proofs.Common.{◌≡◌, ◌≢◌, ◌<◌, ◌≤◌, ◌⊎◌, inl, inr, ℕ, zero, suc, ◌+◌, Bool, true, false, List, [], ◌∷◌, Option, Some, None, refl, sym, ◌∙◌, ap, subst, arith, map, length, get_or, take, cond, ltb, eqb, eq-eqb}
-use Rattle.std.specs.Prelude.{◌==◌, ◌&&◌, ◌||◌, not, nat_lt, ◌↔◌, IsPermutation, All, Contains, IsTrue, IsFalse, MatchOption, slice_get, option_map, if◌then◌else◌}
-use Rattle.std.specs.List.{IsDistinct, find, list_all, list_any, position, position_or_len}
+use Rattle.std.proofs.Common.{◌≡◌, ◌≢◌, ◌<◌, ◌≤◌, inl, inr, ℕ, zero, suc, ◌+◌, Bool, true, false, List, [], ◌∷◌, Option, Some, None, refl, sym, ◌∙◌, ap, subst, arith, map, length, get_or, take, cond, ltb, eqb}
+use Rattle.std.specs.Prelude.{◌==◌, ◌&&◌, ◌||◌, not, ◌↔◌, IsPermutation, All, Contains, IsTrue, MatchOption, slice_get, option_map, if◌then◌else◌}
+use Rattle.std.specs.List.{IsDistinct, find, list_all, position, position_or_len}
 use Rattle.std.specs.Option.{option_or}
-use Rattle.std.proofs.lemmas.Bool.{both_ways, eqb-true, eqb-false, ltb-true, ltb-false, and_from, or_cases, or_parts, not-true, not_from_false, cases_Bool}
+use Rattle.std.proofs.lemmas.Bool.{both_ways, eqb-true, eqb-false, ltb-false, not-true}
 use Rattle.std.proofs.lemmas.List.{nil_from_length}
 use Rattle.std.proofs.lemmas.List.Elements.{All-contains, Contains-get_or}
 use Rattle.std.proofs.lemmas.List.Folds.{list_all_at}
@@ -14,7 +14,7 @@ use Rattle.machine.specs.declared.ClientRequest.{ClientRequest}
 use Rattle.machine.specs.declared.Label.{Label}
 use Rattle.machine.specs.declared.Label.TheVariants as label
 use Rattle.machine.specs.Rules.{Rules}
-use Rattle.machine.specs.State.{Mark, Untouched, Out, Done, Failed, Back, OpenRequest, Piece, Owed, State}
+use Rattle.machine.specs.State.{Mark, Untouched, Out, Done, Failed, Back, OpenRequest, Owed, State}
 use Rattle.machine.specs.Calling.{refusal, bytes_carried, new_request, Admits, Calls, AnswersRefused}
 use Rattle.machine.specs.Cutting.{mark_at}
 use Rattle.machine.specs.Settled.{is_out}
@@ -26,20 +26,16 @@ use Rattle.machine.proofs.Permuting.{first_unique}
 use Rattle.machine.proofs.Same.{IsSame-refl}
 use Rattle.judge.specs.Deciding.{has_number, same_status, is_given_up, is_worn_out, has_ended, is_cause}
 use Rattle.judge.specs.declared.label_rules.Difference.{Difference}
-use Rattle.judge.specs.declared.label_rules.OwedRule.{OwedRule}
 use Rattle.judge.specs.declared.label_rules.OwedRule.TheVariants as owed_rule
-use Rattle.judge.specs.declared.label_rules.CallRule.{CallRule}
 use Rattle.judge.specs.declared.label_rules.CallRule.TheVariants as call_rule
 use Rattle.judge.specs.declared.label_rules.AnswerRule.{AnswerRule}
 use Rattle.judge.specs.declared.label_rules.AnswerRule.TheVariants as answer_rule
-use Rattle.judge.specs.declared.label_rules.CancelRule.{CancelRule}
 use Rattle.judge.specs.declared.label_rules.CancelRule.TheVariants as cancel_rule
-use Rattle.judge.specs.declared.label_rules.RemovalRule.{RemovalRule}
 use Rattle.judge.specs.declared.label_rules.RemovalRule.TheVariants as removal_rule
-use Rattle.judge.specs.Breaking.{IsOpen, IsNotOpen, Differs, Owes, IsLowest, EndsWrong, BreaksOwed, BreaksOwedAnswer, BreaksCallOf, BreaksAnswerOf, BreaksCancelOf, IsSoNow, BreaksRemoval}
-use Rattle.judge.specs.Ruling.{difference, unpaid_rule, owing_rule, carried_rule, calling_rule, is_unended, is_undone, unended_rule, failure_of, status_due_of, status_due, status_rule, information_rule, bytes_rule, ending_rule, answering_rule_of, answering_rule, cancelling_rule_of, cancelling_rule, pausing_rule, paused_rule, surprising_rule, none_open_rule, removed_rule}
+use Rattle.judge.specs.Breaking.{IsOpen, Differs, Owes, IsLowest, EndsWrong, BreaksOwed, BreaksOwedAnswer, BreaksCallOf, BreaksAnswerOf, BreaksCancelOf, BreaksRemoval}
+use Rattle.judge.specs.Ruling.{difference, unpaid_rule, owing_rule, carried_rule, calling_rule, is_unended, is_undone, unended_rule, status_due, status_rule, information_rule, bytes_rule, ending_rule, answering_rule_of, answering_rule, cancelling_rule_of, cancelling_rule, pausing_rule, paused_rule, surprising_rule, none_open_rule, removed_rule}
 use Rattle.judge.proofs.Deciding.{decides_status, decides_ended, decides_cause, decides_all_ended}
-use Rattle.judge.proofs.Picking.{first_of, found_pass, found_fail, none_any}
+use Rattle.judge.proofs.Picking.{first_of, found_pass, found_fail}
 use Rattle.judge.proofs.Refuting.{EndsSo}
 
 -- THE ONE OF A NUMBER

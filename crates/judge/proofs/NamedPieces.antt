@@ -1,11 +1,10 @@
 -- The rule that is named of an act, a fault or a return is one that the label breaks; where none is named some step goes by the label.
-use Rattle.std.proofs.Common.{◌≡◌, ◌≢◌, ◌<◌, ◌≤◌, ℕ, ◌+◌, ◌*◌, Bool, true, false, List, [], ◌∷◌, Option, Some, None, refl, sym, ◌∙◌, ap, subst, arith, length, replicate, map, eqb, eq-eqb}
-use Rattle.std.specs.Prelude.{◌==◌, ◌&&◌, ◌||◌, not, IsPermutation, Contains, All, IsTrue, MatchOption, bit_and, slice_range, option_map, if◌then◌else◌}
+use Rattle.std.proofs.Common.{◌≡◌, ◌<◌, ◌≤◌, ℕ, ◌+◌, ◌*◌, Bool, true, false, List, ◌∷◌, Option, Some, None, refl, sym, ◌∙◌, ap, subst, arith, length, replicate, map, eq-eqb}
+use Rattle.std.specs.Prelude.{◌==◌, not, IsPermutation, Contains, All, MatchOption, bit_and, option_map, if◌then◌else◌}
 use Rattle.std.specs.List.{concat, find, list_all}
 use Rattle.std.proofs.lemmas.Bool.{both_ways, eqb-true, eqb-false, and_parts, and_from}
 use Rattle.std.proofs.lemmas.Bool.Decides.{Decides-eqb, Decides-by_and}
 use Rattle.std.proofs.lemmas.List.Elements.{All-contains}
-use Rattle.std.proofs.lemmas.Slice.Eq.{bytes_eq-Decides}
 use Rattle.std.specs.Bool.{Decides}
 use Rattle.sector.specs.Extents.{IsSector}
 use Rattle.srb.specs.declared.Completion.{Completion}
@@ -24,13 +23,11 @@ use Rattle.machine.proofs.Placed.{is_inside}
 use Rattle.judge.specs.Deciding.{has_number, is_piece, sectors_moved, is_bad}
 use Rattle.judge.specs.Next.{arrays_after}
 use Rattle.judge.specs.declared.label_rules.Difference.{Difference}
-use Rattle.judge.specs.declared.piece_rules.ActRule.{ActRule}
 use Rattle.judge.specs.declared.piece_rules.ActRule.TheVariants as act_rule
-use Rattle.judge.specs.declared.piece_rules.ReturnRule.{ReturnRule}
 use Rattle.judge.specs.declared.piece_rules.ReturnRule.TheVariants as return_rule
-use Rattle.judge.specs.Breaking.{IsOpen, Differs, IsAtAdapter, IsOwned, bytes_sent, AreWhole, BreaksAct, BreaksFault, BreaksReturnOf}
+use Rattle.judge.specs.Breaking.{IsOpen, Differs, IsAtAdapter, IsOwned, bytes_sent, BreaksAct, BreaksFault, BreaksReturnOf}
 use Rattle.judge.specs.Ruling.{difference}
-use Rattle.judge.specs.PieceRuling.{has_size, are_whole, length_moved, disk_rule, sent_rule, moving_rule, owned_rule, fresh_rule, acting_rule_of, acting_rule, faulting_rule_of, faulting_rule, has_acted, bad_rule, returning_rule_of, returned_rule, returning_rule}
+use Rattle.judge.specs.PieceRuling.{has_size, are_whole, length_moved, disk_rule, moving_rule, owned_rule, fresh_rule, acting_rule_of, acting_rule, faulting_rule_of, faulting_rule, returning_rule_of, returned_rule, returning_rule}
 use Rattle.judge.proofs.AllPlaces.{HasAllPlaces, HaveAllPlaces}
 use Rattle.judge.proofs.Moving.{Moves, MayMove, moves_so}
 use Rattle.judge.proofs.Picking.{first_of}

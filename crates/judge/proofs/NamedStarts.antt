@@ -1,9 +1,9 @@
 -- The rule that is named of a start is one that the label breaks; where none is named some step goes by the label.
-use Rattle.std.proofs.Common.{◌≡◌, ◌≢◌, ◌<◌, ◌≤◌, ◌⊎◌, inl, inr, ℕ, zero, suc, ◌+◌, ◌-◌, ◌%◌, Bool, true, false, List, [], ◌∷◌, Option, Some, None, refl, sym, ◌∙◌, ap, subst, arith, length, get_or, eqb, eq-eqb}
-use Rattle.std.specs.Prelude.{◌==◌, ◌&&◌, ◌||◌, not, nat_lt, nat_le, ◌↔◌, Result, Ok, Err, IsPermutation, Contains, All, Any, IsTrue, IsFalse, IfSome, MatchOption, slice_range, is_some, option_map, if◌then◌else◌}
+use Rattle.std.proofs.Common.{◌≡◌, ◌≢◌, ◌<◌, ◌≤◌, ◌⊎◌, inl, inr, ℕ, zero, suc, ◌+◌, ◌-◌, ◌%◌, Bool, true, false, List, ◌∷◌, Option, Some, None, refl, sym, ◌∙◌, ap, subst, arith, length, get_or, eqb, eq-eqb}
+use Rattle.std.specs.Prelude.{◌==◌, ◌&&◌, ◌||◌, not, nat_lt, Result, Ok, Err, IsPermutation, Contains, All, IsTrue, IsFalse, IfSome, MatchOption, slice_range, is_some, if◌then◌else◌}
 use Rattle.std.specs.List.{AllByRecursion, find, list_all, list_any, position}
 use Rattle.std.specs.Option.{option_or}
-use Rattle.std.proofs.lemmas.Bool.{both_ways, eqb-true, eqb-false, ltb-true, ltb-false, leb-true, le-leb, lt-ltb, and_parts, and_from, and_cases, or_parts, not-true, not-false, not_from_false}
+use Rattle.std.proofs.lemmas.Bool.{both_ways, eqb-true, eqb-false, ltb-true, ltb-false, leb-true, le-leb, lt-ltb, and_parts, and_from, or_parts, not-true, not-false}
 use Rattle.std.proofs.lemmas.Bool.Decides.{Decides-by_and}
 use Rattle.std.proofs.lemmas.List.Edits.{get_or-between, length-between}
 use Rattle.std.proofs.lemmas.List.Sorted.{IsPermutation-sym, Contains-permutation}
@@ -18,27 +18,28 @@ use Rattle.srb.specs.declared.Kind.TheVariants.{Read, Write, Flush}
 use Rattle.machine.specs.Rules.{Rules}
 use Rattle.machine.specs.State.{Mark, Untouched, Out, Done, Failed, Back, OpenRequest, Piece, State}
 use Rattle.machine.specs.Cutting.{mark_at, is_back, restarts_left}
-use Rattle.machine.specs.Sending.{HasTag, HasOtherTag, IsLowestFreeTag, is_unsent, IsUnsent, is_started, IsInTurn, MayStart, IsWholeRequest, IsSendable, Starts, command_for, new_piece, sent}
+use Rattle.machine.specs.Sending.{HasOtherTag, IsLowestFreeTag, is_unsent, IsUnsent, is_started, IsInTurn, MayStart, IsWholeRequest, IsSendable, Starts, command_for, new_piece, sent}
 use Rattle.machine.proofs.Same.{IsSame-reordered}
 use Rattle.judge.specs.Picking.{choices}
 use Rattle.judge.specs.Next.{started_by, started_of, started_each, started}
-use Rattle.trace_line.specs.Lines.{StartIsOf, HasPieceOf}
-use Rattle.judge.specs.Deciding.{has_number, has_tag, is_in_turn, places_for}
+use Rattle.trace_line.specs.Lines.{StartIsOf}
+use Rattle.judge.specs.Deciding.{has_number, has_tag, places_at, places_for}
 use Rattle.judge.specs.declared.start_rules.StartRule.{StartRule}
 use Rattle.judge.specs.declared.start_rules.StartRule.TheVariants as start_rule
 use Rattle.judge.specs.declared.start_rules.Misfit.{Misfit}
 use Rattle.judge.specs.declared.start_rules.Misfit.TheVariants as misfit
 use Rattle.judge.specs.declared.start_rules.Hindrance.{Hindrance}
 use Rattle.judge.specs.declared.start_rules.Hindrance.TheVariants as hindrance
-use Rattle.judge.specs.Breaking.{IsTold, Asks, NoneAsks, IsMisfit, IsAmong, Hinders, AllHeld, HoldsOne, BreaksBlock, BreaksStartOf}
+use Rattle.judge.specs.Breaking.{IsTold, Asks, NoneAsks, HasBlocks, IsOfKind, IsMisfitOf, IsMisfit, fua_of, IsAmong, Hinders, AllHeld, BreaksBlock, BreaksStartOf}
 use Rattle.judge.specs.StartRuling.{lowest_free, used_rule, lower_rule, tag_rule, is_inside, asked_inside, is_told, asked, flag_hindrance, is_before, turn_hindrance, is_sent, sent_as, sent_hindrance, grid_hindrance, whole_hindrance, cut_hindrance, places_hindrance, hindrance_of, same_kind, has_kind, kind_of, is_in_form, span_of, is_in_range, has_blocks, blocks_misfit, kind_misfit, misfit_of, free_places, startable, may_go, is_asked, held_by_one, held_rule, owner_rule, asked_rule, command_rule, block_rule, starting_rule}
 use Rattle.judge.specs.LabelRuling.{IsBlockOf, IsReadAs}
 use Rattle.judge.proofs.AllPlaces.{HasAllPlaces, HaveAllPlaces}
 use Rattle.judge.proofs.Deciding.{decides_tag, decides_turn, decides_true}
 use Rattle.judge.proofs.Asking.{places_ask, places_found}
+use Rattle.judge.proofs.Misfits.{kind_is, kind_same, blocks_of, blocks_so, asks_at, out_of_range}
 use Rattle.judge.proofs.Picking.{first_of, unplaced, to_front, all_flat_map, choices_are, found_pass, found_fail, none_any}
 use Rattle.judge.proofs.RefutingPieces.{hinders}
-use Rattle.judge.proofs.Named.{found_there, found_nowhere, all_passed, either}
+use Rattle.judge.proofs.Named.{all_passed, either}
 use Rattle.judge.proofs.NamedPieces.{flush_places}
 
 -- TAGS
@@ -388,32 +389,68 @@ module _ (rules : Rules) (s : State) where
       kind_fits kind none o there told same =
           both_ways _ (none_any (has_kind owner kind) s.requests none o there) (and_from _ _ (told_so owner o told) (ap (same_kind kind) same ∙ kind_itself kind))
 
-      misfit_is : IsMisfit s owner (misfit_of rules owner s.requests command)
-      misfit_is = by_form (is_in_form rules command)
-        where
-          blocks : (kind : Kind) (found : Option OpenRequest) → find (has_blocks rules owner kind (span_of command)) s.requests ≡ found → IsMisfit s owner (blocks_misfit (span_of command) found)
-          blocks kind None e = tt
-          blocks kind (Some o) e =
-              let h : Contains s.requests o × (has_blocks rules owner kind (span_of command) o ≡ true) = found_pass (has_blocks rules owner kind (span_of command)) s.requests o e in
-              (o, h.0, is_so owner o (and_parts _ _ (and_parts _ _ h.1).0).0, refl, refl)
-
-          by_kind : (kind : Kind) (r : Bool) (k : Bool) → list_any (has_kind owner kind) s.requests ≡ k
-              → IsMisfit s owner (if not r then misfit.Range else (if not k then misfit.Kind kind else blocks_misfit (span_of command) (find (has_blocks rules owner kind (span_of command)) s.requests)))
-          by_kind kind false k e = tt
-          by_kind kind true false e = kind_fits kind e
-          by_kind kind true true e = blocks kind (find (has_blocks rules owner kind (span_of command)) s.requests) refl
-
-          by_command : (kind : Option Kind) → IsMisfit s owner (kind_misfit rules owner s.requests (span_of command) kind)
-          by_command None = tt
-          by_command (Some kind) = by_kind kind (is_in_range kind (span_of command)) (list_any (has_kind owner kind) s.requests) refl
-
-          by_form : (b : Bool) → IsMisfit s owner (if not b then misfit.Form else kind_misfit rules owner s.requests (span_of command) (kind_of command))
-          by_form false = tt
-          by_form true = by_command (kind_of command)
-
       none_asks : find (is_asked rules owner command) s.requests ≡ None → NoneAsks rules s owner block
       none_asks e o places asks =
           both_ways _ (found_fail (is_asked rules owner command) s.requests e o asks.is_there) (ap is_some (found_asked o places asks).0)
+
+      told_kind : (kind : Kind) (o : OpenRequest) → has_kind owner kind o ≡ true → IsTold owner o × (kind ≡ o.request.kind)
+      told_kind kind o h = (is_so owner o (and_parts _ _ h).0, kind_same kind o.request.kind (and_parts _ _ h).1)
+
+      -- a request that has the blocks of a command in its form would ask for it, had it the same access
+      fua_differs : NoneAsks rules s owner block → is_in_form rules command ≡ true → (kind : Kind) → kind_of command ≡ Some kind → is_in_range kind (span_of command) ≡ true
+          → (o : OpenRequest) → Contains s.requests o → has_blocks rules owner kind (span_of command) o ≡ true → fua_of command ≢ o.request.through
+      fua_differs none form kind k range o there h same =
+          let parts : (has_kind owner kind o ≡ true) × (is_some (asked_inside o (places_at rules o.request (span_of command).first (span_of command).count)) ≡ true) = and_parts _ _ h in
+          let is_kind : kind ≡ o.request.kind = (told_kind kind o parts.0).1 in
+          let has : HasBlocks rules o (span_of command) = blocks_of rules o (span_of command) parts.1 in
+          let at : places_for rules o.request o.request.kind command ≡ places_at rules o.request (span_of command).first (span_of command).count =
+          asks_at rules o.request o.request.kind command (subst (λ (x : Kind). kind_of command ≡ Some x) is_kind k) form (subst (λ (x : Kind). is_in_range x (span_of command) ≡ true) is_kind range) has.some same in
+          let is_asked : asked rules owner command o ≡ asked_inside o (places_at rules o.request (span_of command).first (span_of command).count) =
+          ap (λ b. if b then asked_inside o (places_for rules o.request o.request.kind command) else None) (and_parts _ _ parts.0).0 ∙ ap (asked_inside o) at in
+          let found : (places : Extent) × (asked_inside o (places_at rules o.request (span_of command).first (span_of command).count) ≡ Some places) = some_is _ parts.1 in
+          none o found.0 (asks_found o found.0 there (is_asked ∙ found.1)).0
+
+      abbrev Misfits : Misfit → Type 0
+      Misfits m = IsMisfitOf rules s owner command m
+
+      module _ (none : NoneAsks rules s owner block) (form : is_in_form rules command ≡ true) (kind : Kind) (k : kind_of command ≡ Some kind) where
+        lacks : find (has_blocks rules owner kind (span_of command)) s.requests ≡ None → (o : OpenRequest) → IsOfKind s owner command o → ¬ (HasBlocks rules o (span_of command))
+        lacks e o of has =
+            let same : kind ≡ o.request.kind = kind_is (sym k ∙ of.is_kind) in
+            both_ways _ (found_fail (has_blocks rules owner kind (span_of command)) s.requests e o of.is_there)
+            (and_from _ _ (and_from _ _ (told_so owner o of.is_told) (ap (same_kind kind) (sym same) ∙ kind_itself kind)) (blocks_so rules o (span_of command) has))
+
+        blocks : is_in_range kind (span_of command) ≡ true → (found : Option OpenRequest) → find (has_blocks rules owner kind (span_of command)) s.requests ≡ found → Misfits (blocks_misfit (span_of command) found)
+        blocks range None e = (refl, refl, lacks e)
+        blocks range (Some o) e =
+            let h : Contains s.requests o × (has_blocks rules owner kind (span_of command) o ≡ true) = found_pass (has_blocks rules owner kind (span_of command)) s.requests o e in
+            let told : IsTold owner o × (kind ≡ o.request.kind) = told_kind kind o (and_parts _ _ h.1).0 in (
+              o,
+              record { is_there = h.0; is_told = told.0; is_kind = subst (λ (x : Kind). kind_of command ≡ Some x) told.1 k },
+              refl,
+              blocks_of rules o (span_of command) (and_parts _ _ h.1).1,
+              refl,
+              fua_differs none form kind k range o h.0 h.1,
+            )
+
+        by_kind : (r : Bool) → is_in_range kind (span_of command) ≡ r → (any : Bool) → list_any (has_kind owner kind) s.requests ≡ any
+            → Misfits (if not r then misfit.Range else (if not any then misfit.Kind kind else blocks_misfit (span_of command) (find (has_blocks rules owner kind (span_of command)) s.requests)))
+        by_kind false r any e =
+            let flush : kind ≡ Flush = out_of_range kind (span_of command) r in
+            (subst (λ (x : Kind). kind_of command ≡ Some x) flush k, subst (λ (x : Kind). is_in_range x (span_of command) ≡ false) flush r)
+        by_kind true r false e = (k, kind_fits kind e)
+        by_kind true r true e = blocks r (find (has_blocks rules owner kind (span_of command)) s.requests) refl
+
+      misfit_is : NoneAsks rules s owner block → IsMisfit rules s owner block (misfit_of rules owner s.requests command)
+      misfit_is none = (command, means, by_form (is_in_form rules command) refl)
+        where
+          by_command : is_in_form rules command ≡ true → (kind : Option Kind) → kind_of command ≡ kind → Misfits (kind_misfit rules owner s.requests (span_of command) kind)
+          by_command form None k = k
+          by_command form (Some kind) k = by_kind none form kind k (is_in_range kind (span_of command)) refl (list_any (has_kind owner kind) s.requests) refl
+
+          by_form : (b : Bool) → is_in_form rules command ≡ b → Misfits (if not b then misfit.Form else kind_misfit rules owner s.requests (span_of command) (kind_of command))
+          by_form false e = e
+          by_form true e = by_command e (kind_of command) refl
 
       held_named : list_any (may_go rules s owner command) s.requests ≡ false → (o : OpenRequest) → Contains s.requests o → is_asked rules owner command o ≡ true → MatchOption (held_rule rules s o (asked rules owner command o)) CanStart Broken
       held_named none o there is = by (asked rules owner command o) refl is
@@ -431,12 +468,12 @@ module _ (rules : Rules) (s : State) where
       -- no open request has a number that none was found by
       unasked_named : NoneAsks rules s owner block → (told : Option ℕ) → owner ≡ told
           → MatchOption (option_or (owner_rule s.requests told) (Some (start_rule.NotAsked (misfit_of rules owner s.requests command)))) CanStart Broken
-      unasked_named none None e = (none, misfit_is)
+      unasked_named none None e = (none, misfit_is none)
       unasked_named none (Some r) e = by (list_any (has_number r) s.requests) refl
         where
           by : (b : Bool) → list_any (has_number r) s.requests ≡ b
               → MatchOption (option_or (if b then None else Some (start_rule.NotOpen r)) (Some (start_rule.NotAsked (misfit_of rules owner s.requests command)))) CanStart Broken
-          by true f = (none, misfit_is)
+          by true f = (none, misfit_is none)
           by false f = (e, λ o there same. both_ways _ (none_any (has_number r) s.requests f o there) (eq-eqb _ _ same))
 
       asked_named : list_any (may_go rules s owner command) s.requests ≡ false → (found : Option OpenRequest) → find (is_asked rules owner command) s.requests ≡ found → MatchOption (asked_rule rules s owner command found) CanStart Broken

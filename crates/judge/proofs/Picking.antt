@@ -1,6 +1,6 @@
 -- Taking one item out of a list, by its number or by choice.
-use Rattle.std.proofs.Common.{◌≡◌, ◌<◌, ◌≤◌, ◌⊎◌, inl, inr, ℕ, zero, suc, Bool, true, false, List, [], ◌∷◌, ◌++◌, Option, Some, None, refl, sym, ◌∙◌, ap, subst, arith, map, length, get_or, cond, eqb, eq-eqb}
-use Rattle.std.specs.Prelude.{◌||◌, IsPermutation, All, Contains, IfSome, option_to_list, if◌then◌else◌}
+use Rattle.std.proofs.Common.{◌≡◌, ◌<◌, ◌⊎◌, inl, inr, ℕ, zero, suc, Bool, true, false, List, [], ◌∷◌, ◌++◌, Option, Some, None, refl, sym, ◌∙◌, ap, subst, arith, map, length, get_or, cond, eqb, eq-eqb}
+use Rattle.std.specs.Prelude.{IsPermutation, All, Contains, IfSome, option_to_list, if◌then◌else◌}
 use Rattle.std.specs.List.{IsDistinct, AllByRecursion, find, list_any, position_or_len, remove, flat_map}
 use Rattle.std.proofs.lemmas.Bool.{both_ways, eqb-true, or_parts}
 use Rattle.std.proofs.lemmas.List.{length-map, get_or-map}

@@ -1,15 +1,14 @@
 -- Labels are lines that name no request.
-use Rattle.std.proofs.Common.{◌≡◌, ◌<◌, ℕ, ◌+◌, List, [], ◌∷◌, ◌++◌, refl, sym, ap, subst, arith, length, map, take, drop}
-use Rattle.std.specs.Prelude.{All, Any}
+use Rattle.std.proofs.Common.{◌≡◌, ◌<◌, ℕ, List, [], ◌∷◌, ◌++◌, refl, sym, ap, subst, arith, length, take, drop}
+use Rattle.std.specs.Prelude.{Any}
 use Rattle.std.specs.List.{flat_map}
 use Rattle.std.proofs.lemmas.List.{take-append-drop}
 use Rattle.std.proofs.lemmas.List.Elements.{All-weaker}
 use Rattle.machine.specs.declared.Label.{Label}
 use Rattle.machine.specs.Rules.{Rules}
 use Rattle.machine.specs.State.{State, IsSame, opening}
-use Rattle.machine.specs.Step.{Step, Run}
+use Rattle.machine.specs.Step.{Run}
 use Rattle.machine.proofs.Same.{IsSame-refl}
-use Rattle.trace_line.specs.declared.Line.{Line}
 use Rattle.trace_line.specs.Lines.{LineRun}
 use Rattle.judge.specs.declared.label_rules.Rule.{Rule}
 use Rattle.judge.specs.declared.reading.Told.{Told}
@@ -64,6 +63,7 @@ refuses_plain j label rule h = λ arrays labels t.
     let refused = h arrays (all_plain labels) (taken_lines j arrays labels t) in
     record {
       no_run = λ run. refused.no_run (run.0, subst (λ ls. LineRun j.rules (opening arrays) ls run.0) (plain_more labels label) (plain_run j.rules (opening arrays) (labels ++ label ∷ []) run.0 run.1));
+      each = λ s run. refused.each s (plain_run j.rules (opening arrays) labels s run);
       broken = (refused.broken.0, run_plain j.rules (opening arrays) labels refused.broken.0 refused.broken.1, refused.broken.2);
     }
 

@@ -1,12 +1,11 @@
 -- What the block of a start is read as.
-use Rattle.std.proofs.Common.{◌≡◌, ℕ, List, Option, Some, None, refl, sym, ◌∙◌, ap, subst}
-use Rattle.std.specs.Prelude.{◌↔◌, Result, Ok, Err, MatchOption, slice_get}
+use Rattle.std.proofs.Common.{◌≡◌, ℕ, List, Option, Some, None, sym, ◌∙◌, ap, subst}
+use Rattle.std.specs.Prelude.{Ok, Err, MatchOption, slice_get}
 use Rattle.cdb.specs.declared.Cdb.{Cdb}
 use Rattle.cdb.specs.declared.CdbFault.{CdbFault}
 use Rattle.cdb.specs.Meaning.{IsPlain, Means}
 use Rattle.cdb.specs.Faults.{HasFault}
 use Rattle.judge.specs.declared.label_rules.Difference.{Difference}
-use Rattle.judge.specs.declared.start_rules.StartRule.{StartRule}
 use Rattle.judge.specs.declared.start_rules.StartRule.TheVariants as start_rule
 use Rattle.judge.specs.Breaking.{BreaksBlock, Differs}
 use Rattle.judge.specs.Ruling.{difference}

@@ -1,9 +1,8 @@
 -- A rule that a label breaks refutes each step by it.
-use Rattle.std.proofs.Common.{◌≡◌, ◌≢◌, ◌<◌, inl, inr, ℕ, zero, suc, List, [], ◌∷◌, Option, Some, None, refl, sym, ◌∙◌, ap, subst, arith, length, get_or}
-use Rattle.std.specs.Prelude.{◌↔◌, IsPermutation, Contains, All, IsTrue, IsFalse, slice_get}
+use Rattle.std.proofs.Common.{◌≡◌, ◌<◌, inl, inr, ℕ, zero, suc, List, [], ◌∷◌, Option, Some, None, sym, ◌∙◌, ap, subst, arith, length, get_or}
+use Rattle.std.specs.Prelude.{◌↔◌, Contains, All, IsTrue, IsFalse, slice_get}
 use Rattle.std.specs.List.{list_all}
 use Rattle.std.proofs.lemmas.Bool.{both_ways}
-use Rattle.std.proofs.lemmas.List.Sorted.{IsPermutation-sym, Contains-permutation}
 use Rattle.std.proofs.lemmas.List.Elements.{All-contains, Contains-get_or}
 use Rattle.std.proofs.lemmas.List.Folds.{list_all_at}
 use Rattle.ntstatus.specs.declared.NtStatus.{NtStatus}
@@ -17,7 +16,7 @@ use Rattle.machine.specs.State.{Mark, Untouched, Out, Done, Failed, Back, OpenRe
 use Rattle.machine.specs.Calling.{Admits, Calls, AnswersRefused}
 use Rattle.machine.specs.Cutting.{mark_at}
 use Rattle.machine.specs.Answering.{is_done, Cause, HasEnded, HasCause, AnswersWith, answer_bytes, information}
-use Rattle.machine.specs.Holding.{Cancels, Pauses, Resumes, Removes, Surprises, Ends}
+use Rattle.machine.specs.Holding.{Cancels, Pauses, Ends}
 use Rattle.machine.specs.Step.{Step}
 use Rattle.judge.specs.declared.label_rules.Rule.{Rule}
 use Rattle.judge.specs.declared.label_rules.Rule.TheVariants as rule
@@ -34,7 +33,7 @@ use Rattle.judge.specs.declared.label_rules.CancelRule.{CancelRule}
 use Rattle.judge.specs.declared.label_rules.CancelRule.TheVariants as cancel_rule
 use Rattle.judge.specs.declared.label_rules.RemovalRule.{RemovalRule}
 use Rattle.judge.specs.declared.label_rules.RemovalRule.TheVariants as removal_rule
-use Rattle.judge.specs.Breaking.{IsOpen, EndsWrong, BreaksOwedAnswer, BreaksOwed, IsOwedFirst, BreaksCallOf, BreaksCall, BreaksAnswerOf, BreaksAnswer, BreaksCancelOf, BreaksCancel, IsSoNow, IsOfPause, IsOfEnd, BreaksRemoval, BreaksStart, BreaksActing, BreaksReturn, Breaks, LineBreaks, BreakingRefutes, LineBreakingRefutes}
+use Rattle.judge.specs.Breaking.{IsOpen, EndsWrong, BreaksOwedAnswer, BreaksOwed, IsOwedFirst, BreaksCallOf, BreaksCall, BreaksAnswerOf, BreaksAnswer, BreaksCancelOf, BreaksCancel, IsSoNow, IsOfPause, IsOfEnd, BreaksRemoval, BreaksStart, BreaksActing, BreaksReturn, LineBreaks, BreakingRefutes, LineBreakingRefutes}
 use Rattle.trace_line.specs.declared.Line.{Line}
 use Rattle.trace_line.specs.Lines.{LabelIsOf, LineStep}
 use Rattle.judge.specs.Judging.{plain}

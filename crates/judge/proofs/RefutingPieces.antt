@@ -1,6 +1,6 @@
 -- A rule that a label of the adapter breaks refutes each step by it.
-use Rattle.std.proofs.Common.{◌≡◌, ◌≢◌, ◌<◌, ◌≤◌, ℕ, ◌+◌, ◌-◌, ◌*◌, ◌%◌, List, [], ◌∷◌, Option, Some, None, refl, sym, ◌∙◌, ap, subst, arith, length, get_or, cond, Bool, true, false, zero, suc, ◌++◌}
-use Rattle.std.specs.Prelude.{IsPermutation, Contains, All, IsTrue, IsFalse, slice_get, slice_range, if◌then◌else◌}
+use Rattle.std.proofs.Common.{◌≡◌, ◌≢◌, ◌<◌, ◌≤◌, ℕ, ◌+◌, ◌-◌, ◌*◌, ◌%◌, List, [], ◌∷◌, Option, Some, None, refl, sym, ◌∙◌, ap, subst, arith, length, get_or, true, zero, suc}
+use Rattle.std.specs.Prelude.{IsPermutation, Contains, All, IsTrue, slice_get, slice_range, if◌then◌else◌}
 use Rattle.std.specs.List.{concat}
 use Rattle.std.proofs.lemmas.Bool.{both_ways}
 use Rattle.std.proofs.lemmas.List.Edits.{get_or-between, length-between}
@@ -8,19 +8,15 @@ use Rattle.std.proofs.lemmas.List.Sorted.{IsPermutation-sym, IsPermutation-trans
 use Rattle.std.proofs.lemmas.List.Elements.{All-contains}
 use Rattle.sector.specs.declared.Extent.{Extent}
 use Rattle.sector.specs.Extents.{IsSector}
-use Rattle.cdb.specs.declared.Cdb.{Cdb}
-use Rattle.cdb.specs.Meaning.{Means}
-use Rattle.srb.specs.declared.Completion.{Completion}
 use Rattle.srb.specs.declared.Class.{Class}
 use Rattle.srb.specs.declared.Class.TheVariants.{Good, Busy, Bad}
-use Rattle.srb.specs.Fate.{Fate, Fresh, Acted}
+use Rattle.srb.specs.Fate.{Fresh}
 use Rattle.srb.specs.declared.Kind.{Kind}
 use Rattle.srb.specs.declared.Kind.TheVariants.{Read, Write, Flush}
-use Rattle.machine.specs.declared.ClientRequest.{ClientRequest}
 use Rattle.machine.specs.Rules.{Rules, is_transfer}
 use Rattle.machine.specs.State.{Mark, Untouched, Out, Done, Failed, Back, OpenRequest, Piece, State}
 use Rattle.machine.specs.Cutting.{mark_at, is_back, restarts_left}
-use Rattle.machine.specs.Sending.{HasTag, HasOtherTag, is_unsent, IsUnsent, is_started, IsInTurn, MayStart, IsSendable, Starts, new_piece, sectors_at, Transfers, IsFreshPiece, Acts, Faults, LeavesMarks, Returns}
+use Rattle.machine.specs.Sending.{HasOtherTag, is_unsent, IsUnsent, is_started, IsInTurn, MayStart, IsSendable, Starts, new_piece, Transfers, IsFreshPiece, Acts, Faults, LeavesMarks, Returns}
 use Rattle.machine.specs.Answering.{is_done}
 use Rattle.judge.specs.declared.start_rules.StartRule.{StartRule}
 use Rattle.judge.specs.declared.start_rules.StartRule.TheVariants as start_rule
@@ -30,8 +26,8 @@ use Rattle.judge.specs.declared.piece_rules.ActRule.{ActRule}
 use Rattle.judge.specs.declared.piece_rules.ActRule.TheVariants as act_rule
 use Rattle.judge.specs.declared.piece_rules.ReturnRule.{ReturnRule}
 use Rattle.judge.specs.declared.piece_rules.ReturnRule.TheVariants as return_rule
-use Rattle.judge.specs.Breaking.{IsOpen, IsTold, Asks, Hinders, BreaksStartOf, IsAtAdapter, IsOwned, length_due, bytes_sent, AreWhole, IsFaithfulRead, ActsWrong, BreaksAct, BreaksFault, ReturnsWrong, BreaksReturnOf}
-use Rattle.trace_line.specs.Lines.{StartIsOf, HasPieceOf}
+use Rattle.judge.specs.Breaking.{IsTold, Asks, Hinders, BreaksStartOf, IsAtAdapter, IsOwned, length_due, AreWhole, ActsWrong, BreaksAct, BreaksFault, ReturnsWrong, BreaksReturnOf}
+use Rattle.trace_line.specs.Lines.{StartIsOf}
 use Rattle.machine.proofs.Permuting.{IsPermutation-uncons}
 use Rattle.judge.proofs.Picking.{first_of}
 use Rattle.judge.proofs.Moving.{chunks_only}

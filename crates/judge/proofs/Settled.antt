@@ -1,6 +1,6 @@
 -- The test decides whether a state is settled.
-use Rattle.std.proofs.Common.{◌≡◌, ℕ, Bool, true, false, List, [], Option, Some, None, refl, sym, ◌∙◌, ap, length, eq-eqb}
-use Rattle.std.specs.Prelude.{◌==◌, ◌||◌, not, nat_lt, nat_le, ◌↔◌, IsTrue, IsFalse, All}
+use Rattle.std.proofs.Common.{ℕ, Bool, true, false, Option, Some, None, refl}
+use Rattle.std.specs.Prelude.{◌||◌, nat_le, IsFalse}
 use Rattle.std.specs.Bool.{Decides}
 use Rattle.std.specs.List.{list_all}
 use Rattle.std.proofs.lemmas.Bool.{both_ways}
@@ -9,7 +9,7 @@ use Rattle.machine.specs.Rules.{Rules}
 use Rattle.machine.specs.State.{Mark, Untouched, Out, Done, Failed, Back, OpenRequest, State}
 use Rattle.machine.specs.Calling.{is_full}
 use Rattle.machine.specs.Sending.{is_started}
-use Rattle.machine.specs.Settled.{has_out, has_unsent, HasGone, started_count, IsFull, IsWithin, IsHeld, WaitsIfCancelled, Waits, IsAllSent, IsHeldBack, HasMore, IsAtWork, Settled}
+use Rattle.machine.specs.Settled.{has_out, has_unsent, HasGone, started_count, IsFull, IsHeld, WaitsIfCancelled, IsAllSent, IsHeldBack, HasMore, IsAtWork}
 use Rattle.judge.specs.Settling.{holds_if, has_gone, is_held, waits_if_cancelled, is_all_sent, is_held_back, has_more, is_at_work}
 use Rattle.judge.proofs.Deciding.{decides_true, decides_false, decides_leb}
 

@@ -1,11 +1,12 @@
 -- What it means that a label breaks a rule.
-use Rattle.std.specs.Prelude.{◌≡◌, ◌≢◌, ◌<◌, ◌≤◌, ℕ, ◌+◌, ◌*◌, ◌%◌, List, Option, Some, None, length, take, slice_get, slice_range, All, Contains, IsTrue, IsFalse, if◌then◌else◌}
+use Rattle.std.specs.Prelude.{◌≡◌, ◌≢◌, ◌<◌, ◌≤◌, ℕ, ◌+◌, ◌*◌, ◌%◌, Bool, false, List, Option, Some, None, length, take, slice_get, slice_range, All, Contains, IsTrue, IsFalse, if◌then◌else◌}
 use Rattle.std.specs.List.{list_all, concat}
 use Rattle.ntstatus.specs.declared.NtStatus.{NtStatus}
 use Rattle.ntstatus.specs.declared.NtStatus.TheVariants.{Success}
 use Rattle.sector.specs.declared.Extent.{Extent}
 use Rattle.sector.specs.Extents.{IsSector}
 use Rattle.cdb.specs.declared.Cdb.{Cdb}
+use Rattle.cdb.specs.declared.Cdb.TheVariants.{Read10, Write10, Read16, Write16}
 use Rattle.cdb.specs.Meaning.{IsPlain, Means}
 use Rattle.cdb.specs.Faults.{HasFault}
 use Rattle.srb.specs.declared.Completion.{Completion}
@@ -13,12 +14,12 @@ use Rattle.srb.specs.declared.Class.{Class}
 use Rattle.srb.specs.declared.Class.TheVariants.{Good, Busy, Bad}
 use Rattle.srb.specs.declared.DeviceLabel.TheVariants as device
 use Rattle.srb.specs.Fate.{Fresh, Acted, class_of}
-use Rattle.srb.specs.declared.Kind.TheVariants.{Read, Write}
+use Rattle.srb.specs.declared.Kind.TheVariants.{Read, Write, Flush}
 use Rattle.machine.specs.declared.ClientRequest.{ClientRequest}
 use Rattle.machine.specs.declared.Label.{Label}
 use Rattle.machine.specs.declared.Label.TheVariants as label
-use Rattle.machine.specs.Rules.{Rules, is_transfer}
-use Rattle.machine.specs.State.{Mark, Out, Failed, OpenRequest, Piece, Owed, State, opening}
+use Rattle.machine.specs.Rules.{Rules, first_sector, home, is_transfer}
+use Rattle.machine.specs.State.{Out, Failed, OpenRequest, Piece, State, opening}
 use Rattle.machine.specs.Calling.{refusal, bytes_carried}
 use Rattle.machine.specs.Cutting.{mark_at, is_back, restarts_left}
 use Rattle.machine.specs.Sending.{IsLowestFreeTag, is_started, command_for, sectors_at}
@@ -26,6 +27,7 @@ use Rattle.machine.specs.Answering.{is_done, Cause, HasEnded, answer_bytes, info
 use Rattle.machine.specs.Step.{Step, Run}
 use Rattle.trace_line.specs.declared.Line.{Line}
 use Rattle.trace_line.specs.Lines.{LineStep}
+use Rattle.judge.specs.StartRuling.{is_in_form, is_in_range, kind_of, span_of}
 use Rattle.judge.specs.declared.label_rules.Difference.{Difference}
 use Rattle.judge.specs.declared.label_rules.Rule.{Rule}
 use Rattle.judge.specs.declared.label_rules.Rule.TheVariants as rule
@@ -200,11 +202,41 @@ pub record Asks (rules : Rules) (s : State) (owner : Option ℕ) (block : List �
 abbrev pub NoneAsks : Rules → State → Option ℕ → List ℕ → Type 0
 NoneAsks rules s owner block = (o : OpenRequest) (places : Extent) → ¬ (Asks rules s owner block o places)
 
--- what else is said of a block that no request asks for
-abbrev pub IsMisfit : State → Option ℕ → Misfit → Type 0
-IsMisfit s owner (misfit.Kind kind) = (o : OpenRequest) → Contains s.requests o → IsTold owner o → o.request.kind ≢ kind
-IsMisfit s owner (misfit.Fua number due) = (o : OpenRequest) × Contains s.requests o × IsTold owner o × (o.number ≡ number) × (o.request.through ≡ due)
-IsMisfit s owner _ = Unit {0}
+-- the command has the FUA bit
+abbrev pub fua_of : Cdb → Bool
+fua_of (Read10 lba count fua) = fua
+fua_of (Write10 lba count fua) = fua
+fua_of (Read16 lba count fua) = fua
+fua_of (Write16 lba count fua) = fua
+fua_of _ = false
+
+-- from one of its places on the request has all these blocks of the disk
+pub record HasBlocks (rules : Rules) (o : OpenRequest) (span : Extent) : Type 0 where
+  pub first : ℕ
+  pub some : 0 < span.count
+  pub inside : first + span.count ≤ length o.marks
+  pub there : home rules o.request.partition (first_sector rules o.request + first) ≡ span.first
+
+-- the command is of the kind of an open request, which may be the one that is told
+pub record IsOfKind (s : State) (owner : Option ℕ) (command : Cdb) (o : OpenRequest) : Type 0 where
+  pub is_there : Contains s.requests o
+  pub is_told : IsTold owner o
+  pub is_kind : kind_of command ≡ Some o.request.kind
+
+-- what is wrong with the command of a block that no request asks for
+abbrev pub IsMisfitOf : Rules → State → Option ℕ → Cdb → Misfit → Type 0
+IsMisfitOf rules s owner command misfit.Command = kind_of command ≡ None
+IsMisfitOf rules s owner command misfit.Form = IsFalse (is_in_form rules command)
+IsMisfitOf rules s owner command misfit.Range = (kind_of command ≡ Some Flush) × IsFalse (is_in_range Flush (span_of command))
+IsMisfitOf rules s owner command (misfit.Kind kind) =
+    (kind_of command ≡ Some kind) × ((o : OpenRequest) → Contains s.requests o → IsTold owner o → o.request.kind ≢ kind)
+IsMisfitOf rules s owner command (misfit.Sectors lba count) = ((span_of command).first ≡ lba) × ((span_of command).count ≡ count)
+    × ((o : OpenRequest) → IsOfKind s owner command o → ¬ (HasBlocks rules o (span_of command)))
+IsMisfitOf rules s owner command (misfit.Fua number due) =
+    (o : OpenRequest) × IsOfKind s owner command o × (o.number ≡ number) × HasBlocks rules o (span_of command) × (o.request.through ≡ due) × (fua_of command ≢ due)
+
+abbrev pub IsMisfit : Rules → State → Option ℕ → List ℕ → Misfit → Type 0
+IsMisfit rules s owner block misfit = (command : Cdb) × Means block command × IsMisfitOf rules s owner command misfit
 
 -- the place is one of these
 abbrev pub IsAmong : Extent → ℕ → Type 0
@@ -259,7 +291,7 @@ BreaksStartOf rules s owner number tag block (start_rule.Tag lowest told) = (tol
 BreaksStartOf rules s owner number tag block (start_rule.Block fault) = BreaksBlock block (start_rule.Block fault)
 BreaksStartOf rules s owner number tag block (start_rule.NotPlain d) = BreaksBlock block (start_rule.NotPlain d)
 BreaksStartOf rules s owner number tag block (start_rule.NotOpen n) = (owner ≡ Some n) × IsNotOpen s n
-BreaksStartOf rules s owner number tag block (start_rule.NotAsked misfit) = NoneAsks rules s owner block × IsMisfit s owner misfit
+BreaksStartOf rules s owner number tag block (start_rule.NotAsked misfit) = NoneAsks rules s owner block × IsMisfit rules s owner block misfit
 BreaksStartOf rules s owner number tag block (start_rule.Held n h) = AllHeld rules s owner block × HoldsOne rules s owner block n h
 
 abbrev pub BreaksStart : Rules → State → Option ℕ → Label → StartRule → Type 0

@@ -1,9 +1,7 @@
 -- The premises of the machine's rules, as tests.
-use Rattle.std.specs.Prelude.{ℕ, zero, suc, ◌+◌, ◌-◌, ◌*◌, ◌%◌, ◌^◌, ◌==◌, ◌&&◌, ◌||◌, nat_lt, nat_le, not, Bool, true, false, List, [], ◌∷◌, Option, Some, None, length, take, drop, slice_range, if◌then◌else◌}
-use Rattle.std.specs.List.{list_all, list_any}
-use Rattle.std.specs.Str.{bytes_eq}
+use Rattle.std.specs.Prelude.{ℕ, zero, suc, ◌-◌, ◌^◌, ◌==◌, ◌&&◌, ◌||◌, nat_lt, nat_le, not, Bool, true, false, List, [], ◌∷◌, Option, Some, None, take, drop, if◌then◌else◌}
 use Rattle.ntstatus.specs.declared.NtStatus.{NtStatus}
-use Rattle.ntstatus.specs.declared.NtStatus.TheVariants.{Success, Cancelled, DeviceBusy, NoSuchDevice, DeletePending}
+use Rattle.ntstatus.specs.declared.NtStatus.TheVariants.{Cancelled, DeviceBusy, NoSuchDevice, DeletePending}
 use Rattle.ntstatus.specs.Codes.{value_of}
 use Rattle.sector.specs.declared.Extent.{Extent}
 use Rattle.cdb.specs.declared.Cdb.{Cdb}
@@ -15,10 +13,7 @@ use Rattle.srb.specs.declared.Kind.TheVariants.{Read, Write, Flush}
 use Rattle.machine.specs.declared.ClientRequest.{ClientRequest}
 use Rattle.machine.specs.Rules.{Rules, first_sector, home}
 use Rattle.machine.specs.State.{Mark, Untouched, Out, Done, Failed, Back, OpenRequest, Piece, State}
-use Rattle.machine.specs.Cutting.{mark_at, is_back, restarts_left}
-use Rattle.machine.specs.Sending.{is_unsent, is_started, fits_ten, sectors_at}
-use Rattle.machine.specs.Answering.{is_done, answer_bytes, information}
-use Rattle.judge.specs.Picking.{only}
+use Rattle.machine.specs.Sending.{is_started, fits_ten}
 
 -- both tests hold, or none does
 abbrev pub same_truth : Bool → Bool → Bool

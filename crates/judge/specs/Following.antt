@@ -43,9 +43,11 @@ abbrev pub Takes : JudgeView → Label → JudgeView → Type 0
 Takes old label new =
     (arrays : List (List (List ℕ))) (labels : List Label) → HasTaken old arrays labels → HasTaken new arrays (labels ++ label ∷ [])
 
--- no run has the labels before and this one; at a state that the labels before lead to, this one breaks the rule
+-- no run has the labels before and this one; at each state that the labels before lead to, this one breaks some rule, and at
+-- one of them the rule that is told
 pub record IsRefused (rules : Rules) (arrays : List (List (List ℕ))) (labels : List Label) (label : Label) (rule : Rule) : Type 0 where
   pub no_run : ¬ (IsRun rules (opening arrays) (labels ++ label ∷ []))
+  pub each : (s : State) → Run rules (opening arrays) labels s → (other : Rule) × Breaks rules s label other
   pub broken : (s : State) × Run rules (opening arrays) labels s × Breaks rules s label rule
 
 -- the label breaks the rule whatever was taken
@@ -64,9 +66,15 @@ abbrev pub TakesLine : JudgeView → Line → JudgeView → Type 0
 TakesLine old line new =
     (arrays : List (List (List ℕ))) (lines : List Line) → HasTakenLines old arrays lines → HasTakenLines new arrays (lines ++ line ∷ [])
 
--- no run has the lines before and this one; at a state that the lines before lead to, this one breaks the rule
+-- the line breaks some rule at the state
+abbrev pub BreaksSome : Rules → Line → State → Type 0
+BreaksSome rules line s = (other : Rule) × LineBreaks rules s line other
+
+-- no run has the lines before and this one; at each state that the lines before lead to, this one breaks some rule, and at
+-- one of them the rule that is told
 pub record IsLineRefused (rules : Rules) (arrays : List (List (List ℕ))) (lines : List Line) (line : Line) (rule : Rule) : Type 0 where
   pub no_run : ¬ (IsLineRun rules (opening arrays) (lines ++ line ∷ []))
+  pub each : (s : State) → LineRun rules (opening arrays) lines s → BreaksSome rules line s
   pub broken : (s : State) × LineRun rules (opening arrays) lines s × LineBreaks rules s line rule
 
 -- the line breaks the rule whatever was taken
@@ -86,9 +94,10 @@ HasNoStep rules line s = ¬ (HasLineStep rules s line)
 abbrev pub BreaksThere : Rules → Line → Rule → State → Type 0
 BreaksThere rules line rule s = LineBreaks rules s line rule
 
--- the line goes from none of the states, and breaks the rule at one of them
+-- the line goes from none of the states, and breaks the rule at one of them; where no step goes by it, it breaks some rule
 pub record StopsAll (rules : Rules) (states : List State) (line : Line) (rule : Rule) : Type 0 where
   pub none : All (HasNoStep rules line) states
+  pub named : (s : State) → IsReached rules s → HasNoStep rules line s → BreaksSome rules line s
   pub there : Any (BreaksThere rules line rule) states
 
 -- some step goes by the line from the state

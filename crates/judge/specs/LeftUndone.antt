@@ -1,7 +1,7 @@
 -- What it means that something is left undone.
-use Rattle.std.specs.Prelude.{◌≡◌, ◌<◌, ℕ, List, [], Option, Some, length, Contains, IsTrue, IsFalse}
+use Rattle.std.specs.Prelude.{◌≡◌, ◌<◌, ℕ, [], Some, length, Contains, IsTrue, IsFalse}
 use Rattle.machine.specs.Rules.{Rules}
-use Rattle.machine.specs.State.{OpenRequest, Owed, State}
+use Rattle.machine.specs.State.{OpenRequest, State}
 use Rattle.machine.specs.Settled.{started_count, IsHeld, WaitsIfCancelled, Waits, IsAllSent, IsHeldBack, HasMore, IsAtWork, Settled}
 use Rattle.judge.specs.declared.undone_rules.Undone.{Undone}
 use Rattle.judge.specs.declared.undone_rules.Undone.TheVariants as what

@@ -10,6 +10,7 @@ pub mod Settling
 pub mod Starting
 pub mod Breaking
 pub mod Ruling
+pub mod RuleTexts
 pub mod PieceRuling
 pub mod StartRuling
 pub mod LabelRuling

@@ -1,5 +1,5 @@
 -- What it means that a label wasn't taken.
-use Rattle.std.specs.Prelude.{◌≡◌, ◌<◌, ℕ, [], length}
+use Rattle.std.specs.Prelude.{◌≡◌, ◌<◌, ℕ, length}
 use Rattle.machine.specs.declared.Label.{Label}
 use Rattle.trace_line.specs.declared.Line.{Line}
 use Rattle.judge.specs.Following.{JudgeView, Refuses, RefusesLine}

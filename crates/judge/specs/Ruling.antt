@@ -1,5 +1,5 @@
 -- The rule that is named, as a function of the state and the label.
-use Rattle.std.specs.Prelude.{ℕ, zero, suc, ◌==◌, ◌+◌, not, Bool, true, false, List, [], ◌∷◌, Option, Some, None, length, slice_get, option_map, if◌then◌else◌}
+use Rattle.std.specs.Prelude.{ℕ, ◌==◌, ◌+◌, not, Bool, false, List, [], ◌∷◌, Option, Some, None, length, slice_get, option_map, if◌then◌else◌}
 use Rattle.std.specs.List.{find, position}
 use Rattle.std.specs.Option.{option_or}
 use Rattle.ntstatus.specs.declared.NtStatus.{NtStatus}

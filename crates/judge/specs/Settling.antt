@@ -1,11 +1,9 @@
 -- Whether a state is settled, as a test.
-use Rattle.std.specs.Prelude.{ℕ, ◌==◌, ◌&&◌, ◌||◌, nat_lt, nat_le, not, Bool, true, false, Option, Some, None, length, is_none}
+use Rattle.std.specs.Prelude.{ℕ, ◌&&◌, ◌||◌, nat_le, not, Bool, true, false}
 use Rattle.std.specs.List.{list_all}
-use Rattle.machine.specs.Rules.{Rules}
-use Rattle.machine.specs.State.{Mark, Untouched, Out, Done, Failed, Back, OpenRequest, State}
-use Rattle.machine.specs.Calling.{is_full}
+use Rattle.machine.specs.State.{Mark, Untouched, Out, Done, Failed, Back, OpenRequest}
 use Rattle.machine.specs.Sending.{is_started}
-use Rattle.machine.specs.Settled.{has_out, has_unsent, started_count}
+use Rattle.machine.specs.Settled.{has_out, has_unsent}
 
 -- the second test holds where the first does
 abbrev pub holds_if : Bool → Bool → Bool

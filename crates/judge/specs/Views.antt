@@ -5,7 +5,7 @@ use Rattle.sector.specs.declared.Extent.{Extent}
 use Rattle.srb.specs.Fate.{Fate, Fresh, Acted, Faulted}
 use Rattle.machine.specs.Rules.{Rules}
 use Rattle.machine.specs.declared.ClientRequest.{ClientRequest}
-use Rattle.machine.specs.State.{Mark, Untouched, Out, Done, Failed, Back, OpenRequest, Piece, Owed, State}
+use Rattle.machine.specs.State.{Mark, Untouched, Out, Done, Failed, Back, OpenRequest, Piece, Owed}
 use Rattle.machine.specs.Answering.{bytes_of_mark}
 use Rattle.judge.specs.declared.rules.MachineRules.{MachineRules}
 use Rattle.judge.specs.declared.machine_state.Debt.{Debt}

@@ -1,10 +1,11 @@
 //! Verdicts.
 
-ghost use Rattle.std.specs.Prelude.{◌≡◌, ◌↔◌, IsTrue, IfOk};
+ghost use Rattle.std.specs.Prelude.{◌≡◌, ◌↔◌, IsTrue, IfErr, IfOk};
 ghost use Rattle.machine.specs.State.{opening};
 ghost use Rattle.judge.specs.Judging.{IsRun};
 ghost use Rattle.judge.specs.Verdicts.{IsVerdict, is_run};
 ghost use Rattle.judge.specs.Views.{rules_of};
+ghost use Rattle.judge.specs.declared.NoVerdict.TheVariants.{NoMemory};
 
 use crate::NoVerdict;
 use crate::arrays::Sectors;
@@ -60,7 +61,7 @@ fn judged(
 ///
 /// # Errors
 ///
-/// [`NoVerdict`] where memory was refused, or a count has no room left.
+/// [`NoVerdict::NoMemory`] where memory was refused, or a count has no room left.
 ///
 /// # Example
 ///
@@ -79,7 +80,10 @@ pub fn judge(
 ) -> Result<Verdict, NoVerdict>
     ensures exact { IfOk result (λ v. IsTrue (is_run v) ↔ IsRun (rules_of rules.now) (opening arrays.items) labels.now) }
     ensures verdict { IfOk result (λ v. IsVerdict (rules_of rules.now) (opening arrays.items) labels.now v) }
+    ensures fault { IfErr result (λ why. why ≡ NoMemory) }
 {
-    let verdict = judged(alloc, rules, arrays, labels)?;
+    let Ok(verdict) = judged(alloc, rules, arrays, labels) else {
+        return Err(NoVerdict::NoMemory);
+    };
     Ok(verdict)
 }

@@ -43,6 +43,7 @@ mod piece_rules;
 mod pieces;
 mod places;
 mod reading;
+mod rule_words;
 mod rules;
 mod sameness;
 mod sectors;

@@ -1,5 +1,4 @@
-use Rattle.std.proofs.Common.{◌≡◌, ◌<◌, ◌+◌, ◌-◌, ◌++◌, List, ℕ, sym, ◌∙◌, ap, length, drop, true, false}
-use Rattle.std.specs.Prelude.{is_some}
+use Rattle.std.proofs.Common.{◌≡◌, ◌+◌, ◌-◌, ◌++◌, List, ℕ, sym, ◌∙◌, ap, length, drop}
 use Rattle.judge.specs.Views.{joined_marks}
 use Rattle.judge.specs.Ruling.{difference}
 use Rattle.judge.proofs.Differing.{found_all, goes_past, place_in_front}

@@ -1,5 +1,4 @@
-use Rattle.std.proofs.Common.{◌≡◌, ◌<◌, ◌+◌, ◌-◌, ◌++◌, arith, List, ℕ, sym, ◌∙◌, ap, length, drop, true, false}
-use Rattle.std.specs.Prelude.{is_some}
+use Rattle.std.proofs.Common.{◌≡◌, ◌<◌, ◌+◌, ◌-◌, ◌++◌, arith, List, ℕ, sym, ◌∙◌, ap, length, drop}
 use Rattle.std.specs.List.{concat}
 use Rattle.judge.specs.Ruling.{difference}
 use Rattle.judge.proofs.Differing.{found_all, goes_past}

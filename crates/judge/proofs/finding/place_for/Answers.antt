@@ -1,4 +1,3 @@
-use Rattle.std.proofs.Common.{◌≡◌, ◌≤◌, ◌∙◌, ap, sym, subst, arith, length}
 use Rattle.judge.specs.Next.{comes_after}
 use Rattle.judge.proofs.Taking.{found_place, found_within, last_place}
 use Rattle.judge.proofs.finding.place_for.Goals as goal

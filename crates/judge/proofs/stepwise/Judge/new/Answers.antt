@@ -1,7 +1,4 @@
-use Rattle.std.proofs.Common.{◌≡◌, List, [], ◌∷◌, ◌++◌, ◌∙◌, ap, sym, subst, ℕ}
-use Rattle.machine.specs.State.{State, opening}
-use Rattle.machine.specs.Rules.{Rules}
-use Rattle.judge.specs.Following.{HasTaken}
+use Rattle.std.proofs.Common.{[], ◌∷◌, ◌++◌, ◌∙◌, ap}
 use Rattle.judge.specs.Views.{rules_of}
 use Rattle.judge.proofs.Followed.{opens_as}
 use Rattle.judge.proofs.Plain.{taken_labels}

@@ -1,4 +1,4 @@
-use Rattle.std.proofs.Common.{◌≡◌, ◌<◌, Option, None, length, sym, subst}
+use Rattle.std.proofs.Common.{◌≡◌, Option, None, sym, subst}
 use Rattle.std.specs.Prelude.{◌↔◌, IfSome, Any}
 use Rattle.judge.specs.declared.undone_rules.Undone.{Undone}
 use Rattle.judge.specs.LeftUndone.{IsSettled, Leaves}
