@@ -1,0 +1,9 @@
+mod Sectors
+mod Pieces
+mod Along
+mod Determined
+mod Written
+mod Places
+mod Succeeding
+mod Requested
+mod Refuting
