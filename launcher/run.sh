@@ -39,6 +39,9 @@ refuses_settings() {
     [ -f "$2" ] && [[ $("$1" "${first_words[0]}" "$2" '' 2>&1 < /dev/null) = *': config: '* ]]
 }
 
+# A program's launcher may do more before it starts.
+start() { exec "$@"; }
+
 # Runs a program in the launcher's place. Where it refuses the settings it ends at once, and the line behind its own says
 # which setting it is.
 run() {
@@ -48,7 +51,7 @@ run() {
         ! command -v python3 > /dev/null || python3 "$top/launcher/which_setting.py" "$name" "$settings" || true
         exit "$status"
     fi
-    exec "$@"
+    start "$@"
 }
 
 # Runs the program that was proved and built. Where there is none an unproved build answers, and where none can be made

@@ -1,5 +1,5 @@
-/* One thread has the connection; those that carry commands out hand them to it, and wait. A connection that breaks
- * fails what is out: nothing is sent a second time. The next command connects anew. */
+/* Commands are sent by whichever thread queues them, and one thread waits for what comes back, and hands it to the
+ * disk. A connection that breaks fails what is out: nothing is sent a second time. The next command connects anew. */
 #include <poll.h>
 #include <stdlib.h>
 #include <string.h>
@@ -19,29 +19,31 @@
 /* How often a unit attention is asked away. */
 #define ATTENTIONS 8
 
-/* A command that is out. */
+/* The command on a tag. */
 struct job {
 	struct scsi_task *task;
 	struct target *target;
+	struct own_disk_move *move;
 	int status;
-	bool done;
-	pthread_cond_t ended;
 	struct job *next;
 };
 
 struct target {
 	char *url;
 	int unit;
+	int bell;                    /* wakes the thread */
+	struct own_disk *disk;
+	struct job jobs[OWN_DISK_TAGS];
+
+	pthread_mutex_t lock;        /* of the connection, and of `ended`; taken before the next one */
 	struct iscsi_context *iscsi; /* NULL: not connected */
 	bool broken;
+	struct job *ended;           /* commands that have their answers */
 
-	struct job *ended;           /* commands that have their answers, which libiscsi may not have let go of yet */
-
-	pthread_mutex_t lock;        /* of what follows */
+	pthread_mutex_t queue;       /* of what follows */
 	struct job *waiting, **last;
 	bool started, over;
 	pthread_t thread;
-	int bell;
 };
 
 static void
@@ -111,20 +113,6 @@ on_end(struct iscsi_context *iscsi, int status, void *task, void *argument)
 	end(job, status);
 }
 
-/* Wakes those whose commands ended. */
-static void
-hand_back(struct target *target)
-{
-	pthread_mutex_lock(&target->lock);
-	while (target->ended != NULL) {
-		struct job *job = target->ended;
-		target->ended = job->next;
-		job->done = true;
-		pthread_cond_signal(&job->ended);
-	}
-	pthread_mutex_unlock(&target->lock);
-}
-
 /* The thread looks at once a second by itself. */
 static void
 wake(struct target *target)
@@ -134,95 +122,58 @@ wake(struct target *target)
 		return;
 }
 
-static struct job *
-take_waiting(struct target *target, bool *over)
+static bool
+has_waiting(struct target *target)
 {
-	pthread_mutex_lock(&target->lock);
+	pthread_mutex_lock(&target->queue);
+	bool has = target->waiting != NULL;
+	pthread_mutex_unlock(&target->queue);
+	return has;
+}
+
+static bool
+is_over(struct target *target)
+{
+	pthread_mutex_lock(&target->queue);
+	bool over = target->over;
+	pthread_mutex_unlock(&target->queue);
+	return over;
+}
+
+static struct job *
+take_waiting(struct target *target)
+{
+	pthread_mutex_lock(&target->queue);
 	struct job *first = target->waiting;
 	target->waiting = NULL;
 	target->last = &target->waiting;
-	*over = target->over;
-	pthread_mutex_unlock(&target->lock);
+	pthread_mutex_unlock(&target->queue);
 	return first;
 }
 
+/* Sends what waits, over a connection. */
 static void
-send_out(struct target *target, struct job *job)
+send_waiting(struct target *target)
 {
-	if (target->iscsi == NULL && !connect_to(target))
-		end(job, SCSI_STATUS_ERROR);
-	else if (iscsi_scsi_command_async(target->iscsi, target->unit, job->task, on_end, NULL, job) != 0)
-		end(job, SCSI_STATUS_ERROR);
-}
-
-/* Waits for the target, or for commands, and serves it. */
-static void
-serve_once(struct target *target)
-{
-	struct pollfd polled[2] = {{.fd = target->bell, .events = POLLIN}, {.fd = -1}};
-	uint64_t count;
-	if (target->iscsi != NULL) {
-		polled[1].fd = iscsi_get_fd(target->iscsi);
-		polled[1].events = iscsi_which_events(target->iscsi);
+	struct job *next;
+	for (struct job *job = take_waiting(target); job != NULL; job = next) {
+		next = job->next;
+		if (target->iscsi == NULL || job->task == NULL
+			|| iscsi_scsi_command_async(target->iscsi, target->unit, job->task, on_end, NULL, job) != 0)
+			end(job, SCSI_STATUS_ERROR);
 	}
-	poll(polled, 2, 1000);
-	if ((polled[0].revents & POLLIN) != 0 && read(target->bell, &count, sizeof count) < 0)
-		return;
-	if (target->iscsi != NULL && iscsi_service(target->iscsi, polled[1].revents) != 0)
+	if (target->iscsi != NULL && (iscsi_which_events(target->iscsi) & POLLOUT) != 0 && iscsi_service(target->iscsi, POLLOUT) != 0)
 		target->broken = true;
-	if (target->broken)
-		disconnect(target);
 }
 
-static void *
-serve(void *argument)
+/* Is there something that only the thread does? */
+static bool
+needs_thread(const struct target *target)
 {
-	struct target *target = argument;
-	bool over = false;
-	while (!over) {
-		struct job *next;
-		for (struct job *job = take_waiting(target, &over); job != NULL; job = next) {
-			next = job->next;
-			send_out(target, job);
-		}
-		hand_back(target);
-		if (!over)
-			serve_once(target);
-		hand_back(target);
-	}
-	return NULL;
+	return target->iscsi == NULL || target->broken || target->ended != NULL
+		|| (iscsi_which_events(target->iscsi) & POLLOUT) != 0;
 }
 
-/* Hands a command to the thread, which the first one starts: a server may fork before it. */
-static void
-hand_over(struct target *target, struct job *job)
-{
-	pthread_mutex_lock(&target->lock);
-	if (!target->started)
-		target->started = pthread_create(&target->thread, NULL, serve, target) == 0;
-	if (target->started) {
-		if (target->waiting == NULL)
-			wake(target);
-		*target->last = job;
-		target->last = &job->next;
-	}
-	while (target->started && !job->done)
-		pthread_cond_wait(&job->ended, &target->lock);
-	pthread_mutex_unlock(&target->lock);
-}
-
-static struct scsi_task *
-task_of(const struct saddlemug_armed *armed)
-{
-	bool reads = armed->asked.kind == SADDLEMUG_ASKS_TO_READ, writes = armed->asked.kind == SADDLEMUG_ASKS_TO_WRITE;
-	struct scsi_task *task = scsi_create_task(armed->block_length, (unsigned char *) armed->block,
-		reads ? SCSI_XFER_READ : writes ? SCSI_XFER_WRITE : SCSI_XFER_NONE, armed->length);
-	if (task != NULL && reads)
-		scsi_task_add_data_in_buffer(task, armed->length, armed->bytes);
-	if (task != NULL && writes)
-		scsi_task_add_data_out_buffer(task, armed->length, armed->bytes);
-	return task;
-}
 
 /* What came back, as it is booked. WDK: SRB_STATUS_ERROR, with SRB_STATUS_AUTOSENSE_VALID where there is sense; and
  * SRB_STATUS_BUS_RESET where nothing came. */
@@ -244,17 +195,129 @@ note(struct own_disk_move *move, int status, const struct scsi_task *task)
 		*completion = (struct saddlemug_completion){.srb_status = 0x0E};
 }
 
-void
-target_carry_out(struct target *target, struct own_disk_move *move)
+/* The moves of the commands that ended, which libiscsi has let go of. */
+static struct own_disk_move *
+take_ended(struct target *target)
 {
-	struct job job = {.target = target, .task = task_of(&move->armed), .status = SCSI_STATUS_ERROR};
-	pthread_cond_init(&job.ended, NULL);
-	if (job.task != NULL)
-		hand_over(target, &job);
-	note(move, job.status, job.task);
-	if (job.task != NULL)
-		scsi_free_scsi_task(job.task);
-	pthread_cond_destroy(&job.ended);
+	struct own_disk_move *moves = NULL;
+	struct job *next;
+	for (struct job *job = target->ended; job != NULL; job = next) {
+		next = job->next;
+		note(job->move, job->status, job->task);
+		if (job->task != NULL)
+			scsi_free_scsi_task(job->task);
+		job->move->next = moves;
+		moves = job->move;
+	}
+	target->ended = NULL;
+	return moves;
+}
+
+/* Does what the socket is ready for, connects where commands wait, and tells what to wait for. */
+static struct own_disk_move *
+serve_once(struct target *target, struct pollfd *socket)
+{
+	pthread_mutex_lock(&target->lock);
+	if (target->iscsi != NULL && iscsi_service(target->iscsi, socket->revents) != 0)
+		target->broken = true;
+	if (target->iscsi == NULL && has_waiting(target))
+		connect_to(target);
+	send_waiting(target);
+	if (target->broken)
+		disconnect(target);
+	*socket = (struct pollfd){.fd = -1};
+	if (target->iscsi != NULL)
+		*socket = (struct pollfd){.fd = iscsi_get_fd(target->iscsi), .events = iscsi_which_events(target->iscsi)};
+	struct own_disk_move *ended = take_ended(target);
+	pthread_mutex_unlock(&target->lock);
+	return ended;
+}
+
+static void *
+serve(void *argument)
+{
+	struct target *target = argument;
+	struct pollfd polled[2] = {{.fd = target->bell, .events = POLLIN}, {.fd = -1}};
+	uint64_t count;
+	while (!is_over(target)) {
+		struct own_disk_move *ended = serve_once(target, &polled[1]);
+		if (ended != NULL)
+			own_disk_ended(target->disk, ended);
+		if (has_waiting(target))
+			continue;
+		poll(polled, 2, 1000);
+		if ((polled[0].revents & POLLIN) != 0 && read(target->bell, &count, sizeof count) < 0)
+			break;
+	}
+	return NULL;
+}
+
+static struct scsi_task *
+task_of(const struct saddlemug_armed *armed)
+{
+	bool reads = armed->asked.kind == SADDLEMUG_ASKS_TO_READ, writes = armed->asked.kind == SADDLEMUG_ASKS_TO_WRITE;
+	struct scsi_task *task = scsi_create_task(armed->block_length, (unsigned char *) armed->block,
+		reads ? SCSI_XFER_READ : writes ? SCSI_XFER_WRITE : SCSI_XFER_NONE, armed->length);
+	if (task != NULL && reads)
+		scsi_task_add_data_in_buffer(task, armed->length, armed->bytes);
+	if (task != NULL && writes)
+		scsi_task_add_data_out_buffer(task, armed->length, armed->bytes);
+	return task;
+}
+
+void
+target_queue(struct target *target, struct own_disk_move *move)
+{
+	struct job *job = &target->jobs[move->booking.tag];
+	*job = (struct job){.target = target, .move = move, .task = task_of(&move->armed)};
+	pthread_mutex_lock(&target->queue);
+	*target->last = job;
+	target->last = &job->next;
+	pthread_mutex_unlock(&target->queue);
+}
+
+/* The first command starts the thread: a server may fork before it. */
+static bool
+has_started(struct target *target)
+{
+	pthread_mutex_lock(&target->queue);
+	if (!target->started)
+		target->started = pthread_create(&target->thread, NULL, serve, target) == 0;
+	bool started = target->started;
+	pthread_mutex_unlock(&target->queue);
+	return started;
+}
+
+/* Fails what waits. */
+static void
+fail_waiting(struct target *target)
+{
+	struct job *next;
+	pthread_mutex_lock(&target->lock);
+	for (struct job *job = take_waiting(target); job != NULL; job = next) {
+		next = job->next;
+		end(job, SCSI_STATUS_ERROR);
+	}
+	struct own_disk_move *ended = take_ended(target);
+	pthread_mutex_unlock(&target->lock);
+	own_disk_ended(target->disk, ended);
+}
+
+void
+target_send(struct target *target)
+{
+	while (!has_started(target) && has_waiting(target))
+		fail_waiting(target);
+	/* Who holds the lock looks at the queue once more when it has let go of it. */
+	bool connected = true;
+	while (connected && has_waiting(target) && pthread_mutex_trylock(&target->lock) == 0) {
+		connected = target->iscsi != NULL;
+		if (connected)
+			send_waiting(target);
+		if (needs_thread(target))
+			wake(target);
+		pthread_mutex_unlock(&target->lock);
+	}
 }
 
 /* The sizes, and sector 0. */
@@ -285,32 +348,33 @@ look_at(struct target *target, uint64_t *sectors, uint32_t *sector_size, uint8_t
 }
 
 const char *
-target_open(struct target **opened, const char *url, uint64_t *sectors, uint32_t *sector_size, uint8_t *first)
+target_open(struct own_disk *disk, const char *url, uint64_t *sectors, uint8_t *first)
 {
 	struct target *target = calloc(1, sizeof *target);
 	const char *why = "there is no memory";
-	*opened = target;
 	if (target == NULL)
 		return why;
+	target->disk = disk;
 	pthread_mutex_init(&target->lock, NULL);
+	pthread_mutex_init(&target->queue, NULL);
 	target->last = &target->waiting;
 	target->bell = eventfd(0, EFD_CLOEXEC);
 	target->url = strdup(url);
 	if (target->url != NULL && target->bell >= 0)
-		why = connect_to(target) ? look_at(target, sectors, sector_size, first) : "no target answers there";
-	if (why != NULL) {
+		why = connect_to(target) ? look_at(target, sectors, &disk->sector_size, first) : "no target answers there";
+	if (why == NULL)
+		disk->target = target;
+	else
 		target_close(target);
-		*opened = NULL;
-	}
 	return why;
 }
 
 void
 target_close(struct target *target)
 {
-	pthread_mutex_lock(&target->lock);
+	pthread_mutex_lock(&target->queue);
 	target->over = true;
-	pthread_mutex_unlock(&target->lock);
+	pthread_mutex_unlock(&target->queue);
 	wake(target);
 	if (target->started)
 		pthread_join(target->thread, NULL);

@@ -9,29 +9,39 @@ struct target;
 
 #ifdef WITH_ISCSI
 
-/* Logs in at iscsi://HOST[:PORT]/NAME/UNIT, asks unit attentions away, and tells the sectors, their bytes and the
- * first of them, of which there are 4096 bytes at most. NULL, or why not. */
-const char *target_open(struct target **target, const char *url, uint64_t *sectors, uint32_t *sector_size,
-	uint8_t *first);
+/* Logs in at iscsi://HOST[:PORT]/NAME/UNIT, asks unit attentions away, and tells the disk its target and the bytes of a
+ * sector; besides how many sectors there are, and the first of them, of which there are 4096 bytes at most. NULL, or why
+ * not. */
+const char *target_open(struct own_disk *disk, const char *url, uint64_t *sectors, uint8_t *first);
 
-/* Carries a command that was told out, and notes what became of it. Any thread may call it, also while others do. */
-void target_carry_out(struct target *target, struct own_disk_move *move);
+/* Puts a command that was told out behind those that wait to be sent, which takes no time. */
+void target_queue(struct target *target, struct own_disk_move *move);
+
+/* Sends what waits. `own_disk_ended` tells what became of it, in a thread of the target's. Any thread may call it, also
+ * while others do, but not with the disk's lock. */
+void target_send(struct target *target);
 
 void target_close(struct target *target);
 
 #else
 
 static inline const char *
-target_open(struct target **target, const char *url, uint64_t *sectors, uint32_t *sector_size, uint8_t *first)
+target_open(struct own_disk *disk, const char *url, uint64_t *sectors, uint8_t *first)
 {
-	(void) target, (void) url, (void) sectors, (void) sector_size, (void) first;
+	(void) disk, (void) url, (void) sectors, (void) first;
 	return "this was built without libiscsi";
 }
 
 static inline void
-target_carry_out(struct target *target, struct own_disk_move *move)
+target_queue(struct target *target, struct own_disk_move *move)
 {
 	(void) target, (void) move;
+}
+
+static inline void
+target_send(struct target *target)
+{
+	(void) target;
 }
 
 static inline void

@@ -6,7 +6,6 @@
 #include <unistd.h>
 
 #include "own_disk.h"
-#include "target.h"
 
 /* Bytes of a block of a file. A hole is made of whole ones. */
 #define BLOCK 4096
@@ -178,10 +177,6 @@ own_disk_move_bytes(struct own_disk *disk, struct own_disk_move *move)
 	const struct saddlemug_asked *asked = &move->armed.asked;
 	uint64_t offset = asked->first * disk->sector_size - disk->before;
 
-	if (disk->target != NULL) {
-		target_carry_out(disk->target, move);
-		return;
-	}
 	switch (asked->kind) {
 	case SADDLEMUG_ASKS_TO_READ:
 		if (!read_all(disk->file, move->armed.bytes, move->armed.length, offset))

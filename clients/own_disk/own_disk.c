@@ -177,7 +177,7 @@ own_disk_open(struct own_disk *disk, const char *path, const struct own_disk_opt
 	if (disk->depth == 0 || disk->depth > OWN_DISK_TAGS)
 		return "there are 1 to 32 tags";
 	if (strncmp(path, "iscsi://", 8) == 0) {
-		why = target_open(&disk->target, path, &sectors, &disk->sector_size, first);
+		why = target_open(disk, path, &sectors, first);
 		if (why == NULL)
 			why = find_partition(disk, options->partition < 0 ? 0 : options->partition, first);
 	} else {

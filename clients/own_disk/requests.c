@@ -1,9 +1,11 @@
 /* Requests of several threads. One lock is around the library; the bytes of the commands that are out are moved
  * outside of it. */
 #include <pthread.h>
+#include <semaphore.h>
 #include <time.h>
 
 #include "own_disk.h"
+#include "target.h"
 
 /* Microseconds of a quick move, and how many in a row say that the file is quick. */
 #define QUICK 100
@@ -17,8 +19,8 @@ struct own_disk_request {
 	uint32_t status;
 	bool ended;           /* its answer waits in the stack */
 	bool answered;
-	bool idle;            /* its thread sleeps */
-	pthread_cond_t wake;
+	bool idle;            /* its thread sleeps, and may be woken to move bytes */
+	sem_t wake;
 	struct own_disk_request *next;
 };
 
@@ -50,8 +52,26 @@ hand_out(struct own_disk *disk)
 		request->answered = true;
 		*at = request->next;
 		disk->count--;
-		pthread_cond_signal(&request->wake);
 		pthread_cond_signal(&disk->room);
+		if (disk->target == NULL) {
+			sem_post(&request->wake);
+			continue;
+		}
+		request->next = disk->answered;
+		disk->answered = request;
+	}
+}
+
+/* Lets go of the lock, and then wakes the threads whose requests a target has answered: they don't want it any more. */
+static void
+let_go(struct own_disk *disk)
+{
+	struct own_disk_request *next, *first = disk->answered;
+	disk->answered = NULL;
+	pthread_mutex_unlock(&disk->lock);
+	for (struct own_disk_request *it = first; it != NULL; it = next) {
+		next = it->next;
+		sem_post(&it->wake);
 	}
 }
 
@@ -112,7 +132,7 @@ wake_one(struct own_disk *disk)
 		if (!it->idle)
 			continue;
 		it->idle = false;
-		pthread_cond_signal(&it->wake);
+		sem_post(&it->wake);
 		return;
 	}
 }
@@ -141,7 +161,7 @@ static void
 move_bytes(struct own_disk *disk, struct own_disk_move *move)
 {
 	const struct saddlemug_asked *asked = &move->armed.asked;
-	bool may_wait = asked->kind == SADDLEMUG_ASKS_TO_FLUSH || asked->through || disk->target != NULL;
+	bool may_wait = asked->kind == SADDLEMUG_ASKS_TO_FLUSH || asked->through;
 	bool under = disk->quick >= QUICK_ONES && !may_wait;
 	if (!under) {
 		wake_one(disk);
@@ -155,22 +175,73 @@ move_bytes(struct own_disk *disk, struct own_disk_move *move)
 	disk->quick = quick ? disk->quick + 1 : 0;
 }
 
-/* Moves a command's bytes, and hands it back. One that can't be booked fails when it acts. */
+/* Hands a command back. One that can't be booked fails when it acts. */
 static void
-serve(struct own_disk *disk, struct own_disk_move *move)
+hand_back(struct own_disk *disk, struct own_disk_move *move)
 {
 	uint8_t tag = move - disk->moves;
-	move->state = OWN_DISK_MOVING;
-	if (move->told) {
-		move_bytes(disk, move);
+	if (move->told)
 		saddlemug_stack_book(&disk->stack, &move->booking);
-	}
 	move->state = OWN_DISK_NONE;
 	step(disk, SADDLEMUG_ACT, tag);
 	step(disk, SADDLEMUG_FINISH, tag);
 }
 
-/* Serves what is out, whoever asked for it, until this request has its answer. */
+/* Moves a command's bytes, and hands it back. */
+static void
+serve(struct own_disk *disk, struct own_disk_move *move)
+{
+	move->state = OWN_DISK_MOVING;
+	if (move->told)
+		move_bytes(disk, move);
+	hand_back(disk, move);
+}
+
+/* Gives the target all commands that may go. */
+static void
+queue_all(struct own_disk *disk)
+{
+	struct own_disk_move *move;
+	while ((move = movable(disk)) != NULL) {
+		move->state = OWN_DISK_MOVING;
+		if (move->told)
+			target_queue(disk->target, move);
+		else
+			hand_back(disk, move);
+	}
+}
+
+void
+own_disk_ended(struct own_disk *disk, struct own_disk_move *moves)
+{
+	struct own_disk_move *next;
+	pthread_mutex_lock(&disk->lock);
+	for (struct own_disk_move *move = moves; move != NULL; move = next) {
+		next = move->next;
+		hand_back(disk, move);
+	}
+	queue_all(disk);
+	let_go(disk);
+}
+
+static void
+sleep_on(sem_t *wake)
+{
+	while (sem_wait(wake) != 0)
+		continue;
+}
+
+/* Waits until the target has answered this request. Lets go of the lock. */
+static void
+await_target(struct own_disk *disk, struct own_disk_request *mine)
+{
+	queue_all(disk);
+	let_go(disk);
+	target_send(disk->target);
+	sleep_on(&mine->wake);
+}
+
+/* Serves what is out, whoever asked for it, until this request has its answer. Lets go of the lock. */
 static void
 await(struct own_disk *disk, struct own_disk_request *mine)
 {
@@ -181,10 +252,13 @@ await(struct own_disk *disk, struct own_disk_request *mine)
 			continue;
 		}
 		mine->idle = true;
-		pthread_cond_wait(&mine->wake, &disk->lock);
+		pthread_mutex_unlock(&disk->lock);
+		sleep_on(&mine->wake);
+		pthread_mutex_lock(&disk->lock);
 		mine->idle = false;
 	}
 	wake_one(disk);
+	pthread_mutex_unlock(&disk->lock);
 }
 
 /* Calls a request, and puts it behind the others. False where it has its answer already, or is refused. */
@@ -216,16 +290,19 @@ carry(struct own_disk *disk, const struct saddlemug_event *event, const uint8_t 
 	uint8_t *buffer, size_t room)
 {
 	struct own_disk_request mine = {.buffer = buffer, .room = room};
-	pthread_cond_init(&mine.wake, NULL);
+	sem_init(&mine.wake, 0, 0);
 	pthread_mutex_lock(&disk->lock);
 	while (disk->count == OWN_DISK_REQUESTS)
 		pthread_cond_wait(&disk->room, &disk->lock);
-	if (call(disk, event, bytes, length, &mine))
-		await(disk, &mine);
-	else
+	if (!call(disk, event, bytes, length, &mine)) {
 		pthread_cond_signal(&disk->room);
-	pthread_mutex_unlock(&disk->lock);
-	pthread_cond_destroy(&mine.wake);
+		let_go(disk);
+	} else if (disk->target != NULL) {
+		await_target(disk, &mine);
+	} else {
+		await(disk, &mine);
+	}
+	sem_destroy(&mine.wake);
 	return mine.status;
 }
 

@@ -7,11 +7,14 @@ It needs the shared library (`make -C clients shared`), which it looks for in SA
         volume.write(0, b"a" * 512)
         assert volume.read(0, 512) == b"a" * 512
 
-    with Stack(CONFIG) as stack:
+    with Stack(CONFIG) as stack, Judge(CONFIG) as judge:
         handle = stack.step(Open(0)).id
+        judge.take(*stack.labels())
         request = stack.step(Read(handle, 0, 512)).id
-        stack.step(Act(0))
-        stack.step(Finish(0))
+        judge.take(*stack.labels())
+        for event in (Act(0), Finish(0)):
+            stack.step(event)
+            judge.take(*stack.labels())
         print(stack.answers())
 
 Each call that fails raises `Failed`, which has the status by number and by name. The contract of each call is that of the C
@@ -23,14 +26,19 @@ import ctypes
 import ctypes.util
 import enum
 import os
+import re
+import select
+import shutil
+import subprocess
+import tempfile
 from ctypes import POINTER, byref, c_bool, c_size_t, c_uint8, c_uint32, c_uint64, c_void_p
 from dataclasses import dataclass
 from typing import Iterator, Optional, Union
 
 __all__ = [
     "Act", "Answer", "Armed", "Asked", "Cancel", "CancelRemove", "Close", "Completion", "Disk", "Failed", "Finish",
-    "Flush", "Id", "Label", "LabelKind", "Mark", "MemoryDisk", "Open", "Partition", "QueryRemove", "Read", "Remove",
-    "Reply", "ReplyKind", "Reset", "Stack", "Status", "SurpriseRemove", "Volume", "Write", "settings_fault", "version",
+    "Flush", "Id", "Judge", "Label", "LabelKind", "Mark", "MemoryDisk", "Open", "Partition", "QueryRemove", "Read", "Refused",
+    "Remove", "Reply", "ReplyKind", "Reset", "Stack", "Status", "SurpriseRemove", "Volume", "Write", "settings_fault", "version",
 ]
 
 
@@ -499,6 +507,109 @@ class Label:
     length: int
     through: bool
     data: bytes
+
+    def line(self) -> str:
+        """The label as a line of a trace (docs/TRACES.md)."""
+        return " ".join(_WORDS[self.kind](self))
+
+
+def _call_words(it: Label) -> list[str]:
+    words = ["call", str(it.number), ("read", "write", "flush")[it.request]]
+    if it.request < 2:
+        words += [str(it.offset), str(it.length)]
+    elif it.offset or it.length:
+        words += ["at", str(it.offset), str(it.length)]
+    return words + ["through"] * it.through + ["in", str(it.partition - 1) if it.partition else "-"] + _runs(it.data)
+
+
+def _return_words(it: Label) -> list[str]:
+    words = ["return", str(it.piece), ("good", "busy", "bad")[it.returned]]
+    if it.completion:
+        told = it.completion
+        words += [f"{code:02x}" for code in (told.srb_status, told.scsi_status, *(told.sense or ()))]
+    return words
+
+
+def _runs(data: bytes) -> list[str]:
+    """Bytes as a word: each run of equal ones as BYTE*COUNT."""
+    return [",".join(f"{it[0][0]:02x}*{len(it[0])}" for it in re.finditer(rb"(.)\1*", data, re.S))] if data else []
+
+
+_WORDS = {
+    LabelKind.CALLED: _call_words,
+    LabelKind.STARTED: lambda it: ["start", str(it.piece), "tag", str(it.tag)] + [it.data.hex()] * bool(it.data),
+    LabelKind.ACTED: lambda it: ["act", str(it.piece)] + _runs(it.data),
+    LabelKind.FAULTED: lambda it: ["fault", str(it.piece)],
+    LabelKind.RETURNED: _return_words,
+    LabelKind.ANSWERED: lambda it: ["answer", str(it.number), it.status.name, str(it.information)] + _runs(it.data),
+    LabelKind.CANCELLED: lambda it: ["cancel", str(it.number)],
+    LabelKind.PAUSED: lambda it: ["pause"],
+    LabelKind.RESUMED: lambda it: ["resume"],
+    LabelKind.REMOVING: lambda it: ["remove"],
+    LabelKind.SURPRISED: lambda it: ["surprise"],
+    LabelKind.REMOVED: lambda it: ["removed"],
+}
+
+
+class Refused(Exception):
+    """A run that the judge refused, in its words: the line, which counts from 1, and the rule that it breaks."""
+
+
+def _judge_program() -> Optional[str]:
+    named = os.environ.get("STACKJUDGE")
+    beside = os.path.normpath(os.path.dirname(os.path.abspath(__file__)) + "/../../stackjudge")
+    return named or (beside if os.path.exists(beside) else shutil.which("stackjudge"))
+
+
+class Judge:
+    """The judge of traces, `stackjudge check`, of the machine of these settings (docs/TRACES.md). It is the program that
+    STACKJUDGE names, or that of this repository. It needs no library: the lines may be those of any stack.
+
+    A refusal is raised as `Refused` by the call of `take` that finds it, the one that told the line or a later one, and by
+    `close` at the latest."""
+
+    def __init__(self, settings: Union[str, bytes], *flags: str):
+        """`flags` are the program's: --any-cut, --settled, --ended."""
+        program = _judge_program()
+        if program is None:
+            raise FileNotFoundError("stackjudge is not found: STACKJUDGE names it")
+        self._settings = tempfile.NamedTemporaryFile(suffix=".toml")
+        self._settings.write(_settings(settings))
+        self._settings.flush()
+        pipe = subprocess.PIPE
+        self._program = subprocess.Popen(
+            [program, "check", *flags, self._settings.name, "-"], stdin=pipe, stdout=pipe, stderr=pipe
+        )
+
+    def take(self, *labels: Union[Label, str]) -> None:
+        """Tells labels, or lines, in their order."""
+        if labels:
+            lines = (it if isinstance(it, str) else it.line() for it in labels)
+            self._program.stdin.write("".join(f"{it}\n" for it in lines).encode())
+        if select.select([self._program.stdout], [], [], 0)[0]:
+            self.close()
+
+    def close(self) -> str:
+        """Ends the run. The verdict on a legal one: `legal: 9 labels, ..`."""
+        if self._program is not None:
+            told, fault = self._program.communicate()
+            self._settings.close()
+            self._verdict, self._failed = (told or fault).decode().strip(), self._program.returncode != 0
+            self._program = None
+        if self._failed:
+            raise Refused(self._verdict)
+        return self._verdict
+
+    def __enter__(self) -> Judge:
+        return self
+
+    def __exit__(self, kind, *_) -> None:
+        if kind is None:
+            self.close()
+        elif self._program is not None:
+            self._program.kill()
+            self._program.communicate()
+            self._settings.close()
 
 
 @dataclass(frozen=True)
