@@ -12,12 +12,13 @@
 //! # Promises
 //!
 //! `judge` answers a run exactly where some state follows by the labels (`exact`), with every such state, or else names
-//! the first label that no step allows (`verdict`). `Machine::is_settled` is exact, and `Machine::undone` names nothing
-//! exactly where it holds (`exact`, `left`). `Machine::broken` names no rule exactly where a step goes by the line
-//! (`exact`), else one that the line breaks (`breaks`), which refutes each step (`breaking_refutes`). `stepwise::Judge`
-//! goes label by label, or line by line: a line that names the request of its start is taken exactly where a step makes
-//! a piece of that request (`taken`, `refused`). `NoVerdict`: want of memory, at any time, or more than 1,024 readings
-//! (`IsRefusal`).
+//! the first label that no step allows (`verdict`), and gives up for want of memory alone (`fault`).
+//! `Machine::is_settled` is exact, and `Machine::undone` names nothing exactly where it holds (`exact`, `left`).
+//! `Machine::broken` names no rule exactly where a step goes by the line (`exact`), else one that the line breaks
+//! (`breaks`), which refutes each step (`breaking_refutes`); its words are those of the rule (`rule_text`).
+//! `stepwise::Judge` goes label by label, or line by line: a line that names the request of its start is taken exactly
+//! where a step makes a piece of that request (`taken`, `refused`), and of a refused one each reading breaks a rule
+//! (`each`). `NoVerdict`: want of memory, at any time, or more than 1,024 readings (`IsRefusal`).
 #![tactic(auto)]
 
 mod adapter_labels;

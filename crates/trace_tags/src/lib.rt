@@ -1,8 +1,12 @@
 //! The tags of a trace where any free tag will do.
 //!
-//! The sector machine puts each piece on the lowest free tag. A trace of a stack that picks its tags otherwise is read with
-//! other tags in their place: [`Tags::read`] gives the start of a line the lowest tag that was given to no piece that is out
-//! (`given`). [`Tags::broken`] says why its own tag was not free, and nothing exactly where it was (`exact`).
+//! The sector machine puts each piece on the lowest free tag. A trace of a stack that picks its tags otherwise is read
+//! with other tags in their place.
+//!
+//! # Promises
+//!
+//! [`Tags::read`] gives the start of a line the lowest tag that was given to no piece that is out (`given`), and leaves
+//! all else of the line. [`Tags::broken`] names a rule exactly where the line's own tag was not free (`exact`).
 #![tactic(auto)]
 
 ghost use Rattle.std.specs.Prelude.{◌≡◌, [], IfOk, MatchOption, OnOk, filter};
