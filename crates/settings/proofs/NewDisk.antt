@@ -97,8 +97,8 @@ adapter_told c medium keeps first view told made =
     ∙ (ap (λ (v : MemView). told_by c.sectors (get_or v.shown.sectors 0 [])) made.0 ∙ told c.sectors)
 
 -- an adapter of which memory keeps the bytes of labels is one that keeps them
-pub kept_already : (view : MemView) → IsTrue view.shown.keeps_bytes → view ≡ record view { shown = record view.shown { keeps_bytes = true } }
-kept_already view is = ap (λ (keeps : Bool). record view { shown = record view.shown { keeps_bytes = keeps } }) is
+pub kept_already : (view : MemView) (keeps : Bool) → IsTrue view.shown.keeps_bytes → keeps ≡ true → view ≡ record view { shown = record view.shown { keeps_bytes = keeps } }
+kept_already view keeps is asked = ap (λ (k : Bool). record view { shown = record view.shown { keeps_bytes = k } }) (is ∙ sym asked)
 
 -- what settings name as partitions has zeros alone
 pub blank : (c : Config) (sectors : List (List ℕ)) → sectors ≡ disk_of c → HasBlankPartitions c sectors

@@ -1,4 +1,4 @@
-use Rattle.std.proofs.Common.{ap, ◌∙◌}
+use Rattle.std.proofs.Common.{ap}
 use Rattle.disk.specs.SparseDisk.{shown}
 use Rattle.miniport.specs.Memory.{MemView}
 use Rattle.settings.proofs.NewDisk.{adapter_told, blank, new_adapter}
