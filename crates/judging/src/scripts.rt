@@ -2,7 +2,7 @@
 
 ghost use Rattle.std.specs.Prelude.{IfErr, OnOk};
 ghost use Rattle.script.specs.Trace.{Prints};
-ghost use Rattle.judging.specs.Recorded.{IsRecordFault, IsRecordOf};
+ghost use Rattle.judging.specs.Recorded.{IsRecordFault, IsRecordOf, IsUntold};
 
 use crate::faults::Error;
 use script::Style;
@@ -16,7 +16,8 @@ use std::io::{Read, Write};
 ///
 /// The first of these that fits: the settings can't be read, or are refused; the script can't be read, or has a bad
 /// line; no stack of the settings could be started; `out` failed, after a beginning of the text. Where memory was
-/// refused, the step's own error for it stands in place of any of them.
+/// refused, the step's own error for it stands in place of any of them. Of settings or a script that are blamed, `out`
+/// has nothing.
 pub fn record_script<C: Read + Drop, S: Read + Drop, O: Write>(
     alloc: Global,
     config: C,
@@ -25,6 +26,7 @@ pub fn record_script<C: Read + Drop, S: Read + Drop, O: Write>(
 ) -> Result<(), Error>
     ensures text { OnOk result (Prints (O.contents out.old) (O.contents out.new) (IsRecordOf (C.remaining config) (S.remaining script))) }
     ensures fault { IfErr result (IsRecordFault (C.remaining config) (S.remaining script)) }
+    ensures untold { IfErr result (IsUntold (O.contents out.old) (O.contents out.new)) }
 {
     run(alloc, config, script, Style::Trace, out)?;
     Ok(())

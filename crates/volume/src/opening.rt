@@ -69,9 +69,9 @@ impl<A: Adapter> Volume<A> {
         };
         match Volume::open(alloc, stack, partition) {
             Ok(volume) => Ok(volume),
-            Err(Unopened { reason, stack }) => Err(NotOpened {
-                fault: OpenFault::Refused(reason),
-                adapter: stack.into_adapter(),
+            Err(why) => Err(NotOpened {
+                fault: OpenFault::Refused(why.reason),
+                adapter: why.stack.into_adapter(),
             }),
         }
     }

@@ -20,8 +20,8 @@ returns-in-Ok-open-clause-content g c = record {
 
 pub returns-in-Err-open-clause-fault : goal.returns-in-Err-open-clause-fault
 returns-in-Err-open-clause-fault g c =
-    let same : g.A.Adapter.view c.into_adapter-in-Err-open.result ≡ c.in-Ok.stack.adapter = c.into_adapter-in-Err-open.ensures ∙ c.in-Err-open.ensures.adapter in (
-      refused_of (g.A.Adapter.view c.args.adapter) c.args.settings c.sector_size-size.ensures.order c.requires.faithful c.in-Ok.stack c.in-Ok.ensures.view c.args.partition c.in-Err-open.reason
+    let same : g.A.Adapter.view c.into_adapter.result ≡ c.in-Ok.stack.adapter = c.into_adapter.ensures ∙ c.in-Err-open.ensures.adapter in (
+      refused_of (g.A.Adapter.view c.args.adapter) c.args.settings c.sector_size-size.ensures.order c.requires.faithful c.in-Ok.stack c.in-Ok.ensures.view c.args.partition c.in-Err-open.why.reason
           c.in-Err-open.ensures.why,
       subst (IsSameDisk (asked_by_probe (g.A.Adapter.view c.args.adapter)) (g.A.Adapter.view c.args.adapter)) (sym same) c.in-Ok.ensures.view.same_disk,
       subst (IsReadBy (g.A.Adapter.view c.args.adapter)) (sym same) c.in-Ok.ensures.view.read,
