@@ -340,7 +340,11 @@ struct saddlemug_answer {
 	uint64_t bytes;       /* as of a label: those of a read that succeeded */
 };
 
-/* Takes the waiting answer of the lowest number, in the same way. Answers wait from step to step. */
+/* Tells the waiting answer of the lowest number, which goes on waiting: how many bytes it has says how much room the next call
+ * wants. False where there is none: then the answer is as it was. */
+bool saddlemug_stack_first_answer(struct saddlemug_stack *stack, struct saddlemug_answer *answer);
+
+/* Takes the waiting answer of the lowest number, in the same way as a label. Answers wait from step to step. */
 bool saddlemug_stack_take_answer(struct saddlemug_stack *stack, struct saddlemug_answer *answer, uint8_t *buffer, size_t length);
 
 /* Takes the waiting answer of the request of this number, in the same way. False where it has none that waits: it is open, or

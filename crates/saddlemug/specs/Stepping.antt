@@ -6,7 +6,7 @@ use Rattle.ntstatus.specs.declared.NtStatus.TheVariants.{InsufficientResources, 
 use Rattle.machine.specs.declared.Label.{Label}
 use Rattle.io_manager.specs.declared.Answer.{Answer}
 use Rattle.io_manager.specs.declared.Reply.{Reply}
-use Rattle.io_manager.specs.Right.{TakesAnswer, TakesAnswerOf, TakesLabel}
+use Rattle.io_manager.specs.Right.{IsNextAnswer, TakesAnswer, TakesAnswerOf, TakesLabel}
 use Rattle.io_manager.specs.Shown.{ManagerView}
 use Rattle.compose.specs.declared.Event.{Event}
 use Rattle.compose.specs.Right.{IsRight}
@@ -53,6 +53,12 @@ pub record TellsLabel (old : ManagerView) (before : List ℕ) (told : Option Sta
   pub takes : TakesLabel old found new
   pub is_told : told ≡ option_map shown_label found
   pub bytes : MatchOption found (after ≡ before) (λ label. AreToldIn before (label_bytes label) after)
+
+-- the answer that is taken next was told, if there is one
+pub record ShowsAnswer (v : ManagerView) (told : Option StackAnswer) : Type 0 where
+  pub found : Option Answer
+  pub is_next : IsNextAnswer v found
+  pub is_told : told ≡ option_map shown_answer found
 
 -- an answer was taken, if there was one, and told with its bytes
 pub record TellsAnswer (old : ManagerView) (before : List ℕ) (told : Option StackAnswer) (after : List ℕ) (new : ManagerView) : Type 0 where

@@ -6,7 +6,7 @@ ghost use Rattle.saddlemug.specs.Calls.{IsReadFault, IsWriteFault};
 ghost use Rattle.ntstatus.specs.declared.NtStatus.TheVariants.{InvalidDeviceRequest, Success};
 ghost use Rattle.saddlemug.specs.Holding.{IfInMemory, IfOver, IsAnyStack, IsAnyVolume, IsOver, IsStack, IsVolume, places_in};
 ghost use Rattle.saddlemug.specs.Over.{BooksTold, IsArmedStatus, IsBookStatus, TellsArmed};
-ghost use Rattle.saddlemug.specs.Stepping.{IsNotStepped, IsStepStatus, Steps, TellsAnswer, TellsAnswerOf, TellsLabel};
+ghost use Rattle.saddlemug.specs.Stepping.{IsNotStepped, IsStepStatus, ShowsAnswer, Steps, TellsAnswer, TellsAnswerOf, TellsLabel};
 
 use crate::asked::StackArmed;
 use crate::booking::StackBooking;
@@ -146,6 +146,18 @@ impl Instance {
         match self {
             Instance::Stack(stack) => stack.next_label(buffer),
             Instance::Over(over) => over.next_label(buffer),
+            Instance::Volume(_) => unreachable!(),
+        }
+    }
+
+    /// Tells the stack's next answer, if there is one.
+    pub fn first_answer(&self) -> Option<StackAnswer>
+        requires { IsAnyStack self.now }
+        ensures { IsStack (λ v. ShowsAnswer v result) self.now }
+    {
+        match self {
+            Instance::Stack(stack) => stack.first_answer(),
+            Instance::Over(over) => over.first_answer(),
             Instance::Volume(_) => unreachable!(),
         }
     }

@@ -202,10 +202,19 @@ pub(crate) fn told_answer(answer: Answer, buffer: &mut [u8]) -> StackAnswer
     ensures answer { result ≡ shown_answer answer }
     ensures bytes { AreToldIn buffer.old answer.bytes buffer.new }
 {
+    let shown = shown_answer(&answer);
+    put(buffer, answer.bytes.as_slice());
+    shown
+}
+
+/// An answer as C is told it, without its bytes.
+pub(crate) fn shown_answer(answer: &Answer) -> StackAnswer
+    ensures { result ≡ shown_answer answer.now }
+{
     StackAnswer {
         number: answer.number,
         information: answer.information,
         status: answer.status.value(),
-        bytes: put(buffer, answer.bytes.as_slice()),
+        bytes: answer.bytes.len() as u64,
     }
 }

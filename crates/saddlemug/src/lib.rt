@@ -10,12 +10,13 @@
 //! `saddlemug_read` (`reads`), `saddlemug_write` (`writes`, `in_bounds`), `saddlemug_stack_step` (`steps`, `status`).
 //! Reads, writes and flushes were each its request's one answer, with write-through as asked (`answered`); only writes
 //! change the disk (`same`). Labels and answers are told (`told`), also that of a number
-//! (`saddlemug_stack_take_answer_of`), names and what is wrong with settings (`TellsFault`). A disk by numbers is that
-//! of settings with these values (`AreTold`). Else nothing changes, nor what is behind a buffer's bytes (`as_it_was`,
-//! `behind`). Over C's own storage: `saddlemug_over_open` (`IsNewOver`, `IsOverStatus`), `saddlemug_over_armed`
-//! (`TellsArmed`, `StandsAt`), `saddlemug_over_book`, of just what may be booked (`BooksTold`, `IsBookStatus`). The
-//! cell keeps what it held (`held`). Nothing checks that C passes the right slot and no overlapping arguments.
-//! `unsafe`: C's pointer (`RawBox::into_box`) and the exports' names.
+//! (`saddlemug_stack_take_answer_of`), or the next one, which stays (`saddlemug_stack_first_answer`), names and what is
+//! wrong with settings (`TellsFault`). A disk by numbers is that of settings with these values (`AreTold`). Else
+//! nothing changes, nor what is behind a buffer's bytes (`as_it_was`, `behind`). Over C's own storage:
+//! `saddlemug_over_open` (`IsNewOver`, `IsOverStatus`), `saddlemug_over_armed` (`TellsArmed`, `StandsAt`),
+//! `saddlemug_over_book`, of just what may be booked (`BooksTold`, `IsBookStatus`). The cell keeps what it held
+//! (`held`). Nothing checks that C passes the right slot and no overlapping arguments. `unsafe`: C's pointer
+//! (`RawBox::into_box`) and the exports' names.
 #![tactic(auto)]
 
 mod asked;

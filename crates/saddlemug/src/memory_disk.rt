@@ -6,6 +6,7 @@ ghost use Rattle.ntstatus.specs.declared.NtStatus.TheVariants.{Success};
 ghost use Rattle.settings.specs.InRange.{AreInRange};
 ghost use Rattle.saddlemug.specs.InMemory.{AreTold, IsDisk, IsDiskStatus, IsInRange, IsToldStack, IsToldStackStatus, IsToldVolume, IsToldVolumeStatus, is_used, partition_of, told};
 
+use crate::memory_stack::MemoryStack;
 use crate::opening::{stack_of, volume_of};
 use disk::SparseDisk;
 use miniport::MemAdapter;

@@ -2,11 +2,11 @@
 
 ghost use Rattle.std.specs.Prelude.{◌≡◌, ◌≢◌, IfErr, IsTrue, MatchResult};
 ghost use Rattle.ntstatus.specs.declared.NtStatus.TheVariants.{Success};
-ghost use Rattle.saddlemug.specs.Stepping.{IsNotStepped, IsStepStatus, Steps, TellsAnswer, TellsAnswerOf, TellsLabel};
+ghost use Rattle.saddlemug.specs.Stepping.{IsNotStepped, IsStepStatus, ShowsAnswer, Steps, TellsAnswer, TellsAnswerOf, TellsLabel};
 
 use crate::events::{StackEvent, StackReply};
 use crate::labels::{StackAnswer, StackLabel};
-use crate::stepping::{step_as_told, tell_answer, tell_answer_of, tell_label};
+use crate::stepping::{first_answer, step_as_told, tell_answer, tell_answer_of, tell_label};
 use compose::Stack;
 use disk::SparseDisk;
 use miniport::MemAdapter;
@@ -64,6 +64,13 @@ impl MemoryStack {
         ensures { TellsLabel self.old buffer.old result buffer.new self.new }
     {
         tell_label(&mut self.stack, buffer)
+    }
+
+    /// Tells the next answer, as [`first_answer`].
+    pub(crate) fn first_answer(&self) -> Option<StackAnswer>
+        ensures { ShowsAnswer self.now result }
+    {
+        first_answer(&self.stack)
     }
 
     /// Takes the next answer, as [`tell_answer`].

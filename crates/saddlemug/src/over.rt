@@ -5,14 +5,14 @@ ghost use Rattle.ntstatus.specs.declared.NtStatus.TheVariants.{Success};
 ghost use Rattle.adapter.specs.Booking.{IsArmed};
 ghost use Rattle.saddlemug.specs.Places.{HasPiece, place_of};
 ghost use Rattle.saddlemug.specs.Over.{BooksTold, IsArmedStatus, IsBookStatus, IsNotArmed, IsNotTold, IsSuited, IsTold, TellsArmed};
-ghost use Rattle.saddlemug.specs.Stepping.{IsNotStepped, IsStepStatus, Steps, TellsAnswer, TellsAnswerOf, TellsLabel};
+ghost use Rattle.saddlemug.specs.Stepping.{IsNotStepped, IsStepStatus, ShowsAnswer, Steps, TellsAnswer, TellsAnswerOf, TellsLabel};
 
 use crate::asked::{Asked, StackArmed, told_armed};
 use crate::booking::{DiskOf, StackBooking, asked_of};
 use crate::events::{StackEvent, StackReply};
 use crate::labels::{StackAnswer, StackLabel};
 use crate::places::{PieceBytes, no_places, stand};
-use crate::stepping::{step_as_told, tell_answer, tell_answer_of, tell_label};
+use crate::stepping::{first_answer, step_as_told, tell_answer, tell_answer_of, tell_label};
 use compose::Stack;
 use miniport::BookedAdapter;
 use ntstatus::NtStatus;
@@ -89,6 +89,13 @@ impl Over {
         ensures places { self.new.places ≡ self.old.places }
     {
         tell_label(&mut self.stack, buffer)
+    }
+
+    /// Tells the next answer, as [`first_answer`].
+    pub(crate) fn first_answer(&self) -> Option<StackAnswer>
+        ensures { ShowsAnswer self.now.stack result }
+    {
+        first_answer(&self.stack)
     }
 
     /// Takes the next answer, as [`tell_answer`].

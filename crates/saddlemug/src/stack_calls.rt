@@ -4,7 +4,7 @@ ghost use Rattle.std.specs.Prelude.{◌≡◌, ◌⊎◌, None, Some, MatchBool,
 ghost use Rattle.saddlemug.specs.Holding.{HoldsAnyStack, HoldsStack, places_held};
 ghost use Rattle.saddlemug.specs.Opened.{IsNewStack, IsStackStatus};
 ghost use Rattle.saddlemug.specs.Statuses.{IsNumberOfStatus};
-ghost use Rattle.saddlemug.specs.Stepping.{IsNotStepped, IsStepStatus, Steps, TellsAnswer, TellsAnswerOf, TellsLabel, told_if};
+ghost use Rattle.saddlemug.specs.Stepping.{IsNotStepped, IsStepStatus, ShowsAnswer, Steps, TellsAnswer, TellsAnswerOf, TellsLabel, told_if};
 
 use crate::cell::Cell;
 use crate::events::{StackEvent, StackReply};
@@ -79,6 +79,31 @@ pub extern "C" fn saddlemug_stack_take_label(
     match found {
         Some(told) => {
             *label = told;
+            true
+        }
+        None => false,
+    }
+}
+
+/// Tells the waiting answer with the lowest number, if there is one, which goes on waiting. Where there is none, the
+/// answer is as it was.
+#[unsafe(no_mangle)]
+pub extern "C" fn saddlemug_stack_first_answer(
+    alloc: Global,
+    cell: &mut Cell,
+    answer: &mut StackAnswer,
+) -> bool
+    requires { HoldsAnyStack cell.old.held }
+    ensures held { cell.new.held ≡ cell.old.held }
+    ensures told { HoldsStack (λ v. ShowsAnswer v (told_if result answer.new)) cell.old.held }
+    ensures as_it_was { (result ≡ true) ⊎ (answer.new ≡ answer.old) }
+{
+    let held = cell.take(alloc);
+    let found = held.first_answer();
+    cell.put(held);
+    match found {
+        Some(told) => {
+            *answer = told;
             true
         }
         None => false,

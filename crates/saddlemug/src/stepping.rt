@@ -2,10 +2,10 @@
 
 ghost use Rattle.std.specs.Prelude.{◌≡◌, ◌≢◌, IfErr, IsTrue, MatchResult};
 ghost use Rattle.ntstatus.specs.declared.NtStatus.TheVariants.{Success};
-ghost use Rattle.saddlemug.specs.Stepping.{IsNotStepped, IsStepStatus, Steps, TellsAnswer, TellsAnswerOf, TellsLabel, quiet};
+ghost use Rattle.saddlemug.specs.Stepping.{IsNotStepped, IsStepStatus, ShowsAnswer, Steps, TellsAnswer, TellsAnswerOf, TellsLabel, quiet};
 
 use crate::events::{StackEvent, StackReply, event_of, told_reply};
-use crate::labels::{StackAnswer, StackLabel, told_answer, told_label};
+use crate::labels::{StackAnswer, StackLabel, shown_answer, told_answer, told_label};
 use adapter::Adapter;
 use compose::Stack;
 use ntstatus::NtStatus;
@@ -53,6 +53,16 @@ pub(crate) fn tell_label<A: Adapter>(stack: &mut Stack<A>, buffer: &mut [u8]) ->
 {
     match stack.take_label() {
         Some(label) => Some(told_label(label, buffer)),
+        None => None,
+    }
+}
+
+/// Tells the waiting answer with the lowest number, which goes on waiting.
+pub(crate) fn first_answer<A: Adapter>(stack: &Stack<A>) -> Option<StackAnswer>
+    ensures { ShowsAnswer stack.now result }
+{
+    match stack.first_answer() {
+        Some(answer) => Some(shown_answer(answer)),
         None => None,
     }
 }

@@ -8,8 +8,9 @@ use crate::memory_calls::{saddlemug_memory_open_into, saddlemug_stack_memory_ope
 use crate::memory_disk::{MemoryDisk, MemoryPartition};
 use crate::names::{saddlemug_status_word, saddlemug_version};
 use crate::stack_calls::{
-    saddlemug_stack_close_full, saddlemug_stack_open_into, saddlemug_stack_step,
-    saddlemug_stack_take_answer, saddlemug_stack_take_answer_of, saddlemug_stack_take_label,
+    saddlemug_stack_close_full, saddlemug_stack_first_answer, saddlemug_stack_open_into,
+    saddlemug_stack_step, saddlemug_stack_take_answer, saddlemug_stack_take_answer_of,
+    saddlemug_stack_take_label,
 };
 use crate::volume_calls::{
     saddlemug_close_full, saddlemug_flush, saddlemug_open_into, saddlemug_read, saddlemug_sizes,
@@ -117,6 +118,8 @@ fn steps_a_stack(rt: HostRuntime) {
     let code = bytes[0];
     let acted = saddlemug_stack_step(alloc, &mut cell, &event(11, id), &[], &mut reply);
     let finished = saddlemug_stack_step(alloc, &mut cell, &event(12, id), &[], &mut reply);
+    let shown = saddlemug_stack_first_answer(alloc, &mut cell, &mut answer);
+    let first = answer;
     let other = saddlemug_stack_take_answer_of(alloc, &mut cell, 2, &mut answer, &mut bytes);
     let answered = saddlemug_stack_take_answer_of(alloc, &mut cell, 1, &mut answer, &mut bytes);
     let again = saddlemug_stack_take_answer(alloc, &mut cell, &mut answer, &mut bytes);
@@ -133,6 +136,7 @@ fn steps_a_stack(rt: HostRuntime) {
     assert!(rt; call.partition == 1 && call.offset == 1024 && call.length == 512);
     // WRITE(10), of ten bytes.
     assert!(rt; started && start.kind == 1 && start.bytes == 10 && code == 0x2A);
+    assert!(rt; shown && first.number == 1 && first.information == 512 && first.bytes == 0);
     assert!(rt; !other && !again);
     assert!(rt; answered && answer.number == 1 && answer.status == 0 && answer.information == 512);
 }
