@@ -1,0 +1,6 @@
+mod Numbering
+mod Bounds
+mod Touching
+mod Alike
+mod Judged
+mod Shown

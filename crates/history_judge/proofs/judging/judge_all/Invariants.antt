@@ -1,0 +1,7 @@
+use Rattle.std.proofs.Common.{take}
+use Rattle.history_judge.specs.inside.Judging.{IsRightOf}
+use Rattle.history_judge.proofs.judging.judge_all.Given as goal
+
+-- the verdict is right of the sectors so far
+abbrev pub invariant-loop-index : goal.invariant-loop-index
+invariant-loop-index l = IsRightOf l.service l.start l.labels (take l.index l.places) l.found

@@ -1,0 +1,4 @@
+pub mod Services
+pub mod Values
+pub mod Verdicts
+pub mod inside

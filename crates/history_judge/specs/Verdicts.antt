@@ -1,0 +1,43 @@
+-- What a verdict says of a history.
+use Rattle.std.specs.Prelude.{◌≡◌, ◌<◌, ℕ, List, [], true, Some, slice_get, length, All, Contains}
+use Rattle.machine.specs.declared.ClientRequest.{ClientRequest}
+use Rattle.machine.specs.declared.Label.{Label}
+use Rattle.machine.specs.declared.Label.TheVariants.{Call}
+use Rattle.machine.specs.Rules.{Rules}
+use Rattle.machine.specs.Sending.{array_at}
+use Rattle.machine_laws.specs.Reached.{AreWhole}
+use Rattle.history_laws.specs.History.{IsExplained}
+use Rattle.register.specs.Schedules.{HasSchedule}
+use Rattle.history.specs.Sights.{has_sector, sights_of}
+use Rattle.history_judge.specs.declared.service.Service.{Service}
+use Rattle.history_judge.specs.declared.service.Place.{Place}
+use Rattle.history_judge.specs.declared.judging.Verdict.{Verdict}
+use Rattle.history_judge.specs.declared.judging.Verdict.TheVariants.{Passed, Misnumbered, Refused, Undecided}
+use Rattle.history_judge.specs.Services.{rules_of, AreOf}
+use Rattle.history_judge.specs.Values.{number_in, IsBelow}
+
+-- some call moves the sector
+pub record IsTouched (rules : Rules) (place : Place) (history : List Label) : Type 0 where
+  pub number : ℕ
+  pub request : ClientRequest
+  pub called : Contains history (Call number request)
+  pub moves : has_sector rules place.partition place.sector request ≡ true
+
+-- the sector, which has these bytes at the start, has a schedule as a register: its values are numbers of its bytes in a table
+pub record Passes (service : Service) (start : List ℕ) (history : List Label) (place : Place) : Type 0 where
+  pub table : List (List ℕ)
+  pub starts : number_in table start < length table
+  pub numbered : All (IsBelow (length table)) (sights_of (number_in table) (rules_of service) place.partition place.sector [] history)
+  pub schedule : HasSchedule (number_in table start) (sights_of (number_in table) (rules_of service) place.partition place.sector [] history)
+
+-- no run of a service of these sizes explains the history, from arrays in which the sector has these bytes
+abbrev pub IsUnexplained : Service → List ℕ → List Label → Place → Type 0
+IsUnexplained service start history place = (rules : Rules) (arrays : List (List (List ℕ))) → AreOf service rules → AreWhole rules arrays
+    → slice_get (array_at arrays place.partition) place.sector ≡ Some start → IsExplained rules arrays history → ⊥
+
+-- each touched sector of what passes has a schedule; no run explains what is refused
+abbrev pub IsRight : Service → List ℕ → List Label → Verdict → Type 0
+IsRight service start history Passed = (place : Place) → IsTouched (rules_of service) place history → Passes service start history place
+IsRight service start history (Misnumbered label) = (rules : Rules) (arrays : List (List (List ℕ))) → IsExplained rules arrays history → ⊥
+IsRight service start history (Refused place label) = IsUnexplained service start history place
+IsRight service start history (Undecided place) = Unit {0}

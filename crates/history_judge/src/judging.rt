@@ -1,0 +1,170 @@
+//! Verdicts of histories.
+
+ghost use Rattle.std.specs.Prelude.{◌<◌, ◌∷◌, [], Contains, IfOk, IfSome, length, slice_index_or, take};
+ghost use Rattle.std.specs.Bool.{OnTrue};
+ghost use Rattle.machine_laws.specs.NumberLaws.{AreFrom, call_numbers};
+ghost use Rattle.history_judge.specs.declared.service.Place.{Place};
+ghost use Rattle.history_judge.specs.Verdicts.{IsRight};
+ghost use Rattle.history_judge.specs.inside.Judging.{IsOneOf, IsRightOf};
+
+use crate::sectors::{Watched, sights_of, values_of};
+use crate::service::{Place, Service};
+use crate::touched::touched;
+use crate::values::{are_below, number_in};
+use history::refused_are_unexplained;
+use history_laws::explained_are_numbered;
+use machine::Label;
+use register::{Sight, prefixes_are_scheduled};
+use register_judge::judge as judge_register;
+use std::alloc::{AllocError, Global};
+
+/// What the judge says of a history. Labels are counted from 0.
+#[derive(Debug, Clone, Copy, PartialEq, Eq)]
+pub enum Verdict {
+    /// Each sector that it touches has a schedule.
+    Passed,
+    /// This call doesn't have the next number: no run explains the history.
+    Misnumbered { label: usize },
+    /// The sector has no schedule, and had none behind this answer: no run explains the history.
+    Refused { place: Place, label: usize },
+    /// Too many of the sector's requests were open at once.
+    Undecided { place: Place },
+}
+
+/// The first call that doesn't have the next number.
+fn misnumbered(labels: &[Label]) -> Option<usize>
+    ensures { IfSome result (λ _. ¬ (AreFrom 1 (call_numbers labels.now))) }
+{
+    let mut next: u64 = 1;
+    for (index, label) in labels.iter().enumerate() {
+        if let Label::Call { number, .. } = label {
+            if *number != next {
+                return Some(index);
+            }
+            next += 1;
+        }
+    }
+    None
+}
+
+/// The answer at which the last sight ends a request.
+fn end_of(sights: &[Sight], labels: &[Label]) -> usize {
+    let Some(Sight::Done { number: ended } | Sight::Failed { number: ended }) = sights.last() else {
+        return 0;
+    };
+    for (index, label) in labels.iter().enumerate() {
+        if let Label::Answer { number, .. } = label {
+            if number == ended {
+                return index;
+            }
+        }
+    }
+    0
+}
+
+/// Judges one sector.
+fn judge_sector(
+    alloc: Global,
+    service: &Service,
+    start: &[u8],
+    labels: &[Label],
+    place: Place,
+) -> Result<Verdict, AllocError>
+    requires { 0 < service.now.sector_size }
+    ensures { IfOk result (IsRightOf service.now start.now labels.now (place ∷ [])) }
+{
+    prefixes_are_scheduled();
+    refused_are_unexplained();
+    let table = values_of(alloc, service, place, start, labels)?;
+    let watched = Watched { place, table };
+    let count = watched.table.len() as u64;
+    let value = number_in(watched.table.as_slice(), start);
+    let sights = sights_of(alloc, service, &watched, labels)?;
+    match judge_register(alloc, value, sights.as_slice())? {
+        register_judge::Verdict::Passed => {
+            if value < count && are_below(count, sights.as_slice()) {
+                return Ok(Verdict::Passed);
+            }
+            Ok(Verdict::Undecided { place })
+        }
+        register_judge::Verdict::Refused { sights: count } => {
+            let label = end_of(&sights.as_slice()[..count], labels);
+            Ok(Verdict::Refused { place, label })
+        }
+        register_judge::Verdict::Undecided => Ok(Verdict::Undecided { place }),
+    }
+}
+
+/// The refusal at the earlier label, else what is undecided, if one of two verdicts is that.
+fn first_of(a: Verdict, b: Verdict) -> Verdict
+    ensures { IsOneOf a b result }
+{
+    match (a, b) {
+        (Verdict::Refused { label: first, .. }, Verdict::Refused { label, .. }) => {
+            if first <= label { a } else { b }
+        }
+        (_, Verdict::Refused { .. }) | (Verdict::Passed, _) => b,
+        _ => a,
+    }
+}
+
+/// Whether a sector stands right before it, too.
+fn is_again(places: &[Place], index: usize) -> bool
+    requires { index < length places.now }
+    ensures { OnTrue result ((d : Place) → Contains (take index places.now) (slice_index_or places.now index d)) }
+{
+    if index == 0 {
+        return false;
+    }
+    let before = places[index - 1];
+    let here = places[index];
+    before.partition == here.partition && before.sector == here.sector
+}
+
+/// Judges these sectors.
+#[tactic(auto, using(crate::proofs::Judged::same_again))]
+fn judge_all(
+    alloc: Global,
+    service: &Service,
+    start: &[u8],
+    labels: &[Label],
+    places: &[Place],
+) -> Result<Verdict, AllocError>
+    requires { 0 < service.now.sector_size }
+    ensures { IfOk result (IsRightOf service.now start.now labels.now places.now) }
+{
+    let mut found = Verdict::Passed;
+    for index in 0..places.len() {
+        if is_again(places, index) {
+            continue;
+        }
+        let verdict = judge_sector(alloc, service, start, labels, places[index])?;
+        found = first_of(found, verdict);
+    }
+    Ok(found)
+}
+
+/// Judges a history of a service whose sectors all had these bytes at the start. Labels of its device are passed over.
+///
+/// The sectors have bytes, more than none. A refusal tells the earliest answer at which some sector has no schedule.
+///
+/// # Errors
+///
+/// [`AllocError`] where memory was refused.
+pub fn judge(
+    alloc: Global,
+    service: &Service,
+    start: &[u8],
+    labels: &[Label],
+) -> Result<Verdict, AllocError>
+    requires { 0 < service.now.sector_size }
+    ensures right { IfOk result (IsRight service.now start.now labels.now) }
+{
+    explained_are_numbered();
+    if let Some(label) = misnumbered(labels) {
+        return Ok(Verdict::Misnumbered { label });
+    }
+    let mut places = touched(alloc, service, labels)?;
+    places.sort()?;
+    judge_all(alloc, service, start, labels, places.as_slice())
+}

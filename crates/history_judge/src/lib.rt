@@ -1,0 +1,32 @@
+//! A judge of histories: it says of what clients saw of a service, calls and answers with their bytes, whether each sector
+//! has a schedule.
+//!
+//! # Promises
+//!
+//! `judge` (`right`) refuses a history only if no run of the sector machine explains it, however the service cuts its
+//! requests, and whatever it lets in at once: its calls don't count 1, 2 and on, or what it shows of some sector has no
+//! schedule as a register. It passes a history only if each sector that it touches has one (`Passes`), in which different
+//! bytes of the sector are different values (`numbers_tell`). Where the judge of registers can't tell, it is undecided.
+//!
+//! It doesn't promise that a run explains what passes, nor that there is a verdict: a sector with more than 16 requests open
+//! at once, or with eight open writes of values of their own, is undecided.
+#![tactic(auto)]
+
+mod judging;
+mod sectors;
+mod service;
+#[cfg(test)]
+mod tests;
+mod touched;
+mod values;
+
+ghost use Rattle.history_judge.specs.Values.{NumbersTell};
+
+pub use judging::{Verdict, judge};
+pub use service::{Place, Service};
+
+/// Different bytes have different numbers, where one of them is in the table.
+#[tactic(auto, using(crate::proofs::Numbering::numbers_tell))]
+pub fn numbers_tell()
+    ensures { NumbersTell }
+{}

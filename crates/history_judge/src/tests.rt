@@ -1,0 +1,319 @@
+//! Histories that are legal, and histories that are not.
+
+use crate::{Place, Service, Verdict, judge};
+use machine::{ClientRequest, Kind, Label};
+use ntstatus::NtStatus;
+use sector::{Bytes, Extent};
+use std::alloc::{AllocError, Global};
+use std::test::Fail;
+
+/// A call or an answer. A sector has two bytes.
+enum Step {
+    Write {
+        number: u64,
+        sector: u64,
+        bytes: &'static [u8],
+    },
+    Read {
+        number: u64,
+        sector: u64,
+        count: u64,
+    },
+    Good {
+        number: u64,
+        bytes: &'static [u8],
+    },
+    Bad {
+        number: u64,
+    },
+}
+
+/// The second sector of the first partition.
+const SECOND: Place = Place {
+    partition: 0,
+    sector: 1,
+};
+
+/// What clients saw of four sectors of zeros, and the verdict.
+static CASES: [(&str, &[Step], Verdict); 9] = [
+    (
+        "a write is read back",
+        &[
+            Step::Write {
+                number: 1,
+                sector: 0,
+                bytes: &[1, 2, 3, 4],
+            },
+            Step::Good {
+                number: 1,
+                bytes: &[],
+            },
+            Step::Read {
+                number: 2,
+                sector: 1,
+                count: 2,
+            },
+            Step::Good {
+                number: 2,
+                bytes: &[3, 4, 0, 0],
+            },
+        ],
+        Verdict::Passed,
+    ),
+    (
+        "a write is lost",
+        &[
+            Step::Write {
+                number: 1,
+                sector: 0,
+                bytes: &[1, 2, 3, 4],
+            },
+            Step::Good {
+                number: 1,
+                bytes: &[],
+            },
+            Step::Read {
+                number: 2,
+                sector: 0,
+                count: 2,
+            },
+            Step::Good {
+                number: 2,
+                bytes: &[1, 2, 0, 0],
+            },
+        ],
+        Verdict::Refused {
+            place: SECOND,
+            label: 3,
+        },
+    ),
+    (
+        "a write is torn beside a read, sector by sector",
+        &[
+            Step::Write {
+                number: 1,
+                sector: 0,
+                bytes: &[1, 2, 3, 4],
+            },
+            Step::Read {
+                number: 2,
+                sector: 0,
+                count: 2,
+            },
+            Step::Good {
+                number: 2,
+                bytes: &[0, 0, 3, 4],
+            },
+        ],
+        Verdict::Passed,
+    ),
+    (
+        "a sector is torn",
+        &[
+            Step::Write {
+                number: 1,
+                sector: 1,
+                bytes: &[3, 4],
+            },
+            Step::Read {
+                number: 2,
+                sector: 1,
+                count: 1,
+            },
+            Step::Good {
+                number: 2,
+                bytes: &[3, 0],
+            },
+        ],
+        Verdict::Refused {
+            place: SECOND,
+            label: 2,
+        },
+    ),
+    (
+        "a failed write acts later",
+        &[
+            Step::Write {
+                number: 1,
+                sector: 1,
+                bytes: &[3, 4],
+            },
+            Step::Bad { number: 1 },
+            Step::Read {
+                number: 2,
+                sector: 1,
+                count: 1,
+            },
+            Step::Good {
+                number: 2,
+                bytes: &[0, 0],
+            },
+            Step::Read {
+                number: 3,
+                sector: 1,
+                count: 1,
+            },
+            Step::Good {
+                number: 3,
+                bytes: &[3, 4],
+            },
+        ],
+        Verdict::Refused {
+            place: SECOND,
+            label: 5,
+        },
+    ),
+    (
+        "one that is never answered acts later",
+        &[
+            Step::Write {
+                number: 1,
+                sector: 1,
+                bytes: &[3, 4],
+            },
+            Step::Read {
+                number: 2,
+                sector: 1,
+                count: 1,
+            },
+            Step::Good {
+                number: 2,
+                bytes: &[0, 0],
+            },
+            Step::Read {
+                number: 3,
+                sector: 1,
+                count: 1,
+            },
+            Step::Good {
+                number: 3,
+                bytes: &[3, 4],
+            },
+        ],
+        Verdict::Passed,
+    ),
+    (
+        "the earlier of two refusals is told",
+        &[
+            Step::Read {
+                number: 1,
+                sector: 1,
+                count: 1,
+            },
+            Step::Good {
+                number: 1,
+                bytes: &[5, 5],
+            },
+            Step::Read {
+                number: 2,
+                sector: 0,
+                count: 1,
+            },
+            Step::Good {
+                number: 2,
+                bytes: &[6, 6],
+            },
+        ],
+        Verdict::Refused {
+            place: SECOND,
+            label: 1,
+        },
+    ),
+    (
+        "a write beyond the end touches nothing",
+        &[
+            Step::Write {
+                number: 1,
+                sector: 3,
+                bytes: &[1, 2, 3, 4],
+            },
+            Step::Bad { number: 1 },
+        ],
+        Verdict::Passed,
+    ),
+    (
+        "a number is left out",
+        &[
+            Step::Read {
+                number: 1,
+                sector: 0,
+                count: 1,
+            },
+            Step::Read {
+                number: 3,
+                sector: 0,
+                count: 1,
+            },
+        ],
+        Verdict::Misnumbered { label: 1 },
+    ),
+];
+
+/// The call of a transfer from one sector on.
+fn call(number: u64, kind: Kind, sector: u64, length: u64, bytes: Bytes) -> Label {
+    Label::Call {
+        number,
+        request: ClientRequest {
+            partition: Some(0),
+            kind,
+            offset: sector.saturating_mul(2),
+            length,
+            through: false,
+            bytes,
+        },
+    }
+}
+
+fn answer(number: u64, status: NtStatus, information: u64, bytes: Bytes) -> Label {
+    Label::Answer {
+        number,
+        status,
+        information,
+        bytes,
+    }
+}
+
+fn label_of(alloc: Global, step: &Step) -> Result<Label, AllocError> {
+    let none = Bytes::new(Vec::new(alloc));
+    Ok(match *step {
+        Step::Write {
+            number,
+            sector,
+            bytes,
+        } => {
+            let length = bytes.len() as u64;
+            let bytes = Bytes::new(Vec::from_slice(alloc, bytes)?);
+            call(number, Kind::Write, sector, length, bytes)
+        }
+        Step::Read {
+            number,
+            sector,
+            count,
+        } => call(number, Kind::Read, sector, count.saturating_mul(2), none),
+        Step::Good { number, bytes } => {
+            let length = bytes.len() as u64;
+            let bytes = Bytes::new(Vec::from_slice(alloc, bytes)?);
+            answer(number, NtStatus::Success, length, bytes)
+        }
+        Step::Bad { number } => answer(number, NtStatus::IoDeviceError, 0, none),
+    })
+}
+
+#[test]
+fn histories_are_judged(rt: HostRuntime) -> Result<(), Fail> {
+    let alloc = rt.alloc();
+    let service = Service {
+        sector_size: 2,
+        partitions: vec![in alloc; Extent { first: 1, count: 4 }]?,
+        longest: 8,
+    };
+    for (name, steps, wanted) in CASES {
+        let mut labels = Vec::new(alloc);
+        for step in steps {
+            labels.push(label_of(alloc, step)?)?;
+        }
+        let verdict = judge(alloc, &service, &[0, 0], labels.as_slice())?;
+        assert_eq!(&rt; verdict, wanted, "{name}");
+    }
+    Ok(())
+}
