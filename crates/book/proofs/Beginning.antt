@@ -3,7 +3,6 @@ use Rattle.std.proofs.Common.{◌≡◌, ℕ, zero, suc, IsFalse, ◌≤◌, Lis
 use Rattle.std.specs.Prelude.{All, Contains, IsPermutation}
 use Rattle.std.proofs.lemmas.List.Sorted.{Contains-permutation, IsPermutation-sym}
 use Rattle.std.proofs.lemmas.List.Elements.{All-nil}
-use Rattle.srb.specs.declared.Entry.{Entry as Booked}
 use Rattle.adapter.specs.View.{TagInUse, AdapterView}
 use Rattle.machine.specs.declared.Label.{Label}
 use Rattle.machine.specs.Rules.{Rules, sectors_of}
@@ -19,7 +18,7 @@ use Rattle.io_manager.specs.Right.{FitsTogether}
 use Rattle.io_manager.specs.declared.Answer.{Answer}
 use Rattle.io_manager.specs.Right.{TakesAnswerOf}
 use Rattle.io_manager.specs.Shown.{ManagerView}
-use Rattle.compose.specs.Journaled.{IsJournaled, IsStartedUse}
+use Rattle.compose.specs.Journaled.{IsStartedUse}
 use Rattle.sector_journal.specs.declared.acted.Entered.{Entered}
 use Rattle.sector_journal.specs.declared.slots.Armed.{Armed}
 use Rattle.sector_journal.specs.Journal.{entries_in}
@@ -28,7 +27,7 @@ use Rattle.traced.specs.Entries.{labels_of}
 use Rattle.traced.specs.Traced.{TracedView, IsTraced}
 use Rattle.book.specs.Arming.{claimed_at}
 use Rattle.book.specs.Book.{ActsAreOf, IsBlank, IsKept}
-use Rattle.book.specs.Staying.{Claimed, IsClaimed, AreOnTags}
+use Rattle.book.specs.Staying.{Claimed, AreOnTags}
 
 none_claimed : (depth tag : ℕ) → claimed_at (replicate depth None) tag ≡ None
 none_claimed zero tag = refl

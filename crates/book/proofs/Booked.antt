@@ -1,5 +1,5 @@
 -- One more entry is booked.
-use Rattle.std.proofs.Common.{◌≡◌, ℕ, zero, suc, Option, Some, None, refl}
+use Rattle.std.proofs.Common.{ℕ, suc, Option, Some, None, refl}
 use Rattle.book.specs.Book.{BookView, BooksOne, HasBooked}
 
 pub booked_none : (old : BookView) → (count : ℕ) × HasBooked None count old old

@@ -1,19 +1,16 @@
 -- A step goes on with the trace of a book, its entries and its tags.
-use Rattle.std.proofs.Common.{◌≡◌, ◌≢◌, inl, inr, ℕ, zero, suc, ◌+◌, ◌<◌, ◌≤◌, Bool, true, false, List, [], ◌∷◌, ◌++◌, drop, length, map, Option, Some, None, Ok, Err, Result, IsFalse, refl, sym, ap, subst, ◌∙◌, if◌then◌else◌, ◌==◌, arith}
-use Rattle.std.specs.Prelude.{◌⊎◌, All, Contains, slice_get, get_or}
-use Rattle.std.proofs.lemmas.List.{append-nil}
-use Rattle.std.proofs.lemmas.List.Elements.{All-append, All-cons, All-contains, All-nil}
+use Rattle.std.proofs.Common.{◌≡◌, inl, inr, ℕ, Bool, true, false, List, ◌++◌, Ok, Err, Result, refl, sym, ap, subst, ◌∙◌, if◌then◌else◌, ◌==◌}
+use Rattle.std.specs.Prelude.{All}
+use Rattle.std.proofs.lemmas.List.Elements.{All-contains}
 use Rattle.std.proofs.lemmas.Bool.Decides.{Decides-eqb}
 use Rattle.cdb.specs.Meaning.{AsksToWrite}
 use Rattle.srb.specs.declared.Srb.{Srb}
 use Rattle.srb.specs.declared.Entry.{Entry as Booked}
 use Rattle.srb.specs.declared.Completion.{Completion}
-use Rattle.srb.specs.Fate.{Fresh}
 use Rattle.adapter.specs.View.{TagInUse, AdapterView, IsInOrder, IsSpoiled}
-use Rattle.adapter.specs.Booking.{IsArmed, Books, booked_on, with_booked, with_booking}
+use Rattle.adapter.specs.Booking.{Books, booked_on, with_booked, with_booking}
 use Rattle.adapter.proofs.Booked.{all_spoiled}
 use Rattle.adapter.proofs.Joining.{unspoiled}
-use Rattle.machine.specs.declared.Label.{Label}
 use Rattle.io_manager.specs.declared.Reply.{Reply}
 use Rattle.io_manager.specs.Shown.{ManagerView}
 use Rattle.compose.specs.declared.Event.{Event}
@@ -23,7 +20,7 @@ use Rattle.compose.proofs.JournaledStep.{there_mapped}
 use Rattle.sector_journal.specs.declared.slots.Armed.{Armed}
 use Rattle.sector_journal.specs.Arming.{AskTheSame}
 use Rattle.traced.specs.Entries.{labels_of}
-use Rattle.traced.specs.Traced.{TracedView, IsCarried, IsServed, may_want, pages_of}
+use Rattle.traced.specs.Traced.{TracedView, IsCarried, IsServed, pages_of}
 use Rattle.traced.proofs.Telling.{labels_noted}
 use Rattle.book.specs.Staying.{Claimed, IsClaimed, IsOnTag, AreOnTags, HaveNotedAll, Leaves, ArmedStays}
 use Rattle.book.proofs.Staying.{IsIn, is_in, is_armed}

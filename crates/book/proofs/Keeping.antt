@@ -1,5 +1,5 @@
 -- Steps with no entry keep what holds of a book.
-use Rattle.std.proofs.Common.{◌≡◌, inl, inr, ℕ, zero, suc, ◌+◌, ◌<◌, ◌≤◌, true, false, Bool, List, [], ◌∷◌, ◌++◌, length, Option, Some, None, IsFalse, refl, sym, ap, subst, ◌∙◌, arith, append_assoc, length-append}
+use Rattle.std.proofs.Common.{◌≡◌, inl, inr, ℕ, zero, suc, ◌<◌, ◌≤◌, true, false, List, [], ◌∷◌, ◌++◌, length, Option, Some, None, IsFalse, refl, sym, ap, subst, ◌∙◌, arith, append_assoc}
 use Rattle.std.specs.Prelude.{◌⊎◌, All, slice_get, drop}
 use Rattle.std.proofs.lemmas.List.{append-nil}
 use Rattle.std.proofs.lemmas.Option.{slice_get_within}
@@ -14,16 +14,14 @@ use Rattle.io_manager.specs.declared.Reply.{Reply}
 use Rattle.io_manager.specs.Shown.{ManagerView}
 use Rattle.compose.specs.declared.Event.{Event}
 use Rattle.compose.specs.declared.Event.TheVariants.{Open, Close, Read, Write, Flush, CancelIoEx, Mark, QueryRemove, CancelRemove, Remove, SurpriseRemove, Act, Finish, Reset}
-use Rattle.compose.specs.Right.{IsRight}
 use Rattle.compose.specs.Journaled.{IsNoAct, IsJournaled, StepsKeepEntries, StepsStayApart}
-use Rattle.sector_journal.specs.declared.acted.Entered.{Entered}
 use Rattle.sector_journal.specs.declared.slots.Armed.{Armed}
 use Rattle.sector_journal.specs.Journal.{entries_in}
 use Rattle.traced.specs.declared.TraceEntry.{TraceEntry}
 use Rattle.traced.specs.Entries.{labels_of}
 use Rattle.traced.specs.Serving.{is_call_event}
 use Rattle.traced.specs.Traced.{TracedView, AreLooked, CarriesSeen, IsCarried, IsLooked, IsServed}
-use Rattle.book.specs.Book.{IsKept, StaysKept}
+use Rattle.book.specs.Book.{StaysKept}
 use Rattle.book.specs.Staying.{Claimed, IsClaimed, IsOnTag, HaveNoted, HaveNotedAll, Leaves, ArmedStays}
 use Rattle.book.proofs.Going.{labels_carried}
 

@@ -1,10 +1,12 @@
 pub mod Beginning
 pub mod Booked
 pub mod Failures
+pub mod Following
 pub mod Going
 pub mod Keeping
 pub mod Noted
 pub mod Numbered
+pub mod Reserved
 pub mod Same
 pub mod Settled
 pub mod Staying

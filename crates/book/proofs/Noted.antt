@@ -1,13 +1,12 @@
 -- A label that was told takes off what was armed for its piece.
-use Rattle.std.proofs.Common.{◌≡◌, ◌≢◌, inl, inr, ℕ, ◌<◌, ◌≤◌, List, [], ◌∷◌, length, zero, suc, Option, Some, None, refl, sym, ap, subst, ◌∙◌, arith}
+use Rattle.std.proofs.Common.{◌≡◌, ◌≢◌, inl, inr, ℕ, ◌<◌, ◌≤◌, List, [], ◌∷◌, length, zero, suc, Some, None, refl, sym, subst, ◌∙◌, arith}
 use Rattle.std.specs.Prelude.{◌⊎◌}
-use Rattle.srb.specs.declared.DeviceLabel.{DeviceLabel}
 use Rattle.srb.specs.declared.DeviceLabel.TheVariants.{Start, Act, Fault, Return}
 use Rattle.machine.specs.declared.Label.{Label}
 use Rattle.machine.specs.declared.Label.TheVariants.{Call, Device, Answer, Cancel, Pause, Resume, Remove, Surprise, Removed}
 use Rattle.sector_journal.specs.declared.slots.Armed.{Armed}
-use Rattle.book.specs.Arming.{Forgets, HoldsPiece, IsFreeOf, claimed_at}
-use Rattle.book.specs.Staying.{Claimed, HaveNoted, IsClaimed, Leaves, LeavesPiece, piece_of, piece_told}
+use Rattle.book.specs.Arming.{Forgets, IsFreeOf, claimed_at}
+use Rattle.book.specs.Staying.{Claimed, HaveNoted, IsClaimed, Leaves, piece_told}
 
 -- nothing is claimed beyond the tags
 none_beyond : (tags : Claimed) (tag : ℕ) → length tags ≤ tag → claimed_at tags tag ≡ None

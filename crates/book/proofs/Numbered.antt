@@ -1,5 +1,5 @@
 -- Numbered entries that stand at their numbers are the first ones.
-use Rattle.std.proofs.Common.{◌≡◌, ℕ, zero, suc, ◌+◌, List, [], ◌∷◌, ◌++◌, length, map, Some, None, slice_get, refl, sym, ap, subst, ◌∙◌, arith, length-append}
+use Rattle.std.proofs.Common.{◌≡◌, ℕ, suc, ◌+◌, List, [], ◌∷◌, ◌++◌, length, Some, slice_get, refl, sym, ap, subst, ◌∙◌, arith, length-append}
 use Rattle.std.proofs.lemmas.List.{map_push, append_assoc}
 use Rattle.chronicle.specs.Claims.{AllStand}
 use Rattle.sector_journal.specs.declared.acted.Entered.{Entered}

@@ -1,5 +1,5 @@
 -- What was armed in the journal is claimed on its tag.
-use Rattle.std.proofs.Common.{◌≡◌, ◌≢◌, ℕ, ◌<◌, List, [], ◌∷◌, length, Option, Some, None, refl, sym, ap, subst, ◌∙◌, get_or-set_same, get_or-set_other}
+use Rattle.std.proofs.Common.{◌≡◌, ◌≢◌, ℕ, ◌<◌, List, [], ◌∷◌, length, Some, None, sym, ap, subst, ◌∙◌, get_or-set_same, get_or-set_other}
 use Rattle.std.specs.Prelude.{slice_set}
 use mathlib.Core.Logic.{dite}
 use native.Mathlib.Decide.{ℕ_discrete}
@@ -9,7 +9,6 @@ use Rattle.adapter.specs.Booking.{IsArmed}
 use Rattle.sector_journal.specs.declared.slots.Armed.{Armed}
 use Rattle.sector_journal.specs.Journal.{JournalView, MayArm, Arms}
 use Rattle.sector_journal.specs.Slots.{armed_at}
-use Rattle.book.specs.Arming.{claimed_at}
 use Rattle.book.specs.Staying.{Claimed, IsClaimed, IsOnTag, AreOnTags}
 
 some_same : {A : Type 0} {x y : A} → Some x ≡ Some y → x ≡ y

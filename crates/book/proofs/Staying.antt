@@ -1,5 +1,5 @@
 -- A tag's piece stays as it is, until a label tells of it.
-use Rattle.std.proofs.Common.{◌≡◌, ◌≢◌, ◌<◌, ◌⊎◌, inl, inr, ℕ, zero, suc, Bool, true, false, List, [], ◌∷◌, ◌++◌, map, length, get_or, IsPermutation, refl, sym, ap, subst, ◌∙◌, arith}
+use Rattle.std.proofs.Common.{◌≡◌, ◌≢◌, ◌⊎◌, inl, inr, ℕ, zero, suc, Bool, true, false, List, [], ◌∷◌, ◌++◌, map, IsPermutation, sym, ap, subst, ◌∙◌, arith}
 use Rattle.std.specs.Prelude.{All, Contains}
 use Rattle.std.specs.List.{remove}
 use Rattle.std.proofs.lemmas.List.Elements.{All-head, All-tail, All-weaker, All-contains, All-contains_itself, Contains-append_left, Contains-append_right}
@@ -8,18 +8,14 @@ use Rattle.srb.specs.declared.Srb.{Srb}
 use Rattle.srb.specs.declared.DeviceLabel.{DeviceLabel}
 use Rattle.srb.specs.declared.DeviceLabel.TheVariants.{Start, Act, Fault, Return}
 use Rattle.srb.specs.Fate.{Fresh}
-use Rattle.adapter.specs.View.{TagInUse, AdapterView, ReservesMore, MovesOn, MovesByAll, NotesReset, acted, faulted, met_by_reset, in_use_from}
+use Rattle.adapter.specs.View.{TagInUse, AdapterView, ReservesMore, MovesOn, MovesByAll, acted, faulted, met_by_reset, in_use_from}
 use Rattle.adapter.specs.Booking.{IsArmed}
 use Rattle.adapter.proofs.Booked.{is_there}
 use Rattle.machine.specs.declared.Label.{Label}
-use Rattle.machine.specs.declared.Label.TheVariants.{Device}
 use Rattle.machine.specs.Step.{as_label}
-use Rattle.io_manager.specs.declared.Reply.{Reply}
 use Rattle.io_manager.specs.Shown.{ManagerView}
 use Rattle.io_manager.specs.Right.{Told, IsRightBy, MovesWith, labels_of, end_labels, as_answer}
 use Rattle.io_manager.proofs.AdapterJoins.{reserves_more}
-use Rattle.compose.specs.declared.Event.{Event}
-use Rattle.compose.specs.Right.{IsRight}
 use Rattle.compose.proofs.JournaledStep.{there_mapped}
 use Rattle.compose.proofs.JournaledKept.{IsLed, led}
 use Rattle.book.specs.Staying.{LeavesPiece, Leaves, ArmedStays}

@@ -1,15 +1,12 @@
 -- The act of an entry that was booked goes on with what was told.
-use Rattle.std.proofs.Common.{◌≡◌, inl, inr, ℕ, Bool, true, false, List, [], ◌∷◌, ◌++◌, length, Option, Some, None, Ok, Err, Result, IsFalse, refl, sym, ap, subst, ◌∙◌, if◌then◌else◌}
+use Rattle.std.proofs.Common.{◌≡◌, ℕ, Bool, true, false, List, [], ◌∷◌, ◌++◌, length, Option, Some, None, Ok, Result, IsFalse, refl, sym, ap, subst, ◌∙◌, if◌then◌else◌}
 use Rattle.std.specs.Prelude.{slice_get}
 use Rattle.std.proofs.lemmas.List.{map_push}
-use Rattle.srb.specs.declared.Srb.{Srb}
 use Rattle.srb.specs.declared.Entry.{Entry}
 use Rattle.srb.specs.declared.Completion.{Completion}
-use Rattle.srb.specs.declared.DeviceLabel.TheVariants.{Act as ActLabel}
 use Rattle.adapter.specs.View.{AdapterView, IsInOrder}
 use Rattle.adapter.specs.Booking.{IsOfSrb, IsBookable, Books, with_booking}
 use Rattle.machine.specs.declared.Label.{Label}
-use Rattle.machine.specs.declared.Label.TheVariants.{Device}
 use Rattle.machine.specs.Rules.{Rules}
 use Rattle.machine.specs.State.{State, opening}
 use Rattle.machine.specs.Step.{Run}
@@ -19,7 +16,7 @@ use Rattle.io_manager.specs.declared.OpenHandle.{OpenHandle}
 use Rattle.io_manager.specs.declared.Reply.{Reply}
 use Rattle.io_manager.specs.declared.Reply.TheVariants.{Ok as OkReply}
 use Rattle.io_manager.specs.Shown.{ManagerView}
-use Rattle.io_manager.specs.Right.{BooksPiece, FitsTogether}
+use Rattle.io_manager.specs.Right.{FitsTogether}
 use Rattle.compose.specs.declared.Event.TheVariants.{Act}
 use Rattle.compose.specs.Right.{IsRight}
 use Rattle.compose.specs.Journaled.{ArmedMayBeBooked, BookedActsAddEntries, StepsStayApart, IsJournaled}
@@ -30,10 +27,10 @@ use Rattle.sector_journal.specs.Journal.{JournalView, entries_in}
 use Rattle.sector_journal.proofs.Bookable.{of_srb}
 use Rattle.traced.specs.Entries.{labels_of}
 use Rattle.traced.specs.Traced.{TracedView, IsCarried, IsServed, IsTraced}
-use Rattle.book.specs.Acting.{IsAsLarge, MayBook, HoldsBooked, ActsEntry}
+use Rattle.book.specs.Acting.{MayBook, HoldsBooked}
 use Rattle.book.specs.Arming.{IsOfThis, IsOfTag, claimed_at}
-use Rattle.book.specs.Book.{BookView, BooksOne, IsKept, book_of}
-use Rattle.book.specs.Staying.{Claimed, IsClaimed, IsOnTag, AreOnTags, HaveNotedAll, ArmedStays}
+use Rattle.book.specs.Book.{BooksOne, IsKept, book_of}
+use Rattle.book.specs.Staying.{Claimed, IsOnTag, AreOnTags, HaveNotedAll, ArmedStays}
 use Rattle.book.specs.Taken.{TakesNext}
 use Rattle.book.proofs.Going.{labels_carried, act_carried, tags_booked, tags_kept}
 

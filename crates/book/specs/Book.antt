@@ -1,5 +1,5 @@
 -- A book beside its journal: a stack with its trace, and the entries that were booked.
-use Rattle.std.specs.Prelude.{◌≡◌, ◌⊎◌, ℕ, zero, suc, ◌+◌, List, [], ◌∷◌, ◌++◌, Option, Some, None, Err, IsFalse, length}
+use Rattle.std.specs.Prelude.{◌≡◌, ◌⊎◌, ℕ, zero, suc, List, [], ◌∷◌, ◌++◌, Option, Some, None, Err, IsFalse, length}
 use Rattle.std.specs.Borrow.{MutBor}
 use mathlib.Core.Logic.{inl, inr}
 use Rattle.srb.specs.declared.Completion.{Completion}
@@ -15,11 +15,12 @@ use Rattle.compose.specs.declared.Event.{Event}
 use Rattle.compose.specs.declared.Event.TheVariants.{Read, Write, Flush, Act}
 use Rattle.compose.specs.Journaled.{IsJournaled}
 use Rattle.sector_journal.specs.declared.acted.Entered.{Entered}
-use Rattle.sector_journal.specs.Journal.{entries_in}
+use Rattle.sector_journal.specs.Journal.{JournalView, entries_in}
 use Rattle.traced.specs.Entries.{labels_of}
 use Rattle.traced.specs.Shares.{ShareView}
 use Rattle.traced.specs.Traced.{TracedView, AreLooked, IsServed, HasCounted}
 use Rattle.book.specs.Acting.{ActsEntry, HoldsBooked}
+use Rattle.book.specs.Rooms.{FailsAs}
 use Rattle.book.specs.Staying.{Claimed, AreOnTags}
 
 -- the stack with its trace, and the journal's entries of its acts, in order
@@ -133,6 +134,12 @@ pub record ServesAfter (failed : Option Completion) (old : BookView) (event : Ev
   pub booked : BookView
   pub books : AreBooked count old booked
   pub serves : ServesEvent failed booked event reply new ⊎ IsLastAct count old booked event reply new
+
+-- the piece of a tag acts in the journal, and then in the stack, or fails by just what came of it there
+abbrev pub ActsOrFails : ℕ → BookView → JournalView → Reply → BookView → Type 0
+ActsOrFails tag old before reply new =
+    (completion : Completion) × (after : JournalView) × FailsAs old.traced.stack.adapter (length old.taken) tag before completion after
+    × ServesAfter (Some completion) old (Act tag) reply new
 
 -- a call comes with its client's share: an `Option<&mut Share>`, as it comes in and as it is left
 abbrev pub ServesWith : Option (MutBor ShareView) → Unit {0} ⊎ ((MutBor ShareView × Unit {0}) ⊎ ⊥) → BookView → Event → Reply → BookView → Type 0

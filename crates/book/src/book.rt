@@ -14,21 +14,24 @@ ghost use Rattle.traced.specs.declared.TraceEntry.{TraceEntry as EntryView};
 ghost use Rattle.traced.specs.Entries.{IsAnswerAt, IsNoAnswerTo, calls, labels_of, places};
 ghost use Rattle.traced.specs.Serving.{is_call_event, is_handle_event};
 ghost use Rattle.traced.specs.Traced.{AreLooked, AreRowsOf, HasCounted, IsServed, IsTraced, TracedView, may_want};
-ghost use Rattle.book.specs.Book.{AreBooked, CallsAfter, FitsHandle, HasBooked, HoldsFailure, IsBlank, IsStepped, ServesAfter, ActsAreOf, book_of, call_handle};
+ghost use Rattle.book.specs.Book.{AreBooked, CallsAfter, ActsOrFails, FitsHandle, HasBooked, HoldsFailure, IsBlank, IsStepped, ServesAfter, ActsAreOf, book_of, call_handle};
+ghost use Rattle.book.specs.Rooms.{FailsAs, KeepsRoom, Opens, next_number};
 ghost use Rattle.book.specs.Taken.{BeginsWith, numbered_from};
 
 use crate::booking::{book_all, has_acted};
 use crate::failing::{fail, failure, transfer};
-use crate::journal_room::{give_back, next_request, refused, reserve};
+use crate::journal_room::{next_request, reserve};
 use crate::name::Naming;
 use crate::noting;
 use crate::records::{Beside, Records};
 use crate::settling::{arm_tag, settle_all};
 use crate::tags::Tags;
 use crate::taken::Taken;
+use asking::refused;
 use chronicle::{Claims, History};
 use compose::{Answer, Event, Reply};
 use disk::Medium;
+use journaled::give_back;
 use miniport::BookedAdapter;
 use sector::Extent;
 use sector_journal::{Entered, Journal, OfEntries};
@@ -229,6 +232,7 @@ impl<N: Naming> Book<N> {
     ) -> Completion
         ensures same { self.new ≡ self.old }
         ensures bad { class_of result ≡ Bad result }
+        ensures why { FailsAs self.old.traced.stack.adapter (length self.old.taken) tag journal.old result journal.new }
     {
         if has_acted(journal, self.taken.len(), tag) {
             return failure(None);
@@ -258,12 +262,14 @@ impl<N: Naming> Book<N> {
         ensures served { IsServed share.old.client self.old.traced call.event result self.new.traced }
         ensures counted { HasCounted self.old.traced share.old share.new self.new.traced }
         ensures taken { self.new.taken ≡ self.old.taken }
+        ensures room { KeepsRoom (next_number self.old.traced.owners) call.event call.extent N.rules.max_transfer journal.old result journal.new }
     {
         let Opening { event, extent } = call;
-        if reserve(&self.traced, journal, &event, extent).is_err() {
+        let number = next_request(&self.traced);
+        let max_transfer = self.traced.sizes().max_transfer;
+        if reserve(journal, number, &event, extent, max_transfer).is_err() {
             return refused(records.alloc, event);
         }
-        let number = next_request(&self.traced);
         let reply = self.call_alone(records, share, event);
         give_back(journal, number, &reply);
         reply
@@ -277,6 +283,7 @@ impl<N: Naming> Book<N> {
         call: Opening,
     ) -> Reply
         requires call { is_call_event call.event ≡ true }
+        requires opens { Opens self.old.traced.stack call.event call.extent }
         ensures { CallsAfter share.old share.new self.old call.event result self.new }
     {
         self.book_entries(records, journal);
@@ -286,9 +293,13 @@ impl<N: Naming> Book<N> {
     }
 
     // The extent on the disk of the request that an event would open now.
-    fn would_open(&self, event: &Event) -> Option<Extent> {
-        let (_, extent) = self.traced.admits(event)?;
-        Some(extent)
+    fn would_open(&self, event: &Event) -> Option<Extent>
+        ensures { IfSome result (λ extent. Opens self.now.traced.stack event.now extent) }
+    {
+        match self.traced.admits(event) {
+            Some((_, extent)) => Some(extent),
+            None => None,
+        }
     }
 
     // Carries out a read, a write or a flush. It takes the journal's lock where the call would open a request.
@@ -357,7 +368,7 @@ impl<N: Naming> Book<N> {
         journal: &mut Journal<M, N>,
         tag: u8,
     ) -> Reply
-        ensures { ServesAfter None self.old (Act tag) result self.new }
+        ensures { ActsOrFails tag self.old journal.old result self.new }
     {
         let completion = self.failure_of(records, journal, tag);
         self.act_or_fail(records, journal, tag, completion)

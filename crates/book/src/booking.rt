@@ -1,12 +1,12 @@
 //! How entries of the journal are booked, in the order of their numbers, and their acts made.
 
 ghost use Rattle.std.specs.Prelude.{◌≡◌, ◌<◌, ◌+◌, ℕ, Ok, None, Some, MatchOption, length, slice_get, true};
-ghost use Rattle.compose.specs.Journaled.{ArmedMayBeBooked, BookedActsAddEntries, StepsStayApart};
 ghost use Rattle.sector_journal.specs.declared.acted.Entered.{Entered};
 ghost use Rattle.book.specs.Acting.{HoldsBooked, IsAsLarge, MayBook};
 ghost use Rattle.book.specs.Book.{BooksOne, HasBooked, IsKept, IsSameBook, book_of};
-ghost use Rattle.book.specs.Staying.{ArmedStays};
+ghost use Rattle.book.specs.Rooms.{HasActed};
 
+use crate::laws::laws_of_entries;
 use crate::name::Naming;
 use crate::noting::serve;
 use crate::records::Records;
@@ -18,19 +18,6 @@ use miniport::BookedAdapter;
 use sector_journal::Journal;
 use srb::Booked;
 use traced::Traced;
-
-/// The laws that the act of an entry goes by.
-fn laws_of_acts()
-    ensures armed { ArmedMayBeBooked }
-    ensures booked { BookedActsAddEntries }
-    ensures apart { StepsStayApart }
-    ensures stays { ArmedStays }
-{
-    compose::armed_may_be_booked();
-    compose::booked_acts_add_entries();
-    compose::steps_stay_apart();
-    crate::laws::armed_stays();
-}
 
 /// Whether the journal has as many sectors as the stack's disk, of the same size.
 fn is_as_large<M: Medium, N: Naming>(
@@ -52,11 +39,9 @@ fn tag_of<M: Medium, N: Naming>(journal: &Journal<M, N>, number: u64) -> u8
 }
 
 /// Whether the last entry of the journal is of this tag, and is not among the first ones, which were booked.
-pub(crate) fn has_acted<M: Medium, N: Naming>(
-    journal: &Journal<M, N>,
-    booked: u64,
-    tag: u8,
-) -> bool {
+pub(crate) fn has_acted<M: Medium, N: Naming>(journal: &Journal<M, N>, booked: u64, tag: u8) -> bool
+    ensures { result ≡ true → HasActed journal.now booked tag }
+{
     let entries = journal.entries();
     match entries.last() {
         Some(last) => booked < entries.len() as u64 && last.entry.tag == tag,
@@ -112,7 +97,7 @@ pub(crate) fn book_next<M: Medium, N: Naming>(
     ensures more { MatchOption result (length taken.new ≡ length taken.old) (λ _. (length taken.old < length journal.old.entered) × (length taken.new ≡ length taken.old + 1)) }
     ensures journal { journal.new ≡ journal.old }
 {
-    laws_of_acts();
+    laws_of_entries();
     traced.shows_whole();
     traced.shows_stack();
     let number = taken.len();

@@ -1,40 +1,30 @@
 //! The act of a tag's piece that made no entry.
 
 ghost use Rattle.std.specs.Prelude.{◌≡◌, IfSome, MatchOption, Some};
+ghost use Rattle.std.specs.Option.{unwrap_or};
 ghost use Rattle.srb.specs.declared.Srb.{Srb as SrbView};
 ghost use Rattle.srb.specs.declared.Class.TheVariants.{Bad};
 ghost use Rattle.srb.specs.Fate.{class_of};
 ghost use Rattle.adapter.specs.Booking.{IsArmed};
 ghost use Rattle.adapter.specs.Calls.{HasNoneFresh};
 ghost use Rattle.compose.specs.declared.Event.TheVariants.{Act};
-ghost use Rattle.compose.specs.Journaled.{ArmedMayBeBooked, BookedActsAddEntries, IdleActsKeepEntries, StepsStayApart};
 ghost use Rattle.traced.specs.Traced.{IsServed, TracedView};
 ghost use Rattle.book.specs.Acting.{BooksFailure};
 ghost use Rattle.book.specs.Book.{HoldsFailure, StaysKept};
-ghost use Rattle.book.specs.Staying.{ArmedStays};
+ghost use Rattle.book.specs.Rooms.{Transfers};
 
+use crate::laws::laws_of_entries;
 use crate::name::Naming;
 use crate::noting::serve;
 use crate::records::Records;
 use crate::tags::Tags;
 use compose::{Event, Reply};
 use disk::Medium;
+use journaled::HARDWARE_ERROR;
 use miniport::BookedAdapter;
-use ntstatus::Sense;
 use sector_journal::Journal;
 use srb::{Booked, Completion};
 use traced::Traced;
-
-/// How a piece that the journal doesn't let act fails: HARDWARE ERROR (SPC, "Sense key and sense code definitions").
-const HARDWARE_ERROR: Completion = Completion {
-    srb_status: 0x84,
-    scsi_status: 0x02,
-    sense: Some(Sense {
-        key: 4,
-        asc: 0,
-        ascq: 0,
-    }),
-};
 
 /// The piece on a tag that could act.
 fn armed_piece<N: Naming>(traced: &Traced<BookedAdapter, N>, tag: u8) -> Option<u128>
@@ -51,28 +41,14 @@ pub(crate) fn transfer<M: Medium, N: Naming>(
     words: &sector_journal::History<N>,
     tag: u8,
 ) -> Option<Completion>
-    ensures { IfSome result (λ completion. class_of completion ≡ Bad completion) }
+    ensures bad { IfSome result (λ completion. class_of completion ≡ Bad completion) }
+    ensures transfers { Transfers traced.now.stack.adapter tag journal.old result journal.new }
 {
     let piece = armed_piece(traced, tag)?;
     match journal.act(words, tag, piece)? {
         Ok(_) => None,
         Err(completion) => Some(completion),
     }
-}
-
-/// The laws that a failure goes by.
-fn laws_of_failures()
-    ensures armed { ArmedMayBeBooked }
-    ensures booked { BookedActsAddEntries }
-    ensures idle { IdleActsKeepEntries }
-    ensures apart { StepsStayApart }
-    ensures stays { ArmedStays }
-{
-    compose::armed_may_be_booked();
-    compose::booked_acts_add_entries();
-    compose::idle_acts_keep_entries();
-    compose::steps_stay_apart();
-    crate::laws::armed_stays();
 }
 
 /// Books that the piece of a tag failed, if one could act.
@@ -96,7 +72,7 @@ pub(crate) fn fail<N: Naming>(
     ensures serves { (held : TracedView) × HoldsFailure (Some completion) traced.old (Act tag) held × IsServed 0 held (Act tag) result traced.new }
     ensures kept { StaysKept N.rules N.start traced.old tags.old traced.new tags.new }
 {
-    laws_of_failures();
+    laws_of_entries();
     traced.shows_whole();
     traced.shows_stack();
     book_failure(traced, tag, completion);
@@ -107,7 +83,8 @@ pub(crate) fn fail<N: Naming>(
 /// Returns how a piece that made no entry fails: as it failed in the journal, or because it may not act there.
 pub(crate) fn failure(failed: Option<Completion>) -> Completion
     requires { IfSome failed (λ completion. class_of completion ≡ Bad completion) }
-    ensures { class_of result ≡ Bad result }
+    ensures bad { class_of result ≡ Bad result }
+    ensures told { result ≡ unwrap_or failed HARDWARE_ERROR }
 {
     failed.unwrap_or(HARDWARE_ERROR)
 }

@@ -1,37 +1,38 @@
 //! Room in the journal for the acts of a request.
 
-ghost use Rattle.std.specs.Prelude.{◌≡◌};
-ghost use Rattle.io_manager.specs.declared.Refusal.TheVariants.{InsufficientResources};
-ghost use Rattle.io_manager.specs.declared.Reply.TheVariants.{Refused as RefusedReply};
-ghost use Rattle.traced.specs.Traced.{bytes_of};
+ghost use Rattle.std.specs.Prelude.{◌≡◌, ◌≤◌, ◌<◌, ◌+◌, ◌-◌, ◌^◌, OnErr, OnOk, length, min};
+ghost use Rattle.book.specs.Rooms.{IsLeft, MakesRoom, next_number};
 
 use crate::name::Naming;
-use compose::{Event, Refusal, Reply};
+use asking::kind_of;
+use compose::Event;
 use disk::Medium;
 use miniport::BookedAdapter;
-use sector::{Bytes, Extent};
+use sector::Extent;
 use sector_journal::Journal;
-use srb::Kind;
-use std::alloc::{AllocError, Global};
+use std::alloc::AllocError;
 use traced::Traced;
 
-/// Returns what kind of request an event asks for.
-fn kind_of(event: &Event) -> Option<Kind> {
-    match event {
-        Event::Read { .. } => Some(Kind::Read),
-        Event::Write { .. } => Some(Kind::Write),
-        Event::Flush { .. } => Some(Kind::Flush),
-        _ => None,
-    }
+/// The number of the next request.
+pub(crate) fn next_request<N: Naming>(traced: &Traced<BookedAdapter, N>) -> u64
+    ensures { result ≡ next_number traced.now.owners }
+{
+    traced.calls().saturating_add(1)
 }
 
-/// Makes room in the journal for the acts of the request that an event would open now, which lies at this extent.
+/// Makes room in the journal for the acts of the request that an event asks for, on this extent and under this number.
+/// Its pieces have `max_transfer` sectors at most.
 pub(crate) fn reserve<M: Medium, N: Naming>(
-    traced: &Traced<BookedAdapter, N>,
     journal: &mut Journal<M, N>,
+    number: u64,
     event: &Event,
     extent: Extent,
-) -> Result<(), AllocError> {
+    max_transfer: u32,
+) -> Result<(), AllocError>
+    requires some { 1 ≤ max_transfer }
+    ensures made { OnOk result (MakesRoom number event.now extent max_transfer journal.old journal.new) }
+    ensures refused { OnErr result (IsLeft journal.old journal.new) }
+{
     let Some(kind) = kind_of(event) else {
         return Ok(());
     };
@@ -42,37 +43,5 @@ pub(crate) fn reserve<M: Medium, N: Naming>(
     if end > journal.sectors() {
         return Err(AllocError);
     }
-    let max_transfer = traced.sizes().max_transfer;
-    journal.reserve(next_request(traced), kind, extent, max_transfer)
-}
-
-/// The number of the next request.
-pub(crate) fn next_request<N: Naming>(traced: &Traced<BookedAdapter, N>) -> u64 {
-    traced.calls().saturating_add(1)
-}
-
-/// Gives back the room of a call that opened no request.
-pub(crate) fn give_back<M: Medium, N: Naming>(
-    journal: &mut Journal<M, N>,
-    number: u64,
-    reply: &Reply,
-) {
-    if !matches!(reply, Reply::Request(_)) {
-        journal.release(number);
-    }
-}
-
-/// The refusal of an event for want of memory, with the caller's bytes.
-pub(crate) fn refused(alloc: Global, event: Event) -> Reply
-    ensures { result ≡ RefusedReply InsufficientResources (bytes_of event) }
-{
-    let bytes = match event {
-        Event::Read { buffer, .. } => buffer,
-        Event::Write { bytes, .. } => bytes,
-        _ => Bytes::new(Vec::new(alloc)),
-    };
-    Reply::Refused {
-        refusal: Refusal::InsufficientResources,
-        bytes,
-    }
+    journal.reserve(number, kind, extent, max_transfer)
 }

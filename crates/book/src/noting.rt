@@ -2,31 +2,21 @@
 
 ghost use Rattle.std.specs.Prelude.{◌≡◌, ◌++◌, List, false, true, length};
 ghost use Rattle.machine.specs.declared.Label.{Label as LabelView};
-ghost use Rattle.compose.specs.Journaled.{IsNoAct, StepsKeepEntries, StepsStayApart};
+ghost use Rattle.compose.specs.Journaled.{IsNoAct};
 ghost use Rattle.sector_journal.specs.declared.acted.Entered.{Entered};
 ghost use Rattle.traced.specs.Entries.{labels_of};
 ghost use Rattle.traced.specs.Serving.{is_call_event, is_handle_event};
 ghost use Rattle.traced.specs.Traced.{AreLooked, HasCounted, IsServed};
 ghost use Rattle.book.specs.Book.{IsKept, StaysKept};
-ghost use Rattle.book.specs.Staying.{ArmedStays, HaveNotedAll};
+ghost use Rattle.book.specs.Staying.{HaveNotedAll};
 
+use crate::laws::laws_of_entries;
 use crate::name::Naming;
 use crate::records::Records;
 use crate::tags::Tags;
 use compose::{Event, Reply};
 use miniport::BookedAdapter;
 use traced::{Share, Traced};
-
-/// The laws that steps with no entry go by.
-fn laws_of_others()
-    ensures keep { StepsKeepEntries }
-    ensures apart { StepsStayApart }
-    ensures stays { ArmedStays }
-{
-    compose::steps_keep_entries();
-    compose::steps_stay_apart();
-    crate::laws::armed_stays();
-}
 
 /// Notes the labels of the trace from a place on. Where one tells that a piece acted, failed or came back, what was
 /// armed for it is let go.
@@ -51,7 +41,7 @@ pub(crate) fn look<N: Naming>(
     ensures looked { AreLooked N.slots traced.old traced.new }
     ensures kept { StaysKept N.rules N.start traced.old tags.old traced.new tags.new }
 {
-    laws_of_others();
+    laws_of_entries();
     let from = traced.len();
     traced.look(records.alloc, records.history, records.marks);
     catch_up(traced, tags, from);
@@ -70,7 +60,7 @@ pub(crate) fn serve<N: Naming>(
     ensures noted { (labels : List LabelView) → labels_of traced.new.entries ≡ labels_of traced.old.entries ++ labels → HaveNotedAll labels tags.old tags.new }
     ensures kept { IsNoAct event → StaysKept N.rules N.start traced.old tags.old traced.new tags.new }
 {
-    laws_of_others();
+    laws_of_entries();
     let from = traced.len();
     let reply = traced.serve(records.alloc, records.history, records.marks, event);
     catch_up(traced, tags, from);
@@ -90,7 +80,7 @@ pub(crate) fn call<N: Naming>(
     ensures counted { HasCounted traced.old share.old share.new traced.new }
     ensures kept { StaysKept N.rules N.start traced.old tags.old traced.new tags.new }
 {
-    laws_of_others();
+    laws_of_entries();
     let from = traced.len();
     let reply = traced.call(records.alloc, records.history, records.marks, share, event);
     catch_up(traced, tags, from);

@@ -1,5 +1,5 @@
 use Rattle.std.proofs.Common.{◌∙◌}
-use Rattle.book.proofs.Booked.{booked_more, booked_none}
+use Rattle.book.proofs.Booked.{booked_more}
 use Rattle.book.proofs.booking.book_all.Goals as goal
 
 pub loop-tag-preserved : goal.loop-tag-preserved

@@ -13,7 +13,7 @@ use Rattle.book.proofs.booking.book_next.Goals as goal
 
 pub returns-clause-kept : goal.returns-clause-kept
 returns-clause-kept g c =
-    let l = c.laws_of_acts.ensures in
+    let l = c.laws_of_entries.ensures in
     let s = c.shows_stack-2.ensures in
     let booked = c.book_entry-tag.ensures in
     let yes : c.may_book.result ≡ true = search rules in
@@ -28,7 +28,7 @@ returns-clause-kept g c =
 
 pub returns-clause-books : goal.returns-clause-books
 returns-clause-books g c =
-    let l = c.laws_of_acts.ensures in
+    let l = c.laws_of_entries.ensures in
     let s = c.shows_stack-2.ensures in
     let booked = c.book_entry-tag.ensures in
     let yes : c.may_book.result ≡ true = search rules in

@@ -1,6 +1,7 @@
-use Rattle.std.proofs.Common.{◌<◌, length, rules}
+use Rattle.std.proofs.Common.{◌<◌, inl, inr, length, rules, subst, sym}
 use Rattle.adapter.specs.Booking.{IsArmed}
-use Rattle.sector_journal.specs.Journal.{Arms, MayArm}
+use Rattle.sector_journal.specs.Journal.{Arms, JournalView, MayArm}
+use Rattle.book.specs.Rooms.{ArmsTag}
 use Rattle.book.proofs.Settled.{on_put}
 use Rattle.book.proofs.settling.arm_tag.Goals as goal
 
@@ -15,4 +16,7 @@ returns-in-Some-of g c =
       on_tags =
           on_put c.args.traced.now.stack.adapter c.args.tags.now c.args.tag c.in-Some.piece c.in-Some.srb.now c.args.journal.now c.arm.new.self c.in-Some-of.arming c.requires.on_tags inside armed may arms of.0 of.1 of.2
           c.put.new.self c.put.ensures;
+      arms =
+          subst (λ (j : JournalView). ArmsTag c.args.traced.now.stack.adapter c.args.tag c.args.journal.now j) (sym c.in-Some-of.ensures.same)
+          (inr (c.in-Some.piece, c.in-Some.srb.now, armed, inl arms));
     }

@@ -1,10 +1,9 @@
 use Rattle.std.proofs.Common.{Some, subst}
 use Rattle.compose.specs.declared.Event.TheVariants.{Act}
 use Rattle.book.specs.Book.{BookView, ServesAfter}
-use Rattle.book.proofs.Stepping.{after_any}
 use Rattle.book.proofs.book.Book.act_in.Goals as goal
 
 pub returns : goal.returns
 returns g c =
-    let from = subst (λ (b : BookView). ServesAfter (Some c.failure_of-completion.result) b (Act c.args.tag) c.act_or_fail.result c.act_or_fail.new.self) c.failure_of-completion.ensures.same c.act_or_fail.ensures in
-    after_any c.failure_of-completion.result c.args.self.now (Act c.args.tag) c.act_or_fail.result c.act_or_fail.new.self from
+    let serves = subst (λ (b : BookView). ServesAfter (Some c.failure_of-completion.result) b (Act c.args.tag) c.act_or_fail.result c.act_or_fail.new.self) c.failure_of-completion.ensures.same c.act_or_fail.ensures in
+    (c.failure_of-completion.result, c.failure_of-completion.new.journal, c.failure_of-completion.ensures.why, serves)

@@ -1,4 +1,8 @@
-use Rattle.std.proofs.Common.{refl, inl}
+use Rattle.std.proofs.Common.{None, refl, inl, subst, sym}
+use Rattle.compose.specs.declared.Event.{Event}
+use Rattle.compose.specs.declared.Event.TheVariants.{Act}
+use Rattle.book.specs.Book.{ServesAfter}
+use Rattle.book.proofs.Stepping.{after_any}
 use Rattle.book.proofs.book.Book.serve.Goals as goal
 
 pub returns-then-not-moves_pieces : goal.returns-then-not-moves_pieces
@@ -13,3 +17,9 @@ returns-then-not-moves_pieces g c = record {
     taken = c.serve_alone.ensures.taken;
   });
 }
+
+pub returns-in-Act : goal.returns-in-Act
+returns-in-Act g c =
+    let acts = c.act_in.ensures in
+    subst (λ (e : Event). ServesAfter None c.args.self.now e c.act_in.result c.act_in.new.self) (sym c.in-Act.is)
+    (after_any acts.0 c.args.self.now (Act c.in-Act.tag) c.act_in.result c.act_in.new.self acts.3)

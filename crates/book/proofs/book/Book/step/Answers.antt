@@ -1,4 +1,4 @@
-use Rattle.std.proofs.Common.{◌≡◌, List, None, sym, ap, subst}
+use Rattle.std.proofs.Common.{◌≡◌, List, None, ap, subst}
 use Rattle.sector_journal.specs.declared.acted.Entered.{Entered}
 use Rattle.traced.proofs.Booking.{served_wants}
 use Rattle.book.specs.Book.{BookView, CallsAfter, ServesAfter, book_of}
