@@ -1,5 +1,5 @@
 -- What a small sector doesn't hold.
-use Rattle.std.proofs.Common.{◌≡◌, inl, inr, ℕ, List, [], ◌∷◌, ap}
+use Rattle.std.proofs.Common.{inl, inr, ℕ, List, [], ◌∷◌, ap}
 use Rattle.loss.specs.Held.{IsOneOf}
 use Rattle.loss.specs.Worked.{old, one, two}
 

@@ -1,72 +1,79 @@
 -- What a sector may hold, while its system runs and after a loss of power.
 use Rattle.std.specs.Prelude.{◌≡◌, ◌⊎◌, ℕ, ◌+◌, ◌-◌, ◌*◌, ◌&&◌, Bool, nat_le, nat_lt, List, [], ◌∷◌, ◌++◌, map, take, drop, if◌then◌else◌}
+use Rattle.std.specs.List.{filter}
 use Rattle.sector.specs.declared.Extent.{Extent}
 use Rattle.srb.specs.declared.Kind.{Kind}
 use Rattle.srb.specs.declared.Kind.TheVariants.{Read, Write, Flush}
 
 -- ONE SECTOR
 
--- a value, a list of bytes, that was overwritten; pieces of this number and of later ones started behind that
-pub record Older : Type 0 where
-  pub value : List ℕ
+-- a value that was overwritten; pieces of this number and of later ones started behind that
+pub record OlderOf (V : Type 0) : Type 0 where
+  pub value : V
   pub behind : ℕ
 
--- the values of a sector, each whole
-pub record Held : Type 0 where
+-- the values of a sector, each whole: lists of bytes, or what stands for them
+pub record HeldOf (V : Type 0) : Type 0 where
   -- what a read may give, and a loss may leave
-  pub now : List (List ℕ)
+  pub now : List V
   -- what a loss may leave besides
-  pub older : List Older
+  pub older : List (OlderOf V)
 
-abbrev pub value_of : Older → List ℕ
+abbrev pub Held : Type 0
+Held = HeldOf (List ℕ)
+
+abbrev pub value_of : {V : Type 0} → OlderOf V → V
 value_of o = o.value
 
 -- what a loss may leave
-abbrev pub left : Held → List (List ℕ)
+abbrev pub left : {V : Type 0} → HeldOf V → List V
 left h = h.now ++ map value_of h.older
 
 -- the value is one of these
-abbrev pub IsOneOf : List ℕ → List (List ℕ) → Type 0
+abbrev pub IsOneOf : {V : Type 0} → V → List V → Type 0
 IsOneOf value [] = ⊥
 IsOneOf value (other ∷ others) = (value ≡ other) ⊎ IsOneOf value others
 
 -- it holds this value, and a loss leaves it
-abbrev pub surely : List ℕ → Held
+abbrev pub surely : {V : Type 0} → V → HeldOf V
 surely value = record { now = value ∷ []; older = [] }
 
 -- WHAT HAPPENS TO IT
 
-pub data Change : Type 0 where
+pub data ChangeOf (V : Type 0) : Type 0 where
   -- a write puts this value there
-  Puts : (value : List ℕ) → Change
+  Puts : (value : V) → ChangeOf V
   -- and past volatile caches
-  Secures : (value : List ℕ) → Change
+  Secures : (value : V) → ChangeOf V
   -- a write that failed may have put it there
-  Tries : (value : List ℕ) → Change
+  Tries : (value : V) → ChangeOf V
   -- the flush of this number is done
-  Syncs : (number : ℕ) → Change
+  Syncs : (number : ℕ) → ChangeOf V
   -- a flush or a write past volatile caches failed: what they hold may be gone
-  Doubts : Change
+  Doubts : ChangeOf V
+
+abbrev pub Change : Type 0
+Change = ChangeOf (List ℕ)
 
 -- a value that is overwritten before the piece of this number starts
-abbrev pub overwritten : ℕ → List ℕ → Older
+abbrev pub overwritten : {V : Type 0} → ℕ → V → OlderOf V
 overwritten next value = record { value = value; behind = next }
 
--- a flush brings to the medium what was written before it started: what was overwritten by then is gone
-abbrev pub kept_by : ℕ → List Older → List Older
-kept_by number [] = []
-kept_by number (o ∷ others) = if nat_le o.behind number then kept_by number others else o ∷ kept_by number others
+-- it was overwritten behind the start of this flush
+abbrev pub outlives : {V : Type 0} → ℕ → OlderOf V → Bool
+outlives flush o = nat_lt flush o.behind
 
--- a sector after a change, where the next piece to start has this number
-abbrev pub changed : ℕ → Change → Held → Held
-changed next (Puts value) h = record { now = value ∷ []; older = map (overwritten next) h.now ++ h.older }
+-- a sector after a change, where the next piece to start has this number. A flush brings to the medium what was written before it
+-- started, so what was overwritten by then is gone
+abbrev pub changed : {V : Type 0} → ℕ → ChangeOf V → HeldOf V → HeldOf V
+changed next (Puts value) h = record { now = value ∷ []; older = h.older ++ map (overwritten next) h.now }
 changed next (Secures value) h = surely value
-changed next (Tries value) h = record { now = value ∷ h.now; older = h.older }
-changed next (Syncs number) h = record { now = h.now; older = kept_by number h.older }
+changed next (Tries value) h = record { now = h.now ++ value ∷ []; older = h.older }
+changed next (Syncs flush) h = record { now = h.now; older = filter (outlives flush) h.older }
 changed next Doubts h = record { now = left h; older = [] }
 
 -- after several, in their order
-abbrev pub changed_by : ℕ → List Change → Held → Held
+abbrev pub changed_by : {V : Type 0} → ℕ → List (ChangeOf V) → HeldOf V → HeldOf V
 changed_by next [] h = h
 changed_by next (change ∷ changes) h = changed_by next changes (changed next change h)
 

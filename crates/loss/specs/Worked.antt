@@ -27,14 +27,14 @@ pub record AreHeldByHand : Type 0 where
   -- one that started before it doesn't
   pub flushed_early : changed 5 (Syncs 4) (changed 5 (Puts one) start) ≡ changed 5 (Puts one) start
   -- each value since the last flush may be left
-  pub twice : left (changed 6 (Puts two) (changed 5 (Puts one) start)) ≡ two ∷ one ∷ old ∷ []
+  pub twice : left (changed 6 (Puts two) (changed 5 (Puts one) start)) ≡ two ∷ old ∷ one ∷ []
   -- a flush that started between two writes leaves either
   pub between : left (changed 7 (Syncs 5) (changed 6 (Puts two) (changed 5 (Puts one) start))) ≡ two ∷ one ∷ []
   -- so it is also where another, started before both, ends later
   pub earlier_later : left (changed 7 (Syncs 4) (changed 7 (Syncs 5) (changed 6 (Puts two) (changed 5 (Puts one) start)))) ≡ two ∷ one ∷ []
   -- a write that failed may be there or not, also after a flush
-  pub tried : changed 5 (Tries one) start ≡ record { now = one ∷ old ∷ []; older = [] }
-  pub tried_flushed : left (changed 6 (Syncs 5) (changed 5 (Tries one) start)) ≡ one ∷ old ∷ []
+  pub tried : changed 5 (Tries one) start ≡ record { now = old ∷ one ∷ []; older = [] }
+  pub tried_flushed : left (changed 6 (Syncs 5) (changed 5 (Tries one) start)) ≡ old ∷ one ∷ []
   -- a sync that failed makes nothing certain, nor does the next flush; nor one that was at work
   pub doubted : left (changed 7 (Syncs 6) (changed 6 Doubts (changed 5 (Puts one) start))) ≡ one ∷ old ∷ []
   pub doubted_read : (changed 6 Doubts (changed 5 (Puts one) start)).now ≡ one ∷ old ∷ []

@@ -1,0 +1,4 @@
+pub mod Happened
+pub mod Known
+pub mod Verdicts
+pub mod inside
