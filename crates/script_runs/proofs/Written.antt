@@ -1,5 +1,5 @@
 -- What is written of settings and a script.
-use Rattle.std.proofs.Common.{◌≡◌, ℕ, List, Option, subst, sym, ◌∙◌}
+use Rattle.std.proofs.Common.{◌≡◌, ℕ, Bool, IsTrue, List, Option, ap, subst, sym, ◌∙◌}
 use Rattle.io_manager.specs.Shown.{ManagerView}
 use Rattle.settings.specs.declared.Config.{Config}
 use Rattle.startup.specs.Reading.{AreRead, IsAllOf}
@@ -7,6 +7,7 @@ use Rattle.startup.specs.Started.{IsStartOf}
 use Rattle.script.specs.declared.Line.{Line}
 use Rattle.script.specs.Script.{AreEvents, lines_of}
 use Rattle.script.specs.declared.Style.{Style}
+use Rattle.script.specs.declared.Style.TheVariants.{Trace}
 use Rattle.script.specs.Trace.{IsTold, Prints}
 use Rattle.script_runs.specs.Runs.{AreGiven, IsTextOf, keeps_bytes}
 
@@ -38,3 +39,8 @@ module _ (config script : Option (List ℕ)) (settings : Config) (are_read : Are
     };
     appends = trace.appends;
   }
+
+-- where the lines are told as a trace, the labels keep their bytes
+pub traced_bytes : (style : Style) (settings : Config) (keeps : Bool) (start : ManagerView) → keeps ≡ keeps_bytes style → IsStartOf keeps settings start
+    → style ≡ Trace → IsTrue start.rules.keeps_bytes
+traced_bytes style settings keeps start same starts is = ap (λ r. r.keeps_bytes) starts.rules ∙ (same ∙ ap keeps_bytes is)
