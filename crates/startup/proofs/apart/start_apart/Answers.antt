@@ -1,4 +1,4 @@
-use Rattle.std.proofs.Common.{◌≡◌, Err, false, refl, rules, subst, sym}
+use Rattle.std.proofs.Common.{◌≡◌, Err, false, refl, rules, subst, sym, true}
 use Rattle.disk.specs.SparseDisk.{shown}
 use Rattle.disk.specs.Medium.{MediumView}
 use Rattle.compose.specs.declared.Settings.{Settings}
