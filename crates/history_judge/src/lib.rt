@@ -4,12 +4,12 @@
 //! # Promises
 //!
 //! `judge` (`right`) refuses a history only if no run of the sector machine explains it, however the service cuts its
-//! requests, and whatever it lets in at once: its calls don't count 1, 2 and on, or what it shows of some sector has no
-//! schedule as a register. It passes a history only if each sector that it touches has one (`Passes`), in which different
-//! bytes of the sector are different values (`numbers_tell`). Where the judge of registers can't tell, it is undecided.
+//! requests and whatever it has open at once: the calls don't count 1, 2 and on; or a sector has no schedule, and then that
+//! is said of runs that begin with the given bytes in it. It passes a history only if each sector that it touches has a
+//! schedule (`Passes`), in which different bytes of the sector are different values (`numbers_tell`).
 //!
 //! It doesn't promise that a run explains what passes, nor that there is a verdict: a sector with more than 16 requests open
-//! at once, or with eight open writes of values of their own, is undecided.
+//! at once, or with eight open writes of values of their own, is undecided. Whether answers fit their calls is not judged.
 #![tactic(auto)]
 
 mod judging;
