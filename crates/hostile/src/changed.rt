@@ -263,12 +263,18 @@ fn returned(piece: u128, class: Class, change: usize) -> Changed<DeviceLabel> {
 
 /// Another class, or this one with another field.
 fn other_class(class: Class, change: usize) -> Option<Class> {
-    match (change, class) {
-        (1, Class::Good) | (2, Class::Busy) => None,
-        (1, _) => Some(Class::Good),
-        (2, _) => Some(Class::Busy),
-        (_, Class::Bad(told)) => Some(Class::Bad(other_completion(told, change)?)),
-        (3, _) => Some(Class::Bad(MEDIUM_ERROR)),
+    let other = match change {
+        1 => Class::Good,
+        2 => Class::Busy,
+        _ => Class::Bad(other_failure(class, change)?),
+    };
+    if other == class { None } else { Some(other) }
+}
+
+fn other_failure(class: Class, change: usize) -> Option<Completion> {
+    match class {
+        Class::Bad(told) => other_completion(told, change),
+        _ if change == 3 => Some(MEDIUM_ERROR),
         _ => None,
     }
 }

@@ -29,15 +29,18 @@ const ROUNDS: usize = 8;
 /// More acts than the longest row has.
 const MOST_ACTS: u64 = 64;
 
+/// The steps before this one, and the others.
+fn cut(steps: &[Step], before: usize) -> (&[Step], &[Step]) {
+    steps.split_at_checked(before).unwrap_or((steps, &[]))
+}
+
 /// Plays a row with each insertion before each of its steps and at its end.
 pub fn insertions(alloc: Global, row: &Row) -> Result<Tally, HostileFault> {
     let mut tally = Tally::new();
     let steps = row.steps(alloc)?;
     for (what, inserted) in INSERTIONS {
         for before in 0..=steps.len() {
-            let (head, tail) = steps
-                .split_at_checked(before)
-                .unwrap_or((steps.as_slice(), &[]));
+            let (head, tail) = cut(steps.as_slice(), before);
             let adapter = adapter(alloc, &row.layout())?;
             let told = play_row(alloc, row, adapter, &[head, inserted, tail])?;
             let wrong = wrong_of(alloc, &row.layout(), Goes::ToItsEnd, &told)?;
