@@ -8,4 +8,4 @@ use Rattle.port.specs.Opening.{sizes_of, opening_view}
 pub record IsFreshOver (v : DeviceView) (sectors transfer : ℕ) : Type 0 where
   pub over : AdapterView
   pub opening : v ≡ opening_view over
-  pub sizes : sizes_of over ≡ record { sector_size = 512; sectors = sectors; max_transfer = transfer; depth = 2; faithful = true }
+  pub sizes : sizes_of over ≡ record { sector_size = 512; sectors = sectors; max_transfer = transfer; depth = 2; faithful = true; keeps_bytes = true }

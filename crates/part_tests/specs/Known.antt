@@ -12,7 +12,7 @@ use Rattle.port.specs.Shown.{rules_of}
 -- rules with these partitions of sectors of 512 bytes, and requests of this many sectors at most
 abbrev pub rules_on : List Extent → ℕ → Rules
 rules_on table longest =
-    record (rules_of (record { sector_size = 512; sectors = 4096; max_transfer = 64; depth = 2; faithful = true })) { partitions = table; longest = longest }
+    record (rules_of (record { sector_size = 512; sectors = 4096; max_transfer = 64; depth = 2; faithful = true; keeps_bytes = true })) { partitions = table; longest = longest }
 
 -- the layer has such rules, with any longest request, and two tags
 pub record AreLike (rules : Rules) (table : List Extent) : Type 0 where

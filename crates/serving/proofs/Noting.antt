@@ -1,15 +1,12 @@
 -- An adapter that keeps no bytes of labels.
-use Rattle.std.specs.Prelude.{ℕ, List, false}
+use Rattle.std.proofs.Common.{◌≡◌, ℕ, List, false, sym, subst}
 use Rattle.miniport.specs.Apart.{IsNewBooked}
 use Rattle.miniport.specs.Memory.{MemView}
 
-abbrev pub noted : MemView → MemView
-noted view = record view { shown = record view.shown { keeps_bytes = false } }
-
 -- is as new as it was
-pub noted_new : (first : List ℕ) (sectors max_transfer depth : ℕ) (view : MemView) → IsNewBooked first sectors max_transfer depth view
-    → IsNewBooked first sectors max_transfer depth (noted view)
-noted_new first sectors max_transfer depth view new = record {
+pub noted_new : (first : List ℕ) (sectors max_transfer depth : ℕ) (view noted : MemView) → noted ≡ record view { shown = record view.shown { keeps_bytes = false } }
+    → IsNewBooked first sectors max_transfer depth view → IsNewBooked first sectors max_transfer depth noted
+noted_new first sectors max_transfer depth view noted is new = subst (λ (v : MemView). IsNewBooked first sectors max_transfer depth v) (sym is) (record {
   size_is = new.size_is;
   sectors_are = new.sectors_are;
   transfer_is = new.transfer_is;
@@ -18,4 +15,4 @@ noted_new first sectors max_transfer depth view new = record {
   none_accepted = new.none_accepted;
   none_failed = new.none_failed;
   no_labels = new.no_labels;
-}
+})

@@ -12,13 +12,14 @@ returns c =
     record {
       fresh = record {
         over = c.in-Ok-new.adapter.shown;
-        opening = c.in_ok-port.ensures.opening;
+        opening = c.in-Ok-new-2.ensures.opening;
         sizes = sizes_is c.in-Ok-new.adapter.shown c.args.sectors c.args.transfer
             (ap (λ (a : MemView). a.shown.sector_size) as_new ∙ c.in-Ok.ensures.blank.size_is)
             (ap (λ (a : MemView). length a.shown.sectors) as_new ∙ ap (λ (xs : List (List ℕ)). length xs) c.in-Ok.ensures.blank.zeros
             ∙ length-replicate c.args.sectors (replicate {A = ℕ} 512 0))
             (ap (λ (a : MemView). a.shown.max_transfer) as_new)
             (ap (λ (a : MemView). a.shown.depth) as_new)
-            (ap (λ (a : MemView). a.shown.faithful) as_new);
+            (ap (λ (a : MemView). a.shown.faithful) as_new)
+            (ap (λ (a : MemView). a.shown.keeps_bytes) as_new);
       };
     }

@@ -1,31 +1,29 @@
-use Rattle.std.proofs.Common.{refl, sym, subst, ap, get_or, length, List, [], ℕ, ◌∙◌, arith}
+use Rattle.std.proofs.Common.{refl, ap, get_or, length, List, [], ℕ, ◌∙◌, arith}
 use Rattle.miniport.specs.Apart.{apart, IsNewBooked}
 use Rattle.miniport.specs.Memory.{MemView}
 use Rattle.miniport.proofs.OneSector.{counted}
 use Rattle.serving.proofs.Noting.{noted_new}
 use Rattle.serving.proofs.on_disk.started.Goals as goal
 
-new : (c : goal.After-noting) → IsNewBooked c.args.first.items c.args.config.now.sectors c.args.config.now.max_transfer c.args.config.now.depth c.noting.result
-new c = subst (λ (v : MemView). IsNewBooked c.args.first.items c.args.config.now.sectors c.args.config.now.max_transfer c.args.config.now.depth v) (sym c.noting.ensures)
-    (noted_new _ _ _ _ c.in-Ok.adapter c.in-Ok.ensures.new)
-
 pub returns-in-Ok-start-clause-started : goal.returns-in-Ok-start-clause-started
-returns-in-Ok-start-clause-started c = record {
-  disk = _;
-  first = c.in-Ok-start.ensures.view;
-  apart = refl;
-  bare = ap (λ (v : MemView). v.shown.keeps_bytes) c.noting.ensures;
-  sector_size = (new c).size_is ∙ c.requires.long;
-  begins = ap (λ (xs : List (List ℕ)). get_or xs 0 []) (new c).sectors_are;
-  sectors = ap (λ (xs : List (List ℕ)). length xs) (new c).sectors_are ∙ counted _ _ c.args.first.items (omega (arith, c.requires.range.sectors.0));
-  max_transfer = (new c).transfer_is;
-  depth = (new c).depth_is;
-}
+returns-in-Ok-start-clause-started c =
+    let new : IsNewBooked c.args.first.items c.args.config.now.sectors c.args.config.now.max_transfer c.args.config.now.depth c.noting.result = noted_new _ _ _ _ c.in-Ok.adapter c.noting.result c.noting.ensures c.in-Ok.ensures.new in
+    record {
+      disk = _;
+      first = c.in-Ok-start.ensures.view;
+      apart = refl;
+      bare = ap (λ (v : MemView). v.shown.keeps_bytes) c.noting.ensures;
+      sector_size = new.size_is ∙ c.requires.long;
+      begins = ap (λ (xs : List (List ℕ)). get_or xs 0 []) new.sectors_are;
+      sectors = ap (λ (xs : List (List ℕ)). length xs) new.sectors_are ∙ counted _ _ c.args.first.items (omega (arith, c.requires.range.sectors.0));
+      max_transfer = new.transfer_is;
+      depth = new.depth_is;
+    }
 
 pub returns-in-Err-clause-fault : goal.returns-in-Err-clause-fault
 returns-in-Err-clause-fault c = record {
   adapter = c.noting.result;
-  new = new c;
+  new = noted_new _ _ _ _ c.in-Ok.adapter c.noting.result c.noting.ensures c.in-Ok.ensures.new;
   after = apart c.in-Err.why.adapter.shown;
   spent = c.in-Err.ensures.fault;
 }
