@@ -1,6 +1,6 @@
 //! How a script is read, and played by the stack of its settings.
 
-ghost use Rattle.std.specs.Prelude.{ℕ, IfErr, IfOk, List, OnOk, Option};
+ghost use Rattle.std.specs.Prelude.{◌≡◌, ℕ, IfErr, IfOk, List, OnOk, Option};
 ghost use Rattle.script.specs.Trace.{Prints};
 ghost use Rattle.settings.specs.InRange.{AreInRange};
 ghost use Rattle.startup.specs.Reading.{IsAllOf};
