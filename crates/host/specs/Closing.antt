@@ -1,4 +1,10 @@
 -- What a closed host gives.
+--
+-- Two machines read the trace. The stack's own, of the host's rules, moves no sectors by its acts: the trace is a run of
+-- it from the state that the host was opened with, whose arrays no act reads or writes (`IsClosed`, `SettledAtRemoved`).
+-- The faithful one has the same rules, but its acts read and write the arrays: the trace is a run of it from the sectors
+-- that the journal was opened with, cut into partitions (`IsFaithfulRun`). The journal's entries join the two: the acts
+-- of the trace are the first of them, in order (`AreFirst`).
 use Rattle.std.specs.Prelude.{◌≡◌, ◌<◌, ℕ, zero, suc, ◌+◌, Bool, true, false, List, [], ◌∷◌, Some, map, length, slice_get, take, if◌then◌else◌}
 use Rattle.machine.specs.declared.Label.{Label}
 use Rattle.machine.specs.declared.Label.TheVariants.{Device, Removed}

@@ -82,6 +82,8 @@ fn start_over<A: Adapter>(
     };
     let faithful = adapter.is_faithful();
     assert!(rt; !faithful);
+    let keeps_bytes = adapter.keeps_bytes();
+    assert!(rt; keeps_bytes);
     let settings = Settings {
         window: u32::from(window),
         open_requests: 64,

@@ -135,6 +135,26 @@ const REMOVED: Run = Run {
     trace: "call 1 read 0 0 of 1 / answer 1 SUCCESS 0 of 1 / call 2 flush of 1 / start 1 tag 0 35000000000000000000 / act 1 / return 1 good / answer 2 SUCCESS 0 of 1 / pause / resume / call 3 read 0 0 of 1 / answer 3 SUCCESS 0 of 1 / pause / remove / removed",
 };
 
+// While a piece is out a client waits, and a query is asked, which holds a read, and taken back. No call does more than
+// it says.
+const RECALLED: Run = Run {
+    rows: &[
+        Row::Line("read 1 0 512", "request 1"),
+        Row::Line("read 2 0 0", "request 2"),
+        Row::By(1, Deed::Wait, "answer 2 SUCCESS 0 at 2, 3"),
+        Row::Line("query-remove", "ok"),
+        Row::Line("read 2 512 512", "request 3"),
+        Row::Line("cancel-remove", "ok"),
+        Row::Line("act 0", "ok"),
+        Row::Line("finish 0", "ok"),
+        Row::By(0, Deed::Wait, "answer 1 SUCCESS 512 00*512 at 0, 10"),
+        Row::Line("act 1", "ok"),
+        Row::Line("finish 1", "ok"),
+        Row::By(1, Deed::Wait, "answer 3 SUCCESS 512 00*512 at 5, 13"),
+    ],
+    trace: "call 1 read 0 512 of 0 / start 1 tag 0 28000000080000000100 / call 2 read 0 0 of 1 / answer 2 SUCCESS 0 of 1 / pause / call 3 read 512 512 of 1 / resume / start 2 tag 1 280000000c0100000100 / act 1 / return 1 good / answer 1 SUCCESS 512 00*512 of 0 / act 2 / return 2 good / answer 3 SUCCESS 512 00*512 of 1",
+};
+
 // The device is pulled out under clients that have called nothing.
 const SURPRISED: Run = Run {
     rows: &[
@@ -173,7 +193,14 @@ fn compare_fault(
 
 #[test]
 fn serves_two_clients(rt: HostRuntime) -> Result<(), Fail> {
-    for run in [&TWO_CLIENTS, &PAST, &THROUGH, &MARKED, &MARKED_BESIDE] {
+    for run in [
+        &TWO_CLIENTS,
+        &PAST,
+        &THROUGH,
+        &MARKED,
+        &MARKED_BESIDE,
+        &RECALLED,
+    ] {
         run_on_disk(&rt, rt.alloc(), run)?;
     }
     Ok(())

@@ -1,4 +1,4 @@
-use Rattle.std.proofs.Common.{◌≡◌, ◌<◌, ℕ, false, inl, inr, ◌∙◌, sym, ap, subst, arith, rules}
+use Rattle.std.proofs.Common.{◌≡◌, ◌<◌, ℕ, false, true, inl, inr, ◌∙◌, sym, ap, subst, arith, rules}
 use Rattle.std.specs.Prelude.{◌⊎◌}
 use Rattle.machine.specs.Map.{IsMap}
 use Rattle.machine.specs.Rules.{Rules}
@@ -22,6 +22,10 @@ returns-in-Ok-clause-new g c =
     let first = c.in-Ok.ensures.view in
     record {
       on_grid = ap (λ (r : Rules). r.any_cut) first.rules;
+      keeps_bytes =
+          let same : c.in-Ok.stack.rules.keeps_bytes ≡ c.keeps_bytes-keeps_bytes.result = ap (λ (r : Rules). r.keeps_bytes) first.rules ∙ sym c.keeps_bytes-keeps_bytes.ensures in
+          let told : c.keeps_bytes-keeps_bytes.result ≡ true = search rules in
+          same ∙ told;
       arrays = _;
       state = first.state;
       no_handles = first.no_handles;
