@@ -4,6 +4,6 @@ use Rattle.layer_bench.proofs.layers.disk.Goals as goal
 pub returns : goal.returns
 returns c =
     record {
-      served = served_disk _ c.in_ok-port.port.shown c.in_ok-adapter.adapter.shown
-          c.new-disk.ensures c.in_ok-port.ensures.opening c.in_ok-adapter.ensures.sizes;
+      served = served_disk _ c.in-Ok.port.shown c.in_ok-adapter.adapter.shown
+          c.new-disk.ensures c.in-Ok.ensures.opening c.in_ok-adapter.ensures.sizes;
     }

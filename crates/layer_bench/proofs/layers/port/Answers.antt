@@ -4,6 +4,6 @@ use Rattle.layer_bench.proofs.layers.port.Goals as goal
 pub returns : goal.returns
 returns c =
     record {
-      served = served_port c.in_ok-port.port.shown c.in_ok-adapter.adapter.shown
-          c.in_ok-port.ensures.opening c.in_ok-adapter.ensures.sizes;
+      served = served_port c.in-Ok.port.shown c.in_ok-adapter.adapter.shown
+          c.in-Ok.ensures.opening c.in_ok-adapter.ensures.sizes;
     }
