@@ -1,5 +1,6 @@
 -- What changes keep of a sector is kept along a run.
 use Rattle.std.proofs.Common.{◌≡◌, ◌≤◌, inl, inr, ℕ, List, [], ◌∷◌, sym, subst}
+use Rattle.srb.specs.declared.Class.TheVariants.{Good, Busy, Bad}
 use Rattle.srb.specs.declared.DeviceLabel.TheVariants.{Start, Act, Fault, Return}
 use Rattle.machine.specs.declared.Label.{Label}
 use Rattle.machine.specs.declared.Label.TheVariants.{Call, Device, Answer, Cancel, Pause, Resume, Remove, Surprise, Removed}
@@ -7,7 +8,7 @@ use Rattle.machine.specs.Rules.{Rules}
 use Rattle.machine.specs.State.{State, opening}
 use Rattle.machine.specs.Step.{Run}
 use Rattle.machine_laws.specs.Reached.{IsReached}
-use Rattle.loss.specs.Held.{Change, Held, act_changes, changed, changed_by, fault_changes}
+use Rattle.loss.specs.Held.{Change, Held, act_changes, changed, changed_by, fault_changes, return_changes}
 use Rattle.loss.specs.Moved.{IsReachedWith, IsSameTable, Moves, Table, TableRun, held_on, work_of}
 use Rattle.loss.specs.Sessions.{MayBeLeft}
 use Rattle.loss.specs.Laws.{AtWork, Brings, BringsSurely, Changes, Each, GivesOnly, Is, LeavesOnly, Throughout}
@@ -31,7 +32,11 @@ module _ (rules : Rules) (i : ℕ) (So : Change → Type 0) (P : ℕ → Held �
       subst (P s.next_piece) (sym (h.after i))
       (each_keeps So (P s.next_piece) s.next_piece (keeps s.next_piece) (fault_changes rules.sector_size (work_of rules h.owner.request h.piece.places) i) (t i) (changes h.piece h.owner h.out) p)
   move_keeps s (Device (Start number tag block)) t t' h changes p = same_keeps s.next_piece t t' h p
-  move_keeps s (Device (Return number class)) t t' h changes p = same_keeps s.next_piece t t' h p
+  move_keeps s (Device (Return number (Bad completion))) t t' h changes p =
+      subst (P s.next_piece) (sym (h.after i))
+      (each_keeps So (P s.next_piece) s.next_piece (keeps s.next_piece) (return_changes rules.sector_size h.piece.fate (work_of rules h.owner.request h.piece.places) i) (t i) (changes h.piece h.owner h.out) p)
+  move_keeps s (Device (Return number Good)) t t' h changes p = same_keeps s.next_piece t t' h p
+  move_keeps s (Device (Return number Busy)) t t' h changes p = same_keeps s.next_piece t t' h p
   move_keeps s (Call number q) t t' h changes p = same_keeps s.next_piece t t' h p
   move_keeps s (Answer number status informed bytes) t t' h changes p = same_keeps s.next_piece t t' h p
   move_keeps s (Cancel number) t t' h changes p = same_keeps s.next_piece t t' h p
@@ -78,7 +83,9 @@ label_is : (rules : Rules) (i : ℕ) (s : State) (label : Label) → Changes rul
 label_is rules i s (Device (Act number bytes)) = λ piece owner out. each_is (act_changes rules.sector_size number (work_of rules owner.request piece.places) i)
 label_is rules i s (Device (Fault number)) = λ piece owner out. each_is (fault_changes rules.sector_size (work_of rules owner.request piece.places) i)
 label_is rules i s (Device (Start number tag block)) = tt
-label_is rules i s (Device (Return number class)) = tt
+label_is rules i s (Device (Return number (Bad completion))) = λ piece owner out. each_is (return_changes rules.sector_size piece.fate (work_of rules owner.request piece.places) i)
+label_is rules i s (Device (Return number Good)) = tt
+label_is rules i s (Device (Return number Busy)) = tt
 label_is rules i s (Call number q) = tt
 label_is rules i s (Answer number status informed bytes) = tt
 label_is rules i s (Cancel number) = tt

@@ -1,9 +1,12 @@
 -- What is certain of a sector once requests were answered SUCCESS.
-use Rattle.std.proofs.Common.{◌≡◌, ◌<◌, inl, inr, ℕ, ◌+◌, true, List, [], ◌∷◌, refl, sym, ap, subst, ◌∙◌, arith}
+use Rattle.std.proofs.Common.{◌≡◌, ◌<◌, inl, inr, ℕ, ◌+◌, true, List, [], ◌∷◌, refl, sym, ap, subst, ◌∙◌, arith, Bool, true, false}
+use Rattle.std.specs.Prelude.{if◌then◌else◌}
 use Rattle.std.proofs.lemmas.Bool.Decides.{eqb_tells}
 use Rattle.std.proofs.lemmas.List.Elements.{All-contains}
 use Rattle.srb.specs.declared.Kind.{Kind}
 use Rattle.srb.specs.declared.Kind.TheVariants.{Write, Flush}
+use Rattle.srb.specs.Fate.{is_fresh}
+use Rattle.srb.specs.declared.Class.TheVariants.{Good, Busy, Bad}
 use Rattle.srb.specs.declared.DeviceLabel.TheVariants.{Start, Act, Fault, Return}
 use Rattle.machine.specs.declared.ClientRequest.{ClientRequest}
 use Rattle.machine.specs.declared.Label.{Label}
@@ -11,7 +14,7 @@ use Rattle.machine.specs.declared.Label.TheVariants.{Call, Device, Answer, Cance
 use Rattle.machine.specs.Rules.{Rules, place_count}
 use Rattle.machine.specs.State.{Piece, State}
 use Rattle.machine_laws.proofs.Serving.{IsMine}
-use Rattle.loss.specs.Held.{Change, Puts, Secures, Tries, Syncs, Doubts, Held, act_changes, changed_by, fault_changes}
+use Rattle.loss.specs.Held.{Change, Puts, Secures, Tries, Syncs, Doubts, Held, act_changes, changed_by, fault_changes, return_changes}
 use Rattle.loss.specs.Moved.{ActsOn, Moves, Table, TableRun, work_of}
 use Rattle.loss.specs.Sessions.{MayBeLeft}
 use Rattle.loss.specs.Laws.{AtWork, Brings, BringsSurely, Changes, Each, GivesOnly, Is, LeavesOnly, Meanwhile, OthersAway, Succeeds, Throughout, sector_of, value_for}
@@ -37,7 +40,10 @@ module _ (rules : Rules) (i : ℕ) (Such : List ℕ → Type 0) where
   label_brings s (Device (Act number bytes)) brings = λ piece owner out. each_brings Such (act_changes rules.sector_size number (work_of rules owner.request piece.places) i) (brings piece owner out)
   label_brings s (Device (Fault number)) brings = λ piece owner out. each_brings Such (fault_changes rules.sector_size (work_of rules owner.request piece.places) i) (brings piece owner out)
   label_brings s (Device (Start number tag block)) brings = tt
-  label_brings s (Device (Return number class)) brings = tt
+  label_brings s (Device (Return number (Bad completion))) brings = λ piece owner out.
+      each_brings Such (return_changes rules.sector_size piece.fate (work_of rules owner.request piece.places) i) (brings piece owner out)
+  label_brings s (Device (Return number Good)) brings = tt
+  label_brings s (Device (Return number Busy)) brings = tt
   label_brings s (Call number q) brings = tt
   label_brings s (Answer number status informed bytes) brings = tt
   label_brings s (Cancel number) brings = tt
@@ -228,6 +234,14 @@ module _ (rules : Rules) (number : ℕ) (q : ClientRequest) (first place : ℕ) 
       subst (λ (x : ClientRequest). Each (Brings IsOwn) (fault_changes rules.sector_size (work_of rules x piece.places) (sector_of rules q place))) (sym e)
       (fault_brings IsOwn rules.sector_size (work_of rules q piece.places) (sector_of rules q place) (own_value rules q piece.places place))
 
+  own_return : (r : ClientRequest) (piece : Piece) → r ≡ q → Each (Brings IsOwn) (return_changes rules.sector_size piece.fate (work_of rules r piece.places) (sector_of rules q place))
+  own_return r piece e = by_fate (is_fresh piece.fate) (own_fault r piece e)
+    where
+      by_fate : (b : Bool) → Each (Brings IsOwn) (fault_changes rules.sector_size (work_of rules r piece.places) (sector_of rules q place))
+          → Each (Brings IsOwn) (if b then fault_changes rules.sector_size (work_of rules r piece.places) (sector_of rules q place) else [])
+      by_fate true brings = brings
+      by_fate false brings = tt
+
   brings_label : (s : State) (label : Label) → IsServed rules number q first Any s → OthersAway rules (sector_of rules q place) number s label → Changes rules (sector_of rules q place) (Brings IsOwn) s label
   brings_label s (Device (Act n bytes)) k away = λ piece owner out.
       elim (eqb_tells owner.number number) [
@@ -240,7 +254,13 @@ module _ (rules : Rules) (number : ℕ) (q : ClientRequest) (first place : ℕ) 
         | inr other ↦ each_nothing IsOwn (fault_changes rules.sector_size (work_of rules owner.request piece.places) (sector_of rules q place)) (away piece owner out other.1)
       ]
   brings_label s (Device (Start n tag block)) k away = tt
-  brings_label s (Device (Return n class)) k away = tt
+  brings_label s (Device (Return n (Bad completion))) k away = λ piece owner out.
+      elim (eqb_tells owner.number number) [
+        | inl same ↦ own_return owner.request piece (All-contains (IsMine number q (Shows rules number q first Any s.arrays)) s.requests owner k.serves.mine out.is_open same.1).request
+        | inr other ↦ each_nothing IsOwn (return_changes rules.sector_size piece.fate (work_of rules owner.request piece.places) (sector_of rules q place)) (away piece owner out other.1)
+      ]
+  brings_label s (Device (Return n Good)) k away = tt
+  brings_label s (Device (Return n Busy)) k away = tt
   brings_label s (Call n r) k away = tt
   brings_label s (Answer n status informed bytes) k away = tt
   brings_label s (Cancel n) k away = tt

@@ -1,11 +1,12 @@
 -- A loss leaves nothing but what was there or was written.
 use Rattle.std.proofs.Common.{◌⊎◌, inl, inr, ℕ, List, [], ◌∷◌, refl}
+use Rattle.srb.specs.declared.Class.TheVariants.{Good, Busy, Bad}
 use Rattle.srb.specs.declared.DeviceLabel.TheVariants.{Start, Act, Fault, Return}
 use Rattle.machine.specs.declared.Label.{Label}
 use Rattle.machine.specs.declared.Label.TheVariants.{Call, Device, Answer, Cancel, Pause, Resume, Remove, Surprise, Removed}
 use Rattle.machine.specs.Rules.{Rules}
 use Rattle.machine.specs.State.{State}
-use Rattle.loss.specs.Held.{Change, Puts, Secures, Tries, Syncs, Doubts, IsOneOf, act_changes, fault_changes, left}
+use Rattle.loss.specs.Held.{Change, Puts, Secures, Tries, Syncs, Doubts, IsOneOf, act_changes, fault_changes, return_changes, left}
 use Rattle.loss.specs.Moved.{Table, TableRun, work_of}
 use Rattle.loss.specs.Laws.{Brings, Brought, BroughtBy, Changes, Each, SomeOf, Somewhere, Throughout}
 use Rattle.loss.proofs.Along.{leaves_along}
@@ -25,7 +26,10 @@ module _ (rules : Rules) (i : ℕ) (Such : List ℕ → Type 0) where
   label_brings s (Device (Fault number)) such = λ piece owner out.
       each_brings Such (fault_changes rules.sector_size (work_of rules owner.request piece.places) i) (λ value p. such value (piece, owner, out, p))
   label_brings s (Device (Start number tag block)) such = tt
-  label_brings s (Device (Return number class)) such = tt
+  label_brings s (Device (Return number (Bad completion))) such = λ piece owner out.
+      each_brings Such (return_changes rules.sector_size piece.fate (work_of rules owner.request piece.places) i) (λ value p. such value (piece, owner, out, p))
+  label_brings s (Device (Return number Good)) such = tt
+  label_brings s (Device (Return number Busy)) such = tt
   label_brings s (Call number q) such = tt
   label_brings s (Answer number status informed bytes) such = tt
   label_brings s (Cancel number) such = tt

@@ -2,6 +2,7 @@
 use Rattle.std.specs.Prelude.{◌≡◌, ◌⊎◌, ℕ, ◌+◌, ◌-◌, ◌*◌, ◌&&◌, Bool, nat_le, nat_lt, List, [], ◌∷◌, ◌++◌, map, take, drop, if◌then◌else◌}
 use Rattle.std.specs.List.{filter}
 use Rattle.sector.specs.declared.Extent.{Extent}
+use Rattle.srb.specs.Fate.{Fate, is_fresh}
 use Rattle.srb.specs.declared.Kind.{Kind}
 use Rattle.srb.specs.declared.Kind.TheVariants.{Read, Write, Flush}
 
@@ -116,3 +117,7 @@ fault_changes size w i = elim (w.kind) [
   | Write ↦ (if has w.extent i then Tries (value_at size w i) ∷ [] else []) ++ (if w.through then Doubts ∷ [] else [])
   | Flush ↦ Doubts ∷ []
 ]
+
+-- what its return as bad does: a piece that had neither acted nor failed may have done a part of its work
+abbrev pub return_changes : ℕ → Fate → Work → ℕ → List Change
+return_changes size fate w i = if is_fresh fate then fault_changes size w i else []

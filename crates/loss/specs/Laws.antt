@@ -2,7 +2,8 @@
 use Rattle.std.specs.Prelude.{◌≡◌, ◌≢◌, ◌⊎◌, ◌<◌, ℕ, ◌+◌, true, List, [], ◌∷◌}
 use Rattle.ntstatus.specs.declared.NtStatus.TheVariants.{Success}
 use Rattle.srb.specs.declared.Kind.TheVariants.{Write, Flush}
-use Rattle.srb.specs.declared.DeviceLabel.TheVariants.{Act, Fault}
+use Rattle.srb.specs.declared.Class.TheVariants.{Bad}
+use Rattle.srb.specs.declared.DeviceLabel.TheVariants.{Act, Fault, Return}
 use Rattle.machine.specs.declared.ClientRequest.{ClientRequest}
 use Rattle.machine.specs.declared.Label.{Label}
 use Rattle.machine.specs.declared.Label.TheVariants.{Device}
@@ -11,7 +12,7 @@ use Rattle.machine.specs.Calling.{Opens}
 use Rattle.machine.specs.Numbers.{AreDistinct}
 use Rattle.machine.specs.Rules.{Rules, first_sector, home, place_count}
 use Rattle.machine.specs.State.{OpenRequest, Piece, State}
-use Rattle.loss.specs.Held.{Change, Puts, Secures, Tries, Syncs, Doubts, Held, IsOneOf, act_changes, fault_changes, left, sector_in}
+use Rattle.loss.specs.Held.{Change, Puts, Secures, Tries, Syncs, Doubts, Held, IsOneOf, act_changes, fault_changes, left, return_changes, sector_in}
 use Rattle.loss.specs.Moved.{IsOut, IsReachedWith, IsSameTable, Moves, Table, TableRun, work_of}
 use Rattle.loss.specs.Sessions.{IsAtWork, MayBeLeft}
 
@@ -53,6 +54,8 @@ Changes rules i So s (Device (Act number bytes)) =
     (piece : Piece) (owner : OpenRequest) → IsOut s number piece owner → Each So (act_changes rules.sector_size number (work_of rules owner.request piece.places) i)
 Changes rules i So s (Device (Fault number)) =
     (piece : Piece) (owner : OpenRequest) → IsOut s number piece owner → Each So (fault_changes rules.sector_size (work_of rules owner.request piece.places) i)
+Changes rules i So s (Device (Return number (Bad completion))) =
+    (piece : Piece) (owner : OpenRequest) → IsOut s number piece owner → Each So (return_changes rules.sector_size piece.fate (work_of rules owner.request piece.places) i)
 Changes rules i So s label = Unit {0}
 
 -- at each label of the run
@@ -149,6 +152,8 @@ OthersAway rules i request s (Device (Act number bytes)) =
     (piece : Piece) (owner : OpenRequest) → IsOut s number piece owner → owner.number ≢ request → Each (Brings Nothing) (act_changes rules.sector_size number (work_of rules owner.request piece.places) i)
 OthersAway rules i request s (Device (Fault number)) =
     (piece : Piece) (owner : OpenRequest) → IsOut s number piece owner → owner.number ≢ request → Each (Brings Nothing) (fault_changes rules.sector_size (work_of rules owner.request piece.places) i)
+OthersAway rules i request s (Device (Return number (Bad completion))) =
+    (piece : Piece) (owner : OpenRequest) → IsOut s number piece owner → owner.number ≢ request → Each (Brings Nothing) (return_changes rules.sector_size piece.fate (work_of rules owner.request piece.places) i)
 OthersAway rules i request s label = Unit {0}
 
 -- where no other write's piece acts or fails on a sector of a write, what is brought there is the write's own
@@ -176,6 +181,8 @@ BroughtBy rules i value s (Device (Act number bytes)) =
     (piece : Piece) × (owner : OpenRequest) × IsOut s number piece owner × SomeOf (Brought value) (act_changes rules.sector_size number (work_of rules owner.request piece.places) i)
 BroughtBy rules i value s (Device (Fault number)) =
     (piece : Piece) × (owner : OpenRequest) × IsOut s number piece owner × SomeOf (Brought value) (fault_changes rules.sector_size (work_of rules owner.request piece.places) i)
+BroughtBy rules i value s (Device (Return number (Bad completion))) =
+    (piece : Piece) × (owner : OpenRequest) × IsOut s number piece owner × SomeOf (Brought value) (return_changes rules.sector_size piece.fate (work_of rules owner.request piece.places) i)
 BroughtBy rules i value s label = ⊥
 
 -- a loss leaves what it would have left before, or what a write brought since, whole

@@ -3,7 +3,8 @@ use Rattle.std.specs.Prelude.{◌≡◌, ◌<◌, ℕ, ◌+◌, ◌*◌, List, [
 use Rattle.sector.specs.declared.Extent.{Extent}
 use Rattle.srb.specs.declared.Kind.{Kind}
 use Rattle.srb.specs.declared.Kind.TheVariants.{Read, Write, Flush}
-use Rattle.srb.specs.declared.DeviceLabel.TheVariants.{Act, Fault}
+use Rattle.srb.specs.declared.Class.TheVariants.{Bad}
+use Rattle.srb.specs.declared.DeviceLabel.TheVariants.{Act, Fault, Return}
 use Rattle.machine.specs.declared.ClientRequest.{ClientRequest}
 use Rattle.machine.specs.declared.Label.{Label}
 use Rattle.machine.specs.declared.Label.TheVariants.{Device}
@@ -11,7 +12,7 @@ use Rattle.machine.specs.Rules.{Rules, first_sector, home}
 use Rattle.machine.specs.State.{OpenRequest, Piece, State, IsSame, opening}
 use Rattle.machine.specs.Step.{Step}
 use Rattle.machine_laws.specs.Reached.{AreWhole}
-use Rattle.loss.specs.Held.{Held, IsOneOf, Work, act_changes, changed_by, fault_changes, sector_in, surely}
+use Rattle.loss.specs.Held.{Held, IsOneOf, Work, act_changes, changed_by, fault_changes, return_changes, sector_in, surely}
 
 -- what each sector of the disk may hold, by its number
 abbrev pub Table : Type 0
@@ -56,13 +57,21 @@ pub record FailsOn (rules : Rules) (s : State) (number : ℕ) (t t' : Table) : T
   pub out : IsOut s number piece owner
   pub after : (i : ℕ) → t' i ≡ changed_by s.next_piece (fault_changes rules.sector_size (work_of rules owner.request piece.places) i) (t i)
 
+-- the piece comes back bad
+pub record ComesBackBad (rules : Rules) (s : State) (number : ℕ) (t t' : Table) : Type 0 where
+  pub piece : Piece
+  pub owner : OpenRequest
+  pub out : IsOut s number piece owner
+  pub after : (i : ℕ) → t' i ≡ changed_by s.next_piece (return_changes rules.sector_size piece.fate (work_of rules owner.request piece.places) i) (t i)
+
 abbrev pub IsSameTable : Table → Table → Type 0
 IsSameTable t t' = (i : ℕ) → t' i ≡ t i
 
--- what a label does to the sectors: acts and faults alone do anything
+-- what a label does to the sectors: only that a piece acts, fails or comes back bad does anything
 abbrev pub Moves : Rules → State → Label → Table → Table → Type 0
 Moves rules s (Device (Act number bytes)) t t' = ActsOn rules s number bytes t t'
 Moves rules s (Device (Fault number)) t t' = FailsOn rules s number t t'
+Moves rules s (Device (Return number (Bad completion))) t t' = ComesBackBad rules s number t t'
 Moves rules s label t t' = IsSameTable t t'
 
 -- RUNS

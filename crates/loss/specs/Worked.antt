@@ -1,7 +1,8 @@
 -- What a sector holds after some changes, by hand.
 use Rattle.std.specs.Prelude.{◌≡◌, ℕ, true, false, List, [], ◌∷◌}
+use Rattle.srb.specs.Fate.{Fresh, Faulted}
 use Rattle.srb.specs.declared.Kind.TheVariants.{Read, Write, Flush}
-use Rattle.loss.specs.Held.{Puts, Secures, Tries, Syncs, Doubts, Held, IsOneOf, Work, act_changes, changed, fault_changes, left, surely}
+use Rattle.loss.specs.Held.{Puts, Secures, Tries, Syncs, Doubts, Held, IsOneOf, Work, act_changes, changed, fault_changes, return_changes, left, surely}
 
 abbrev pub old : List ℕ
 old = 9 ∷ 9 ∷ []
@@ -72,4 +73,7 @@ pub record AreChangedByHand : Type 0 where
   pub failed : fault_changes 2 write 5 ≡ Tries two ∷ []
   pub failed_through : fault_changes 2 (record write { through = true }) 5 ≡ Tries two ∷ Doubts ∷ []
   pub failed_elsewhere : fault_changes 2 (record write { through = true }) 3 ≡ Doubts ∷ []
+  -- so may a piece that came back bad and had neither acted nor failed
+  pub came_back : return_changes 2 Fresh write 5 ≡ Tries two ∷ []
+  pub came_back_later : return_changes 2 Faulted write 5 ≡ []
   pub failed_flush : fault_changes 2 (record write { kind = Flush }) 3 ≡ Doubts ∷ []

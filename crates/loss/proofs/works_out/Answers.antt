@@ -33,6 +33,8 @@ returns c = record {
     failed = refl;
     failed_through = refl;
     failed_elsewhere = refl;
+    came_back = refl;
+    came_back_later = refl;
     failed_flush = refl;
   };
 }
