@@ -127,13 +127,14 @@ pub bounded_here : (takes : Bool) (v : DeviceView) (next : ℕ) (r : Request) �
 bounded_here takes v next r h one = subst (λ (rules : Rules). IsBounded rules r) (sym h.rules_are) (bounded takes r one)
 
 -- the sizes of an adapter that are known one by one
-pub sizes_is : (a : AdapterView) → a.sector_size ≡ 512 → length a.sectors ≡ 8 → a.max_transfer ≡ 2 → a.depth ≡ 2 → a.faithful ≡ true → sizes_of a ≡ sizes
-sizes_is a size count transfer depth faithful =
+pub sizes_is : (a : AdapterView) → a.sector_size ≡ 512 → length a.sectors ≡ 8 → a.max_transfer ≡ 2 → a.depth ≡ 2 → a.faithful ≡ true → a.keeps_bytes ≡ true → sizes_of a ≡ sizes
+sizes_is a size count transfer depth faithful keeps =
     let e : a.sector_size ≡ 512 = size in
     let f : length a.sectors ≡ 8 = count in
     let g : a.max_transfer ≡ 2 = transfer in
     let h : a.depth ≡ 2 = depth in
     let i : a.faithful ≡ true = faithful in
+    let j : a.keeps_bytes ≡ true = keeps in
     cc
 
 -- a port of which nothing was asked

@@ -10,7 +10,7 @@ use Rattle.class_disk.specs.Shown.{class_rules}
 
 -- eight sectors of 512 bytes, two tags, and transfers of two sectors at most
 abbrev pub sizes : Sizes
-sizes = record { sector_size = 512; sectors = 8; max_transfer = 2; depth = 2; faithful = true }
+sizes = record { sector_size = 512; sectors = 8; max_transfer = 2; depth = 2; faithful = true; keeps_bytes = true }
 
 -- the rules of the port
 abbrev pub port_rules : Rules

@@ -16,3 +16,4 @@ returns-clause-sizes c =
     (ap (λ (a : MemView). a.shown.max_transfer) as_new)
     (ap (λ (a : MemView). a.shown.depth) as_new)
     (ap (λ (a : MemView). a.shown.faithful) as_new)
+    (ap (λ (a : MemView). a.shown.keeps_bytes) as_new)
