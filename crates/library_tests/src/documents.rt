@@ -103,7 +103,7 @@ fn gives(
     let first = table_sector(alloc, &settings)?;
     same(rt, &first.len(), &size);
     assert!(rt; wanted.starts_with(first.as_slice()));
-    let adapter = new_adapter(alloc, settings)?;
+    let adapter = new_adapter(alloc, settings, true)?;
     let got = [
         adapter.sector_size() as u64,
         adapter.sectors(),

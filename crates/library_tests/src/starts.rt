@@ -19,10 +19,10 @@ use std::test::Fail;
 const SETTINGS: &str =
     "sector_size = 512\nsectors = 4\nmax_transfer = 1\ndepth = 1\nwindow = 1\n[[partition]]\nfirst = 2\ncount = 2\n";
 
-/// Whether a stack is opened over the disk of a text's settings.
-fn starts(alloc: Global, text: &str) -> bool {
+/// Whether a stack is opened over the disk of a text's settings, with its labels' bytes or without.
+fn starts(alloc: Global, text: &str, keeps_bytes: bool) -> bool {
     match read_settings(alloc, text.as_bytes()) {
-        Ok(config) => start(alloc, config).is_ok(),
+        Ok(config) => start(alloc, config, keeps_bytes).is_ok(),
         Err(_) => false,
     }
 }
@@ -49,7 +49,8 @@ fn sectors_beside(alloc: Global, text: &str) -> Result<u64, StartFault> {
 #[test]
 fn starts_and_opens(rt: HostRuntime) -> Result<(), Fail> {
     let alloc = rt.alloc();
-    assert!(rt; starts(alloc, SETTINGS));
+    assert!(rt; starts(alloc, SETTINGS, true));
+    assert!(rt; starts(alloc, SETTINGS, false));
     assert!(rt; sizes_of(alloc, SETTINGS) == Some((2, 512)));
     same(&rt, &sectors_beside(alloc, SETTINGS), &Ok(4));
     let bad = format!(in alloc; "bad_sectors = [0]\n{SETTINGS}")?;
