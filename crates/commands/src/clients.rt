@@ -1,6 +1,6 @@
 //! Clients over the stack of some settings, in threads of their own, and what comes of them in print.
 
-ghost use Rattle.std.specs.Prelude.{◌≡◌, ◌≤◌, ◌++◌, ◌∷◌, ◌↔◌, [], OnOk, IfErr, IfOk, IsTrue, false};
+ghost use Rattle.std.specs.Prelude.{◌≡◌, ◌≤◌, ◌++◌, ◌∷◌, ◌↔◌, [], OnOk, IfErr, IfOk, IsTrue, false, true};
 ghost use Rattle.std.specs.Io.KnownBytes.{Appends};
 ghost use Rattle.traced.specs.Sizes.{AreSizes, sizes_of};
 ghost use Rattle.settings.specs.InRange.{AreInRange};
