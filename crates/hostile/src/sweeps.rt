@@ -34,17 +34,30 @@ fn cut(steps: &[Step], before: usize) -> (&[Step], &[Step]) {
     steps.split_at_checked(before).unwrap_or((steps, &[]))
 }
 
+/// Plays a row with some steps put in before this one of its own.
+fn insert(
+    alloc: Global,
+    row: &Row,
+    (what, inserted): (&'static str, &[Step]),
+    before: usize,
+    tally: &mut Tally,
+) -> Result<(), HostileFault> {
+    let steps = row.steps(alloc)?;
+    let (head, tail) = cut(steps.as_slice(), before);
+    let adapter = adapter(alloc, &row.layout())?;
+    let told = play_row(alloc, row, adapter, &[head, inserted, tail])?;
+    let wrong = wrong_of(alloc, &row.layout(), Goes::ToItsEnd, &told)?;
+    tally.add_run(Case::Inserted { what, before }, &told, wrong);
+    Ok(())
+}
+
 /// Plays a row with each insertion before each of its steps and at its end.
 pub fn insertions(alloc: Global, row: &Row) -> Result<Tally, HostileFault> {
     let mut tally = Tally::new();
-    let steps = row.steps(alloc)?;
-    for (what, inserted) in INSERTIONS {
-        for before in 0..=steps.len() {
-            let (head, tail) = cut(steps.as_slice(), before);
-            let adapter = adapter(alloc, &row.layout())?;
-            let told = play_row(alloc, row, adapter, &[head, inserted, tail])?;
-            let wrong = wrong_of(alloc, &row.layout(), Goes::ToItsEnd, &told)?;
-            tally.add_run(Case::Inserted { what, before }, &told, wrong);
+    let count = row.steps(alloc)?.len();
+    for insertion in INSERTIONS {
+        for before in 0..=count {
+            insert(alloc, row, insertion, before, &mut tally)?;
         }
     }
     Ok(tally)
