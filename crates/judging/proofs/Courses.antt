@@ -13,9 +13,11 @@ use Rattle.trace_line.specs.Lines.{LineRun}
 use Rattle.judge.specs.Following.{HasTakenLines, IsLineRefused, JudgeView}
 use Rattle.judge.specs.Judging.{AreLinesReached, IsLineRun}
 use Rattle.judge.specs.Refusals.{most_readings}
+use Rattle.trace_tags.specs.Tags.{BreaksTagBy, HasFreeTagBy, TagsView, read_line_by, tags_after}
+use Rattle.trace_tags.proofs.Reading.{free_by_more, read_by_more, tags_by_more}
 use Rattle.label_text.specs.Lines.{Spells, is_told}
 use Rattle.startup.specs.Reading.{IsAllOf}
-use Rattle.judging.specs.Checked.{IsCheckFault, IsFirstRefused, IsInTable, IsMisstep, IsRefusalTold, IsToldBefore, IsToldSoFar, arrays_of, count_of, is_call, is_start, opening_of, refused_line, rules_by}
+use Rattle.judging.specs.Checked.{IsCheckFault, IsFirstRefused, IsInTable, IsMisstep, IsRefusalTold, IsToldBefore, IsToldSoFar, arrays_of, count_of, first_tags, is_call, is_start, judged, opening_of, refused_line, rules_by}
 use Rattle.judging.specs.Told.{AreTold, IsBad, IsFirstBad, numbers_from}
 use Rattle.judging.specs.declared.course.Course.{Course}
 use Rattle.judging.specs.declared.course.Course.TheVariants.{Legal, Refused}
@@ -23,7 +25,7 @@ use Rattle.judging.specs.declared.course.Trial.{Trial}
 use Rattle.judging.specs.declared.faults.Error.{Error}
 use Rattle.judging.specs.declared.faults.Error.TheVariants.{Usage, Startup, TraceUnreadable, ScriptUnreadable, BadLine, NoLabel, Readings, Script, OutputFailed, NoMemory}
 use Rattle.judging.specs.declared.misstep.Misstep.{Misstep}
-use Rattle.judging.specs.declared.misstep.Misstep.TheVariants.{Breaks, NoPartition}
+use Rattle.judging.specs.declared.misstep.Misstep.TheVariants.{Breaks, NoPartition, Tag}
 use Rattle.judging.specs.declared.opened.Standard.{Standard}
 use Rattle.judging.specs.declared.told.Told.{Told}
 use Rattle.judging.specs.declared.told.Told.TheVariants.{Line as TellsLine, Nothing, BadWord}
@@ -167,21 +169,24 @@ module _ (c : Standard) where
   count_is : (trial : Trial) → trial.judge.rules ≡ rules_by c → length trial.judge.rules.partitions ≡ count_of c
   count_is trial e = ap (λ (r : Rules). length r.partitions) e
 
-  pub reached : (told_lines : List Line) (trial : Trial) → HasTried c told_lines trial → AreLinesReached (rules_by c) (opening_of c) told_lines trial.judge.states
-  reached told_lines trial h = subst (λ (r : Rules). AreLinesReached r (opening_of c) told_lines trial.judge.states) h.rules_are h.taken.reached
+  pub reached : (told_lines : List Line) (trial : Trial) → HasTried c told_lines trial → AreLinesReached (rules_by c) (opening_of c) (judged c told_lines) trial.judge.states
+  reached told_lines trial h = subst (λ (r : Rules). AreLinesReached r (opening_of c) (judged c told_lines) trial.judge.states) h.rules_are h.taken.reached
 
-  pub is_run : (told_lines : List Line) (trial : Trial) → HasTried c told_lines trial → IsLineRun (rules_by c) (opening_of c) told_lines
+  pub is_run : (told_lines : List Line) (trial : Trial) → HasTried c told_lines trial → IsLineRun (rules_by c) (opening_of c) (judged c told_lines)
   is_run told_lines trial h =
-      some_state (LineRun (rules_by c) (opening_of c) told_lines) trial.judge.states (reached told_lines trial h).each h.taken.some
+      some_state (LineRun (rules_by c) (opening_of c) (judged c told_lines)) trial.judge.states (reached told_lines trial h).each h.taken.some
 
   tried_more : (told_lines : List Line) (line : Line) (old new : Trial) (n : ℕ) (a b : Option (List ℕ)) → length told_lines + 1 < 2 ^ 64 → HasTried c told_lines old
       → Tries old line n a b (Legal new) → HasTried c (told_lines ++ line ∷ []) new
   tried_more told_lines line old new n a b short h tries = record {
     rules_are = tries.same_rules ∙ h.rules_are;
-    taken = tries.takes (arrays_of c.config) told_lines h.taken;
+    form_is = tries.same_form ∙ h.form_is;
+    taken = subst (λ ls. HasTakenLines new.judge (arrays_of c) ls) (sym (read_by_more (first_tags c) told_lines line)) (subst (λ (t : Option TagsView). HasTakenLines new.judge (arrays_of c) (judged c told_lines ++ read_line_by t line ∷ [])) h.tags_are (tries.takes (arrays_of c) (judged c told_lines) h.taken));
+    tags_are = tries.tags ∙ ap (λ (t : Option TagsView). tags_after t line) h.tags_are ∙ sym (tags_by_more (first_tags c) told_lines line);
+    free_tags = free_by_more (first_tags c) told_lines line h.free_tags (subst (λ (t : Option TagsView). HasFreeTagBy t line) h.tags_are tries.fit.free_tag);
     in_table =
         All-append InTable told_lines (line ∷ []) h.in_table
-        (All-cons InTable line [] (subst (λ k. IsInTable k line.label) (count_is old h.rules_are) tries.in_table) (All-nil InTable));
+        (All-cons InTable line [] (subst (λ k. IsInTable k line.label) (count_is old h.rules_are) tries.fit.in_table) (All-nil InTable));
     labels_are = omega (arith, h.labels_are, tries.tallies.labels_are, length-append told_lines (line ∷ []));
     calls_are = counted_more calls told_lines line old.tally.calls new.tally.calls short h.calls_are tries.tallies.calls_are;
     starts_are = counted_more starts told_lines line old.tally.starts new.tally.starts short h.starts_are tries.tallies.starts_are;
@@ -189,8 +194,10 @@ module _ (c : Standard) where
 
   misstep_of : (told_lines : List Line) (line : Line) (trial : Trial) (misstep : Misstep) → HasTried c told_lines trial → IsRefusedFor trial line misstep → IsMisstep c told_lines line misstep
   misstep_of told_lines line trial (Breaks rule) h why =
-      subst (λ (r : Rules). IsLineRefused r (arrays_of c.config) told_lines line rule) h.rules_are (why (arrays_of c.config) told_lines h.taken)
+      subst (λ (t : Option TagsView). IsLineRefused (rules_by c) (arrays_of c) (judged c told_lines) (read_line_by t line) rule) h.tags_are
+      (subst (λ (r : Rules). IsLineRefused r (arrays_of c) (judged c told_lines) (read_line_by trial.tags line) rule) h.rules_are (why (arrays_of c) (judged c told_lines) h.taken))
   misstep_of told_lines line trial (NoPartition partition most) h why = (why.0, why.1 ∙ count_is trial h.rules_are, why.2)
+  misstep_of told_lines line trial (Tag rule) h why = subst (λ (t : Option TagsView). BreaksTagBy t line rule) h.tags_are why
 
   refused_last : (told_lines : List Line) (numbers : List ℕ) (line : Line) (n : ℕ) (trial : Trial) (misstep : Misstep) → length numbers ≡ length told_lines → HasTried c told_lines trial
       → IsRefusedFor trial line misstep → IsFirstRefused c (told_lines ++ line ∷ []) (numbers ++ n ∷ []) n misstep
@@ -201,6 +208,7 @@ module _ (c : Standard) where
     split = refl;
     is_number = got_last numbers n (length told_lines) (sym as_many);
     run = is_run told_lines trial h;
+    free_tags = h.free_tags;
     in_table = h.in_table;
     is_misstep = misstep_of told_lines line trial misstep h why;
   }
@@ -214,6 +222,7 @@ module _ (c : Standard) where
     split = ap (λ l. l ++ line ∷ []) h.split ∙ append_assoc h.before (h.line ∷ h.after) (line ∷ []);
     is_number = got_before numbers (n ∷ []) (length h.before) (omega (arith, as_many, ap length h.split, length-append h.before (h.line ∷ h.after))) ∙ h.is_number;
     run = h.run;
+    free_tags = h.free_tags;
     in_table = h.in_table;
     is_misstep = h.is_misstep;
   }
@@ -241,7 +250,8 @@ module _ (c : Standard) (texts : List (List ℕ)) (text : List ℕ) (n : ℕ) (a
     is = (
       subst (λ m. IsFirstRefused c (h.told_lines ++ line ∷ []) (h.numbers ++ n ∷ []) m stop.misstep) (sym tries.0)
           (refused_last c h.told_lines h.numbers line n trial stop.misstep h.told.as_many h.is.0 tries.1),
-      subst (λ m. SaysRefused m a d) (sym tries.0) (subst (λ x. SaysRefused n x d) h.is.1 tries.2),
+      subst (λ m. SaysRefused c.asked.json m stop.misstep a d) (sym tries.0)
+          (subst (λ x. SaysRefused c.asked.json n stop.misstep x d) h.is.1 (subst (λ (j : Bool). SaysRefused j n stop.misstep b d) h.is.0.form_is tries.2)),
     );
   }
 
@@ -299,10 +309,10 @@ whole c start a b text texts course all same h = record {
 -- what is told so far
 module _ (c : Standard) (start a b : Option (List ℕ)) where
   told_by_course : (told_lines : List Line) (numbers : List ℕ) (course : Course) → IsCourse c told_lines numbers a b course
-      → (IsLineRun (rules_by c) (opening_of c) told_lines × (b ≡ a)) ⊎ IsRefusalTold c told_lines numbers a b
+      → (IsLineRun (rules_by c) (opening_of c) (judged c told_lines) × (b ≡ a)) ⊎ IsRefusalTold c told_lines numbers a b
   told_by_course told_lines numbers (Legal trial) is = inl (is_run c told_lines trial is.0, is.1)
   told_by_course told_lines numbers (Refused stop) is =
-      inr (record { number = stop.line; misstep = stop.misstep; first = is.0; sentence = is.1.sentence; appends = is.1.appends })
+      inr (record { number = stop.line; misstep = stop.misstep; first = is.0; more = is.1.more; appends = is.1.appends })
 
   so_far : (texts : List (List ℕ)) (course : Course) → BeginsWith start texts → IsReadTo c texts a b course → IsToldSoFar c start a b
   so_far texts course begins h = record {

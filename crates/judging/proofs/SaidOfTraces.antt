@@ -8,7 +8,7 @@ use Rattle.machine.specs.Rules.{Rules}
 use Rattle.trace_line.specs.declared.Line.{Line}
 use Rattle.startup.specs.declared.ending.Verdict.{Verdict}
 use Rattle.startup.specs.declared.ending.Verdict.TheVariants.{Passed, Failed}
-use Rattle.judging.specs.Checked.{IsCheckFault, IsLegal, IsOutputFault, IsPassedIf, IsToldBefore, IsToldSoFar, Meets, PrintsVerdict, legal_line, refused_line, rules_by}
+use Rattle.judging.specs.Checked.{IsCheckFault, IsLegal, IsOutputFault, IsPassedIf, IsToldBefore, IsToldSoFar, Meets, PrintsVerdict, legal_by, legal_line, refused_line, rules_by}
 use Rattle.judging.specs.Told.{AreTold}
 use Rattle.judging.specs.declared.course.Course.{Course}
 use Rattle.judging.specs.declared.course.Course.TheVariants.{Legal, Refused}
@@ -32,9 +32,8 @@ known_is remaining reader input room none same =
     ∙ ap (λ b. prepend_known b (remaining (reader_inner reader))) none ∙ behind_none (remaining (reader_inner reader)) ∙ ap remaining same
 
 -- labels that are a run, by their numbers
-counted : (c : Standard) (told_lines : List Line) (trial : Trial) (left : List ℕ) → HasTried c told_lines trial → tally_line trial.tally left ≡ legal_line told_lines left
-counted c told_lines trial left h =
-    (λ i. codes "legal: " ++ (decimal (h.labels_are i) ++ (codes " labels, " ++ (decimal (h.calls_are i) ++ (codes " requests, " ++ (decimal (h.starts_are i) ++ (codes " pieces" ++ (left ++ 10 ∷ []))))))))
+counted : (c : Standard) (told_lines : List Line) (trial : Trial) (json : Bool) (left : List ℕ) → HasTried c told_lines trial → tally_line json trial.tally left ≡ legal_line json told_lines left
+counted c told_lines trial json left h = (λ i. legal_by json (h.labels_are i) (h.calls_are i) (h.starts_are i) left)
 
 none_in : {A : Type 0} (xs : List A) → length xs ≡ 0 → xs ≡ []
 none_in [] e = refl
@@ -42,16 +41,17 @@ none_in (x ∷ xs) e = absurd (omega (arith, e))
 
 module _ (c : Standard) where
   legal : (told_lines : List Line) (trial : Trial) (a b : Option (List ℕ)) (verdict : Verdict) → HasTried c told_lines trial → (says : SaysLegal c.asked trial a b verdict)
-      → IsLegal c told_lines verdict (tally_line trial.tally says.left)
+      → IsLegal c told_lines verdict (tally_line c.asked.json trial.tally says.left)
   legal told_lines trial a b verdict h says = record {
     some_label = λ none. says.some_label (h.labels_are ∙ ap length none);
     states = trial.judge.states;
     reached = reached c told_lines trial h;
+    free_tags = h.free_tags;
     some_state = h.taken.some;
     in_table = h.in_table;
     verdict_is = subst (λ (r : Rules). IsPassedIf (Meets c.asked r trial.judge.states) verdict) h.rules_are (says.meets h.taken.some);
     left = says.left;
-    line = counted c told_lines trial says.left h;
+    line = counted c told_lines trial c.asked.json says.left h;
   }
 
   module _ (trace a mid b : Option (List ℕ)) where
@@ -63,9 +63,9 @@ module _ (c : Standard) where
       numbers = h.numbers;
       are_told = h.are_told;
       is_told = inl (record {
-        said = tally_line trial.tally says.left;
+        said = tally_line c.asked.json trial.tally says.left;
         is_legal = legal h.told_lines trial mid b verdict h.is.0 says;
-        appends = subst (λ x. Appends x b (tally_line trial.tally says.left)) h.is.1 says.appends;
+        appends = subst (λ x. Appends x b (tally_line c.asked.json trial.tally says.left)) h.is.1 says.appends;
       });
     }
     said (Refused stop) verdict h says = record {
@@ -80,8 +80,8 @@ module _ (c : Standard) where
           number = stop.line;
           misstep = stop.misstep;
           first = h.is.0;
-          sentence = h.is.1.sentence;
-          appends = subst (λ x. Appends a x (refused_line stop.line h.is.1.sentence)) (sym says.1) h.is.1.appends;
+          more = h.is.1.more;
+          appends = subst (λ x. Appends a x (refused_line c.asked.json stop.line stop.misstep h.is.1.more)) (sym says.1) h.is.1.appends;
         },
       );
     }

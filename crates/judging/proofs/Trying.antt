@@ -1,12 +1,23 @@
 -- One line more, as its trial takes it.
-use Rattle.std.proofs.Common.{◌≡◌, ◌<◌, ◌∙◌, ℕ, List, Option, None, Some, ap, inl, inr, length, subst, sym}
+use Rattle.std.proofs.Common.{◌≡◌, ◌<◌, ◌∙◌, ℕ, Bool, List, [], Option, None, Some, Result, Ok, Err, ap, inl, inr, length, refl, subst, sym, IfOk}
 use Rattle.trace_line.specs.declared.Line.{Line}
-use Rattle.judge.specs.Following.{JudgeView, TakesLine}
-use Rattle.judging.specs.Checked.{IsBelow, IsInTable, IsOutputFault}
+use Rattle.std.proofs.lemmas.List.Elements.{All-nil}
+use Rattle.trace_tags.specs.Tags.{HasFreeTagBy, TagsView, read_line_by, tags_after}
+use Rattle.trace_tags.proofs.Reading.{first_by, none_free, none_read}
+use Rattle.judge.specs.Following.{HasTakenLines, JudgeView, RefusesLine, TakesLine}
+use Rattle.judge.specs.Refusals.{IsNoVerdict}
+use Rattle.judge.specs.declared.NoVerdict.{NoVerdict}
+use Rattle.judge.specs.declared.NoVerdict.TheVariants.{NoMemory as WantOfMemory, Readings as TooMany}
+use Rattle.judge.specs.declared.label_rules.Rule.{Rule}
+use Rattle.judging.specs.Checked.{IsBelow, IsInTable, IsOutputFault, arrays_of, count_of, first_tags, rules_by}
+use Rattle.judging.specs.declared.opened.Standard.{Standard}
+use Rattle.judging.specs.declared.course.Course.{Course}
+use Rattle.judging.specs.declared.course.Course.TheVariants.{Legal, Refused}
 use Rattle.judging.specs.declared.course.Tally.{Tally}
 use Rattle.judging.specs.declared.course.Trial.{Trial}
 use Rattle.judging.specs.declared.faults.Error.{Error}
-use Rattle.judging.specs.inside.Course.{IsCounted, IsStopByLine, IsTaken, Tallies}
+use Rattle.judging.specs.declared.misstep.Misstep.{Misstep}
+use Rattle.judging.specs.inside.Course.{HasTried, IsCounted, IsFit, IsLineRead, IsRefusedFor, IsStopByLine, IsStopped, IsTaken, SaysRefused, Tallies, Tries, unjudged}
 
 pub below_none : (count : ℕ) (partition : Option ℕ) → partition ≡ None → IsBelow count partition
 below_none count partition is = subst (IsBelow count) (sym is) tt
@@ -19,13 +30,59 @@ pub output_stops : (trial : Trial) (number : ℕ) (a b : Option (List ℕ)) (fau
 output_stops trial number a b fault (inl is) = subst (IsStopByLine trial number a b) (sym is) tt
 output_stops trial number a b fault (inr is) = subst (IsStopByLine trial number a b) (sym is) tt
 
--- a line that is taken and counted
-pub taken_so : (old mid new : Trial) (line : Line) (a b : Option (List ℕ)) (count : ℕ) → count ≡ length old.judge.rules.partitions → IsInTable count line.label
-    → mid.judge.rules ≡ old.judge.rules → TakesLine old.judge line mid.judge → mid.tally ≡ old.tally → IsCounted mid line.label new → b ≡ a → IsTaken old line a b new
-taken_so old mid new line a b count same within rules takes tally counted untold = record {
-  same_rules = ap (λ (j : JudgeView). j.rules) counted.same_judge ∙ rules;
-  takes = subst (TakesLine old.judge line) (sym counted.same_judge) takes;
-  tallies = subst (λ (t : Tally). Tallies t line.label new.tally) tally counted.counted;
-  in_table = subst (λ n. IsInTable n line.label) same within;
-  untold = untold;
+-- a line that is counted, read and taken
+pub taken_so : (old counted read : Trial) (judge : JudgeView) (line told : Line) (a b : Option (List ℕ)) → IsFit old line → IsCounted old line.label counted → IsLineRead counted line told read
+    → judge.rules ≡ read.judge.rules → TakesLine read.judge told judge → b ≡ a → IsTaken old line a b (record read { judge = judge })
+taken_so old counted read judge line told a b fit count reads rules takes untold =
+    let same_judge : read.judge ≡ old.judge = reads.same_judge ∙ count.same_judge in
+    let is_told : told ≡ read_line_by old.tags line = reads.is_told ∙ ap (λ (t : Option TagsView). read_line_by t line) count.same_tags in
+    record {
+      same_rules = rules ∙ ap (λ (j : JudgeView). j.rules) same_judge;
+      same_form = reads.same_form ∙ count.same_form;
+      takes = subst (λ (j : JudgeView). TakesLine j (read_line_by old.tags line) judge) same_judge (subst (λ (l : Line). TakesLine read.judge l judge) is_told takes);
+      tags = reads.tags ∙ ap (λ (t : Option TagsView). tags_after t line) count.same_tags;
+      tallies = subst (λ (t : Tally). Tallies old.tally line.label t) (sym reads.same_tally) count.counted;
+      fit = fit;
+      untold = untold;
+    }
+
+-- a line that is counted, read and refused
+pub refused_so : (old counted read : Trial) (line told : Line) (rule : Rule) → IsCounted old line.label counted → IsLineRead counted line told read → RefusesLine read.judge told rule
+    → RefusesLine old.judge (read_line_by old.tags line) rule
+refused_so old counted read line told rule count reads refuses =
+    let is_told : told ≡ read_line_by old.tags line = reads.is_told ∙ ap (λ (t : Option TagsView). read_line_by t line) count.same_tags in
+    subst (λ (j : JudgeView). RefusesLine j (read_line_by old.tags line) rule) (reads.same_judge ∙ count.same_judge) (subst (λ (l : Line). RefusesLine read.judge l rule) is_told refuses)
+
+-- a stop at a misstep of the line
+pub stops_so : (old : Trial) (line : Line) (number : ℕ) (misstep : Misstep) (json : Bool) (a b : Option (List ℕ)) (result : Result Course Error) → json ≡ old.json → IsRefusedFor old line misstep
+    → IfOk result (IsStopped json number misstep a b) → IfOk result (Tries old line number a b)
+stops_so old line number misstep json a b (Ok (Legal new)) form why stops = absurd stops
+stops_so old line number misstep json a b (Ok (Refused stop)) form why stops =
+    (stops.0, subst (IsRefusedFor old line) (sym stops.1) why, subst (λ (m : Misstep). SaysRefused old.json number m a b) (sym stops.1) (subst (λ (j : Bool). SaysRefused j number misstep a b) form stops.2))
+stops_so old line number misstep json a b (Err fault) form why stops = tt
+
+-- there are more readings than are followed
+pub unjudged_so : (old counted read : Trial) (line told : Line) (number : ℕ) (why : NoVerdict) (a b : Option (List ℕ)) → IsCounted old line.label counted → IsLineRead counted line told read
+    → IsNoVerdict read.judge why → b ≡ a → IsStopByLine old number a b (unjudged number why)
+unjudged_so old counted read line told number WantOfMemory a b count reads is untold = tt
+unjudged_so old counted read line told number (TooMany readings) a b count reads is untold =
+    (refl, is.0 ∙ ap (λ (j : JudgeView). length j.states) (reads.same_judge ∙ count.same_judge), is.1, untold)
+
+-- a line that is fit
+pub fit_so : (trial : Trial) (line : Line) (count : ℕ) → count ≡ length trial.judge.rules.partitions → IsInTable count line.label → HasFreeTagBy trial.tags line → IsFit trial line
+fit_so trial line count same within free = record { in_table = subst (λ n. IsInTable n line.label) same within; free_tag = free }
+
+-- a trial that has taken no line
+pub opens_so : (c : Standard) (trial : Trial) → trial.judge.rules ≡ rules_by c → trial.json ≡ c.asked.json → HasTakenLines trial.judge (arrays_of c) [] → trial.tags ≡ first_tags c
+    → trial.tally ≡ record { labels = 0; calls = 0; starts = 0 } → HasTried c [] trial
+opens_so c trial rules form taken tags tally = record {
+  rules_are = rules;
+  form_is = form;
+  taken = subst (λ ls. HasTakenLines trial.judge (arrays_of c) ls) (sym (none_read (first_tags c))) taken;
+  tags_are = tags ∙ sym (first_by (first_tags c));
+  free_tags = none_free (first_tags c);
+  in_table = All-nil (λ (line : Line). IsInTable (count_of c) line.label);
+  labels_are = ap (λ (t : Tally). t.labels) tally;
+  calls_are = ap (λ (t : Tally). t.calls) tally;
+  starts_are = ap (λ (t : Tally). t.starts) tally;
 }

@@ -1,9 +1,10 @@
 -- What is said of a trace, and why nothing is.
-use Rattle.std.specs.Prelude.{◌≡◌, ◌≢◌, ◌⊎◌, ◌<◌, ◌≤◌, ◌+◌, ℕ, ◌==◌, ◌&&◌, Bool, true, false, List, [], ◌∷◌, ◌++◌, All, Any, Option, None, Some, codes, count_by, length, map, slice_get}
+use Rattle.std.specs.Prelude.{◌≡◌, ◌≢◌, ◌⊎◌, ◌<◌, ◌≤◌, ◌+◌, ℕ, ◌==◌, ◌&&◌, Bool, true, false, List, [], ◌∷◌, ◌++◌, All, Any, Option, None, Some, codes, count_by, if◌then◌else◌, length, map, not, slice_get}
 use Rattle.std.specs.Fmt.{decimal}
 use Rattle.std.specs.List.{list_any}
 use Rattle.std.specs.Io.KnownBytes.{Appends}
 use Rattle.std.specs.Str.Lines.{lines}
+use Rattle.sector.specs.declared.Extent.{Extent}
 use Rattle.srb.specs.declared.DeviceLabel.TheVariants.{Start}
 use Rattle.machine.specs.declared.Label.{Label}
 use Rattle.machine.specs.declared.Label.TheVariants.{Call, Device}
@@ -14,6 +15,8 @@ use Rattle.judge.specs.Judging.{AreLinesReached, IsLineRun}
 use Rattle.judge.specs.Following.{IsLineRefused}
 use Rattle.judge.specs.LeftUndone.{IsSettled}
 use Rattle.judge.specs.Refusals.{most_readings}
+use Rattle.judge.specs.RuleTexts.{rule_text}
+use Rattle.trace_tags.specs.Tags.{AllFreeBy, BreaksTagBy, TagsView, read_by, read_line_by, tag_text, tags_by}
 use Rattle.settings.specs.declared.Config.{Config}
 use Rattle.settings.specs.Medium.{extents_of, zeros}
 use Rattle.startup.specs.Reading.{IsAllOf}
@@ -22,23 +25,55 @@ use Rattle.startup.specs.declared.ending.Verdict.{Verdict}
 use Rattle.startup.specs.declared.ending.Verdict.TheVariants.{Passed, Failed}
 use Rattle.judging.specs.Told.{AreTold, AreToldFirst, IsFirstBad}
 use Rattle.judging.specs.declared.misstep.Misstep.{Misstep}
-use Rattle.judging.specs.declared.misstep.Misstep.TheVariants.{Breaks, NoPartition}
+use Rattle.judging.specs.declared.misstep.Misstep.TheVariants.{Breaks, NoPartition, Tag}
 use Rattle.judging.specs.declared.opened.Standard.{Standard}
 use Rattle.judging.specs.declared.words.asked.Asked.{Asked}
 use Rattle.judging.specs.declared.faults.Error.{Error}
 use Rattle.judging.specs.declared.faults.Error.TheVariants.{Usage, Startup, TraceUnreadable, ScriptUnreadable, BadLine, NoLabel, Readings, Script, OutputFailed, NoMemory}
 
--- the sectors of each partition of the settings: zeros
-abbrev pub arrays_of : Config → List (List (List ℕ))
-arrays_of c = map (λ extent. zeros c extent.count) (extents_of c)
+-- the partitions: those of the settings, or one that is the whole disk, where that is asked for
+abbrev pub extents_by : Standard → List Extent
+extents_by standard = if standard.asked.whole_disk then record { first = 0; count = standard.config.sectors } ∷ [] else extents_of standard.config
 
--- the rules that a trace is judged by: the rules of the settings, with any cut where that is asked for
+-- the sectors of each partition: zeros
+abbrev pub arrays_of : Standard → List (List (List ℕ))
+arrays_of standard = map (λ extent. zeros standard.config extent.count) (extents_by standard)
+
+-- how many tags there are, and how many requests may be open
+abbrev pub depth_by : Config → Asked → ℕ
+depth_by config asked = if asked.many then 256 else config.depth
+
+abbrev pub open_by : Config → Asked → ℕ
+open_by config asked = if asked.many then 4096 else config.open_requests
+
+-- the rules that a trace is judged by: those of the settings, but for what is asked
 abbrev pub rules_by : Standard → Rules
-rules_by standard = record (rules_of standard.config) { any_cut = standard.asked.any_cut }
+rules_by standard = record (rules_of standard.config) {
+  partitions = extents_by standard;
+  depth = depth_by standard.config standard.asked;
+  open_requests = Some (open_by standard.config standard.asked);
+  any_cut = standard.asked.any_cut;
+  faithful = not standard.asked.any_read;
+}
 
--- the machine of the settings before its first label
+-- the machine before its first label
 abbrev pub opening_of : Standard → State
-opening_of standard = opening (arrays_of standard.config)
+opening_of standard = opening (arrays_of standard)
+
+-- the tags of an adapter that has so many, before the first line, where any free one will do
+abbrev pub tags_for : Asked → ℕ → Option TagsView
+tags_for asked depth = if asked.any_tag then Some (record { depth = depth; out = [] }) else None
+
+abbrev pub first_tags : Standard → Option TagsView
+first_tags standard = tags_for standard.asked (rules_by standard).depth
+
+-- the lines that are judged: where any free tag will do each start has the lowest in place of its own
+abbrev pub judged : Standard → List Line → List Line
+judged standard lines = read_by (first_tags standard) lines
+
+-- where any free tag will do, each start's own is free
+abbrev pub HaveFreeTags : Standard → List Line → Type 0
+HaveFreeTags standard lines = AllFreeBy (first_tags standard) lines
 
 abbrev pub is_call : Label → Bool
 is_call (Call number request) = true
@@ -63,7 +98,7 @@ abbrev pub IsInTable : ℕ → Label → Type 0
 IsInTable count label = IsBelow count (partition_of label)
 
 abbrev pub count_of : Standard → ℕ
-count_of standard = length (extents_of standard.config)
+count_of standard = length (extents_by standard)
 
 -- LINES THAT ARE A RUN
 
@@ -76,11 +111,15 @@ pub record Meets (asked : Asked) (rules : Rules) (states : List State) : Type 0 
   pub settled : asked.settled ≡ true → Any (IsSettled rules) states
   pub ended : asked.ended ≡ true → list_any has_ended states ≡ true
 
--- the line that is said of lines that are a run, with what they leave
-abbrev pub legal_line : List Line → List ℕ → List ℕ
-legal_line lines left =
-    codes "legal: " ++ (decimal (length lines) ++ (codes " labels, " ++ (decimal (count_by (λ line. is_call line.label) lines)
-    ++ (codes " requests, " ++ (decimal (count_by (λ line. is_start line.label) lines) ++ (codes " pieces" ++ (left ++ 10 ∷ [])))))))
+-- what is said of lines that are a run, by their counts, with what they leave: a line, or a JSON object
+abbrev pub legal_by : Bool → ℕ → ℕ → ℕ → List ℕ → List ℕ
+legal_by false labels calls starts left =
+    codes "legal: " ++ (decimal labels ++ (codes " labels, " ++ (decimal calls ++ (codes " requests, " ++ (decimal starts ++ (codes " pieces" ++ (left ++ 10 ∷ [])))))))
+legal_by true labels calls starts left =
+    codes "{\"verdict\": \"legal\", \"labels\": " ++ (decimal labels ++ (codes ", \"requests\": " ++ (decimal calls ++ (codes ", \"pieces\": " ++ (decimal starts ++ (left ++ codes "}\n"))))))
+
+abbrev pub legal_line : Bool → List Line → List ℕ → List ℕ
+legal_line json lines left = legal_by json (length lines) (count_by (λ line. is_call line.label) lines) (count_by (λ line. is_start line.label) lines) left
 
 abbrev pub IsPassedIf : Type 0 → Verdict → Type 0
 IsPassedIf P Passed = P
@@ -90,20 +129,24 @@ IsPassedIf P Failed = ¬ P
 pub record IsLegal (standard : Standard) (lines : List Line) (verdict : Verdict) (said : List ℕ) : Type 0 where
   pub some_label : lines ≢ []
   pub states : List State
-  pub reached : AreLinesReached (rules_by standard) (opening_of standard) lines states
+  pub reached : AreLinesReached (rules_by standard) (opening_of standard) (judged standard lines) states
+  pub free_tags : HaveFreeTags standard lines
   pub some_state : 0 < length states
   pub in_table : All (λ line. IsInTable (count_of standard) line.label) lines
   pub verdict_is : IsPassedIf (Meets standard.asked (rules_by standard) states) verdict
   pub left : List ℕ
-  pub line : said ≡ legal_line lines left
+  pub line : said ≡ legal_line standard.asked.json lines left
 
 -- A LINE THAT IS REFUSED
 
--- the line behind these is no step, and breaks the rule; or it is a call in a partition that isn't there
+-- the line behind these is no step, and breaks the rule; or it is a call in a partition that isn't there; or a start on a tag
+-- that isn't free
 abbrev pub IsMisstep : Standard → List Line → Line → Misstep → Type 0
-IsMisstep standard before line (Breaks rule) = IsLineRefused (rules_by standard) (arrays_of standard.config) before line rule
+IsMisstep standard before line (Breaks rule) =
+    IsLineRefused (rules_by standard) (arrays_of standard) (judged standard before) (read_line_by (tags_by (first_tags standard) before) line) rule
 IsMisstep standard before line (NoPartition partition count) =
     (partition_of line.label ≡ Some partition) × (count ≡ count_of standard) × (count ≤ partition)
+IsMisstep standard before line (Tag rule) = BreaksTagBy (tags_by (first_tags standard) before) line rule
 
 -- the lines before are a run in the partitions that are there, and the one of this number is refused
 pub record IsFirstRefused (standard : Standard) (lines : List Line) (numbers : List ℕ) (number : ℕ) (misstep : Misstep) : Type 0 where
@@ -112,21 +155,30 @@ pub record IsFirstRefused (standard : Standard) (lines : List Line) (numbers : L
   pub after : List Line
   pub split : lines ≡ before ++ line ∷ after
   pub is_number : slice_get numbers (length before) ≡ Some number
-  pub run : IsLineRun (rules_by standard) (opening_of standard) before
+  pub run : IsLineRun (rules_by standard) (opening_of standard) (judged standard before)
+  pub free_tags : HaveFreeTags standard before
   pub in_table : All (λ line. IsInTable (count_of standard) line.label) before
   pub is_misstep : IsMisstep standard before line misstep
 
--- the line that is said of it, with why it is refused in words
-abbrev pub refused_line : ℕ → List ℕ → List ℕ
-refused_line number sentence = codes "line " ++ (decimal number ++ (codes ": " ++ (sentence ++ 10 ∷ [])))
+-- why a line is refused, in words
+abbrev pub misstep_text : Misstep → List ℕ
+misstep_text (Breaks rule) = rule_text rule
+misstep_text (NoPartition partition count) = codes "there is no partition " ++ (decimal partition ++ (codes ": there are " ++ (decimal count ++ codes ", counted from 0")))
+misstep_text (Tag rule) = tag_text rule
+
+-- what is said of a line that is refused, with more behind it: a line, or a JSON object
+abbrev pub refused_line : Bool → ℕ → Misstep → List ℕ → List ℕ
+refused_line false number misstep more = codes "line " ++ (decimal number ++ (codes ": " ++ (misstep_text misstep ++ (more ++ 10 ∷ []))))
+refused_line true number misstep more =
+    codes "{\"verdict\": \"refused\", \"line\": " ++ (decimal number ++ (codes ", \"rule\": \"" ++ (misstep_text misstep ++ (codes "\"" ++ (more ++ codes "}\n")))))
 
 -- the first of these lines that is refused is told
 pub record IsRefusalTold (standard : Standard) (lines : List Line) (numbers : List ℕ) (old new : Option (List ℕ)) : Type 0 where
   pub number : ℕ
   pub misstep : Misstep
   pub first : IsFirstRefused standard lines numbers number misstep
-  pub sentence : List ℕ
-  pub appends : Appends old new (refused_line number sentence)
+  pub more : List ℕ
+  pub appends : Appends old new (refused_line standard.asked.json number misstep more)
 
 -- THE WHOLE
 
@@ -159,7 +211,7 @@ pub record MeetsBound (standard : Standard) (trace : Option (List ℕ)) (number 
   pub first : AreToldFirst (lines text) told_lines numbers
   pub is_number : number ≡ length first.front + 1
   pub states : List State
-  pub reached : AreLinesReached (rules_by standard) (opening_of standard) told_lines states
+  pub reached : AreLinesReached (rules_by standard) (opening_of standard) (judged standard told_lines) states
   pub count : readings ≡ length states
   pub too_many : most_readings < readings
 
@@ -186,7 +238,7 @@ pub record IsToldSoFar (standard : Standard) (trace old new : Option (List ℕ))
   pub told_lines : List Line
   pub numbers : List ℕ
   pub first : AreToldFirst (lines text) told_lines numbers
-  pub so_far : (IsLineRun (rules_by standard) (opening_of standard) told_lines × (new ≡ old)) ⊎ IsRefusalTold standard told_lines numbers old new
+  pub so_far : (IsLineRun (rules_by standard) (opening_of standard) (judged standard told_lines) × (new ≡ old)) ⊎ IsRefusalTold standard told_lines numbers old new
 
 -- what was printed before a fault, unless the output failed or memory was refused
 abbrev pub IsToldBefore : Standard → Option (List ℕ) → Option (List ℕ) → Option (List ℕ) → Error → Type 0

@@ -4,13 +4,19 @@ use Rattle.clap.specs.Words.{App, Row, Text, first_of, is_simple, one_of, new_ap
 use Rattle.clap.specs.Takes.{takes}
 use Rattle.clap.proofs.OnLiterals.{clap_on_literals}
 use Rattle.command_line.specs.Grammar.{flag_rule, word_rule}
+use Rattle.judging.specs.declared.words.asked.Asked.{Asked}
 use Rattle.judging.specs.declared.words.asked.Command.{Command}
 use Rattle.judging.specs.declared.words.asked.Command.TheVariants.{Check, Picture, Record}
 
--- check [--any-cut] [--settled] [--ended] [--progress] CONFIG TRACE
+-- what is asked of a trace: [--any-cut] [--any-tag] [--any-read] [--many] [--whole-disk] [--settled] [--ended] [--json]
+abbrev pub asked_words : App → App
+asked_words app =
+    with_rule (with_rule (with_rule (with_rule (with_rule (with_rule (with_rule (with_rule app (flag_rule (codes "any-cut"))) (flag_rule (codes "any-tag"))) (flag_rule (codes "any-read")))
+    (flag_rule (codes "many"))) (flag_rule (codes "whole-disk"))) (flag_rule (codes "settled"))) (flag_rule (codes "ended"))) (flag_rule (codes "json"))
+
+-- check, what is asked, [--progress] CONFIG TRACE
 abbrev pub check_words : App
-check_words = with_rule (with_rule (with_rule (with_rule (with_rule (with_rule (new_app (codes "check")) (word_rule (codes "CONFIG") true)) (word_rule (codes "TRACE") true))
-    (flag_rule (codes "any-cut"))) (flag_rule (codes "settled"))) (flag_rule (codes "ended"))) (flag_rule (codes "progress"))
+check_words = with_rule (asked_words (with_rule (with_rule (new_app (codes "check")) (word_rule (codes "CONFIG") true)) (word_rule (codes "TRACE") true))) (flag_rule (codes "progress"))
 
 -- record CONFIG SCRIPT
 abbrev pub record_words : App
@@ -33,11 +39,25 @@ abbrev pub IsFlag : Option Text → Bool → Type 0
 IsFlag None flag = flag ≡ false
 IsFlag (Some text) flag = (text ≡ codes "true" → flag ≡ true) × (text ≡ codes "false" → flag ≡ false)
 
+-- the flag of this name is as it was read
+abbrev pub IsRead : List Row → Text → Bool → Type 0
+IsRead rows name flag = IsFlag (one_of name rows) flag
+
+-- what is asked of a trace is what the parser found under the names of the flags
+pub record HasFlags (rows : List Row) (asked : Asked) : Type 0 where
+  pub any_cut : IsRead rows (codes "any-cut") asked.any_cut
+  pub any_tag : IsRead rows (codes "any-tag") asked.any_tag
+  pub any_read : IsRead rows (codes "any-read") asked.any_read
+  pub many : IsRead rows (codes "many") asked.many
+  pub whole_disk : IsRead rows (codes "whole-disk") asked.whole_disk
+  pub settled : IsRead rows (codes "settled") asked.settled
+  pub ended : IsRead rows (codes "ended") asked.ended
+  pub json : IsRead rows (codes "json") asked.json
+
 -- a command has what the parser found under the names of its words
 abbrev pub HasWords : List Row → Command → Type 0
 HasWords rows (Check config trace asked progress) = (first_of (codes "CONFIG") rows ≡ Some config.now) × (first_of (codes "TRACE") rows ≡ Some trace.now)
-    × IsFlag (one_of (codes "any-cut") rows) asked.any_cut × IsFlag (one_of (codes "settled") rows) asked.settled
-    × IsFlag (one_of (codes "ended") rows) asked.ended × IsFlag (one_of (codes "progress") rows) progress
+    × HasFlags rows asked × IsRead rows (codes "progress") progress
 HasWords rows (Record config script) = (first_of (codes "CONFIG") rows ≡ Some config.now) × (first_of (codes "SCRIPT") rows ≡ Some script.now)
 HasWords rows (Picture trace events) = (first_of (codes "TRACE") rows ≡ Some trace.now) × IsFlag (one_of (codes "events") rows) events
 

@@ -114,7 +114,7 @@ fn say_legal<O: Write>(
         return Err(Error::NoLabel);
     }
     let left = trial.left(alloc, asked)?;
-    write_legal(out, trial.tally, &left)?;
+    write_legal(out, asked.json, trial.tally, &left)?;
     if meets(asked, &trial.judge) {
         Ok(Verdict::Passed)
     } else {
@@ -122,9 +122,9 @@ fn say_legal<O: Write>(
     }
 }
 
-/// Writes the line of labels that are a run.
-fn write_legal<O: Write>(out: &mut O, tally: Tally, left: &String) -> io::Result<()>
-    ensures { OnOk result (Appends (O.contents out.old) (O.contents out.new) (tally_line tally (string_bytes left.now))) }
+/// Writes that labels are a run, with what they leave.
+fn write_legal<O: Write>(out: &mut O, json: bool, tally: Tally, left: &String) -> io::Result<()>
+    ensures { OnOk result (Appends (O.contents out.old) (O.contents out.new) (tally_line json tally (string_bytes left.now))) }
 {
     let Tally {
         labels,
@@ -132,6 +132,12 @@ fn write_legal<O: Write>(out: &mut O, tally: Tally, left: &String) -> io::Result
         starts,
     } = tally;
     let left = left.as_str();
+    if json {
+        return writeln!(
+            out,
+            "{{\"verdict\": \"legal\", \"labels\": {labels}, \"requests\": {calls}, \"pieces\": {starts}{left}}}"
+        );
+    }
     writeln!(
         out,
         "legal: {labels} labels, {calls} requests, {starts} pieces{left}"

@@ -2,8 +2,10 @@
 
 ghost use Rattle.std.specs.Prelude.{◌≡◌, [], IfErr, IfOk, MatchOption, OnOk, length, string_bytes};
 ghost use Rattle.std.specs.Io.KnownBytes.{Appends};
-ghost use Rattle.judging.specs.Checked.{IsInTable, IsOutputFault, is_call, is_start, partition_of, refused_line};
-ghost use Rattle.judging.specs.inside.Course.{GoesByLine, GoesOn, HasTried, IsAbsent, IsCounted, IsOpening, IsStop, IsStopByLine, IsStopOf, SaysRefused, Tallies, Tries, unjudged};
+ghost use Rattle.trace_tags.specs.Tags.{BreaksTagBy, HasFreeTagBy, read_line_by, tags_after};
+ghost use Rattle.judging.specs.Checked.{IsInTable, IsOutputFault, is_call, is_start, partition_of, refused_line, tags_for};
+ghost use Rattle.judge.specs.Views.{rules_of};
+ghost use Rattle.judging.specs.inside.Course.{GoesByLine, GoesOn, HasTried, IsAbsent, IsCounted, IsFit, IsLineRead, IsOpening, IsRefusedFor, IsStop, IsStopByLine, IsStopOf, IsStopped, SaysRefused, Tallies, Tries, unjudged};
 ghost use Rattle.judging.specs.declared.faults.Error.TheVariants.{NoMemory};
 
 use crate::Error;
@@ -13,14 +15,15 @@ use crate::opened::{Standard, arrays_of, rules_of};
 use crate::progress::Progress;
 use crate::told::Told;
 use crate::words::asked::Asked;
-use judge::NoVerdict;
 use judge::stepwise::{Judge, Refusal};
+use judge::{MachineRules, NoVerdict};
 use machine::Label;
 use srb::DeviceLabel;
 use std::alloc::{AllocError, Global};
 use std::io;
 use std::io::Write;
 use trace_line::Line;
+use trace_tags::{TagRule, Tags};
 
 /// What the lines of a trace come to, as far as it was read.
 #[derive(Debug, Drop)]
@@ -36,10 +39,14 @@ pub(crate) enum Course {
 pub(crate) struct Trial {
     /// The judge that has taken them.
     pub judge: Judge,
+    /// The tags of the pieces that are out, where any free tag will do.
+    pub tags: Option<Tags>,
     /// The counts of their labels.
     pub tally: Tally,
     /// Their calls that have no answer yet.
     pub calls: Calls,
+    /// Whether a refusal is told as a JSON object.
+    pub json: bool,
 }
 
 /// The first line that is refused.
@@ -59,6 +66,17 @@ pub(crate) struct Tally {
 }
 
 impl Tally {
+    /// The tally of no label.
+    fn none() -> Tally
+        ensures { result ≡ record { labels = 0; calls = 0; starts = 0 } }
+    {
+        Tally {
+            labels: 0,
+            calls: 0,
+            starts: 0,
+        }
+    }
+
     /// The tally with one label more.
     fn with(self, label: &Label) -> Tally
         ensures { Tallies self label.now result }
@@ -117,6 +135,28 @@ fn count_of(judge: &Judge) -> u64
     rules.partitions.len() as u64
 }
 
+/// The tags before the first line, where any free one will do.
+fn first_tags(alloc: Global, rules: &MachineRules, asked: Asked) -> Option<Tags>
+    ensures { result ≡ tags_for asked (rules_of rules.now).depth }
+{
+    if asked.any_tag {
+        Some(Tags::new(alloc, rules.depth))
+    } else {
+        None
+    }
+}
+
+/// Returns the line as it is read, and notes its tag, where any free tag will do.
+fn read_by(tags: &mut Option<Tags>, line: Line) -> Result<Line, AllocError>
+    ensures told { IfOk result (λ told. told ≡ read_line_by tags.old line) }
+    ensures after { OnOk result (tags.new ≡ tags_after tags.old line) }
+{
+    match tags {
+        Some(tags) => tags.read(line),
+        None => Ok(line),
+    }
+}
+
 impl Trial {
     /// A trial that has taken no line.
     fn opening(alloc: Global, standard: &Standard) -> Result<Trial, Error>
@@ -124,21 +164,51 @@ impl Trial {
         ensures fault { IfErr result (λ fault. fault ≡ NoMemory) }
     {
         let rules = rules_of(alloc, standard)?;
-        let arrays = arrays_of(alloc, &standard.config)?;
+        let tags = first_tags(alloc, &rules, standard.asked);
+        let arrays = arrays_of(alloc, standard)?;
         let Ok(judge) = Judge::new(alloc, rules, arrays) else {
             return Err(Error::NoMemory);
         };
-        let tally = Tally {
-            labels: 0,
-            calls: 0,
-            starts: 0,
-        };
-        let calls = Calls::new(alloc);
         Ok(Trial {
             judge,
-            tally,
-            calls,
+            tags,
+            tally: Tally::none(),
+            calls: Calls::new(alloc),
+            json: standard.asked.json,
         })
+    }
+
+    /// Why the line's tag is not free, where any free tag will do.
+    fn broken_tag(&self, line: &Line) -> Option<TagRule>
+        ensures { MatchOption result (HasFreeTagBy self.now.tags line.now) (BreaksTagBy self.now.tags line.now) }
+    {
+        match &self.tags {
+            Some(tags) => tags.broken(line),
+            None => None,
+        }
+    }
+
+    /// Why a line is refused before it is judged: there is no such partition, or its tag is not free.
+    fn unfit(&self, line: &Line) -> Option<Misstep>
+        ensures { MatchOption result (IsFit self.now line.now) (IsRefusedFor self.now line.now) }
+    {
+        let count = count_of(&self.judge);
+        if let Some(partition) = absent_of(&line.label, count) {
+            return Some(Misstep::NoPartition { partition, count });
+        }
+        if let Some(rule) = self.broken_tag(line) {
+            return Some(Misstep::Tag(rule));
+        }
+        None
+    }
+
+    /// Returns the line as it is read, and notes its tag, where any free tag will do.
+    fn read(&mut self, line: Line) -> Result<Line, Error>
+        ensures read { IfOk result (λ told. IsLineRead self.old line told self.new) }
+        ensures fault { IfErr result (λ fault. fault ≡ NoMemory) }
+    {
+        let told = read_by(&mut self.tags, line)?;
+        Ok(told)
     }
 
     /// What comes of one line more, of this number.
@@ -146,37 +216,41 @@ impl Trial {
     fn with<O: Write>(
         mut self,
         alloc: Global,
-        line: &Line,
+        line: Line,
         number: u64,
         out: &mut O,
     ) -> Result<Course, Error>
-        ensures tries { IfOk result (Tries self line.now number (O.contents out.old) (O.contents out.new)) }
+        ensures tries { IfOk result (Tries self line number (O.contents out.old) (O.contents out.new)) }
         ensures fault { IfErr result (IsStopByLine self number (O.contents out.old) (O.contents out.new)) }
     {
-        let count = count_of(&self.judge);
-        if let Some(partition) = absent_of(&line.label, count) {
-            let misstep = Misstep::NoPartition { partition, count };
-            self.say_refused(alloc, number, misstep, out)?;
-            return Ok(Course::Refused(Stop {
-                line: number,
-                misstep,
-            }));
+        if let Some(misstep) = self.unfit(&line) {
+            return self.stopped(alloc, number, misstep, out);
         }
-        match self.judge.take_line(alloc, line) {
-            Ok(()) => {
-                self.count(&line.label, number)?;
-                Ok(Course::Legal(self))
-            }
-            Err(Refusal::Breaks(rule)) => {
-                let misstep = Misstep::Breaks(rule);
-                self.say_refused(alloc, number, misstep, out)?;
-                Ok(Course::Refused(Stop {
-                    line: number,
-                    misstep,
-                }))
-            }
+        self.count(&line.label, number)?;
+        let told = self.read(line)?;
+        match self.judge.take_line(alloc, &told) {
+            Ok(()) => Ok(Course::Legal(self)),
+            Err(Refusal::Breaks(rule)) => self.stopped(alloc, number, Misstep::Breaks(rule), out),
             Err(Refusal::NoVerdict(why)) => Err(no_verdict(number, why)),
         }
+    }
+
+    /// Writes that the line of this number is refused, and stops there.
+    fn stopped<O: Write>(
+        self,
+        alloc: Global,
+        number: u64,
+        misstep: Misstep,
+        out: &mut O,
+    ) -> Result<Course, Error>
+        ensures stops { IfOk result (IsStopped self.json number misstep (O.contents out.old) (O.contents out.new)) }
+        ensures fault { IfErr result IsOutputFault }
+    {
+        self.say_refused(alloc, number, misstep, out)?;
+        Ok(Course::Refused(Stop {
+            line: number,
+            misstep,
+        }))
     }
 
     /// Counts a label that the judge has taken, of the line of this number.
@@ -197,25 +271,34 @@ impl Trial {
         misstep: Misstep,
         out: &mut O,
     ) -> Result<(), Error>
-        ensures said { OnOk result (SaysRefused number (O.contents out.old) (O.contents out.new)) }
+        ensures said { OnOk result (SaysRefused self.now.json number misstep (O.contents out.old) (O.contents out.new)) }
         ensures fault { IfErr result IsOutputFault }
     {
-        let sentence = self.sentence_of(alloc, misstep)?;
-        write_refused(out, number, &sentence)?;
+        let more = self.left_by(alloc)?;
+        write_refused(
+            out,
+            self.json,
+            Stop {
+                line: number,
+                misstep,
+            },
+            &more,
+        )?;
         out.flush()?;
         Ok(())
     }
 
-    /// Why a line is refused, in words, and what is open and out before it.
-    fn sentence_of(&self, alloc: Global, misstep: Misstep) -> Result<String, AllocError> {
-        let mut sentence = format!(in alloc; "{misstep}")?;
-        self.tell_left(alloc, &mut sentence)?;
-        Ok(sentence)
+    /// What is open and out, in words.
+    fn left_by(&self, alloc: Global) -> Result<String, AllocError> {
+        let mut text = String::new(alloc);
+        self.tell_left(alloc, &mut text)?;
+        Ok(text)
     }
 
     /// Tells what is open and out.
     fn tell_left(&self, alloc: Global, text: &mut String) -> Result<(), AllocError> {
         match self.judge.machines().first() {
+            Some(machine) if self.json => self.calls.tell_json(alloc, machine, text),
             Some(machine) => self.calls.tell(alloc, machine, text),
             None => Ok(()),
         }
@@ -229,7 +312,11 @@ impl Trial {
             return Ok(text);
         }
         if let Some(undone) = self.judge.undone() {
-            let line = format!(in alloc; "\nundone: {undone}")?;
+            let line = if self.json {
+                format!(in alloc; ", \"undone\": \"{undone}\"")?
+            } else {
+                format!(in alloc; "\nundone: {undone}")?
+            };
             text.push_str(line.as_str())?;
         }
         Ok(text)
@@ -265,7 +352,7 @@ impl Course {
         ensures fault { IfErr result (IsStop self told line (O.contents out.old) (O.contents out.new)) }
     {
         match told {
-            Told::Line(told) => self.with(alloc, &told, line, out),
+            Told::Line(told) => self.with(alloc, told, line, out),
             Told::Nothing => Ok(self),
             Told::BadWord { column } => Err(Error::BadLine { line, column }),
         }
@@ -275,11 +362,11 @@ impl Course {
     fn with<O: Write>(
         self,
         alloc: Global,
-        line: &Line,
+        line: Line,
         number: u64,
         out: &mut O,
     ) -> Result<Course, Error>
-        ensures goes { IfOk result (GoesByLine self line.now number (O.contents out.old) (O.contents out.new)) }
+        ensures goes { IfOk result (GoesByLine self line number (O.contents out.old) (O.contents out.new)) }
         ensures fault { IfErr result (IsStopOf self number (O.contents out.old) (O.contents out.new)) }
     {
         match self {
@@ -299,10 +386,17 @@ fn no_verdict(line: u64, why: NoVerdict) -> Error
     }
 }
 
-/// Writes why the line of this number is refused.
-fn write_refused<O: Write>(out: &mut O, number: u64, sentence: &String) -> io::Result<()>
-    ensures { OnOk result (Appends (O.contents out.old) (O.contents out.new) (refused_line number (string_bytes sentence.now))) }
+/// Writes why a line is refused, with more behind it.
+fn write_refused<O: Write>(out: &mut O, json: bool, stop: Stop, more: &String) -> io::Result<()>
+    ensures { OnOk result (Appends (O.contents out.old) (O.contents out.new) (refused_line json stop.line stop.misstep (string_bytes more.now))) }
 {
-    let sentence = sentence.as_str();
-    writeln!(out, "line {number}: {sentence}")
+    let Stop { line, misstep } = stop;
+    let more = more.as_str();
+    if json {
+        return writeln!(
+            out,
+            "{{\"verdict\": \"refused\", \"line\": {line}, \"rule\": \"{misstep}\"{more}}}"
+        );
+    }
+    writeln!(out, "line {line}: {misstep}{more}")
 }

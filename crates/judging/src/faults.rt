@@ -54,8 +54,8 @@ impl fmt::Display for Error {
     fn fmt<W: fmt::Write>(&self, f: &mut fmt::Formatter<W>) -> fmt::Result {
         match self {
             Error::Usage => f.write_str(
-                "usage: stackjudge check [--any-cut] [--settled] [--ended] CONFIG TRACE \
-                | stackjudge record CONFIG SCRIPT | stackjudge picture [--events] TRACE",
+                "usage: stackjudge check [--any-cut] [--any-tag] [--any-read] [--many] [--whole-disk] [--settled] \
+                [--ended] [--json] CONFIG TRACE | stackjudge record CONFIG SCRIPT | stackjudge picture [--events] TRACE",
             ),
             Error::Startup(fault) => write!(f, "stackjudge: {fault}"),
             Error::TraceUnreadable => f.write_str("stackjudge: cannot read TRACE"),

@@ -76,6 +76,39 @@ impl Calls {
         Ok(())
     }
 
+    /// Tells what is open and at the adapter in a machine, as two fields of a JSON object, each behind a comma.
+    pub fn tell_json(
+        &self,
+        alloc: Global,
+        machine: &Machine,
+        text: &mut String,
+    ) -> Result<(), AllocError> {
+        text.push_str(", \"open\": [")?;
+        let mut comma = "";
+        for request in machine.requests() {
+            let number = request.number();
+            let line = self.line_of(number);
+            let begun = request.is_started();
+            let item = format!(in alloc;
+                "{comma}{{\"request\": {number}, \"line\": {line}, \"begun\": {begun}}}"
+            )?;
+            text.push_str(item.as_str())?;
+            comma = ", ";
+        }
+        text.push_str("], \"out\": [")?;
+        comma = "";
+        for piece in machine.pieces() {
+            let (number, owner, tag) = (piece.number(), piece.owner(), piece.tag());
+            let item = format!(in alloc;
+                "{comma}{{\"piece\": {number}, \"request\": {owner}, \"tag\": {tag}}}"
+            )?;
+            text.push_str(item.as_str())?;
+            comma = ", ";
+        }
+        text.push_str("]")?;
+        Ok(())
+    }
+
     fn open_line(&self, alloc: Global, request: &OpenRequest) -> Result<String, AllocError> {
         let number = request.number();
         let line = self.line_of(number);

@@ -1,11 +1,11 @@
 //! The machine that settings describe, before its first label.
 
-ghost use Rattle.std.specs.Prelude.{◌≡◌, IfErr, IfOk, OnOk, map, replicate};
+ghost use Rattle.std.specs.Prelude.{◌≡◌, ◌∷◌, [], IfErr, IfOk, OnOk, map, replicate};
 ghost use Rattle.machine.specs.Map.{IsMap};
 ghost use Rattle.settings.specs.InRange.{AreInRange};
 ghost use Rattle.judge.specs.Views.{rules_of};
 ghost use Rattle.settings.specs.Medium.{extent_of, extents_of, zeros};
-ghost use Rattle.judging.specs.Checked.{arrays_of, rules_by};
+ghost use Rattle.judging.specs.Checked.{arrays_of, depth_by, extents_by, open_by, rules_by};
 ghost use Rattle.judging.specs.Standards.{IsStandard, IsStandardFault, IsTableFault};
 
 use crate::Error;
@@ -58,25 +58,72 @@ fn check_table(alloc: Global, config: &Config) -> Result<(), Error>
     }
 }
 
-/// The rules of the stack that the settings start, but for how it cuts requests.
+/// The most tags and open requests, where many will do.
+const MOST_TAGS: u32 = 256;
+
+const MOST_OPEN: u64 = 4096;
+
+/// How many tags there are.
+fn depth_by(config: &Config, asked: Asked) -> u32
+    ensures { result ≡ depth_by config.now asked }
+{
+    if asked.many {
+        return MOST_TAGS;
+    }
+    config.depth as u32
+}
+
+/// How many requests may be open.
+fn open_by(config: &Config, asked: Asked) -> u64
+    ensures { result ≡ open_by config.now asked }
+{
+    if asked.many {
+        return MOST_OPEN;
+    }
+    config.open_requests as u64
+}
+
+/// The rules that a trace is judged by: those of the stack that the settings start, but for what is asked.
 pub(crate) fn rules_of(alloc: Global, standard: &Standard) -> Result<MachineRules, AllocError>
     ensures { IfOk result (λ rules. rules_of rules ≡ rules_by standard.now) }
 {
-    let config = &standard.config;
+    let Standard { config, asked } = standard;
     Ok(MachineRules {
         sector_size: config.sector_size,
         disk_sectors: config.sectors,
-        partitions: extents(alloc, config.partitions.as_slice())?,
+        partitions: extents_by(alloc, standard)?,
         longest: LONGEST_REQUEST as u64,
         max_transfer: config.max_transfer as u64,
-        depth: config.depth as u32,
-        open_requests: Some(config.open_requests as u64),
+        depth: depth_by(config, *asked),
+        open_requests: Some(open_by(config, *asked)),
         window: Some(config.window as u64),
         one_piece: false,
         busy_limit: LAST_BUSY_RETURN as u64,
-        any_cut: standard.asked.any_cut,
-        faithful: true,
+        any_cut: asked.any_cut,
+        faithful: !asked.any_read,
     })
+}
+
+/// The sectors of each partition that a trace is judged by.
+fn extents_by(alloc: Global, standard: &Standard) -> Result<Vec<Extent>, AllocError>
+    ensures { IfOk result (λ extents. extents.items ≡ extents_by standard.now) }
+{
+    let Standard { config, asked } = standard;
+    if asked.whole_disk {
+        return whole_disk(alloc, config.sectors);
+    }
+    extents(alloc, config.partitions.as_slice())
+}
+
+/// One partition that is a whole disk of so many sectors.
+fn whole_disk(alloc: Global, count: u64) -> Result<Vec<Extent>, AllocError>
+    ensures { IfOk result (λ extents. extents.items ≡ record { first = 0; count = count } ∷ []) }
+{
+    let mut extents = Vec::new(alloc);
+    let Ok(()) = extents.push(Extent { first: 0, count }) else {
+        return Err(AllocError);
+    };
+    Ok(extents)
 }
 
 /// The sectors of each partition.
@@ -102,22 +149,19 @@ fn extent_of(partition: &Partition) -> Extent
 }
 
 /// The sectors of all partitions before the first label: zeros.
-pub(crate) fn arrays_of(alloc: Global, config: &Config) -> Result<Vec<Sectors>, AllocError>
-    ensures { IfOk result (λ arrays. arrays.items ≡ arrays_of config.now) }
+pub(crate) fn arrays_of(alloc: Global, standard: &Standard) -> Result<Vec<Sectors>, AllocError>
+    ensures { IfOk result (λ arrays. arrays.items ≡ arrays_of standard.now) }
 {
-    arrays(alloc, config, config.partitions.as_slice())
+    let extents = extents_by(alloc, standard)?;
+    arrays(alloc, &standard.config, extents.as_slice())
 }
 
-fn arrays(
-    alloc: Global,
-    config: &Config,
-    partitions: &[Partition],
-) -> Result<Vec<Sectors>, AllocError>
-    ensures { IfOk result (λ arrays. arrays.items ≡ map (λ extent. zeros config.now extent.count) (map extent_of partitions.now)) }
+fn arrays(alloc: Global, config: &Config, extents: &[Extent]) -> Result<Vec<Sectors>, AllocError>
+    ensures { IfOk result (λ arrays. arrays.items ≡ map (λ extent. zeros config.now extent.count) extents.now) }
 {
     let mut arrays = Vec::new(alloc);
-    for partition in partitions {
-        let sectors = zeros(alloc, config, partition.count)?;
+    for extent in extents {
+        let sectors = zeros(alloc, config, extent.count)?;
         let Ok(()) = arrays.push(sectors) else {
             return Err(AllocError);
         };
@@ -126,11 +170,11 @@ fn arrays(
 }
 
 /// Makes this many sectors of zeros.
-fn zeros(alloc: Global, config: &Config, count: u32) -> Result<Sectors, AllocError>
+fn zeros(alloc: Global, config: &Config, count: u64) -> Result<Sectors, AllocError>
     ensures { IfOk result (λ sectors. sectors ≡ zeros config.now count) }
 {
     let sector = zero_sector(alloc, config.sector_size)?;
-    Ok(Sectors::filled(alloc, count as u64, sector))
+    Ok(Sectors::filled(alloc, count, sector))
 }
 
 fn zero_sector(alloc: Global, size: u32) -> Result<Bytes, AllocError>

@@ -7,7 +7,7 @@ ghost use Rattle.clap.specs.Words.{found_of};
 ghost use Rattle.clap.specs.Walk.{rows_of};
 ghost use Rattle.judging.specs.declared.faults.Error.TheVariants.{NoMemory, Usage};
 ghost use Rattle.judging.specs.declared.words.asked.Command.{Command};
-ghost use Rattle.judging.specs.CommandLine.{AsksForNothing, HasWords, IsAsked, name_of};
+ghost use Rattle.judging.specs.CommandLine.{AsksForNothing, HasFlags, HasWords, IsAsked, name_of};
 
 use crate::faults::Error;
 use crate::words::asked::{Asked, Command};
@@ -44,8 +44,13 @@ impl<'a> Parser<'a> for Command<'a> {
             .arg(word(alloc, "CONFIG", true))?
             .arg(word(alloc, "TRACE", true))?
             .arg(flag(alloc, "any-cut"))?
+            .arg(flag(alloc, "any-tag"))?
+            .arg(flag(alloc, "any-read"))?
+            .arg(flag(alloc, "many"))?
+            .arg(flag(alloc, "whole-disk"))?
             .arg(flag(alloc, "settled"))?
             .arg(flag(alloc, "ended"))?
+            .arg(flag(alloc, "json"))?
             .arg(flag(alloc, "progress"))?;
         let records = clap::Command::new(alloc, "record")
             .arg(word(alloc, "CONFIG", true))?
@@ -84,21 +89,30 @@ fn check_of<'a>(words: &ArgMatches<'a>) -> Option<Command<'a>>
     let Some(trace) = words.get_str("TRACE") else {
         return None;
     };
-    let any_cut = words.get_flag("any-cut");
-    let settled = words.get_flag("settled");
-    let ended = words.get_flag("ended");
     let progress = words.get_flag("progress");
-    let asked = Asked {
-        any_cut,
-        settled,
-        ended,
-    };
+    let asked = asked_of(words);
     Some(Command::Check {
         config,
         trace,
         asked,
         progress,
     })
+}
+
+/// What the flags of the words ask of a trace.
+fn asked_of(words: &ArgMatches<'_>) -> Asked
+    ensures { HasFlags (rows_of (found_of words.now)) result }
+{
+    Asked {
+        any_cut: words.get_flag("any-cut"),
+        any_tag: words.get_flag("any-tag"),
+        any_read: words.get_flag("any-read"),
+        many: words.get_flag("many"),
+        whole_disk: words.get_flag("whole-disk"),
+        settled: words.get_flag("settled"),
+        ended: words.get_flag("ended"),
+        json: words.get_flag("json"),
+    }
 }
 
 fn record_of<'a>(words: &ArgMatches<'a>) -> Option<Command<'a>>

@@ -1,6 +1,5 @@
 -- How a trace is judged as a whole, and why it can't be.
-use Rattle.std.specs.Prelude.{◌≡◌, ◌≢◌, ◌⊎◌, ◌<◌, ◌++◌, ◌∷◌, ℕ, List, [], Option, codes, length}
-use Rattle.std.specs.Fmt.{decimal}
+use Rattle.std.specs.Prelude.{◌≡◌, ◌≢◌, ◌⊎◌, ◌<◌, ℕ, Bool, List, Option, length}
 use Rattle.std.specs.Io.KnownBytes.{Appends}
 use Rattle.std.specs.Str.Lines.{lines}
 use Rattle.trace_line.specs.declared.Line.{Line}
@@ -17,7 +16,7 @@ use Rattle.judging.specs.declared.faults.Error.{Error}
 use Rattle.judging.specs.declared.faults.Error.TheVariants.{NoLabel}
 use Rattle.judging.specs.inside.Course.{IsCourse}
 use Rattle.judging.specs.Told.{AreTold}
-use Rattle.judging.specs.Checked.{IsOutputFault, IsPassedIf, Meets}
+use Rattle.judging.specs.Checked.{IsOutputFault, IsPassedIf, Meets, legal_by}
 
 -- what all lines of an input come to
 pub record IsCourseOf (standard : Standard) (trace a b : Option (List ℕ)) (course : Course) : Type 0 where
@@ -28,11 +27,9 @@ pub record IsCourseOf (standard : Standard) (trace a b : Option (List ℕ)) (cou
   pub are_told : AreTold (lines text) told_lines numbers
   pub is : IsCourse standard told_lines numbers a b course
 
--- the line that is said of lines that are a run, by their counts
-abbrev pub tally_line : Tally → List ℕ → List ℕ
-tally_line tally left =
-    codes "legal: " ++ (decimal tally.labels ++ (codes " labels, " ++ (decimal tally.calls
-    ++ (codes " requests, " ++ (decimal tally.starts ++ (codes " pieces" ++ (left ++ 10 ∷ [])))))))
+-- what is said of lines that are a run, by their counts
+abbrev pub tally_line : Bool → Tally → List ℕ → List ℕ
+tally_line json tally left = legal_by json tally.labels tally.calls tally.starts left
 
 -- the judge of a trial meets what is asked for, where it holds a state
 abbrev pub MeetsIf : Asked → Trial → Verdict → Type 0
@@ -43,7 +40,7 @@ pub record SaysLegal (asked : Asked) (trial : Trial) (a b : Option (List ℕ)) (
   pub some_label : trial.tally.labels ≢ 0
   pub meets : MeetsIf asked trial verdict
   pub left : List ℕ
-  pub appends : Appends a b (tally_line trial.tally left)
+  pub appends : Appends a b (tally_line asked.json trial.tally left)
 
 -- what is said of all lines of a trace
 abbrev pub SaysOf : Asked → Course → Option (List ℕ) → Option (List ℕ) → Verdict → Type 0

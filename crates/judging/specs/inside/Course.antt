@@ -5,9 +5,10 @@ use Rattle.machine.specs.declared.Label.{Label}
 use Rattle.trace_line.specs.declared.Line.{Line}
 use Rattle.judge.specs.Following.{HasTakenLines, RefusesLine, TakesLine}
 use Rattle.judge.specs.Refusals.{most_readings}
+use Rattle.trace_tags.specs.Tags.{BreaksTagBy, HasFreeTagBy, read_line_by, tags_after, tags_by}
 use Rattle.judge.specs.declared.NoVerdict.{NoVerdict}
 use Rattle.judge.specs.declared.NoVerdict.TheVariants.{NoMemory as WantOfMemory, Readings as TooMany}
-use Rattle.judging.specs.Checked.{IsFirstRefused, IsInTable, IsOutputFault, arrays_of, count_of, is_call, is_start, partition_of, refused_line, rules_by}
+use Rattle.judging.specs.Checked.{HaveFreeTags, IsFirstRefused, IsInTable, IsOutputFault, arrays_of, count_of, first_tags, is_call, is_start, judged, partition_of, refused_line, rules_by}
 use Rattle.judging.specs.declared.course.Course.{Course}
 use Rattle.judging.specs.declared.course.Course.TheVariants.{Legal, Refused}
 use Rattle.judging.specs.declared.course.Tally.{Tally}
@@ -15,7 +16,7 @@ use Rattle.judging.specs.declared.course.Trial.{Trial}
 use Rattle.judging.specs.declared.faults.Error.{Error}
 use Rattle.judging.specs.declared.faults.Error.TheVariants.{BadLine, Readings, OutputFailed, NoMemory}
 use Rattle.judging.specs.declared.misstep.Misstep.{Misstep}
-use Rattle.judging.specs.declared.misstep.Misstep.TheVariants.{Breaks, NoPartition}
+use Rattle.judging.specs.declared.misstep.Misstep.TheVariants.{Breaks, NoPartition, Tag}
 use Rattle.judging.specs.declared.opened.Standard.{Standard}
 use Rattle.judging.specs.declared.told.Told.{Told}
 use Rattle.judging.specs.declared.told.Told.TheVariants.{Line as TellsLine, Nothing, BadWord}
@@ -36,19 +37,35 @@ IsAbsent count label partition = (partition_of label ≡ Some partition) × (cou
 
 -- why the judge of a trial refuses a line
 abbrev pub IsRefusedFor : Trial → Line → Misstep → Type 0
-IsRefusedFor trial line (Breaks rule) = RefusesLine trial.judge line rule
+IsRefusedFor trial line (Breaks rule) = RefusesLine trial.judge (read_line_by trial.tags line) rule
 IsRefusedFor trial line (NoPartition partition most) =
     (partition_of line.label ≡ Some partition) × (most ≡ length trial.judge.rules.partitions) × (most ≤ partition)
+IsRefusedFor trial line (Tag rule) = BreaksTagBy trial.tags line rule
+
+-- the line is in the table, and its tag is free
+pub record IsFit (trial : Trial) (line : Line) : Type 0 where
+  pub in_table : IsInTable (length trial.judge.rules.partitions) line.label
+  pub free_tag : HasFreeTagBy trial.tags line
 
 -- the refusal of the line of this number is written
-pub record SaysRefused (number : ℕ) (a b : Option (List ℕ)) : Type 0 where
-  pub sentence : List ℕ
-  pub appends : Appends a b (refused_line number sentence)
+pub record SaysRefused (json : Bool) (number : ℕ) (misstep : Misstep) (a b : Option (List ℕ)) : Type 0 where
+  pub more : List ℕ
+  pub appends : Appends a b (refused_line json number misstep more)
 
 -- one label more is counted
 pub record IsCounted (old : Trial) (label : Label) (new : Trial) : Type 0 where
   pub same_judge : new.judge ≡ old.judge
+  pub same_tags : new.tags ≡ old.tags
+  pub same_form : new.json ≡ old.json
   pub counted : Tallies old.tally label new.tally
+
+-- a line is read, whose tag may be another
+pub record IsLineRead (old : Trial) (line told : Line) (new : Trial) : Type 0 where
+  pub same_judge : new.judge ≡ old.judge
+  pub same_form : new.json ≡ old.json
+  pub same_tally : new.tally ≡ old.tally
+  pub tags : new.tags ≡ tags_after old.tags line
+  pub is_told : told ≡ read_line_by old.tags line
 
 -- the fault of a line on which there is no verdict
 abbrev pub unjudged : ℕ → NoVerdict → Error
@@ -58,15 +75,22 @@ unjudged line WantOfMemory = NoMemory
 -- one line more is taken, and nothing is written
 pub record IsTaken (old : Trial) (line : Line) (a b : Option (List ℕ)) (new : Trial) : Type 0 where
   pub same_rules : new.judge.rules ≡ old.judge.rules
-  pub takes : TakesLine old.judge line new.judge
+  pub same_form : new.json ≡ old.json
+  pub takes : TakesLine old.judge (read_line_by old.tags line) new.judge
+  pub tags : new.tags ≡ tags_after old.tags line
   pub tallies : Tallies old.tally line.label new.tally
-  pub in_table : IsInTable (length old.judge.rules.partitions) line.label
+  pub fit : IsFit old line
   pub untold : b ≡ a
+
+-- the line of this number is refused, and that is written
+abbrev pub IsStopped : Bool → ℕ → Misstep → Option (List ℕ) → Option (List ℕ) → Course → Type 0
+IsStopped json number misstep a b (Legal new) = ⊥
+IsStopped json number misstep a b (Refused stop) = (stop.line ≡ number) × (stop.misstep ≡ misstep) × SaysRefused json number misstep a b
 
 -- one line more is taken, or refused
 abbrev pub Tries : Trial → Line → ℕ → Option (List ℕ) → Option (List ℕ) → Course → Type 0
 Tries old line number a b (Legal new) = IsTaken old line a b new
-Tries old line number a b (Refused stop) = (stop.line ≡ number) × IsRefusedFor old line stop.misstep × SaysRefused number a b
+Tries old line number a b (Refused stop) = (stop.line ≡ number) × IsRefusedFor old line stop.misstep × SaysRefused old.json number stop.misstep a b
 
 -- why a line is neither: the judge has more readings than it follows, or what it is can't be told
 abbrev pub IsStopByLine : Trial → ℕ → Option (List ℕ) → Option (List ℕ) → Error → Type 0
@@ -98,7 +122,10 @@ IsStop old (BadWord column) number a b fault = (fault ≡ BadLine number column)
 -- the judge has taken these lines over the settings' machine, and they are counted
 pub record HasTried (standard : Standard) (lines : List Line) (trial : Trial) : Type 0 where
   pub rules_are : trial.judge.rules ≡ rules_by standard
-  pub taken : HasTakenLines trial.judge (arrays_of standard.config) lines
+  pub form_is : trial.json ≡ standard.asked.json
+  pub taken : HasTakenLines trial.judge (arrays_of standard) (judged standard lines)
+  pub tags_are : trial.tags ≡ tags_by (first_tags standard) lines
+  pub free_tags : HaveFreeTags standard lines
   pub in_table : All (λ line. IsInTable (count_of standard) line.label) lines
   pub labels_are : trial.tally.labels ≡ length lines
   pub calls_are : trial.tally.calls ≡ count_by (λ line. is_call line.label) lines
@@ -112,4 +139,4 @@ IsOpening standard (Refused stop) = ⊥
 -- what these lines come to
 abbrev pub IsCourse : Standard → List Line → List ℕ → Option (List ℕ) → Option (List ℕ) → Course → Type 0
 IsCourse standard lines numbers a b (Legal trial) = HasTried standard lines trial × (b ≡ a)
-IsCourse standard lines numbers a b (Refused stop) = IsFirstRefused standard lines numbers stop.line stop.misstep × SaysRefused stop.line a b
+IsCourse standard lines numbers a b (Refused stop) = IsFirstRefused standard lines numbers stop.line stop.misstep × SaysRefused standard.asked.json stop.line stop.misstep a b

@@ -28,8 +28,18 @@ pub enum Command<'a> {
 pub struct Asked {
     /// Whether any cut will do: a piece may begin at any place of its request, and start again without end.
     pub any_cut: bool,
+    /// Whether any free tag will do, and not the lowest alone.
+    pub any_tag: bool,
+    /// Whether a read may bring any bytes, whatever was written.
+    pub any_read: bool,
+    /// Whether the adapter has 256 tags, and 4,096 requests may be open, whatever the settings say.
+    pub many: bool,
+    /// Whether there is one partition, which is the whole disk, whatever the settings say.
+    pub whole_disk: bool,
     /// Whether it has to leave nothing undone.
     pub settled: bool,
     /// Whether it has to leave no request open and no piece at the adapter.
     pub ended: bool,
+    /// Whether the verdict is told as a JSON object.
+    pub json: bool,
 }

@@ -15,9 +15,7 @@ returns c =
       (
         sym (c.in-Some.ensures ∙ first_value-rows found (codes "CONFIG")),
         sym (c.in-Some-get_str.ensures ∙ first_value-rows found (codes "TRACE")),
-        flag_is found (codes "any-cut") c.get_flag-any_cut.result c.get_flag-any_cut.ensures.none c.get_flag-any_cut.ensures.value c.get_flag-any_cut.ensures.other,
-        flag_is found (codes "settled") c.get_flag-settled.result c.get_flag-settled.ensures.none c.get_flag-settled.ensures.value c.get_flag-settled.ensures.other,
-        flag_is found (codes "ended") c.get_flag-ended.result c.get_flag-ended.ensures.none c.get_flag-ended.ensures.value c.get_flag-ended.ensures.other,
+        c.asked_of-asked.ensures,
         flag_is found (codes "progress") c.get_flag-progress.result c.get_flag-progress.ensures.none c.get_flag-progress.ensures.value c.get_flag-progress.ensures.other,
       ),
     )

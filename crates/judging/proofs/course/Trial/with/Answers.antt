@@ -1,8 +1,19 @@
-use Rattle.std.proofs.Common.{refl}
-use Rattle.judging.proofs.Trying.{taken_so}
+use Rattle.std.proofs.Common.{rules, ◌≡◌, ◌∙◌, refl}
+use Rattle.judge.specs.Following.{RefusesLine}
+use Rattle.judging.specs.declared.misstep.Misstep.TheVariants.{Breaks}
+use Rattle.judging.proofs.Trying.{refused_so, stops_so, taken_so}
 use Rattle.judging.proofs.course.Trial.with.Goals as goal
 
 pub returns-in-Ok-clause-tries : goal.returns-in-Ok-clause-tries
 returns-in-Ok-clause-tries g c =
-    taken_so c.args.self (record c.args.self { judge = c.take_line.new.self }) c.count.new.self c.args.line.now _ _ c.count_of-count.result c.count_of-count.ensures
-    c.in_default.ensures c.take_line.ensures.rules c.in-Ok.ensures.taken refl c.in_ok-count-in-Ok.ensures.counted refl
+    taken_so c.args.self c.count.new.self c.read.new.self c.take_line.new.self c.args.line c.in_ok-told.told (g.O.Write.contents c.args.out.now) (g.O.Write.contents c.args.out.now)
+    c.in_default.ensures c.in_ok-count.ensures.counted c.in_ok-told.ensures.read c.take_line.ensures.rules c.in-Ok.ensures.taken refl
+
+pub returns-in-Err-Breaks-clause-tries : goal.returns-in-Err-Breaks-clause-tries
+returns-in-Err-Breaks-clause-tries g c =
+    let refuses : RefusesLine c.read.new.self.judge c.in_ok-told.told c.in-Err-Breaks.rule = search rules in
+    stops_so c.args.self c.args.line c.args.number (Breaks c.in-Err-Breaks.rule) c.read.new.self.json (g.O.Write.contents c.args.out.now)
+    (g.O.Write.contents c.stopped-in-Err-Breaks.new.out) c.stopped-in-Err-Breaks.result
+    (c.in_ok-told.ensures.read.same_form ∙ c.in_ok-count.ensures.counted.same_form)
+    (refused_so c.args.self c.count.new.self c.read.new.self c.args.line c.in_ok-told.told c.in-Err-Breaks.rule c.in_ok-count.ensures.counted c.in_ok-told.ensures.read refuses)
+    c.stopped-in-Err-Breaks.ensures.stops
