@@ -159,6 +159,14 @@ run_labels() {
     for it in "$scratch/split.$1"/*.words; do run_labels_of "labels_of.$1" "$it" "$2"; done
 }
 
+# Judges the history of a folder, which says what is printed: a legal one ends with status 0, any other with 1.
+run_history() {
+    local it=history.${1##*/} status=1
+    ! grep -q '^legal' "$1/stdout" || status=0
+    want "$it" "$status" < "$1/stdout"
+    run_case "$it" history "$top/examples/history/config.toml" "$1/history"
+}
+
 # Has the judge draw the picture that the pages show.
 run_picture() {
     want picture.pages 0 < "$top/docs/cancelled_in_three_places.svg"
@@ -211,6 +219,7 @@ run_judge_cases() {
     run_picture
     for it in "$top"/examples/judged/pictures/*/{picture,events}; do run_drawing "${it%/*}" "${it##*/}"; done
     run_cuts
+    for it in "$top"/examples/history/*/history; do run_history "${it%/*}"; done
     run_refused_words
     run_answered_at_once "$top/launcher/judged_at_once"
     count_cases "stackjudge, scripts recorded" record.
@@ -223,6 +232,7 @@ run_judge_cases() {
     count_cases "stackjudge, told before its end" told.
     count_cases "stackjudge, pictures" picture.
     count_cases "stackjudge, cuts of another stack" cuts.
+    count_cases "stackjudge, histories" history.
     count_cases "stackjudge, words refused" refused.
     count_cases "stackjudge, words answered at once" words.
     cp "$scratch"/*.counts "${scratch%/*}"

@@ -5,3 +5,4 @@ mod SaidOfTraces
 mod Standards
 mod Flags
 mod Trying
+mod Names

@@ -6,7 +6,7 @@ use Rattle.clap.proofs.OnLiterals.{clap_on_literals}
 use Rattle.command_line.specs.Grammar.{flag_rule, word_rule}
 use Rattle.judging.specs.declared.words.asked.Asked.{Asked}
 use Rattle.judging.specs.declared.words.asked.Command.{Command}
-use Rattle.judging.specs.declared.words.asked.Command.TheVariants.{Check, Picture, Record}
+use Rattle.judging.specs.declared.words.asked.Command.TheVariants.{Check, History, Picture, Record}
 
 -- what is asked of a trace: [--any-cut] [--any-tag] [--any-read] [--many] [--whole-disk] [--settled] [--ended] [--json]
 abbrev pub asked_words : App → App
@@ -22,13 +22,17 @@ check_words = with_rule (asked_words (with_rule (with_rule (new_app (codes "chec
 abbrev pub record_words : App
 record_words = with_rule (with_rule (new_app (codes "record")) (word_rule (codes "CONFIG") true)) (word_rule (codes "SCRIPT") true)
 
+-- history CONFIG HISTORY
+abbrev pub history_words : App
+history_words = with_rule (with_rule (new_app (codes "history")) (word_rule (codes "CONFIG") true)) (word_rule (codes "HISTORY") true)
+
 -- picture [--events] TRACE
 abbrev pub picture_words : App
 picture_words = with_rule (with_rule (new_app (codes "picture")) (word_rule (codes "TRACE") true)) (flag_rule (codes "events"))
 
--- the program, with its three subcommands
+-- the program, with its four subcommands
 abbrev pub program : App
-program = with_subcommand (with_subcommand (with_subcommand (new_app (codes "stackjudge")) check_words.top) record_words.top) picture_words.top
+program = with_subcommand (with_subcommand (with_subcommand (with_subcommand (new_app (codes "stackjudge")) check_words.top) record_words.top) history_words.top) picture_words.top
 
 pub is_simple_program : is_simple program ≡ true
 unfolding clap_on_literals
@@ -59,12 +63,14 @@ abbrev pub HasWords : List Row → Command → Type 0
 HasWords rows (Check config trace asked progress) = (first_of (codes "CONFIG") rows ≡ Some config.now) × (first_of (codes "TRACE") rows ≡ Some trace.now)
     × HasFlags rows asked × IsRead rows (codes "progress") progress
 HasWords rows (Record config script) = (first_of (codes "CONFIG") rows ≡ Some config.now) × (first_of (codes "SCRIPT") rows ≡ Some script.now)
+HasWords rows (History config history) = (first_of (codes "CONFIG") rows ≡ Some config.now) × (first_of (codes "HISTORY") rows ≡ Some history.now)
 HasWords rows (Picture trace events) = (first_of (codes "TRACE") rows ≡ Some trace.now) × IsFlag (one_of (codes "events") rows) events
 
 -- the first word of a command
 abbrev pub name_of : Command → Text
 name_of (Check config trace asked progress) = codes "check"
 name_of (Record config script) = codes "record"
+name_of (History config history) = codes "history"
 name_of (Picture trace events) = codes "picture"
 
 -- the subcommand that was found is the command's, with its words

@@ -1,5 +1,6 @@
 //! What the program `stackjudge` can be asked to do, but for its files and its output: whether a trace that was
-//! recorded is a run of the machine that some settings describe, the trace of a script, and a picture of a trace.
+//! recorded is a run of the machine that some settings describe, the trace of a script, a picture of a trace, and whether
+//! each sector of a history has a schedule.
 //!
 //! # Promises
 //!
@@ -7,13 +8,16 @@
 //! `legal` exactly for a run of the settings' machine, and passes exactly where some state that it leads to has what is
 //! asked for (`IsLegal`, `Meets`); else it prints the first line that is refused, and for what (`IsFirstRefused`,
 //! `printed`). Without a verdict: why (`fault`), and what was written before (`told`). `record_script`: `text`,
-//! `fault`. `command`: `asked`, `fault`. A rule's words, pictures and progress are only tested.
+//! `fault`. `command`: `asked`, `fault`. A history is judged as one of the settings' stack, from sectors of zeros
+//! (`IsJudged`); how `judge_history` reads it, and what it writes, is only tested, and so are a rule's words, pictures
+//! and progress.
 #![tactic(auto)]
 
 pub mod checking;
 mod course;
 pub mod drawing;
 mod faults;
+pub mod histories;
 mod left;
 mod misstep;
 pub mod opened;

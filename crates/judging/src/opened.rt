@@ -127,7 +127,7 @@ fn whole_disk(alloc: Global, count: u64) -> Result<Vec<Extent>, AllocError>
 }
 
 /// The sectors of each partition.
-fn extents(alloc: Global, partitions: &[Partition]) -> Result<Vec<Extent>, AllocError>
+pub(crate) fn extents(alloc: Global, partitions: &[Partition]) -> Result<Vec<Extent>, AllocError>
     ensures { IfOk result (λ extents. extents.items ≡ map extent_of partitions.now) }
 {
     let mut extents = Vec::new(alloc);
@@ -177,7 +177,7 @@ fn zeros(alloc: Global, config: &Config, count: u64) -> Result<Sectors, AllocErr
     Ok(Sectors::filled(alloc, count, sector))
 }
 
-fn zero_sector(alloc: Global, size: u32) -> Result<Bytes, AllocError>
+pub(crate) fn zero_sector(alloc: Global, size: u32) -> Result<Bytes, AllocError>
     ensures { IfOk result (λ sector. sector ≡ replicate size 0) }
 {
     let bytes = vec![in alloc; 0; size as usize]?;

@@ -55,12 +55,16 @@ impl<'a> Parser<'a> for Command<'a> {
         let records = clap::Command::new(alloc, "record")
             .arg(word(alloc, "CONFIG", true))?
             .arg(word(alloc, "SCRIPT", true))?;
+        let histories = clap::Command::new(alloc, "history")
+            .arg(word(alloc, "CONFIG", true))?
+            .arg(word(alloc, "HISTORY", true))?;
         let pictures = clap::Command::new(alloc, "picture")
             .arg(word(alloc, "TRACE", true))?
             .arg(flag(alloc, "events"))?;
         clap::Command::new(alloc, "stackjudge")
             .subcommand(checks)?
             .subcommand(records)?
+            .subcommand(histories)?
             .subcommand(pictures)
     }
 
@@ -70,6 +74,9 @@ impl<'a> Parser<'a> for Command<'a> {
         }
         if let Some(words) = subcommand(matches, "record") {
             return record_of(words);
+        }
+        if let Some(words) = subcommand(matches, "history") {
+            return history_of(words);
         }
         match subcommand(matches, "picture") {
             Some(words) => picture_of(words),
@@ -125,6 +132,18 @@ fn record_of<'a>(words: &ArgMatches<'a>) -> Option<Command<'a>>
         return None;
     };
     Some(Command::Record { config, script })
+}
+
+fn history_of<'a>(words: &ArgMatches<'a>) -> Option<Command<'a>>
+    ensures { MatchOption result ((command : Command) → name_of command ≡ codes "history" → ¬ (HasWords (rows_of (found_of words.now)) command)) (λ command. (name_of command ≡ codes "history") × HasWords (rows_of (found_of words.now)) command) }
+{
+    let Some(config) = words.get_str("CONFIG") else {
+        return None;
+    };
+    let Some(history) = words.get_str("HISTORY") else {
+        return None;
+    };
+    Some(Command::History { config, history })
 }
 
 fn picture_of<'a>(matches: &ArgMatches<'a>) -> Option<Command<'a>>

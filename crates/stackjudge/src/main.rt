@@ -1,5 +1,5 @@
-//! This program says whether a trace is a run of the machine that some settings describe, writes the trace of a script,
-//! or draws a trace.
+//! This program says whether a trace is a run of the machine that some settings describe, and whether each sector of a
+//! history has a schedule; it writes the trace of a script, or draws a trace.
 //!
 //! # Promises
 //!
@@ -9,6 +9,7 @@
 use judging::Error;
 use judging::checking::check;
 use judging::drawing::draw;
+use judging::histories::judge_history;
 use judging::opened::{Standard, read_standard};
 use judging::progress::Progress;
 use judging::scripts::record_script;
@@ -47,6 +48,7 @@ fn run(rt: &HostRuntime) -> Result<Verdict, Error> {
             judge(rt, &standard, trace, &mut progress)
         }
         Command::Record { config, script } => write_trace(rt, config, script),
+        Command::History { config, history } => judge_history_at(rt, config, history),
         Command::Picture { trace, events } => draw_trace(rt, trace, events),
     }
 }
@@ -79,6 +81,16 @@ fn write_trace(rt: &HostRuntime, config: &str, script: &str) -> Result<Verdict, 
         record_script(alloc, config, open_input(rt, script), &mut out)?;
     }
     Ok(Verdict::Passed)
+}
+
+/// Judges the history at a path, or the one on standard input.
+fn judge_history_at(rt: &HostRuntime, config: &str, history: &str) -> Result<Verdict, Error> {
+    let alloc = rt.alloc();
+    let config = open_input(rt, config);
+    if history == "-" {
+        return judge_history(alloc, config, rt.stdin(), &mut rt.stdout());
+    }
+    judge_history(alloc, config, open_input(rt, history), &mut rt.stdout())
 }
 
 /// Draws the trace at a path, or the one on standard input.

@@ -16,6 +16,11 @@ pub enum Command<'a> {
         config: &'a str,
         script: &'a str,
     },
+    /// Judges a history, given the paths of the settings and of the history.
+    History {
+        config: &'a str,
+        history: &'a str,
+    },
     /// Draws the trace at a path, as an SVG, or as Trace Event JSON where `events` are asked for.
     Picture {
         trace: &'a str,

@@ -39,8 +39,16 @@ returns-in-Some-subcommand-clause-none c =
 
 pub returns-in-Some-subcommand-2-clause-some : goal.returns-in-Some-subcommand-2-clause-some
 returns-in-Some-subcommand-2-clause-some c =
-    of_found (subcommand_rows_of c.args.matches.now) _ (rows_of (found_of c.in-Some-subcommand-2.words.now)) c.picture_of.result c.in-Some-subcommand-2.ensures.some c.picture_of.ensures
+    of_found (subcommand_rows_of c.args.matches.now) _ (rows_of (found_of c.in-Some-subcommand-2.words.now)) c.history_of.result c.in-Some-subcommand-2.ensures.some c.history_of.ensures
 
 pub returns-in-Some-subcommand-2-clause-none : goal.returns-in-Some-subcommand-2-clause-none
 returns-in-Some-subcommand-2-clause-none c =
-    not_of_found (subcommand_rows_of c.args.matches.now) _ (rows_of (found_of c.in-Some-subcommand-2.words.now)) c.picture_of.result c.in-Some-subcommand-2.ensures.some c.picture_of.ensures
+    not_of_found (subcommand_rows_of c.args.matches.now) _ (rows_of (found_of c.in-Some-subcommand-2.words.now)) c.history_of.result c.in-Some-subcommand-2.ensures.some c.history_of.ensures
+
+pub returns-in-Some-subcommand-3-clause-some : goal.returns-in-Some-subcommand-3-clause-some
+returns-in-Some-subcommand-3-clause-some c =
+    of_found (subcommand_rows_of c.args.matches.now) _ (rows_of (found_of c.in-Some-subcommand-3.words.now)) c.picture_of.result c.in-Some-subcommand-3.ensures.some c.picture_of.ensures
+
+pub returns-in-Some-subcommand-3-clause-none : goal.returns-in-Some-subcommand-3-clause-none
+returns-in-Some-subcommand-3-clause-none c =
+    not_of_found (subcommand_rows_of c.args.matches.now) _ (rows_of (found_of c.in-Some-subcommand-3.words.now)) c.picture_of.result c.in-Some-subcommand-3.ensures.some c.picture_of.ensures

@@ -2,7 +2,7 @@ use Rattle.std.proofs.Common.{Bool, false, ap, ap₂, codes, true, ◌≡◌, �
 use Rattle.std.proofs.lemmas.Result.{IfOk-weaker}
 use Rattle.clap.specs.Words.{App, app_of, new_app, rule_of, with_rule, with_subcommand}
 use Rattle.command_line.specs.Grammar.{flag_rule, word_rule}
-use Rattle.judging.specs.CommandLine.{check_words, picture_words, record_words}
+use Rattle.judging.specs.CommandLine.{check_words, history_words, picture_words, record_words}
 use Rattle.judging.proofs.words.CommandParser.grammar.Goals as goal
 
 -- no flag of these is one of each subcommand, so none of the command is
@@ -40,11 +40,15 @@ returns c =
     let script_is : rule_of c.word-4.result ≡ word_rule (codes "SCRIPT") true = c.word-4.ensures.rule in
     let record_is : app_of c.in_ok-records.records ≡ record_words = c.in_ok-records.ensures.shape c.word-4.ensures.local
     ∙ ap₂ with_rule (c.in_ok-arg-11.ensures.shape c.word-3.ensures.local ∙ ap₂ with_rule c.new-2.ensures.app record_config_is) script_is in
-    let drawn_is : rule_of c.word-5.result ≡ word_rule (codes "TRACE") true = c.word-5.ensures.rule in
+    let history_config_is : rule_of c.word-5.result ≡ word_rule (codes "CONFIG") true = c.word-5.ensures.rule in
+    let seen_is : rule_of c.word-6.result ≡ word_rule (codes "HISTORY") true = c.word-6.ensures.rule in
+    let history_is : app_of c.in_ok-histories.histories ≡ history_words = c.in_ok-histories.ensures.shape c.word-6.ensures.local
+    ∙ ap₂ with_rule (c.in_ok-arg-12.ensures.shape c.word-5.ensures.local ∙ ap₂ with_rule c.new-3.ensures.app history_config_is) seen_is in
+    let drawn_is : rule_of c.word-7.result ≡ word_rule (codes "TRACE") true = c.word-7.ensures.rule in
     let events_is : rule_of c.flag-10.result ≡ flag_rule (codes "events") = c.flag-10.ensures.rule in
     let picture_is : app_of c.in_ok-pictures.pictures ≡ picture_words = c.in_ok-pictures.ensures.shape c.flag-10.ensures.local
-    ∙ ap₂ with_rule (c.in_ok-arg-12.ensures.shape c.word-5.ensures.local ∙ ap₂ with_rule c.new-3.ensures.app drawn_is) events_is in
-    let checked : app_of c.in_ok-subcommand.field-0 ≡ with_subcommand (app_of c.new-4.result) check_words.top =
+    ∙ ap₂ with_rule (c.in_ok-arg-13.ensures.shape c.word-7.ensures.local ∙ ap₂ with_rule c.new-4.ensures.app drawn_is) events_is in
+    let checked : app_of c.in_ok-subcommand.field-0 ≡ with_subcommand (app_of c.new-5.result) check_words.top =
     c.in_ok-subcommand.ensures.shape
     (none_more _ _ _ c.in_ok-checks.ensures.globals
     (none_more _ _ _ c.in_ok-arg-10.ensures.globals
@@ -56,10 +60,13 @@ returns c =
     (none_more _ _ _ c.in_ok-arg-4.ensures.globals
     (none_more _ _ _ c.in_ok-arg-3.ensures.globals
     (none_is _ _ _ _ _ c.in_ok-arg-2.ensures.globals c.in_ok-arg.ensures.globals c.new.ensures.local c.word.ensures.local c.word-2.ensures.local) c.flag.ensures.local) c.flag-2.ensures.local) c.flag-3.ensures.local) c.flag-4.ensures.local) c.flag-5.ensures.local) c.flag-6.ensures.local) c.flag-7.ensures.local) c.flag-8.ensures.local) c.flag-9.ensures.local)
-    ∙ ap (λ (a : App). with_subcommand (app_of c.new-4.result) a.top) check_is in
+    ∙ ap (λ (a : App). with_subcommand (app_of c.new-5.result) a.top) check_is in
     let recorded : app_of c.in_ok-subcommand-2.field-0 ≡ with_subcommand (with_subcommand (new_app (codes "stackjudge")) check_words.top) record_words.top =
     c.in_ok-subcommand-2.ensures.shape
-    (none_is _ _ _ _ _ c.in_ok-records.ensures.globals c.in_ok-arg-11.ensures.globals c.new-2.ensures.local c.word-3.ensures.local c.word-4.ensures.local) ∙ ap₂ with_subcommand (checked ∙ ap (λ (a : App). with_subcommand a check_words.top) c.new-4.ensures.app) (ap (λ (a : App). a.top) record_is) in
-    IfOk-weaker c.subcommand-3.result _ _ (λ r h. h.shape
-    (none_is _ _ _ _ _ c.in_ok-pictures.ensures.globals c.in_ok-arg-12.ensures.globals c.new-3.ensures.local c.word-5.ensures.local c.flag-10.ensures.local) ∙ ap₂ with_subcommand recorded (ap (λ (a : App). a.top) picture_is))
-    c.subcommand-3.ensures
+    (none_is _ _ _ _ _ c.in_ok-records.ensures.globals c.in_ok-arg-11.ensures.globals c.new-2.ensures.local c.word-3.ensures.local c.word-4.ensures.local) ∙ ap₂ with_subcommand (checked ∙ ap (λ (a : App). with_subcommand a check_words.top) c.new-5.ensures.app) (ap (λ (a : App). a.top) record_is) in
+    let seen : app_of c.in_ok-subcommand-3.field-0 ≡ with_subcommand (with_subcommand (with_subcommand (new_app (codes "stackjudge")) check_words.top) record_words.top) history_words.top =
+    c.in_ok-subcommand-3.ensures.shape
+    (none_is _ _ _ _ _ c.in_ok-histories.ensures.globals c.in_ok-arg-12.ensures.globals c.new-3.ensures.local c.word-5.ensures.local c.word-6.ensures.local) ∙ ap₂ with_subcommand recorded (ap (λ (a : App). a.top) history_is) in
+    IfOk-weaker c.subcommand-4.result _ _ (λ r h. h.shape
+    (none_is _ _ _ _ _ c.in_ok-pictures.ensures.globals c.in_ok-arg-13.ensures.globals c.new-4.ensures.local c.word-7.ensures.local c.flag-10.ensures.local) ∙ ap₂ with_subcommand seen (ap (λ (a : App). a.top) picture_is))
+    c.subcommand-4.ensures

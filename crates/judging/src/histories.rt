@@ -1,0 +1,185 @@
+//! A history, judged: what clients saw of a service, calls and answers with their bytes.
+
+ghost use Rattle.std.specs.Prelude.{IfOk};
+ghost use Rattle.settings.specs.InRange.{AreInRange};
+ghost use Rattle.judging.specs.Histories.{IsJudged};
+
+use crate::Error;
+use crate::opened::{extents, zero_sector};
+use crate::reading::{is_ended, next_line, without_end};
+use crate::told::{Told, told_by};
+use compose::LONGEST_REQUEST;
+use history_judge::{Place, Service, judge};
+use machine::Label;
+use settings::Config;
+use startup::{Verdict, read_settings};
+use std::alloc::{AllocError, Global};
+use std::io;
+use std::io::{BufRead, BufReader, Read, Write};
+
+/// How many bytes are read at once.
+const BUFFER: usize = 65_536;
+
+/// The calls and answers of a text.
+#[derive(Debug, Drop)]
+struct Recorded {
+    labels: Vec<Label>,
+    /// The numbers of their lines, from 1.
+    lines: Vec<u64>,
+}
+
+impl Recorded {
+    /// Takes the label of a line, unless it is of the service's device.
+    fn take(&mut self, line: u64, label: Label) -> Result<(), AllocError> {
+        let is_seen = matches!(label, Label::Call { .. } | Label::Answer { .. });
+        if !is_seen {
+            return Ok(());
+        }
+        let Ok(()) = self.labels.push(label) else {
+            return Err(AllocError);
+        };
+        self.lines.push(line)?;
+        Ok(())
+    }
+
+    /// The line of a label.
+    fn line_of(&self, label: usize) -> u64 {
+        self.lines.get(label).copied().unwrap_or(0)
+    }
+
+    /// The number of the request that is called or answered.
+    fn request_of(&self, label: usize) -> u64 {
+        match self.labels.get(label) {
+            Some(Label::Call { number, .. } | Label::Answer { number, .. }) => *number,
+            _ => 0,
+        }
+    }
+
+    /// How many calls there are.
+    fn requests(&self) -> usize {
+        let calls = self.labels.iter();
+        calls
+            .filter(|label| matches!(label, Label::Call { .. }))
+            .count()
+    }
+}
+
+/// Judges a history by the sizes and partitions of some settings, from sectors of zeros, and writes what it is: `legal` with
+/// the number of its requests, the first line at which it is explained by no run, or the sector that is undecided. It has
+/// passed where it is legal. Lines of the service's device are passed over.
+///
+/// # Errors
+///
+/// The first of these that comes: the settings can't be read, or are refused; the history can't be read, or has a bad
+/// line; it has no call and no answer; `out` failed. Where memory was refused, [`Error::NoMemory`].
+pub fn judge_history<C: Read + Drop, T: Read + Drop, O: Write>(
+    alloc: Global,
+    config: C,
+    history: T,
+    out: &mut O,
+) -> Result<Verdict, Error> {
+    let config = read_settings(alloc, config)?;
+    let Ok(mut input) = BufReader::with_capacity(alloc, BUFFER, history) else {
+        return Err(Error::NoMemory);
+    };
+    let recorded = read_history(alloc, &mut input)?;
+    if recorded.labels.is_empty() {
+        return Err(Error::NoLabel);
+    }
+    let verdict = verdict_of(alloc, &config, recorded.labels.as_slice())?;
+    write_verdict(out, &recorded, verdict)?;
+    out.flush()?;
+    Ok(match verdict {
+        history_judge::Verdict::Passed => Verdict::Passed,
+        _ => Verdict::Failed,
+    })
+}
+
+/// The calls and answers that the lines of an input tell.
+fn read_history<B: BufRead>(alloc: Global, input: &mut B) -> Result<Recorded, Error> {
+    let mut recorded = Recorded {
+        labels: Vec::new(alloc),
+        lines: Vec::new(alloc),
+    };
+    let mut line = Vec::new(alloc);
+    for index in 0..u64::MAX {
+        next_line(input, &mut line)?;
+        let number = index + 1;
+        match told_by(alloc, without_end(line.as_slice()))? {
+            Told::Line(told) => recorded.take(number, told.label)?,
+            Told::Nothing => {}
+            Told::BadWord { column } => {
+                return Err(Error::BadLine {
+                    line: number,
+                    column,
+                });
+            }
+        }
+        if !is_ended(line.as_slice()) {
+            return Ok(recorded);
+        }
+    }
+    Err(Error::TraceUnreadable)
+}
+
+/// What is said of a history.
+fn verdict_of(
+    alloc: Global,
+    config: &Config,
+    labels: &[Label],
+) -> Result<history_judge::Verdict, AllocError>
+    requires { AreInRange config.now }
+    ensures { IfOk result (IsJudged config.now labels.now) }
+{
+    let service = Service {
+        sector_size: config.sector_size,
+        partitions: extents(alloc, config.partitions.as_slice())?,
+        longest: LONGEST_REQUEST as u64,
+    };
+    let start = zero_sector(alloc, config.sector_size)?;
+    judge(alloc, &service, start.as_slice(), labels)
+}
+
+/// Writes what is said of a history.
+fn write_verdict<O: Write>(
+    out: &mut O,
+    recorded: &Recorded,
+    verdict: history_judge::Verdict,
+) -> io::Result<()> {
+    match verdict {
+        history_judge::Verdict::Passed => {
+            let requests = recorded.requests();
+            writeln!(out, "legal: {requests} requests")
+        }
+        history_judge::Verdict::Misnumbered { label } => {
+            let line = recorded.line_of(label);
+            writeln!(out, "line {line}: the call has not the next number")
+        }
+        history_judge::Verdict::Refused { place, label } => {
+            write_refused(out, recorded, place, label)
+        }
+        history_judge::Verdict::Undecided { place } => {
+            let Place { partition, sector } = place;
+            writeln!(
+                out,
+                "undecided: sector {sector} of partition {partition} has too many requests open at once"
+            )
+        }
+    }
+}
+
+/// Writes of which sector no order of requests explains an answer.
+fn write_refused<O: Write>(
+    out: &mut O,
+    recorded: &Recorded,
+    place: Place,
+    label: usize,
+) -> io::Result<()> {
+    let line = recorded.line_of(label);
+    let request = recorded.request_of(label);
+    let Place { partition, sector } = place;
+    writeln!(
+        out,
+        "line {line}: request {request} read in sector {sector} of partition {partition} what no order of its requests explains"
+    )
+}
