@@ -26,8 +26,13 @@ fn said(alloc: Global, every: u64) -> Option<Vec<u8>> {
     };
     let asked = Asked {
         any_cut: false,
+        any_tag: false,
+        any_read: false,
+        many: false,
+        whole_disk: false,
         settled: false,
         ended: false,
+        json: false,
     };
     let Ok(standard) = read_standard(alloc, CONFIG.as_bytes(), asked) else {
         return None;
