@@ -253,7 +253,7 @@ impl Trial {
         }))
     }
 
-    /// Counts a label that the judge has taken, of the line of this number.
+    /// Counts the label of the line of this number.
     fn count(&mut self, label: &Label, number: u64) -> Result<(), Error>
         ensures counted { OnOk result (IsCounted self.old label.now self.new) }
         ensures fault { IfErr result (λ fault. fault ≡ NoMemory) }

@@ -13,25 +13,29 @@ struct Call {
     line: u64,
 }
 
-/// The calls of a trace that have no answer yet.
+/// The calls of a trace that have no answer before the newest label.
 #[derive(Debug, Drop)]
 pub(crate) struct Calls {
     calls: Vec<Call>,
+    /// The request of the newest answer. Its call is forgotten with the next label: the answer may be refused.
+    answered: Option<u64>,
 }
 
 impl Calls {
     pub fn new(alloc: Global) -> Calls {
         Calls {
             calls: Vec::new(alloc),
+            answered: None,
         }
     }
 
     /// Notes a label, of the line of this number.
     pub fn note(&mut self, label: &Label, line: u64) -> Result<(), AllocError> {
+        self.forget_answered();
         match label {
             Label::Call { number, .. } => self.add(*number, line),
             Label::Answer { number, .. } => {
-                self.remove(*number);
+                self.answered = Some(*number);
                 Ok(())
             }
             _ => Ok(()),
@@ -43,8 +47,11 @@ impl Calls {
         Ok(())
     }
 
-    fn remove(&mut self, number: u64) {
-        self.calls.retain(|call| call.number != number);
+    fn forget_answered(&mut self) {
+        if let Some(number) = self.answered {
+            self.calls.retain(|call| call.number != number);
+            self.answered = None;
+        }
     }
 
     /// The number of the line of a request's call; 0 where there is none.
