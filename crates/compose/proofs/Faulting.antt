@@ -1,11 +1,6 @@
 -- Why no stack could be started, where its probe found nothing.
-use Rattle.std.proofs.Common.{inl}
-use Rattle.adapter.specs.View.{AdapterView}
-use Rattle.probe.specs.declared.ProbeFault.{ProbeFault}
+use Rattle.compose.proofs.Common.{inl, AdapterView, ProbeFault, IsProbeFault, Settings, AreInRange, IsStartFault, start_fault_of}
 use Rattle.probe.specs.declared.ProbeFault.TheVariants.{Device, Mbr, NoMemory}
-use Rattle.probe.specs.Probing.{IsProbeFault}
-use Rattle.compose.specs.declared.Settings.{Settings}
-use Rattle.compose.specs.Opening.{AreInRange, IsStartFault, start_fault_of}
 
 pub start_fault : (disk after : AdapterView) (settings : Settings) → AreInRange settings → (why : ProbeFault) → IsProbeFault disk why after → IsStartFault disk settings (start_fault_of why) after
 start_fault disk after settings in_range (Device status) h = (in_range, h)

@@ -1,9 +1,5 @@
 -- The first sectors of partitions, gathered one by one.
-use Rattle.std.proofs.Common.{◌≡◌, ◌≢◌, ◌<◌, ℕ, ◌+◌, List, Some, sym, ◌∙◌, ap, arith, length, get_or, below_more}
-use Rattle.std.specs.Prelude.{slice_get, slice_set}
-use Rattle.std.proofs.lemmas.List.{length-set, get_or-set_same, get_or-set_other}
-use Rattle.std.proofs.lemmas.Option.{slice_get-get_or, get_or_from_slice_get}
-use Rattle.sector.specs.declared.Extent.{Extent}
+use Rattle.compose.proofs.Common.{◌≡◌, ◌≢◌, ◌<◌, ℕ, ◌+◌, List, Some, sym, ◌∙◌, ap, arith, length, get_or, below_more, slice_get, slice_set, length-set, get_or-set_same, get_or-set_other, slice_get-get_or, get_or_from_slice_get, Extent}
 
 -- at the number of a partition stands its first sector
 abbrev pub IsFirstAt : List ℕ → List Extent → ℕ → Type 0

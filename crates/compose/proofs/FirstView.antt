@@ -1,27 +1,12 @@
 -- What a stack shows before its first event: the opening of each layer over the one below.
-use Rattle.std.proofs.Common.{◌≡◌, ◌≤◌, ◌+◌, inr, ℕ, Bool, true, false, List, refl, sym, ◌∙◌, ap, subst, map, length, arith}
+use Rattle.compose.proofs.Common.{◌≡◌, ◌≤◌, ◌+◌, inr, ℕ, Bool, true, false, List, refl, sym, ◌∙◌, ap, subst, map, length, arith, Extent, AdapterView, IsInOrder, IsMap, sectors_in, opening, DeviceView, Probed, IsSameDisk, is_long, IsProbed, IsReadBy, asked_by_probe, Limits, ManagerView, Settings, StartFault, AreInRange, IsFirstView, IsSpent}
 use Rattle.std.specs.Prelude.{if◌then◌else◌}
-use Rattle.sector.specs.declared.Extent.{Extent}
-use Rattle.adapter.specs.View.{AdapterView, IsInOrder}
-use Rattle.machine.specs.Map.{IsMap}
-use Rattle.sector.specs.Extents.{sectors_in}
-use Rattle.machine.specs.State.{opening}
-use Rattle.device.specs.View.{DeviceView}
 use Rattle.port.specs.Opening.{IsFresh, opening_view as port_opening}
 use Rattle.class_disk.specs.Opening.{opening_over as disk_opening, IsFreshPort}
 use Rattle.hold_filter.specs.Opening.{opening_over as filter_opening, IsFreshBelow}
 use Rattle.partition.specs.Opening.{opening_view as partitions_opening, IsFreshDisk}
-use Rattle.probe.specs.declared.Probed.{Probed}
-use Rattle.probe.specs.Exchange.{IsSameDisk}
-use Rattle.probe.specs.Capacity.{is_long}
-use Rattle.probe.specs.Probing.{IsProbed, IsReadBy, asked_by_probe}
-use Rattle.io_manager.specs.declared.Limits.{Limits}
-use Rattle.io_manager.specs.Shown.{ManagerView}
 use Rattle.io_manager.specs.Opening.{AreFirsts, IsUnasked, AreFor, IsFirstView as IsFirstManager}
-use Rattle.compose.specs.declared.Settings.{Settings}
-use Rattle.compose.specs.declared.StartFault.{StartFault}
 use Rattle.compose.specs.declared.StartFault.TheVariants.{NoMemory}
-use Rattle.compose.specs.Opening.{AreInRange, IsFirstView, IsSpent}
 
 -- the partitions over the filter, the class driver and the port of an adapter
 abbrev pub layers_over : ℕ → List Extent → AdapterView → DeviceView

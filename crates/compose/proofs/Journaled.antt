@@ -1,20 +1,8 @@
 -- Entries that are booked and acted one after the other are those of the acts of the trace.
 use Rattle.std.proofs.Common.{◌≡◌, ℕ, List, [], ◌∷◌, ◌++◌, length, Ok, sym, ap, subst, ◌∙◌, arith, length-append}
-use Rattle.std.specs.Prelude.{Contains}
-use Rattle.std.proofs.lemmas.List.{get_or_append_left}
-use Rattle.std.proofs.lemmas.List.Elements.{All-head}
-use Rattle.std.proofs.lemmas.List.Sorted.{All-permutation}
-use Rattle.cdb.specs.declared.Cdb.{Cdb}
-use Rattle.cdb.specs.declared.Cdb.TheVariants.{Read10, Write10, Sync10, ReadCapacity10, Read16, Write16, Sync16, ReadCapacity16}
-use Rattle.srb.specs.declared.Entry.{Entry}
+use Rattle.compose.proofs.Common.{Contains, get_or_append_left, All-head, All-permutation, Cdb, Read10, Write10, Sync10, ReadCapacity10, Read16, Write16, Sync16, ReadCapacity16, Entry, Label, IsAskedBy, IsOfAct, TakesEntry, AreOfActs, AdapterView, MayBeOf, IsBookable, IsStarted, IsTagged, AllTagged}
 use Rattle.srb.specs.declared.DeviceLabel.TheVariants.{Start, Act, Fault, Return}
-use Rattle.machine.specs.declared.Label.{Label}
 use Rattle.machine.specs.declared.Label.TheVariants.{Call, Device, Answer, Cancel, Pause, Resume, Remove, Surprise, Removed}
-use Rattle.machine_laws.specs.Booked.{IsAskedBy, IsOfAct, TakesEntry, AreOfActs}
-use Rattle.adapter.specs.View.{AdapterView}
-use Rattle.adapter.specs.Booking.{MayBeOf, IsBookable}
-use Rattle.compose.specs.Journaled.{IsStarted}
-use Rattle.adapter.proofs.Tagged.{IsTagged, AllTagged}
 
 -- ONE ENTRY
 

@@ -1,24 +1,7 @@
 -- What suits the SRB of an armed piece may be booked: its piece was started in the trace, and so isn't piece 0.
-use Rattle.std.proofs.Common.{◌≡◌, ◌≤◌, inl, inr, ℕ, zero, suc, Bool, true, false, List, [], ◌∷◌, length, Option, None, Some, IsFalse, sym, subst, arith}
-use Rattle.std.specs.Prelude.{Contains}
-use Rattle.std.proofs.lemmas.List.Elements.{All-head}
-use Rattle.std.proofs.lemmas.List.Sorted.{All-permutation}
-use Rattle.ntstatus.specs.declared.NtStatus.{NtStatus}
-use Rattle.sector.specs.declared.Extent.{Extent}
-use Rattle.srb.specs.declared.DeviceLabel.{DeviceLabel}
+use Rattle.compose.proofs.Common.{◌≡◌, ◌≤◌, inl, inr, ℕ, zero, suc, Bool, true, false, List, [], ◌∷◌, length, Option, None, Some, IsFalse, sym, subst, arith, Contains, All-head, All-permutation, NtStatus, Extent, DeviceLabel, AdapterView, ReservesMore, MovesOn, MovesByAll, Suits, ClientRequest, Label, Rules, State, opening, Admits, refusal, DeviceStep, FreeStep, OwingStep, Step, Run, AdapterMoves, MovesWith, reserves_more, IsStartedUse, ArmedMayBeBooked}
 use Rattle.srb.specs.declared.DeviceLabel.TheVariants.{Start, Act, Fault, Return}
-use Rattle.adapter.specs.View.{AdapterView, ReservesMore, MovesOn, MovesByAll}
-use Rattle.adapter.specs.Booking.{Suits}
-use Rattle.machine.specs.declared.ClientRequest.{ClientRequest}
-use Rattle.machine.specs.declared.Label.{Label}
 use Rattle.machine.specs.declared.Label.TheVariants.{Call, Device, Answer as AnswerLabel, Cancel, Pause, Resume, Remove as RemoveLabel, Surprise, Removed}
-use Rattle.machine.specs.Rules.{Rules}
-use Rattle.machine.specs.State.{State, opening}
-use Rattle.machine.specs.Calling.{Admits, refusal}
-use Rattle.machine.specs.Step.{DeviceStep, FreeStep, OwingStep, Step, Run}
-use Rattle.io_manager.specs.Right.{AdapterMoves, MovesWith}
-use Rattle.io_manager.proofs.AdapterJoins.{reserves_more}
-use Rattle.compose.specs.Journaled.{IsStartedUse, ArmedMayBeBooked}
 
 -- A PIECE THAT WAS STARTED ISN'T PIECE 0
 

@@ -1,33 +1,11 @@
 -- Each right step keeps the entries those of the acts of the trace.
 use Rattle.std.proofs.Common.{◌≡◌, ℕ, Bool, true, false, List, [], ◌∷◌, ◌++◌, Ok, Err, Result, IsFalse, map, remove, refl, sym, ap, subst, ◌∙◌}
-use Rattle.std.specs.Prelude.{Contains}
-use Rattle.std.proofs.lemmas.List.Sorted.{Contains-permutation, IsPermutation-remove}
-use Rattle.std.proofs.lemmas.List.{append-nil}
-use Rattle.srb.specs.declared.Entry.{Entry}
-use Rattle.srb.specs.declared.Completion.{Completion}
+use Rattle.compose.proofs.Common.{Contains, Contains-permutation, IsPermutation-remove, append-nil, Entry, Completion, AdapterView, IsInOrder, IsBookable, AllTagged, booked_so, Label, Rules, State, Piece, AreDistinct, IsReached, AreDistinct-Run, AreDistinct-opening, AreOfActs, IsRead, OnTag, piece_on_tag, use_on_tag, IsFreshOn, Reply, ManagerView, Told, BooksPiece, IsRightBy, FitsTogether, ActReplies, tells_nothing, Event, IsRight, IsStarted, IsNoAct, IsJournaled, StepsKeepEntries, BookedActsAddEntries, IdleActsKeepEntries, StepsStayApart}
 use Rattle.srb.specs.declared.DeviceLabel.TheVariants.{Act, Fault}
-use Rattle.adapter.specs.View.{AdapterView, IsInOrder}
 use Rattle.adapter.specs.Calls.{HasNoneFresh as NoneFresh}
-use Rattle.adapter.specs.Booking.{IsBookable}
-use Rattle.adapter.proofs.Tagged.{AllTagged, booked_so}
-use Rattle.machine.specs.declared.Label.{Label}
 use Rattle.machine.specs.declared.Label.TheVariants.{Device}
-use Rattle.machine.specs.Rules.{Rules}
-use Rattle.machine.specs.State.{State, Piece}
-use Rattle.machine.specs.Numbers.{AreDistinct}
-use Rattle.machine_laws.specs.Reached.{IsReached}
-use Rattle.machine.proofs.Numbers.{AreDistinct-Run, AreDistinct-opening}
-use Rattle.machine_laws.specs.Booked.{AreOfActs}
-use Rattle.device.specs.View.{IsRead, OnTag, piece_on_tag, use_on_tag}
-use Rattle.device.specs.Served.{IsFreshOn}
-use Rattle.io_manager.specs.declared.Reply.{Reply}
-use Rattle.io_manager.specs.Shown.{ManagerView}
 use Rattle.io_manager.specs.declared.Reply.TheVariants.{Handle as HandleReply, Ok as OkReply, Request as Requested, Answered, Refused, Ignored}
-use Rattle.io_manager.specs.Right.{Told, BooksPiece, IsRightBy, FitsTogether, ActReplies, tells_nothing}
-use Rattle.compose.specs.declared.Event.{Event}
 use Rattle.compose.specs.declared.Event.TheVariants.{Open, Close, Read as ReadEvent, Write as WriteEvent, Flush as FlushEvent, CancelIoEx, Mark, QueryRemove, CancelRemove, Remove, SurpriseRemove, Act as ActEvent, Finish, Reset}
-use Rattle.compose.specs.Right.{IsRight}
-use Rattle.compose.specs.Journaled.{IsStarted, IsNoAct, IsJournaled, StepsKeepEntries, BookedActsAddEntries, IdleActsKeepEntries, StepsStayApart}
 use Rattle.compose.proofs.Journaled.{acts_longer, acts_joined}
 use Rattle.compose.proofs.JournaledStep.{there_mapped, mapped_there, ActsAsBooked, FaultsAsBooked, booked_step, failed_step, tagged_step}
 use Rattle.compose.proofs.JournaledArmed.{step_apart}

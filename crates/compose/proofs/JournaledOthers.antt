@@ -1,35 +1,14 @@
 -- No step but that of an entry has an act.
 use Rattle.std.proofs.Common.{◌≡◌, inl, inr, ℕ, Bool, true, false, List, [], ◌∷◌, ◌++◌, map, Option, None, Some, refl, sym, ap, subst, if◌then◌else◌}
-use Rattle.std.specs.Prelude.{All}
-use Rattle.std.proofs.lemmas.List.{append-nil}
-use Rattle.std.proofs.lemmas.List.Elements.{All-head, All-tail}
-use Rattle.srb.specs.declared.Entry.{Entry}
-use Rattle.srb.specs.declared.DeviceLabel.{DeviceLabel}
+use Rattle.compose.proofs.Common.{All, append-nil, All-head, All-tail, Entry, DeviceLabel, ClientRequest, Label, Piece, IsStart, as_label, AreOfActs, fault_of, Handle, Id, Refusal, InvalidHandle, InvalidParameter, DeletePending, DeviceBusy, InsufficientResources, InvalidDeviceRequest, NotFound, Reply, ManagerView, Told, labels_of, end_labels, as_answer, as_cancel, tells_nothing, pnp_state, IsRightBy, TransferReplies, OpenReplies, CloseReplies, CancelReplies, MarkReplies, PnpReplies, IsRecalled, RecallReplies, FinishReplies, CancelsAllOf, CancelsOne, CancelsTarget, IsTurnedAway, Event, IsNoAct, IsRight}
 use Rattle.srb.specs.declared.DeviceLabel.TheVariants.{Start, Act, Fault, Return}
-use Rattle.machine.specs.declared.ClientRequest.{ClientRequest}
-use Rattle.machine.specs.declared.Label.{Label}
 use Rattle.machine.specs.declared.Label.TheVariants.{Call, Cancel, Pause, Resume, Remove as RemoveLabel, Surprise}
-use Rattle.machine.specs.State.{Piece}
-use Rattle.machine.specs.Sending.{IsStart}
-use Rattle.machine.specs.Step.{as_label}
-use Rattle.machine_laws.specs.Booked.{AreOfActs}
-use Rattle.device.specs.Served.{fault_of}
 use Rattle.pnp.specs.declared.State.{State as PnpState}
 use Rattle.pnp.specs.declared.State.TheVariants.{Started, RemovePending, Removing, Removed}
 use Rattle.pnp.specs.Table.{Event as PnpEvent, QueryRemove as Query, Remove as RemoveDevice, SurpriseRemove as SurpriseOf}
 use Rattle.io_manager.specs.declared.Answer.{Answer}
-use Rattle.io_manager.specs.declared.Handle.{Handle}
-use Rattle.io_manager.specs.declared.Id.{Id}
-use Rattle.io_manager.specs.declared.Refusal.{Refusal}
-use Rattle.io_manager.specs.declared.Refusal.TheVariants.{InvalidHandle, InvalidParameter, DeletePending, DeviceBusy, InsufficientResources, InvalidDeviceRequest, NotFound}
-use Rattle.io_manager.specs.declared.Reply.{Reply}
 use Rattle.io_manager.specs.declared.Reply.TheVariants.{Handle as HandleReply, Ok as OkReply, Request as Requested, Answered, Refused, Ignored}
-use Rattle.io_manager.specs.Shown.{ManagerView}
-use Rattle.io_manager.specs.Right.{Told, labels_of, end_labels, as_answer, as_cancel, tells_nothing, pnp_state, IsRightBy, TransferReplies, OpenReplies, CloseReplies, CancelReplies, MarkReplies, PnpReplies, IsRecalled, RecallReplies, FinishReplies, CancelsAllOf, CancelsOne, CancelsTarget, IsTurnedAway}
-use Rattle.compose.specs.declared.Event.{Event}
 use Rattle.compose.specs.declared.Event.TheVariants.{Open, Close, Read as ReadEvent, Write as WriteEvent, Flush as FlushEvent, CancelIoEx, Mark, QueryRemove, CancelRemove, Remove, SurpriseRemove, Act as ActEvent, Finish, Reset}
-use Rattle.compose.specs.Journaled.{IsNoAct}
-use Rattle.compose.specs.Right.{IsRight}
 use Rattle.compose.proofs.Journaled.{acts_longer, acts_joined}
 
 module _ (trace : List Label) where

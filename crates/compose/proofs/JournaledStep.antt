@@ -1,40 +1,10 @@
 -- An entry that is booked is that of the next step of its tag, and every step keeps the starts of what is out in the trace.
 use Rattle.std.proofs.Common.{◌≡◌, ◌≢◌, ℕ, zero, suc, Bool, true, false, IsTrue, IsFalse, List, [], ◌∷◌, ◌++◌, map, Option, None, Ok, Err, Result, IsPermutation, refl, sym, ap, subst, ◌∙◌, arith, length-append, if◌then◌else◌}
-use Rattle.std.specs.Prelude.{All, Contains, eqb}
-use Rattle.std.specs.List.{IsDistinct}
-use Rattle.std.proofs.lemmas.Bool.Decides.{Decides-eqb}
-use Rattle.std.proofs.lemmas.List.{get_or_append_left}
-use Rattle.std.proofs.lemmas.List.Elements.{All-weaker, All-contains_itself}
-use Rattle.std.proofs.lemmas.List.Sorted.{IsPermutation-sym, IsPermutation-map, Contains-permutation}
-use Rattle.std.proofs.lemmas.Map.Keys.{IsDistinct-IsPermutation}
-use Rattle.srb.specs.declared.Entry.{Entry}
-use Rattle.srb.specs.declared.Completion.{Completion}
-use Rattle.srb.specs.declared.DeviceLabel.{DeviceLabel}
+use Rattle.compose.proofs.Common.{All, Contains, eqb, IsDistinct, Decides-eqb, get_or_append_left, All-weaker, All-contains_itself, IsPermutation-sym, IsPermutation-map, Contains-permutation, IsDistinct-IsPermutation, Entry, Completion, DeviceLabel, Fresh, TagInUse, AdapterView, IsInOrder, IsOn, MovesByAll, Books, IsBookable, with_booked, booked_on, with_booking, on_tag_once, is_there, booked_is, AllTagged, StartsSo, all_moved_so, reset_so, Label, Piece, State, AreDistinct, piece_number, as_label, flips, first_unique, IsOfAct, OnTag, IsRead, piece_on_tag, use_on_tag, IsFreshOn, IsAct, IsActOrFault, Reply, ManagerView, Extent, Told, labels_of, end_labels, as_answer, BooksPiece, ActReplies, ReservesFor, AdapterMoves, IsRightBy, MovesWith, reserves_more, IsRight, IsStarted}
 use Rattle.srb.specs.declared.DeviceLabel.TheVariants.{Start, Act, Fault, Return}
-use Rattle.srb.specs.Fate.{Fresh}
-use Rattle.adapter.specs.View.{TagInUse, AdapterView, IsInOrder, IsOn, MovesByAll}
-use Rattle.adapter.specs.Booking.{Books, IsBookable, with_booked, booked_on, with_booking}
-use Rattle.adapter.proofs.Booked.{on_tag_once, is_there}
-use Rattle.adapter.proofs.BookedActs.{booked_is}
-use Rattle.adapter.proofs.Tagged.{AllTagged, StartsSo, all_moved_so, reset_so}
-use Rattle.machine.specs.declared.Label.{Label}
 use Rattle.machine.specs.declared.Label.TheVariants.{Device}
-use Rattle.machine.specs.State.{Piece, State}
-use Rattle.machine.specs.Numbers.{AreDistinct, piece_number}
-use Rattle.machine.specs.Step.{as_label}
-use Rattle.machine.proofs.Permuting.{flips, first_unique}
-use Rattle.machine_laws.specs.Booked.{IsOfAct}
-use Rattle.device.specs.View.{OnTag, IsRead, piece_on_tag, use_on_tag}
-use Rattle.device.specs.Served.{IsFreshOn, IsAct, IsActOrFault}
-use Rattle.io_manager.specs.declared.Reply.{Reply}
 use Rattle.io_manager.specs.declared.Reply.TheVariants.{Handle as HandleReply, Ok as OkReply, Request as Requested, Answered, Refused, Ignored}
-use Rattle.io_manager.specs.Shown.{ManagerView}
-use Rattle.sector.specs.declared.Extent.{Extent}
-use Rattle.io_manager.specs.Right.{Told, labels_of, end_labels, as_answer, BooksPiece, ActReplies, ReservesFor, AdapterMoves, IsRightBy, MovesWith}
-use Rattle.io_manager.proofs.AdapterJoins.{reserves_more}
 use Rattle.compose.specs.declared.Event.TheVariants.{Act as ActEvent}
-use Rattle.compose.specs.Right.{IsRight}
-use Rattle.compose.specs.Journaled.{IsStarted}
 use Rattle.compose.proofs.Journaled.{entry_of_act}
 
 -- PIECES OF THE MACHINE AND TAGS IN USE

@@ -1,18 +1,9 @@
 -- Whether labels are kept changes with no step.
 use Rattle.std.proofs.Common.{◌≡◌, ℕ, Option, Some, None, MatchOption, ap, replicate, sym}
-use Rattle.std.proofs.lemmas.List.{length-replicate}
-use Rattle.machine.specs.declared.Label.{Label}
+use Rattle.compose.proofs.Common.{length-replicate, Label, Asked, Handle, Refusal, Reply, ManagerView, Refuses, TakesLabel, TakesShown, TakesAnswer, TakesAnswerOf, Event, IsRight}
 use Rattle.io_manager.specs.declared.Answer.{Answer}
-use Rattle.io_manager.specs.declared.Asked.{Asked}
-use Rattle.io_manager.specs.declared.Handle.{Handle}
-use Rattle.io_manager.specs.declared.Refusal.{Refusal}
-use Rattle.io_manager.specs.declared.Reply.{Reply}
-use Rattle.io_manager.specs.Shown.{ManagerView}
-use Rattle.io_manager.specs.Right.{Refuses, TakesLabel, TakesShown, TakesAnswer, TakesAnswerOf}
-use Rattle.compose.specs.declared.Event.{Event}
 use Rattle.compose.specs.declared.Event.TheVariants.{Open, Close, Read, Write, Flush, CancelIoEx, Mark, QueryRemove}
 use Rattle.compose.specs.declared.Event.TheVariants.{CancelRemove, Remove, SurpriseRemove, Act, Finish, Reset}
-use Rattle.compose.specs.Right.{IsRight}
 
 pub step_keeps : (old : ManagerView) (event : Event) (reply : Reply) (new : ManagerView) → IsRight old event reply new → new.keeps ≡ old.keeps
 step_keeps old (Open partition) reply new h = h.by.same_keeps

@@ -1,33 +1,8 @@
 -- The labels of events that were carried out are a run, which obeys the laws of runs.
-use Rattle.std.proofs.Common.{◌≡◌, ℕ, Bool, true, false, List, [], ◌∷◌, ◌++◌, refl, sym, ◌∙◌, subst, take}
+use Rattle.compose.proofs.Common.{◌≡◌, ℕ, Bool, true, false, List, [], ◌∷◌, ◌++◌, refl, sym, ◌∙◌, subst, take, Vec, IsIn, NtStatus, Success, ClientRequest, Label, Call, Rules, State, Opens, Answers, Run, IsSame-refl, Run-append, IsReached, RunsGoOn, SoloReadsHold, SoloWritesHold, FailedWritesHold, LabelsAreOfOne, StepsKeepArrays, StepsKeepSectors, AnsweredWriteNoMore, Reply, ManagerView, KeepsOutside, Event, RunStopped, Shown, IsRight, Carries, CarriesAll, StopsAfter, labels_shown, IsOfRun, IsLawful, RunsObeyLaws, RunsAreQuietOnceRemoved}
 use Rattle.std.specs.Prelude.{Any, Result, Ok, Err, MatchResult}
-use Rattle.std.specs.Global.{Vec}
-use Rattle.sector.specs.Extents.{IsIn}
-use Rattle.ntstatus.specs.declared.NtStatus.{NtStatus}
-use Rattle.ntstatus.specs.declared.NtStatus.TheVariants.{Success}
-use Rattle.machine.specs.declared.ClientRequest.{ClientRequest}
-use Rattle.machine.specs.declared.Label.{Label}
-use Rattle.machine.specs.declared.Label.TheVariants.{Call}
-use Rattle.machine.specs.Rules.{Rules}
-use Rattle.machine.specs.State.{State}
-use Rattle.machine.specs.Calling.{Opens}
-use Rattle.machine.specs.Answering.{Answers}
-use Rattle.machine.specs.Step.{Run}
-use Rattle.machine.proofs.Same.{IsSame-refl, Run-append}
-use Rattle.machine_laws.specs.Reached.{IsReached, RunsGoOn}
-use Rattle.machine_laws.specs.SoloLaws.{SoloReadsHold, SoloWritesHold, FailedWritesHold, LabelsAreOfOne}
-use Rattle.machine_laws.specs.WriteLaws.{StepsKeepArrays, StepsKeepSectors}
-use Rattle.machine_laws.specs.EndLaws.{AnsweredWriteNoMore}
-use Rattle.io_manager.specs.declared.Reply.{Reply}
-use Rattle.io_manager.specs.Shown.{ManagerView}
-use Rattle.device.specs.View.{KeepsOutside}
 use Rattle.io_manager.specs.Right.{Told, IsRightBy, IsRight as IsRightCall}
-use Rattle.compose.specs.declared.Event.{Event}
 use Rattle.compose.specs.declared.Event.TheVariants.{Open, Close, Read as ReadEvent, Write as WriteEvent, Flush as FlushEvent, CancelIoEx, Mark, QueryRemove, CancelRemove, Remove, SurpriseRemove, Act, Finish, Reset}
-use Rattle.compose.specs.declared.RunStopped.{RunStopped}
-use Rattle.compose.specs.declared.Shown.{Shown}
-use Rattle.compose.specs.Right.{IsRight}
-use Rattle.compose.specs.Runs.{Carries, CarriesAll, StopsAfter, labels_shown, IsOfRun, IsLawful, RunsObeyLaws, RunsAreQuietOnceRemoved}
 
 -- THE LAWS
 

@@ -11,3 +11,4 @@ pub mod JournaledOthers
 pub mod JournaledKept
 pub mod JournaledArmed
 pub mod KeepsLabels
+mod Common

@@ -1,22 +1,9 @@
 -- A step opens a request just where that was told before it.
-use Rattle.std.proofs.Common.{◌≡◌, inl, inr, ℕ, false, List, [], ◌∷◌, ◌++◌, refl, sym, subst, map}
+use Rattle.compose.proofs.Common.{◌≡◌, inl, inr, ℕ, false, List, [], ◌∷◌, ◌++◌, refl, sym, subst, map, Contains-append_left, Contains-push, ClientRequest, Label, Call, as_label, Handle, Id, InvalidHandle, InvalidParameter, DeletePending, DeviceBusy, InsufficientResources, InvalidDeviceRequest, NotFound, Reply, ManagerView, call_on, would_open, Told, as_answer, end_labels, labels_of, TransferReplies, OpenReplies, CloseReplies, CancelReplies, MarkReplies, QueryReplies, RecallReplies, RemoveReplies, SurpriseReplies, ActReplies, FinishReplies, OpensNone, OpensOrLacksMemory, StepsOpenAsTold}
 use Rattle.std.specs.Prelude.{Contains, MatchOption}
-use Rattle.std.proofs.lemmas.List.Elements.{Contains-append_left, Contains-push}
-use Rattle.machine.specs.declared.ClientRequest.{ClientRequest}
-use Rattle.machine.specs.declared.Label.{Label}
-use Rattle.machine.specs.declared.Label.TheVariants.{Call}
-use Rattle.machine.specs.Step.{as_label}
 use Rattle.srb.specs.declared.Kind.TheVariants.{Read, Write, Flush}
-use Rattle.io_manager.specs.declared.Handle.{Handle}
-use Rattle.io_manager.specs.declared.Id.{Id}
-use Rattle.io_manager.specs.declared.Refusal.TheVariants.{InvalidHandle, InvalidParameter, DeletePending, DeviceBusy, InsufficientResources, InvalidDeviceRequest, NotFound}
-use Rattle.io_manager.specs.declared.Reply.{Reply}
 use Rattle.io_manager.specs.declared.Reply.TheVariants.{Handle as HandleReply, Ok as OkReply, Request as Requested, Answered, Refused, Ignored}
-use Rattle.io_manager.specs.Shown.{ManagerView}
-use Rattle.io_manager.specs.Calls.{call_on, would_open}
-use Rattle.io_manager.specs.Right.{Told, as_answer, end_labels, labels_of, TransferReplies, OpenReplies, CloseReplies, CancelReplies, MarkReplies, QueryReplies, RecallReplies, RemoveReplies, SurpriseReplies, ActReplies, FinishReplies}
 use Rattle.compose.specs.declared.Event.TheVariants.{Open, Close, Read as ReadEvent, Write as WriteEvent, Flush as FlushEvent, CancelIoEx, Mark, QueryRemove, CancelRemove, Remove as RemoveEvent, SurpriseRemove, Act, Finish, Reset}
-use Rattle.compose.specs.StepLaws.{OpensNone, OpensOrLacksMemory, StepsOpenAsTold}
 
 -- a call's label stands in the step
 is_called : (told : Told) (number : ℕ) (q : ClientRequest) (labels : List Label) → told.own ≡ Call number q ∷ [] → labels ≡ labels_of told → Contains labels (Call number q)

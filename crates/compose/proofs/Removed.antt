@@ -1,21 +1,8 @@
 -- Once a removal has ended nothing of the device comes.
-use Rattle.std.proofs.Common.{◌≡◌, ◌⊎◌, inl, inr, ℕ, true, false, List, [], ◌∷◌, ◌++◌, Option, Some, None, refl, sym, ◌∙◌, ap, subst, append_assoc}
+use Rattle.compose.proofs.Common.{◌≡◌, ◌⊎◌, inl, inr, ℕ, true, false, List, [], ◌∷◌, ◌++◌, Option, Some, None, refl, sym, ◌∙◌, ap, subst, append_assoc, All-tail, NtStatus, DeviceLabel, ClientRequest, Label, Rules, State, IsSame, opening, refusal, Admits, DeviceStep, FreeStep, OwingStep, Step, Run, Run-append, RunsSplit, IsNotOfDevice, RemovedIsLast, RunsAreQuietOnceRemoved}
 use Rattle.std.specs.Prelude.{IsTrue, All}
-use Rattle.std.proofs.lemmas.List.Elements.{All-tail}
-use Rattle.ntstatus.specs.declared.NtStatus.{NtStatus}
-use Rattle.srb.specs.declared.DeviceLabel.{DeviceLabel}
 use Rattle.srb.specs.declared.DeviceLabel.TheVariants.{Start, Act, Fault, Return}
-use Rattle.machine.specs.declared.ClientRequest.{ClientRequest}
-use Rattle.machine.specs.declared.Label.{Label}
 use Rattle.machine.specs.declared.Label.TheVariants.{Call, Device, Answer, Cancel, Pause, Resume, Remove, Surprise, Removed}
-use Rattle.machine.specs.Rules.{Rules}
-use Rattle.machine.specs.State.{State, IsSame, opening}
-use Rattle.machine.specs.Calling.{refusal, Admits}
-use Rattle.machine.specs.Step.{DeviceStep, FreeStep, OwingStep, Step, Run}
-use Rattle.machine.proofs.Same.{Run-append}
-use Rattle.machine_laws.specs.Reached.{RunsSplit}
-use Rattle.machine_laws.specs.EndLaws.{IsNotOfDevice, RemovedIsLast}
-use Rattle.compose.specs.Runs.{RunsAreQuietOnceRemoved}
 
 -- A REMOVAL THAT HAS ENDED HAS ITS LABEL
 

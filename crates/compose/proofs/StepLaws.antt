@@ -1,34 +1,15 @@
 -- What every right step has: at most one call, want of memory in its place, and its answers.
-use Rattle.std.proofs.Common.{◌≡◌, ◌⊎◌, inl, inr, ℕ, Bool, true, false, List, [], ◌∷◌, ◌++◌, ◌∙◌, Option, Some, None, refl, sym, ap, subst, map}
+use Rattle.compose.proofs.Common.{◌≡◌, ◌⊎◌, inl, inr, ℕ, Bool, true, false, List, [], ◌∷◌, ◌++◌, ◌∙◌, Option, Some, None, refl, sym, ap, subst, map, append-nil, All-nil, All-cons, All-append, All-map, All-head, All-tail, NtStatus, when, first_some, DeviceLabel, ClientRequest, Label, as_label, Handle, Id, Refusal, InvalidHandle, InvalidParameter, DeletePending, DeviceBusy, InsufficientResources, InvalidDeviceRequest, NotFound, Reply, ManagerView, call_on, AreRising, Told, answer_number, as_answer, as_cancel, end_labels, labels_of, RefusesAlone, OpenReplies, CloseReplies, CancelReplies, CancelsOne, MarkReplies, PnpReplies, RecallReplies, IsRecalled, ActReplies, FinishReplies, pnp_state, TransferReplies, Event, IsRight, IsTransferEvent, IsNoCall, CallsFirst, StepsCallOnce, StepsTakeNoMemory, ComeToWait, IsSaidAlone, SaysAnswer, StepsLeaveAnswers, answers_in}
 use Rattle.std.specs.Prelude.{All, IsPermutation, if◌then◌else◌}
-use Rattle.std.proofs.lemmas.List.{append-nil}
-use Rattle.std.proofs.lemmas.List.Elements.{All-nil, All-cons, All-append, All-map, All-head, All-tail}
-use Rattle.ntstatus.specs.declared.NtStatus.{NtStatus}
 use Rattle.ntstatus.specs.declared.NtStatus.TheVariants.{InvalidParameter as ParameterStatus, DeletePending as PendingStatus, DeviceBusy as BusyStatus, InsufficientResources as ResourcesStatus}
-use Rattle.ntstatus.specs.First.{when, first_some}
-use Rattle.srb.specs.declared.DeviceLabel.{DeviceLabel}
-use Rattle.machine.specs.declared.ClientRequest.{ClientRequest}
 use Rattle.srb.specs.declared.Kind.TheVariants.{Read, Write, Flush}
-use Rattle.machine.specs.declared.Label.{Label}
 use Rattle.machine.specs.declared.Label.TheVariants.{Call, Device, Answer as AnswerLabel, Cancel, Pause, Resume, Remove, Surprise, Removed}
-use Rattle.machine.specs.Step.{as_label}
 use Rattle.pnp.specs.declared.State.{State as PnpState}
 use Rattle.pnp.specs.declared.State.TheVariants.{Started, RemovePending, Removing, Removed as GoneState}
 use Rattle.pnp.specs.Table.{Event as PnpEvent}
 use Rattle.io_manager.specs.declared.Answer.{Answer}
-use Rattle.io_manager.specs.declared.Handle.{Handle}
-use Rattle.io_manager.specs.declared.Id.{Id}
-use Rattle.io_manager.specs.declared.Refusal.{Refusal}
-use Rattle.io_manager.specs.declared.Refusal.TheVariants.{InvalidHandle, InvalidParameter, DeletePending, DeviceBusy, InsufficientResources, InvalidDeviceRequest, NotFound}
-use Rattle.io_manager.specs.declared.Reply.{Reply}
 use Rattle.io_manager.specs.declared.Reply.TheVariants.{Handle as HandleReply, Ok as OkReply, Request as Requested, Answered, Refused, Ignored}
-use Rattle.io_manager.specs.Shown.{ManagerView}
-use Rattle.io_manager.specs.Calls.{call_on}
-use Rattle.io_manager.specs.Right.{AreRising, Told, answer_number, as_answer, as_cancel, end_labels, labels_of, RefusesAlone, OpenReplies, CloseReplies, CancelReplies, CancelsOne, MarkReplies, PnpReplies, RecallReplies, IsRecalled, ActReplies, FinishReplies, pnp_state, TransferReplies}
-use Rattle.compose.specs.declared.Event.{Event}
 use Rattle.compose.specs.declared.Event.TheVariants.{Open, Close, Read as ReadEvent, Write as WriteEvent, Flush as FlushEvent, CancelIoEx, Mark, QueryRemove, CancelRemove, Remove as RemoveEvent, SurpriseRemove, Act, Finish, Reset}
-use Rattle.compose.specs.Right.{IsRight}
-use Rattle.compose.specs.StepLaws.{IsTransferEvent, IsNoCall, CallsFirst, StepsCallOnce, StepsTakeNoMemory, ComeToWait, IsSaidAlone, SaysAnswer, StepsLeaveAnswers, answers_in}
 
 -- OWN LABELS
 

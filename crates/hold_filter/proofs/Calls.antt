@@ -1,24 +1,5 @@
 -- What each call is asked and gives, over what was shown.
-use Rattle.std.proofs.Common.{◌≡◌, ◌<◌, ◌≤◌, inl, inr, ℕ, ◌+◌, false, Option, Some, None}
-use Rattle.std.proofs.Common.{refl}
-use Rattle.std.proofs.Common.{sym, subst, ap, ◌∙◌, length, List, [], map}
-use Rattle.std.specs.Prelude.{All, IsFalse}
-use Rattle.std.proofs.lemmas.Bool.{cases_eq}
-use Rattle.std.proofs.lemmas.List.Elements.{All-append, All-map}
-use Rattle.std.proofs.lemmas.List.Sorted.{IsPermutation-refl}
-use Rattle.irp.specs.declared.Irp.{Irp}
-use Rattle.machine.specs.declared.Request.{Request}
-use Rattle.machine.specs.Rules.{Rules, as_client}
-use Rattle.machine.specs.Frame.{with_window}
-use Rattle.adapter.specs.View.{AdapterView, ReservesMore}
-use Rattle.device.specs.View.{DeviceView, Reserved, IsBounded, IsOrderly, IsReady, IsReserved, AsksInLocation}
-use Rattle.device.specs.View.{Carries, request_at, room_at, whole_for}
-use Rattle.device.specs.Served.{HasOtherSpot, SameRooms, SetsRoom, Reserves, ReservesSpot, ReservesNone, ReservesNear, Frees}
-use Rattle.hold_filter.specs.inside.TableView.{Limits, TableView, here}
-use Rattle.hold_filter.specs.inside.TableCalls.{IsCovered, Covers}
-use Rattle.hold_filter.specs.inside.View.{packet_below, packet_here, packets_of, without, view_of}
-use Rattle.hold_filter.specs.inside.Invariant.{RoomsKept, IsInHand, IsAdmitted}
-use Rattle.hold_filter.specs.Opening.{stack_over}
+use Rattle.hold_filter.proofs.Common.{◌≡◌, ◌<◌, ◌≤◌, inl, inr, ℕ, ◌+◌, false, Option, Some, None, refl, sym, subst, ap, ◌∙◌, length, List, [], map, All, IsFalse, cases_eq, All-append, All-map, IsPermutation-refl, Irp, Request, Rules, as_client, with_window, AdapterView, ReservesMore, DeviceView, Reserved, IsBounded, IsOrderly, IsReady, IsReserved, AsksInLocation, Carries, request_at, room_at, whole_for, HasOtherSpot, SameRooms, SetsRoom, Reserves, ReservesSpot, ReservesNone, ReservesNear, Frees, Limits, TableView, here, IsCovered, Covers, packet_below, packet_here, packets_of, without, view_of, RoomsKept, IsInHand, IsAdmitted, stack_over}
 use Rattle.hold_filter.proofs.Sizing.{admitted}
 use Rattle.hold_filter.proofs.Orderly.{some_bytes}
 use Rattle.hold_filter.proofs.Moving.{in_hand}

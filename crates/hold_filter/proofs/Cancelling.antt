@@ -1,36 +1,6 @@
 -- Packets are cancelled: by number, and by spot.
-use Rattle.std.proofs.Common.{◌≡◌, ◌≢◌, ◌<◌, inl, inr, ℕ, Bool, true, false, List, [], ◌∷◌, ◌++◌, Some, refl}
-use Rattle.std.proofs.Common.{sym}
+use Rattle.hold_filter.proofs.Common.{◌≡◌, ◌≢◌, ◌<◌, inl, inr, ℕ, Bool, true, false, List, [], ◌∷◌, ◌++◌, Some, refl, sym, All, Any, Contains, IsTrue, MatchBool, IsDistinct, map-append, All-nil, All-cons, All-map, All-append, All-weaker, All-contains, Contains-append_right, Contains-append_cases, Contains-get_or, IsPermutation-sym, IsPermutation-map, IsPermutation-append_left, All-permutation, Contains-permutation, OpenRequest, Cancels, as_cancelled, request_number, IsAbove, Rules, framed, with_window, IsSame-refl, first_unique, Cancels-framed, IsVacant, DeviceView, Packet, packet_number, IsOrderly, IsAt, HasOtherNumber, CancelsIfOpen, CancelsAt, IsBeside, NoneToCancel, Held, Table, Queued, FilterView, CancelsHeld, HoldsNone, TableView, books_of, packet_in, here, MayEnd, Withdraws, WithdrawsNot, LacksNumber, HoldsAt, packets_of, packet_below, packet_here, open_here, are_late, requests_here, frame_of, state_of, view_of, queued, shown_of, IsAtOwn, IsCancelled, HasRoom, FilterKept, IsInHand, spot_in}
 use Rattle.std.proofs.Common.{subst, ap, ◌∙◌, arith, map, get_or, eqb}
-use Rattle.std.specs.Prelude.{All, Any, Contains, IsTrue, MatchBool}
-use Rattle.std.specs.List.{IsDistinct}
-use Rattle.std.proofs.lemmas.List.{map-append}
-use Rattle.std.proofs.lemmas.List.Elements.{All-nil, All-cons, All-map, All-append, All-weaker, All-contains}
-use Rattle.std.proofs.lemmas.List.Elements.{Contains-append_right, Contains-append_cases, Contains-get_or}
-use Rattle.std.proofs.lemmas.List.Sorted.{IsPermutation-sym, IsPermutation-map, IsPermutation-append_left}
-use Rattle.std.proofs.lemmas.List.Sorted.{All-permutation, Contains-permutation}
-use Rattle.machine.specs.State.{OpenRequest}
-use Rattle.machine.specs.Holding.{Cancels, as_cancelled}
-use Rattle.machine.specs.Numbers.{request_number}
-use Rattle.machine.specs.Window.{IsAbove}
-use Rattle.machine.specs.Rules.{Rules}
-use Rattle.machine.specs.Frame.{framed, with_window}
-use Rattle.machine.proofs.Same.{IsSame-refl}
-use Rattle.machine.proofs.Permuting.{first_unique}
-use Rattle.machine.proofs.Framed.{Cancels-framed}
-use Rattle.linked.specs.Queue.{IsVacant}
-use Rattle.device.specs.View.{DeviceView, Packet, packet_number, IsOrderly}
-use Rattle.device.specs.Served.{IsAt, HasOtherNumber, CancelsIfOpen, CancelsAt, IsBeside, NoneToCancel}
-use Rattle.hold_filter.specs.declared.table.Held.{Held}
-use Rattle.hold_filter.specs.declared.table.Table.{Table}
-use Rattle.hold_filter.specs.Shown.{Queued, FilterView, CancelsHeld, HoldsNone}
-use Rattle.hold_filter.specs.inside.TableView.{TableView, books_of, packet_in, here}
-use Rattle.hold_filter.specs.inside.TableCalls.{MayEnd, Withdraws, WithdrawsNot, LacksNumber, HoldsAt}
-use Rattle.hold_filter.specs.inside.View.{packets_of, packet_below, packet_here, open_here, are_late}
-use Rattle.hold_filter.specs.inside.View.{requests_here}
-use Rattle.hold_filter.specs.inside.View.{frame_of, state_of, view_of, queued, shown_of}
-use Rattle.hold_filter.specs.inside.Invariant.{IsAtOwn, IsCancelled, HasRoom, FilterKept, IsInHand}
-use Rattle.hold_filter.specs.inside.Invariant.{spot_in}
 use Rattle.hold_filter.proofs.Lists.{All-from_map, All-first, All-second, contains_image}
 use Rattle.hold_filter.proofs.Lists.{contains_map, contained_first, any_is, any_of}
 use Rattle.hold_filter.proofs.Passing.{cancelled, cancels as cancels_passes, same_hand}

@@ -1,44 +1,8 @@
 -- A packet leaves that ended in the filter.
-use Rattle.std.proofs.Common.{◌≡◌, ◌≢◌, ◌<◌, ◌≤◌, ◌⊎◌, inl, inr, ℕ, zero, suc, Bool, true, false, List, []}
-use Rattle.std.proofs.Common.{◌∷◌}
-use Rattle.std.proofs.Common.{◌++◌, Some, None, refl, sym, subst, ap, ◌∙◌, arith, map, length, replicate}
+use Rattle.hold_filter.proofs.Common.{◌≡◌, ◌≢◌, ◌<◌, ◌≤◌, ◌⊎◌, inl, inr, ℕ, zero, suc, Bool, true, false, List, [], ◌∷◌, ◌++◌, Some, None, refl, sym, subst, ap, ◌∙◌, arith, map, length, replicate, All-nil, All-head, All-tail, Contains-get_or, IsPermutation-refl, IsPermutation-trans, IsPermutation-map, IsPermutation-middle, IsPermutation-append_right, All-permutation, NtStatus, Success, DeviceBusy, Answer, ClientRequest, Rules, Untouched, Back, OpenRequest, State, IsStart, Answers, IsGivenUp, information, AreDistinct, HasPlaces, request_number, with_window, IsAbove, moves_none, IsSame-refl, first_unique, AreDistinct-Step, Answers-held, Climb, Room, Climbs, DeviceView, Carries, whole_for, HandsUp, IsBack, SetsRoom, Held, TableView, packet_in, here, Hands, HandsOver, request_in, NoneMayGo, packets_of, packet_below, packet_here, without, open_here, are_late, requests_here, frame_of, state_of, view_of, IsBefore, AreInTurn, IsCancelled, IsFrom, IsAsked, IsWhole, IsAtOwn, EntryCanGo, FilterKept, IsInHand, carries_none}
 use Rattle.std.specs.Prelude.{All, IsPermutation, IsTrue, IsFalse, ◌||◌}
-use Rattle.std.proofs.lemmas.List.Elements.{All-nil, All-head, All-tail, Contains-get_or}
-use Rattle.std.proofs.lemmas.List.Sorted.{IsPermutation-refl, IsPermutation-trans, IsPermutation-map}
-use Rattle.std.proofs.lemmas.List.Sorted.{IsPermutation-middle, IsPermutation-append_right, All-permutation}
-use Rattle.ntstatus.specs.declared.NtStatus.{NtStatus}
-use Rattle.ntstatus.specs.declared.NtStatus.TheVariants.{Success, DeviceBusy}
-use Rattle.machine.specs.declared.Label.TheVariants.{Answer}
-use Rattle.machine.specs.declared.ClientRequest.{ClientRequest}
-use Rattle.machine.specs.Rules.{Rules}
-use Rattle.machine.specs.State.{Untouched, Back, OpenRequest, State}
-use Rattle.machine.specs.Sending.{IsStart}
-use Rattle.machine.specs.Answering.{Answers, IsGivenUp, information}
-use Rattle.machine.specs.Numbers.{AreDistinct, HasPlaces, request_number}
-use Rattle.machine.specs.Frame.{with_window}
-use Rattle.machine.specs.Window.{IsAbove}
-use Rattle.adapter.proofs.Joining.{moves_none}
-use Rattle.machine.proofs.Same.{IsSame-refl}
-use Rattle.machine.proofs.Permuting.{first_unique}
-use Rattle.machine.proofs.Numbers.{AreDistinct-Step}
-use Rattle.machine.proofs.Held.{Answers-held}
-use Rattle.device.specs.declared.Climb.{Climb}
-use Rattle.device.specs.declared.Room.{Room}
-use Rattle.device.specs.Climbing.{Climbs}
-use Rattle.device.specs.View.{DeviceView, Carries, whole_for}
-use Rattle.device.specs.Served.{HandsUp, IsBack, SetsRoom}
-use Rattle.hold_filter.specs.declared.table.Held.{Held}
-use Rattle.hold_filter.specs.inside.TableView.{TableView, packet_in, here}
-use Rattle.hold_filter.specs.inside.TableCalls.{Hands}
-use Rattle.hold_filter.specs.inside.Packets.{HandsOver, request_in}
-use Rattle.hold_filter.specs.inside.Releases.{NoneMayGo}
-use Rattle.hold_filter.specs.inside.View.{packets_of, packet_below, packet_here, without, open_here, are_late}
-use Rattle.hold_filter.specs.inside.View.{requests_here, frame_of, state_of, view_of}
-use Rattle.hold_filter.specs.inside.Invariant.{IsBefore, AreInTurn, IsCancelled, IsFrom, IsAsked, IsWhole, IsAtOwn}
-use Rattle.hold_filter.specs.inside.Invariant.{EntryCanGo, FilterKept, IsInHand}
 use Rattle.hold_filter.proofs.Here.{not_started, has_places}
 use Rattle.hold_filter.proofs.Moving.{in_hand}
-use Rattle.device.proofs.Bounded.{carries_none}
 use Rattle.hold_filter.proofs.Rooms.{sets_out, sets_same, reordered, rooms_refl}
 use Rattle.hold_filter.proofs.Spots.{kept_out, has_room, others_off}
 

@@ -1,21 +1,5 @@
 -- The packets here: nothing of them was sent.
-use Rattle.std.proofs.Common.{◌≡◌, ℕ, zero, suc, Bool, true, false, List, [], ◌∷◌, ◌++◌, refl, map}
-use Rattle.std.proofs.Common.{replicate}
-use Rattle.std.specs.Prelude.{IsFalse, IsPermutation}
-use Rattle.std.specs.List.{list_all}
-use Rattle.std.proofs.lemmas.List.{length-replicate}
-use Rattle.std.proofs.lemmas.List.Sorted.{IsPermutation-trans, IsPermutation-append_left}
-use Rattle.std.proofs.lemmas.List.Sorted.{IsPermutation-append_right}
-use Rattle.std.proofs.lemmas.List.Sorted.{IsPermutation-middle, IsPermutation-to_front, IsPermutation-map}
-use Rattle.machine.specs.Rules.{Rules}
-use Rattle.machine.specs.State.{Untouched}
-use Rattle.machine.specs.Sending.{is_untouched, is_started}
-use Rattle.machine.specs.Numbers.{HasPlaces}
-use Rattle.machine.specs.Window.{IsWaiting}
-use Rattle.hold_filter.specs.declared.table.Held.{Held}
-use Rattle.hold_filter.specs.inside.TableView.{packet_in}
-use Rattle.hold_filter.specs.inside.View.{open_here}
-use Rattle.hold_filter.specs.inside.Invariant.{IsAsked}
+use Rattle.hold_filter.proofs.Common.{◌≡◌, ℕ, zero, suc, Bool, true, false, List, [], ◌∷◌, ◌++◌, refl, map, replicate, IsFalse, IsPermutation, list_all, length-replicate, IsPermutation-trans, IsPermutation-append_left, IsPermutation-append_right, IsPermutation-middle, IsPermutation-to_front, IsPermutation-map, Rules, Untouched, is_untouched, is_started, HasPlaces, IsWaiting, Held, packet_in, open_here, IsAsked}
 use Rattle.hold_filter.proofs.Lists.{to_front}
 
 pub untouched_all : (n : ℕ) → list_all is_untouched (replicate n Untouched) ≡ true

@@ -20,3 +20,4 @@ pub mod Turning
 pub mod Opening
 pub mod Calls
 pub mod Sending
+mod Common

@@ -1,13 +1,5 @@
 -- Lists with one item taken out, or found by a recursion.
-use Rattle.std.proofs.Common.{◌≡◌, ◌≢◌, ℕ, zero, suc, List, [], ◌∷◌, ◌++◌, refl, sym, subst, arith, map}
-use Rattle.std.specs.Prelude.{All, Any, Contains, IsPermutation}
-use Rattle.std.proofs.lemmas.List.Elements.{All-nil, All-cons, All-head, All-tail, All-contains}
-use Rattle.std.specs.List.{remove}
-use Rattle.std.proofs.lemmas.List.Sorted.{All-permutation, Contains-permutation, IsPermutation-sym}
-use Rattle.std.proofs.lemmas.List.Sorted.{IsPermutation-map}
-use Rattle.std.proofs.lemmas.List.Sorted.{IsPermutation-remove, IsPermutation-trans, IsPermutation-append_right}
-use Rattle.std.proofs.lemmas.List.Sorted.{IsPermutation-to_front, IsPermutation-middle}
-use Rattle.linked.specs.Queue.{Lacks, HasNone}
+use Rattle.hold_filter.proofs.Common.{◌≡◌, ◌≢◌, ℕ, zero, suc, List, [], ◌∷◌, ◌++◌, refl, sym, subst, arith, map, All, Any, Contains, IsPermutation, All-nil, All-cons, All-head, All-tail, All-contains, remove, All-permutation, Contains-permutation, IsPermutation-sym, IsPermutation-map, IsPermutation-remove, IsPermutation-trans, IsPermutation-append_right, IsPermutation-to_front, IsPermutation-middle, Lacks, HasNone}
 
 -- an item from between two lists comes to the front
 pub to_front : {X : Type 0} (xs before : List X) (x : X) (behind : List X) → xs ≡ before ++ x ∷ behind

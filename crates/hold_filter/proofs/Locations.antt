@@ -1,27 +1,7 @@
 -- A packet on its way down and up.
 use Rattle.std.proofs.Common.{◌≡◌, ◌+◌, ◌-◌, ◌&&◌, ◌||◌, ◌==◌, not, ℕ, Bool, true, false, List, [], ◌∷◌, ◌++◌}
-use Rattle.std.proofs.Common.{Option}
-use Rattle.std.proofs.Common.{refl, sym, ap, ◌∙◌, arith, length, take, length-append}
-use Rattle.std.specs.Prelude.{if◌then◌else◌}
-use Rattle.std.proofs.Math.Seq.{take-append_seam}
-use Rattle.ntstatus.specs.declared.NtStatus.{NtStatus}
-use Rattle.srb.specs.declared.Kind.{Kind}
-use Rattle.srb.specs.declared.Kind.TheVariants.{Read, Write, Flush}
-use Rattle.irp.specs.declared.CancelRoutine.{CancelRoutine}
-use Rattle.irp.specs.declared.Irp.{Irp}
-use Rattle.irp.specs.declared.Payload.{Payload}
-use Rattle.irp.specs.declared.StackLocation.{StackLocation}
+use Rattle.hold_filter.proofs.Common.{Option, refl, sym, ap, ◌∙◌, arith, length, take, length-append, if◌then◌else◌, take-append_seam, NtStatus, Kind, Read, Write, Flush, CancelRoutine, Irp, Payload, StackLocation, cancel_routine_of, with_cancel_routine, asks_routine, Request, Climb, Climbs, Packet, packet_of, AsksInLocation, no_request, major_of, above_is, passes_by, Held, PassesDown, silent, kind_of, asked_by, last_asked, request_in, but_last, packet_below, packet_here}
 use Rattle.irp.specs.Climb.{succeeds, above as locations_above}
-use Rattle.irp.specs.Packet.{cancel_routine_of, with_cancel_routine}
-use Rattle.irp.proofs.Routines.{asks_routine}
-use Rattle.machine.specs.declared.Request.{Request}
-use Rattle.device.specs.declared.Climb.{Climb}
-use Rattle.device.specs.Climbing.{Climbs}
-use Rattle.device.specs.View.{Packet, packet_of, AsksInLocation, no_request, major_of}
-use Rattle.device.proofs.Returning.{above_is, passes_by}
-use Rattle.hold_filter.specs.declared.table.Held.{Held}
-use Rattle.hold_filter.specs.inside.Packets.{PassesDown, silent, kind_of, asked_by, last_asked, request_in}
-use Rattle.hold_filter.specs.inside.View.{but_last, packet_below, packet_here}
 
 -- THE REQUEST OF A LOCATION
 

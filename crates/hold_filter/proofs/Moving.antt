@@ -1,31 +1,5 @@
 -- The device below moves, and the filter's own table stays.
-use Rattle.std.proofs.Common.{◌≡◌, ◌≤◌, ◌⊎◌, inl, inr, ℕ, ◌+◌, List, [], ◌∷◌, Option, Some, refl, sym}
-use Rattle.std.proofs.Common.{subst}
-use Rattle.std.proofs.Common.{ap, ◌∙◌, arith, map, length}
-use Rattle.std.specs.Prelude.{All, IsPermutation, IsFalse}
-use Rattle.std.proofs.lemmas.List.{length-map}
-use Rattle.std.proofs.lemmas.List.Sorted.{All-permutation, IsPermutation-refl, IsPermutation-sym}
-use Rattle.std.proofs.lemmas.List.Sorted.{IsPermutation-map, IsPermutation-append_left, length_permutation}
-use Rattle.srb.specs.declared.DeviceLabel.{DeviceLabel}
-use Rattle.srb.specs.declared.DeviceLabel.TheVariants.{Start, Act, Fault, Return}
-use Rattle.adapter.specs.View.{AdapterView}
-use Rattle.machine.specs.declared.ClientRequest.{ClientRequest}
-use Rattle.machine.specs.Rules.{Rules}
-use Rattle.machine.specs.State.{OpenRequest, State}
-use Rattle.machine.specs.Step.{DeviceStep, Run, as_label}
-use Rattle.machine.specs.Numbers.{AreDistinct, request_number}
-use Rattle.machine.specs.Frame.{framed, with_window}
-use Rattle.machine.specs.Window.{Holds}
-use Rattle.device.specs.View.{DeviceView, Packet, Reserved, packet_number, IsOrderly}
-use Rattle.device.specs.Served.{Moves, SameRooms}
-use Rattle.machine.proofs.Permuting.{All-changed}
-use Rattle.machine.proofs.Numbers.{AreDistinct-Run}
-use Rattle.machine.proofs.Framed.{Run-framed}
-use Rattle.machine.proofs.Held.{Holds-Run}
-use Rattle.machine.proofs.Window.{AllMayPass-above}
-use Rattle.hold_filter.specs.inside.TableView.{TableView, here}
-use Rattle.hold_filter.specs.inside.View.{frame_of, state_of, view_of, packet_below, packet_here}
-use Rattle.hold_filter.specs.inside.Invariant.{IsFrom, IsPassed, IsAdmitted, AsksAdmitted, FilterKept, IsInHand}
+use Rattle.hold_filter.proofs.Common.{◌≡◌, ◌≤◌, ◌⊎◌, inl, inr, ℕ, ◌+◌, List, [], ◌∷◌, Option, Some, refl, sym, subst, ap, ◌∙◌, arith, map, length, All, IsPermutation, IsFalse, length-map, All-permutation, IsPermutation-refl, IsPermutation-sym, IsPermutation-map, IsPermutation-append_left, length_permutation, DeviceLabel, Start, Act, Fault, Return, AdapterView, ClientRequest, Rules, OpenRequest, State, DeviceStep, Run, as_label, AreDistinct, request_number, framed, with_window, Holds, DeviceView, Packet, Reserved, packet_number, IsOrderly, Moves, SameRooms, All-changed, AreDistinct-Run, Run-framed, Holds-Run, AllMayPass-above, TableView, here, frame_of, state_of, view_of, packet_below, packet_here, IsFrom, IsPassed, IsAdmitted, AsksAdmitted, FilterKept, IsInHand}
 use Rattle.hold_filter.proofs.Orderly.{orderly_of}
 use Rattle.hold_filter.proofs.Rooms.{same_without, rooms_refl}
 use Rattle.hold_filter.proofs.Spots.{kept_same}

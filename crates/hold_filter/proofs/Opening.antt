@@ -1,21 +1,5 @@
 -- A filter to which nothing was submitted yet is in order.
-use Rattle.std.proofs.Common.{◌≡◌, ◌<◌, ◌≤◌, ◌^◌, inl, ℕ, false, List, [], ◌++◌, refl, sym, subst, ap, ◌∙◌}
-use Rattle.std.proofs.Common.{arith, map, length}
-use Rattle.std.specs.Prelude.{All}
-use Rattle.std.proofs.lemmas.List.Elements.{All-nil}
-use Rattle.machine.specs.State.{State, opening}
-use Rattle.machine.specs.Numbers.{AreDistinct}
-use Rattle.machine.specs.Frame.{framed}
-use Rattle.machine.specs.Window.{Holds}
-use Rattle.machine.proofs.Numbers.{AreDistinct-opening}
-use Rattle.machine.proofs.Held.{Holds-opening}
-use Rattle.device.specs.View.{DeviceView, Packet, IsOrderly}
-use Rattle.hold_filter.specs.Opening.{IsFreshBelow, opening_over}
-use Rattle.hold_filter.specs.inside.TableView.{TableView}
-use Rattle.hold_filter.specs.inside.TableCalls.{empty}
-use Rattle.hold_filter.specs.inside.View.{frame_of, packet_below, view_of}
-use Rattle.hold_filter.specs.inside.Invariant.{IsFrom, IsPassed, IsCancelled, IsWhole, IsAsked, IsAtOwn, HasRoom}
-use Rattle.hold_filter.specs.inside.Invariant.{HasPlace, AsksAdmitted, EntryCanGo, IsInHand}
+use Rattle.hold_filter.proofs.Common.{◌≡◌, ◌<◌, ◌≤◌, ◌^◌, inl, ℕ, false, List, [], ◌++◌, refl, sym, subst, ap, ◌∙◌, arith, map, length, All, All-nil, State, opening, AreDistinct, framed, Holds, AreDistinct-opening, Holds-opening, DeviceView, Packet, IsOrderly, IsFreshBelow, opening_over, TableView, empty, frame_of, packet_below, view_of, IsFrom, IsPassed, IsCancelled, IsWhole, IsAsked, IsAtOwn, HasRoom, HasPlace, AsksAdmitted, EntryCanGo, IsInHand}
 use Rattle.hold_filter.proofs.Moving.{in_hand}
 use Rattle.hold_filter.proofs.Rooms.{none_some}
 

@@ -1,28 +1,7 @@
 -- What the filter keeps, in the terms of its layer.
-use Rattle.std.proofs.Common.{◌≡◌, ◌<◌, ◌≤◌, ◌⊎◌, inl, inr, ℕ, ◌+◌, Bool, true, false, List, [], ◌∷◌, ◌++◌}
+use Rattle.hold_filter.proofs.Common.{◌≡◌, ◌<◌, ◌≤◌, ◌⊎◌, inl, inr, ℕ, ◌+◌, Bool, true, false, List, [], ◌∷◌, ◌++◌, IsDistinct, nat_tests, map-append, count_by-le-length, sum_by-cons, sum_by-append, All-append, All-map, All-weaker, All-head, All-tail, Contains-get_or, IsPermutation-append_left, OpenRequest, is_started, is_lower, IsAllSent, IsFull, started_count, HasPlaces, request_number, with_window, IsAbove, DeviceView, Packet, packet_number, packet_spot, IsOffRooms, IsOrderly, WaitsForTag, Held, TableView, packet_in, here, open_here, are_late, requests_here, state_of, view_of, packets_of, packet_below, packet_here, without, FilterKept, IsCancelled, IsAsked, spot_in}
 use Rattle.std.proofs.Common.{Some, refl, sym, subst, ap, ◌∙◌, arith, map, length, cond, get_or, eqb}
 use Rattle.std.specs.Prelude.{All, IsTrue, IsFalse, IsPermutation, count_by, ◌||◌}
-use Rattle.std.specs.List.{IsDistinct}
-use Rattle.std.proofs.lemmas.Bool.Decides.{nat_tests}
-use Rattle.std.proofs.lemmas.List.{map-append}
-use Rattle.std.proofs.lemmas.List.Sums.{count_by-le-length, sum_by-cons, sum_by-append}
-use Rattle.std.proofs.lemmas.List.Elements.{All-append, All-map, All-weaker, All-head, All-tail}
-use Rattle.std.proofs.lemmas.List.Elements.{Contains-get_or}
-use Rattle.std.proofs.lemmas.List.Sorted.{IsPermutation-append_left}
-use Rattle.machine.specs.State.{OpenRequest}
-use Rattle.machine.specs.Sending.{is_started}
-use Rattle.machine.specs.Holding.{is_lower}
-use Rattle.machine.specs.Settled.{IsAllSent, IsFull, started_count}
-use Rattle.machine.specs.Numbers.{HasPlaces, request_number}
-use Rattle.machine.specs.Frame.{with_window}
-use Rattle.machine.specs.Window.{IsAbove}
-use Rattle.device.specs.View.{DeviceView, Packet, packet_number, packet_spot, IsOffRooms, IsOrderly}
-use Rattle.device.specs.View.{WaitsForTag}
-use Rattle.hold_filter.specs.declared.table.Held.{Held}
-use Rattle.hold_filter.specs.inside.TableView.{TableView, packet_in, here}
-use Rattle.hold_filter.specs.inside.View.{open_here, are_late, requests_here, state_of, view_of}
-use Rattle.hold_filter.specs.inside.View.{packets_of, packet_below, packet_here, without}
-use Rattle.hold_filter.specs.inside.Invariant.{FilterKept, IsCancelled, IsAsked, spot_in}
 use Rattle.hold_filter.proofs.Here.{not_started, has_places, true_false}
 use Rattle.hold_filter.proofs.Rooms.{IsOn, IsOff, without_on, still_none, all_apart}
 use Rattle.hold_filter.proofs.Spots.{off_all}

@@ -1,25 +1,5 @@
 -- Calls that the filter passes on.
-use Rattle.std.proofs.Common.{◌≡◌, inl, inr, ℕ, Bool, true, false, List, [], ◌∷◌, Option, Some, None, Result}
-use Rattle.std.proofs.Common.{sym, subst, ap, ◌∙◌}
-use Rattle.std.specs.Prelude.{MatchBool}
-use Rattle.std.proofs.lemmas.List.Sorted.{IsPermutation-sym, All-permutation}
-use Rattle.srb.specs.declared.Completion.{Completion}
-use Rattle.srb.specs.declared.DeviceLabel.{DeviceLabel}
-use Rattle.srb.specs.declared.Entry.{Entry}
-use Rattle.machine.specs.declared.Label.TheVariants.{Cancel}
-use Rattle.machine.specs.Holding.{Cancels}
-use Rattle.machine.specs.Frame.{framed, with_window}
-use Rattle.device.specs.View.{DeviceView, IsOrderly}
-use Rattle.device.specs.Served.{BooksPiece, Moves, ActsOrFaults, ActsNot, Finishes, FinishesNot, Resets}
-use Rattle.device.specs.Served.{TakesLabel, ForgetsLabels}
-use Rattle.device.specs.Served.{IsBeside, CancelsIfOpen}
-use Rattle.machine.proofs.Permuting.{All-changed}
-use Rattle.machine.proofs.Numbers.{AreDistinct-Step}
-use Rattle.machine.proofs.Framed.{Cancels-framed}
-use Rattle.machine.proofs.Held.{Holds-Cancels}
-use Rattle.hold_filter.specs.inside.TableView.{TableView}
-use Rattle.hold_filter.specs.inside.View.{frame_of, state_of, view_of}
-use Rattle.hold_filter.specs.inside.Invariant.{AsksAdmitted, IsInHand}
+use Rattle.hold_filter.proofs.Common.{◌≡◌, inl, inr, ℕ, Bool, true, false, List, [], ◌∷◌, Option, Some, None, Result, sym, subst, ap, ◌∙◌, MatchBool, IsPermutation-sym, All-permutation, Completion, DeviceLabel, Entry, Cancel, Cancels, framed, with_window, DeviceView, IsOrderly, BooksPiece, Moves, ActsOrFaults, ActsNot, Finishes, FinishesNot, Resets, TakesLabel, ForgetsLabels, IsBeside, CancelsIfOpen, All-changed, AreDistinct-Step, Cancels-framed, Holds-Cancels, TableView, frame_of, state_of, view_of, AsksAdmitted, IsInHand}
 use Rattle.hold_filter.proofs.Moving.{moved_to, moved_is, passes, passes_same, passes_stays, shown_moves}
 
 module _ (stack_size : ℕ) (v : DeviceView) (b : TableView) (v' : DeviceView) (k : IsInHand stack_size v b)

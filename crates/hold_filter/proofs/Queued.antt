@@ -1,11 +1,5 @@
 -- What the calls of the queues mean for the books.
-use Rattle.std.proofs.Common.{◌≡◌, ◌≢◌, ℕ, true, [], ◌∷◌, ◌++◌, Option, Some, refl, sym, subst, ap, ◌∙◌}
-use Rattle.std.specs.Prelude.{All, MatchOption}
-use Rattle.irp.specs.declared.Irp.{Irp}
-use Rattle.linked.specs.Queue.{Queue, Finds, FindsNot, Pushes, RemovesNumber, RemovesNone}
-use Rattle.hold_filter.specs.declared.table.Held.{Held}
-use Rattle.hold_filter.specs.inside.TableView.{Limits, TableView}
-use Rattle.hold_filter.specs.inside.TableCalls.{MayEnd, LacksNumber, HoldsAt, WithdrawsNot, Withdraws, marked}
+use Rattle.hold_filter.proofs.Common.{◌≡◌, ◌≢◌, ℕ, true, [], ◌∷◌, ◌++◌, Option, Some, refl, sym, subst, ap, ◌∙◌, All, MatchOption, Irp, Queue, Finds, FindsNot, Pushes, RemovesNumber, RemovesNone, Held, Limits, TableView, MayEnd, LacksNumber, HoldsAt, WithdrawsNot, Withdraws, marked}
 use Rattle.hold_filter.proofs.Lists.{here_of, any_there, lacks_all, none_all}
 
 abbrev pub number_held : Held → ℕ

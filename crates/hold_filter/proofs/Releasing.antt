@@ -1,49 +1,6 @@
 -- The packet that was held longest goes below.
-use Rattle.std.proofs.Common.{◌≡◌, ◌<◌, ◌≤◌, inl, inr, ℕ, ◌+◌, Bool, true, false, List, [], ◌∷◌, ◌++◌}
-use Rattle.std.proofs.Common.{Option}
-use Rattle.std.proofs.Common.{Some, refl, sym, subst, ap, ◌∙◌, arith, map, length}
+use Rattle.hold_filter.proofs.Common.{◌≡◌, ◌<◌, ◌≤◌, inl, inr, ℕ, ◌+◌, Bool, true, false, List, [], ◌∷◌, ◌++◌, Option, Some, refl, sym, subst, ap, ◌∙◌, arith, map, length, nat_tests, map-append, All-nil, All-cons, All-head, All-tail, All-map, All-weaker, All-append, All-same, IsPermutation-refl, IsPermutation-sym, IsPermutation-trans, IsPermutation-map, IsPermutation-middle, IsPermutation-append_left, All-permutation, length_permutation, AdapterView, Irp, Payload, with_cancel_routine, ClientRequest, Request, Rules, as_client, OpenRequest, State, IsSame, new_request, IsStart, Run, as_label, IsGiven, Frame, framed, with_window, IsAbove, Holds, DeviceView, Packet, Reserved, packet_of, request_of, request_at, whole_for, sent_bytes, IsOrderly, AsksInLocation, Carries, Submits, SameRooms, IsSame-refl, IsSame-sym, Run-same, Run-append, AreDistinct-Run, Run-framed, Opens-framed, Holds-Run, Holds-Opens, AllMayPass-above, moves_none, moves_joined, Held, TableView, packet_in, here, LetsGo, LetsNoneGo, PassesDown, request_in, packets_of, packet_below, packet_here, without, open_here, are_late, requests_here, frame_of, state_of, view_of, MaySend, Sends, Releases, LetsOneGo, NoneMayGo, Spares, IsBefore, AreInTurn, IsFrom, IsAsked, IsPassed, IsAdmitted, AsksAdmitted, IsAtOwn, HasRoom, HasPlace, RoomsKept, CanGo, EntryCanGo, FilterKept}
 use Rattle.std.specs.Prelude.{All, IsPermutation, IsFalse, ◌&&◌, not, nat_lt}
-use Rattle.std.proofs.lemmas.Bool.Decides.{nat_tests}
-use Rattle.std.proofs.lemmas.List.{map-append}
-use Rattle.std.proofs.lemmas.List.Elements.{All-nil, All-cons, All-head, All-tail, All-map, All-weaker, All-append}
-use Rattle.std.proofs.lemmas.List.Elements.{All-same}
-use Rattle.std.proofs.lemmas.List.Sorted.{IsPermutation-refl, IsPermutation-sym, IsPermutation-trans}
-use Rattle.std.proofs.lemmas.List.Sorted.{IsPermutation-map}
-use Rattle.std.proofs.lemmas.List.Sorted.{IsPermutation-middle, IsPermutation-append_left, All-permutation}
-use Rattle.std.proofs.lemmas.List.Sorted.{length_permutation}
-use Rattle.adapter.specs.View.{AdapterView}
-use Rattle.irp.specs.declared.Irp.{Irp}
-use Rattle.irp.specs.declared.Payload.{Payload}
-use Rattle.irp.specs.Packet.{with_cancel_routine}
-use Rattle.machine.specs.declared.ClientRequest.{ClientRequest}
-use Rattle.machine.specs.declared.Request.{Request}
-use Rattle.machine.specs.Rules.{Rules, as_client}
-use Rattle.machine.specs.State.{OpenRequest, State, IsSame}
-use Rattle.machine.specs.Calling.{new_request}
-use Rattle.machine.specs.Sending.{IsStart}
-use Rattle.machine.specs.Step.{Run, as_label}
-use Rattle.machine.specs.Numbers.{IsGiven}
-use Rattle.machine.specs.Frame.{Frame, framed, with_window}
-use Rattle.machine.specs.Window.{IsAbove, Holds}
-use Rattle.device.specs.View.{DeviceView, Packet, Reserved, packet_of, request_of, request_at}
-use Rattle.device.specs.View.{whole_for, sent_bytes, IsOrderly, AsksInLocation, Carries}
-use Rattle.device.specs.Served.{Submits, SameRooms}
-use Rattle.machine.proofs.Same.{IsSame-refl, IsSame-sym, Run-same, Run-append}
-use Rattle.machine.proofs.Numbers.{AreDistinct-Run}
-use Rattle.machine.proofs.Framed.{Run-framed, Opens-framed}
-use Rattle.machine.proofs.Held.{Holds-Run, Holds-Opens}
-use Rattle.machine.proofs.Window.{AllMayPass-above}
-use Rattle.adapter.proofs.Joining.{moves_none, moves_joined}
-use Rattle.hold_filter.specs.declared.table.Held.{Held}
-use Rattle.hold_filter.specs.inside.TableView.{TableView, packet_in, here}
-use Rattle.hold_filter.specs.inside.TableCalls.{LetsGo, LetsNoneGo}
-use Rattle.hold_filter.specs.inside.Packets.{PassesDown, request_in}
-use Rattle.hold_filter.specs.inside.View.{packets_of, packet_below, packet_here, without, open_here, are_late}
-use Rattle.hold_filter.specs.inside.View.{requests_here, frame_of, state_of, view_of}
-use Rattle.hold_filter.specs.inside.Releases.{MaySend, Sends, Releases, LetsOneGo, NoneMayGo, Spares}
-use Rattle.hold_filter.specs.inside.Invariant.{IsBefore, AreInTurn, IsFrom, IsAsked, IsPassed, IsAdmitted}
-use Rattle.hold_filter.specs.inside.Invariant.{AsksAdmitted}
-use Rattle.hold_filter.specs.inside.Invariant.{IsAtOwn, HasRoom, HasPlace, RoomsKept, CanGo, EntryCanGo, FilterKept}
 use Rattle.hold_filter.proofs.Lists.{All-second}
 use Rattle.hold_filter.proofs.Locations.{passed_above, asks_with, shown_as}
 use Rattle.hold_filter.proofs.Moving.{counted, run_keeps, run_asks}

@@ -1,44 +1,5 @@
 -- A packet comes back from below, and climbs past the filter.
-use Rattle.std.proofs.Common.{◌≡◌, ◌<◌, ◌≤◌, inl, ℕ, ◌+◌, ◌-◌, Bool, false, List, [], ◌∷◌, ◌++◌}
-use Rattle.std.proofs.Common.{Some}
-use Rattle.std.proofs.Common.{None, refl, sym, subst, ap, ◌∙◌, arith, map, length, Option}
-use Rattle.std.specs.Prelude.{All, IsPermutation, IsFalse}
-use Rattle.std.proofs.lemmas.List.{map-append}
-use Rattle.std.proofs.lemmas.List.Elements.{All-head, All-tail, All-weaker, All-append, All-contains}
-use Rattle.std.proofs.lemmas.List.Elements.{Contains-append_left}
-use Rattle.std.proofs.lemmas.List.Sorted.{IsPermutation-sym, IsPermutation-trans, IsPermutation-map}
-use Rattle.std.proofs.lemmas.List.Sorted.{IsPermutation-append_left, All-permutation, length_permutation}
-use Rattle.adapter.specs.View.{AdapterView}
-use Rattle.adapter.proofs.Joining.{moves_joined}
-use Rattle.irp.specs.declared.StackLocation.{StackLocation}
-use Rattle.machine.specs.declared.ClientRequest.{ClientRequest}
-use Rattle.machine.specs.declared.Label.TheVariants.{Answer}
-use Rattle.machine.specs.Rules.{as_client}
-use Rattle.machine.specs.State.{OpenRequest, State}
-use Rattle.machine.specs.Sending.{IsStart}
-use Rattle.machine.specs.Answering.{Answers, information}
-use Rattle.machine.specs.Step.{Run, as_label}
-use Rattle.machine.specs.Numbers.{AreDistinct}
-use Rattle.machine.specs.Frame.{Frame, framed, with_window}
-use Rattle.machine.specs.Window.{Holds}
-use Rattle.machine.proofs.Same.{Run-append}
-use Rattle.machine.proofs.Numbers.{AreDistinct-Step, AreDistinct-Run}
-use Rattle.machine.proofs.Framed.{Run-framed, Answers-framed}
-use Rattle.machine.proofs.Held.{Holds-Run, Holds-Answers}
-use Rattle.machine.proofs.Window.{AllMayPass-above}
-use Rattle.device.specs.declared.Climb.{Climb}
-use Rattle.device.specs.Climbing.{Climbs}
-use Rattle.device.specs.View.{DeviceView, Packet, Reserved, sent_bytes, IsOrderly}
-use Rattle.device.specs.Served.{HandsUp, IsBack, StaysOpen, StaysIfStarted, SetsRoom}
-use Rattle.hold_filter.specs.inside.TableView.{TableView, here}
-use Rattle.hold_filter.specs.inside.TableCalls.{IsCovered, HandsNone}
-use Rattle.hold_filter.specs.inside.Packets.{silent}
-use Rattle.hold_filter.specs.inside.View.{but_last, packets_of, packet_below, packet_here, without}
-use Rattle.hold_filter.specs.inside.View.{requests_here}
-use Rattle.hold_filter.specs.inside.View.{frame_of, state_of, view_of}
-use Rattle.hold_filter.specs.inside.Releases.{Releases, Spares}
-use Rattle.hold_filter.specs.inside.Invariant.{IsFrom, IsPassed, IsAdmitted, AsksAdmitted, HasPlace, RoomsKept}
-use Rattle.hold_filter.specs.inside.Invariant.{FilterKept}
+use Rattle.hold_filter.proofs.Common.{◌≡◌, ◌<◌, ◌≤◌, inl, ℕ, ◌+◌, ◌-◌, Bool, false, List, [], ◌∷◌, ◌++◌, Some, None, refl, sym, subst, ap, ◌∙◌, arith, map, length, Option, All, IsPermutation, IsFalse, map-append, All-head, All-tail, All-weaker, All-append, All-contains, Contains-append_left, IsPermutation-sym, IsPermutation-trans, IsPermutation-map, IsPermutation-append_left, All-permutation, length_permutation, AdapterView, moves_joined, StackLocation, ClientRequest, Answer, as_client, OpenRequest, State, IsStart, Answers, information, Run, as_label, AreDistinct, Frame, framed, with_window, Holds, Run-append, AreDistinct-Step, AreDistinct-Run, Run-framed, Answers-framed, Holds-Run, Holds-Answers, AllMayPass-above, Climb, Climbs, DeviceView, Packet, Reserved, sent_bytes, IsOrderly, HandsUp, IsBack, StaysOpen, StaysIfStarted, SetsRoom, TableView, here, IsCovered, HandsNone, silent, but_last, packets_of, packet_below, packet_here, without, requests_here, frame_of, state_of, view_of, Releases, Spares, IsFrom, IsPassed, IsAdmitted, AsksAdmitted, HasPlace, RoomsKept, FilterKept}
 use Rattle.hold_filter.proofs.Locations.{but_pushed, climbs_past}
 use Rattle.hold_filter.proofs.Sizing.{carries_window}
 use Rattle.hold_filter.proofs.Moving.{moved_to, moved_is, run_keeps, run_asks}

@@ -1,21 +1,6 @@
 -- Spots: what is reserved, without the rooms of the packets here.
-use Rattle.std.proofs.Common.{◌≡◌, ◌≢◌, ◌⊎◌, inl, inr, ℕ, zero, suc, false, List, [], ◌∷◌, ◌++◌, Option}
-use Rattle.std.proofs.Common.{Some}
+use Rattle.hold_filter.proofs.Common.{◌≡◌, ◌≢◌, ◌⊎◌, inl, inr, ℕ, zero, suc, false, List, [], ◌∷◌, ◌++◌, Option, Some, All, Any, IsPermutation, IsDistinct, AllByRecursion, cases_eq, eqb_tells, get_or-set_other, All-nil, All-cons, All-head, All-tail, All-permutation, IsDistinct-cons, IsDistinct-head, IsDistinct-tail, Any-permutation, Packet, Reserved, room_at, packet_spot, SameRooms, SetsRoom, Held, without, spot_in}
 use Rattle.std.proofs.Common.{None, refl, sym, ap, ◌∙◌, arith, map, eqb, slice_set}
-use Rattle.std.specs.Prelude.{All, Any, IsPermutation}
-use Rattle.std.specs.List.{IsDistinct, AllByRecursion}
-use Rattle.std.proofs.lemmas.Bool.{cases_eq}
-use Rattle.std.proofs.lemmas.Bool.Decides.{eqb_tells}
-use Rattle.std.proofs.lemmas.List.{get_or-set_other}
-use Rattle.std.proofs.lemmas.List.Elements.{All-nil, All-cons, All-head, All-tail}
-use Rattle.std.proofs.lemmas.List.Sorted.{All-permutation}
-use Rattle.std.proofs.lemmas.Map.Keys.{IsDistinct-cons, IsDistinct-head, IsDistinct-tail}
-use Rattle.machine.proofs.Same.{Any-permutation}
-use Rattle.device.specs.View.{Packet, Reserved, room_at, packet_spot}
-use Rattle.device.specs.Served.{SameRooms, SetsRoom}
-use Rattle.hold_filter.specs.declared.table.Held.{Held}
-use Rattle.hold_filter.specs.inside.View.{without}
-use Rattle.hold_filter.specs.inside.Invariant.{spot_in}
 use Rattle.hold_filter.proofs.Lists.{any_first, any_behind, any_rest}
 
 -- the packet has this spot, or another

@@ -1,12 +1,5 @@
 -- What the device below asks of a packet that goes there.
-use Rattle.std.proofs.Common.{◌<◌, ◌≤◌, ◌+◌, ℕ, Bool, false, [], ◌∷◌, sym, subst, ap, ◌∙◌, arith}
-use Rattle.std.proofs.Common.{length, length-append}
-use Rattle.std.specs.Prelude.{IsFalse}
-use Rattle.irp.specs.declared.Irp.{Irp}
-use Rattle.irp.specs.declared.Payload.{Payload}
-use Rattle.device.specs.View.{DeviceView, AsksInLocation, Carries, request_at}
-use Rattle.hold_filter.specs.inside.Packets.{PassesDown}
-use Rattle.hold_filter.specs.inside.Releases.{MaySend}
+use Rattle.hold_filter.proofs.Common.{◌<◌, ◌≤◌, ◌+◌, ℕ, Bool, false, [], ◌∷◌, sym, subst, ap, ◌∙◌, arith, length, length-append, IsFalse, Irp, Payload, DeviceView, AsksInLocation, Carries, request_at, PassesDown, MaySend}
 use Rattle.hold_filter.proofs.Locations.{passed_asks}
 
 module _ (stack_size : ℕ) (v : DeviceView) (irp : Irp) (spot : ℕ) (m : MaySend stack_size v irp spot) where

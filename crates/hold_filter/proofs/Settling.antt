@@ -1,23 +1,5 @@
 -- Nothing has ended: the filter is settled.
-use Rattle.std.proofs.Common.{◌≡◌, ◌<◌, ◌≤◌, ◌⊎◌, inl, inr, ℕ, zero, suc, Bool, true, false, [], ◌++◌}
-use Rattle.std.proofs.Common.{Some}
-use Rattle.std.proofs.Common.{refl, sym, subst, ap, ◌∙◌, arith, map, length, replicate, get_or}
-use Rattle.std.specs.Prelude.{All, IsTrue, IsFalse}
-use Rattle.std.proofs.lemmas.List.Elements.{All-nil, All-head, All-map, All-append, All-same, All-weaker}
-use Rattle.machine.specs.Rules.{Rules}
-use Rattle.machine.specs.State.{Untouched, OpenRequest, State}
-use Rattle.machine.specs.Answering.{HasEnded}
-use Rattle.machine.specs.Frame.{with_window}
-use Rattle.machine.specs.Window.{IsLate, IsWaiting, HasReleased}
-use Rattle.device.specs.View.{DeviceView}
-use Rattle.device.specs.Served.{HandsUpNone, AwaitsRestartIfEnded, AwaitsRestart}
-use Rattle.machine.proofs.Commuting.{untouched_ends_not}
-use Rattle.machine.proofs.Window.{Settled-framed}
-use Rattle.hold_filter.specs.declared.table.Held.{Held}
-use Rattle.hold_filter.specs.inside.TableView.{TableView, packet_in, here}
-use Rattle.hold_filter.specs.inside.TableCalls.{HandsNone}
-use Rattle.hold_filter.specs.inside.View.{open_here, are_late, requests_here, frame_of, state_of, view_of}
-use Rattle.hold_filter.specs.inside.Invariant.{EntryCanGo, IsInHand}
+use Rattle.hold_filter.proofs.Common.{◌≡◌, ◌<◌, ◌≤◌, ◌⊎◌, inl, inr, ℕ, zero, suc, Bool, true, false, [], ◌++◌, Some, refl, sym, subst, ap, ◌∙◌, arith, map, length, replicate, get_or, All, IsTrue, IsFalse, All-nil, All-head, All-map, All-append, All-same, All-weaker, Rules, Untouched, OpenRequest, State, HasEnded, with_window, IsLate, IsWaiting, HasReleased, DeviceView, HandsUpNone, AwaitsRestartIfEnded, AwaitsRestart, untouched_ends_not, Settled-framed, Held, TableView, packet_in, here, HandsNone, open_here, are_late, requests_here, frame_of, state_of, view_of, EntryCanGo, IsInHand}
 use Rattle.hold_filter.proofs.Here.{waits, has_places}
 
 -- what was never sent, is not cancelled and finds no removal has not ended

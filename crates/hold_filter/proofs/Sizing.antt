@@ -1,15 +1,6 @@
 -- A request that the device below takes, in numbers: it has a place, and the machine doesn't refuse it.
-use Rattle.std.proofs.Common.{◌≡◌, ◌<◌, ◌*◌, ◌==◌, inl, inr, ℕ, Bool, true, false, List, [], Option, None, refl, arith}
-use Rattle.irp.specs.declared.Payload.{Payload}
+use Rattle.hold_filter.proofs.Common.{◌≡◌, ◌<◌, ◌*◌, ◌==◌, inl, inr, ℕ, Bool, true, false, List, [], Option, None, refl, arith, Payload, Request, Rules, as_client, is_in_bounds, State, with_window, refusal, IsBounded, Carries, by_kind, sectors_are, in_bounds, has_length, IsAdmitted}
 use Rattle.irp.specs.declared.Payload.TheVariants.{Srb as Packed, Buffer, Sent as AtAdapter}
-use Rattle.machine.specs.declared.Request.{Request}
-use Rattle.machine.specs.Rules.{Rules, as_client, is_in_bounds}
-use Rattle.machine.specs.State.{State}
-use Rattle.machine.specs.Frame.{with_window}
-use Rattle.machine.specs.Calling.{refusal}
-use Rattle.device.specs.View.{IsBounded, Carries}
-use Rattle.device.proofs.Bounded.{by_kind, sectors_are, in_bounds, has_length}
-use Rattle.hold_filter.specs.inside.Invariant.{IsAdmitted}
 
 -- a request in bounds is admitted
 pub admitted : (rules : Rules) (r : Request) → 0 < rules.sector_size → IsBounded rules r

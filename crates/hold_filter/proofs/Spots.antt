@@ -1,21 +1,6 @@
 -- What each step leaves of the rooms.
-use Rattle.std.proofs.Common.{◌≡◌, ◌≤◌, inl, inr, ℕ, List, [], ◌∷◌, ◌++◌, Option, Some, None, refl, sym}
+use Rattle.hold_filter.proofs.Common.{◌≡◌, ◌≤◌, inl, inr, ℕ, List, [], ◌∷◌, ◌++◌, Option, Some, None, refl, sym, All, IsPermutation, IsDistinct, cases_eq, All-cons, All-head, All-tail, All-push, All-weaker, IsPermutation-sym, IsPermutation-map, All-permutation, IsDistinct-IsPermutation, Rules, as_client, flips, Packet, Reserved, room_at, whole_for, packet_spot, SameRooms, SetsRoom, Held, Limits, packet_in, request_in, IsCovered, marked, IsAdmitted, IsAtOwn, HasRoom, HasPlace, RoomsKept, spot_in}
 use Rattle.std.proofs.Common.{subst, ap, ◌∙◌, arith, map, eqb}
-use Rattle.std.specs.Prelude.{All, IsPermutation}
-use Rattle.std.specs.List.{IsDistinct}
-use Rattle.std.proofs.lemmas.Bool.{cases_eq}
-use Rattle.std.proofs.lemmas.List.Elements.{All-cons, All-head, All-tail, All-push, All-weaker}
-use Rattle.std.proofs.lemmas.List.Sorted.{IsPermutation-sym, IsPermutation-map, All-permutation}
-use Rattle.std.proofs.lemmas.Map.Keys.{IsDistinct-IsPermutation}
-use Rattle.machine.specs.Rules.{Rules, as_client}
-use Rattle.machine.proofs.Permuting.{flips}
-use Rattle.device.specs.View.{Packet, Reserved, room_at, whole_for, packet_spot}
-use Rattle.device.specs.Served.{SameRooms, SetsRoom}
-use Rattle.hold_filter.specs.declared.table.Held.{Held}
-use Rattle.hold_filter.specs.inside.TableView.{Limits, packet_in}
-use Rattle.hold_filter.specs.inside.Packets.{request_in}
-use Rattle.hold_filter.specs.inside.TableCalls.{IsCovered, marked}
-use Rattle.hold_filter.specs.inside.Invariant.{IsAdmitted, IsAtOwn, HasRoom, HasPlace, RoomsKept, spot_in}
 use Rattle.hold_filter.proofs.Lists.{here_of, others_of}
 use Rattle.hold_filter.proofs.Here.{held_first, ended_first, last_first}
 use Rattle.hold_filter.proofs.Rooms.{IsOff, none_some, first_off, rest_apart, one_apart}

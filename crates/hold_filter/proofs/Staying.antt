@@ -1,21 +1,5 @@
 -- What a release leaves as it is.
-use Rattle.std.proofs.Common.{◌≡◌, ◌≤◌, inl, inr, Bool, true, false, List, [], ◌++◌, refl, sym}
-use Rattle.std.proofs.Common.{subst}
-use Rattle.std.proofs.Common.{ap, ◌∙◌, map, length, get_or}
-use Rattle.std.specs.Prelude.{All, Contains, IsFalse}
-use Rattle.std.proofs.lemmas.List.{map-append}
-use Rattle.std.proofs.lemmas.List.Elements.{All-append, All-contains, All-map, All-weaker, Contains-append_left}
-use Rattle.std.proofs.lemmas.List.Elements.{Contains-append_right, Contains-get_or}
-use Rattle.machine.specs.Rules.{Rules}
-use Rattle.machine.specs.State.{OpenRequest, State}
-use Rattle.machine.specs.Sending.{is_started}
-use Rattle.device.specs.View.{DeviceView}
-use Rattle.device.specs.Served.{StaysOpen, StaysIfStarted}
-use Rattle.hold_filter.specs.declared.table.Held.{Held}
-use Rattle.hold_filter.specs.inside.TableView.{TableView, packet_in, here}
-use Rattle.hold_filter.specs.inside.TableCalls.{LetsNoneGo}
-use Rattle.hold_filter.specs.inside.View.{open_here, are_late, requests_here, state_of}
-use Rattle.hold_filter.specs.inside.Releases.{NoneMayGo, Spares}
+use Rattle.hold_filter.proofs.Common.{◌≡◌, ◌≤◌, inl, inr, Bool, true, false, List, [], ◌++◌, refl, sym, subst, ap, ◌∙◌, map, length, get_or, All, Contains, IsFalse, map-append, All-append, All-contains, All-map, All-weaker, Contains-append_left, Contains-append_right, Contains-get_or, Rules, OpenRequest, State, is_started, DeviceView, StaysOpen, StaysIfStarted, Held, TableView, packet_in, here, LetsNoneGo, open_here, are_late, requests_here, state_of, NoneMayGo, Spares}
 use Rattle.hold_filter.proofs.Here.{not_started, true_false}
 
 -- each item is there

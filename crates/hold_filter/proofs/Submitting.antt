@@ -1,48 +1,8 @@
 -- A packet is taken in: it is queued last, or goes below at once.
-use Rattle.std.proofs.Common.{◌≡◌, ◌<◌, ◌≤◌, inl, inr, ℕ, ◌+◌, Bool, true, false, List, [], ◌∷◌, ◌++◌}
-use Rattle.std.proofs.Common.{Some, None, refl, sym, subst, ap, ◌∙◌, arith, map, length, length-append}
+use Rattle.hold_filter.proofs.Common.{◌≡◌, ◌<◌, ◌≤◌, inl, inr, ℕ, ◌+◌, Bool, true, false, List, [], ◌∷◌, ◌++◌, Some, None, refl, sym, subst, ap, ◌∙◌, arith, map, length, length-append, cases_lt, nat_tests, All-nil, All-cons, All-head, All-tail, All-push, All-weaker, Contains-append_right, IsPermutation-refl, IsPermutation-sym, IsPermutation-trans, IsPermutation-map, IsPermutation-middle, IsPermutation-append_right, All-permutation, Contains-permutation, Box, Irp, ClientRequest, Request, as_client, OpenRequest, IsSame, Opens, new_request, IsGiven, framed, with_window, IsAbove, HasLowerNumber, IsSame-reordered, IsSame-trans, AreDistinct-Admits, Opens-held, IsVacant, Room, DeviceView, Packet, packet_of, sent_bytes, room_at, request_at, whole_for, IsReady, IsOrderly, AsksInLocation, Carries, Submits, StaysOpen, SetsRoom, Held, TableView, packet_in, here, held_with, IsCovered, TakesIn, LetsGo, counted, request_in, packets_of, packet_below, packet_here, without, open_here, are_late, requests_here, frame_of, state_of, view_of, MaySend, Sends, Releases, NoneMayGo, Spares, IsBefore, AreInTurn, IsFrom, IsAsked, IsAtOwn, CanGo, EntryCanGo, FilterKept, IsInHand, stack_over, carries_bytes}
 use Rattle.std.specs.Prelude.{All, Contains, IsPermutation, IsFalse, ◌||◌, ◌&&◌, not, nat_lt}
-use Rattle.std.proofs.lemmas.Bool.{cases_lt}
-use Rattle.std.proofs.lemmas.Bool.Decides.{nat_tests}
-use Rattle.std.proofs.lemmas.List.Elements.{All-nil, All-cons, All-head, All-tail, All-push, All-weaker}
-use Rattle.std.proofs.lemmas.List.Elements.{Contains-append_right}
-use Rattle.std.proofs.lemmas.List.Sorted.{IsPermutation-refl, IsPermutation-sym, IsPermutation-trans}
-use Rattle.std.proofs.lemmas.List.Sorted.{IsPermutation-map}
-use Rattle.std.proofs.lemmas.List.Sorted.{IsPermutation-middle, IsPermutation-append_right, All-permutation}
-use Rattle.std.proofs.lemmas.List.Sorted.{Contains-permutation}
-use Rattle.std.specs.Global.{Box}
-use Rattle.irp.specs.declared.Irp.{Irp}
-use Rattle.machine.specs.declared.ClientRequest.{ClientRequest}
-use Rattle.machine.specs.declared.Request.{Request}
-use Rattle.machine.specs.Rules.{as_client}
-use Rattle.machine.specs.State.{OpenRequest, IsSame}
-use Rattle.machine.specs.Calling.{Opens, new_request}
-use Rattle.machine.specs.Numbers.{IsGiven}
-use Rattle.machine.specs.Frame.{framed, with_window}
-use Rattle.machine.specs.Window.{IsAbove, HasLowerNumber}
-use Rattle.machine.proofs.Same.{IsSame-reordered, IsSame-trans}
-use Rattle.machine.proofs.Numbers.{AreDistinct-Admits}
-use Rattle.machine.proofs.Held.{Opens-held}
-use Rattle.linked.specs.Queue.{IsVacant}
-use Rattle.device.specs.declared.Room.{Room}
-use Rattle.device.specs.View.{DeviceView, Packet, packet_of, sent_bytes, room_at, request_at}
-use Rattle.device.specs.View.{whole_for}
-use Rattle.device.specs.View.{IsReady, IsOrderly, AsksInLocation, Carries}
-use Rattle.device.specs.Served.{Submits, StaysOpen, SetsRoom}
-use Rattle.hold_filter.specs.declared.table.Held.{Held}
-use Rattle.hold_filter.specs.inside.TableView.{TableView, packet_in, here, held_with}
-use Rattle.hold_filter.specs.inside.TableCalls.{IsCovered, TakesIn, LetsGo, counted}
-use Rattle.hold_filter.specs.inside.Packets.{request_in}
-use Rattle.hold_filter.specs.inside.View.{packets_of, packet_below, packet_here, without, open_here, are_late}
-use Rattle.hold_filter.specs.inside.View.{requests_here, frame_of, state_of, view_of}
-use Rattle.hold_filter.specs.inside.Releases.{MaySend, Sends, Releases, NoneMayGo, Spares}
-use Rattle.hold_filter.specs.inside.Invariant.{IsBefore, AreInTurn, IsFrom, IsAsked, IsAtOwn}
-use Rattle.hold_filter.specs.inside.Invariant.{CanGo}
-use Rattle.hold_filter.specs.inside.Invariant.{EntryCanGo, FilterKept, IsInHand}
-use Rattle.hold_filter.specs.Opening.{stack_over}
 use Rattle.hold_filter.proofs.Lists.{All-first, All-second, All-from_map}
 use Rattle.hold_filter.proofs.Here.{last_first}
-use Rattle.device.proofs.Bounded.{carries_bytes}
 use Rattle.hold_filter.proofs.Sizing.{not_refused, carries_below}
 use Rattle.hold_filter.proofs.Locations.{asks_with, asks_request}
 use Rattle.hold_filter.proofs.Moving.{in_hand}

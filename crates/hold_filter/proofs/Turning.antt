@@ -1,37 +1,7 @@
 -- A pause, its end, and a removal.
-use Rattle.std.proofs.Common.{◌≡◌, ◌<◌, ◌≤◌, ◌⊎◌, inl, inr, ℕ, zero, suc, ◌+◌, Bool, true, false, List, [], ◌∷◌}
-use Rattle.std.proofs.Common.{◌++◌}
-use Rattle.std.proofs.Common.{Option, Some, refl, sym, subst, ap, ◌∙◌, arith, map, length, replicate, get_or}
+use Rattle.hold_filter.proofs.Common.{◌≡◌, ◌<◌, ◌≤◌, ◌⊎◌, inl, inr, ℕ, zero, suc, ◌+◌, Bool, true, false, List, [], ◌∷◌, ◌++◌, Option, Some, refl, sym, subst, ap, ◌∙◌, arith, map, length, replicate, get_or, list_any, map-append, sum_by-append, All-head, All-tail, All-map, All-append, All-weaker, IsPermutation-refl, IsPermutation-sym, IsPermutation-map, IsPermutation-append_left, All-permutation, length_permutation, IsDistinct-IsPermutation, AdapterView, place_count, as_client, Untouched, OpenRequest, State, Drains, Pauses, Resumes, held_back, beyond, as_timely, WaitsIfCancelled, is_out, has_out, AreDistinct, IsGiven, request_number, framed, with_window, HasLowerNumber, IsAbove, IsTimely, IsLate, Holds, DeviceView, Packet, Reserved, IsOrderly, DrainsAll, PausesAll, ResumesAll, SameRooms, flips, late, lower, kept, few_lower, none_lower, held_back-framed, Pauses-framed, Resumes-framed, same_below, Held, TableView, packet_in, here, packet_below, packet_here, without, open_here, are_late, requests_here, frame_of, state_of, view_of, Releases, IsFrom, IsPassed, IsCancelled, AsksAdmitted, FilterKept, IsInHand, request_in}
 use Rattle.std.specs.Prelude.{All, IsPermutation, IsTrue, IsFalse, ◌||◌, nat_le, if◌then◌else◌, eqb}
-use Rattle.std.specs.List.{list_any}
-use Rattle.std.proofs.lemmas.List.{map-append}
-use Rattle.std.proofs.lemmas.List.Sums.{sum_by-append}
-use Rattle.std.proofs.lemmas.List.Elements.{All-head, All-tail, All-map, All-append, All-weaker}
-use Rattle.std.proofs.lemmas.List.Sorted.{IsPermutation-refl, IsPermutation-sym}
-use Rattle.std.proofs.lemmas.List.Sorted.{IsPermutation-map}
-use Rattle.std.proofs.lemmas.List.Sorted.{IsPermutation-append_left, All-permutation, length_permutation}
-use Rattle.std.proofs.lemmas.Map.Keys.{IsDistinct-IsPermutation}
-use Rattle.adapter.specs.View.{AdapterView}
-use Rattle.machine.specs.Rules.{place_count, as_client}
-use Rattle.machine.specs.State.{Untouched, OpenRequest, State}
-use Rattle.machine.specs.Holding.{Drains, Pauses, Resumes, held_back, beyond, as_timely}
-use Rattle.machine.specs.Settled.{WaitsIfCancelled, is_out, has_out}
-use Rattle.machine.specs.Numbers.{AreDistinct, IsGiven, request_number}
-use Rattle.machine.specs.Frame.{framed, with_window}
-use Rattle.machine.specs.Window.{HasLowerNumber, IsAbove, IsTimely, IsLate, Holds}
-use Rattle.device.specs.View.{DeviceView, Packet, Reserved, IsOrderly}
-use Rattle.device.specs.Served.{DrainsAll, PausesAll, ResumesAll, SameRooms}
-use Rattle.machine.proofs.Permuting.{flips}
-use Rattle.machine.proofs.Settling.{late, lower, kept, few_lower, none_lower, held_back-framed, Pauses-framed}
-use Rattle.machine.proofs.Window.{Resumes-framed, same_below}
-use Rattle.hold_filter.specs.declared.table.Held.{Held}
-use Rattle.hold_filter.specs.inside.TableView.{TableView, packet_in, here}
-use Rattle.hold_filter.specs.inside.View.{packet_below, packet_here, without, open_here, are_late}
-use Rattle.hold_filter.specs.inside.View.{requests_here, frame_of, state_of, view_of}
-use Rattle.hold_filter.specs.inside.Releases.{Releases}
-use Rattle.hold_filter.specs.inside.Invariant.{IsFrom, IsPassed, IsCancelled, AsksAdmitted, FilterKept, IsInHand}
 use Rattle.hold_filter.proofs.Lists.{All-from_map, All-first, All-second}
-use Rattle.hold_filter.specs.inside.Packets.{request_in}
 use Rattle.hold_filter.proofs.Orderly.{maps_are}
 use Rattle.hold_filter.proofs.Moving.{moved_to, moved_is, in_hand}
 use Rattle.hold_filter.proofs.Rooms.{same_without, rooms_refl}

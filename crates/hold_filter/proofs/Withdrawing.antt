@@ -1,30 +1,5 @@
 -- A packet is cancelled while it is held.
-use Rattle.std.proofs.Common.{◌≡◌, ◌≤◌, inl, inr, ℕ, List, [], ◌∷◌, ◌++◌, Some}
-use Rattle.std.proofs.Common.{refl}
-use Rattle.std.proofs.Common.{sym, subst, ap, ◌∙◌, arith, map, length, length-append}
-use Rattle.std.specs.Prelude.{All, IsPermutation, IsFalse}
-use Rattle.std.proofs.lemmas.List.{map-append}
-use Rattle.std.proofs.lemmas.List.Elements.{All-cons, All-head, All-tail, All-push}
-use Rattle.std.proofs.lemmas.List.Sorted.{IsPermutation-refl, IsPermutation-sym, IsPermutation-trans}
-use Rattle.std.proofs.lemmas.List.Sorted.{IsPermutation-map}
-use Rattle.std.proofs.lemmas.List.Sorted.{IsPermutation-append_right, All-permutation}
-use Rattle.machine.specs.declared.Label.TheVariants.{Cancel}
-use Rattle.machine.specs.State.{OpenRequest, IsSame}
-use Rattle.machine.specs.Holding.{Cancels}
-use Rattle.machine.specs.Frame.{framed, with_window}
-use Rattle.machine.specs.Window.{IsAbove}
-use Rattle.machine.proofs.Same.{IsSame-reordered, IsSame-trans}
-use Rattle.machine.proofs.Numbers.{AreDistinct-Step}
-use Rattle.machine.proofs.Held.{Cancels-held}
-use Rattle.device.specs.View.{DeviceView}
-use Rattle.device.specs.Served.{IsBeside, SameRooms}
-use Rattle.hold_filter.specs.declared.table.Held.{Held}
-use Rattle.hold_filter.specs.inside.TableView.{TableView, packet_in, here}
-use Rattle.hold_filter.specs.inside.TableCalls.{marked}
-use Rattle.hold_filter.specs.inside.View.{packet_below, packet_here, without, open_here, are_late}
-use Rattle.hold_filter.specs.inside.View.{frame_of, state_of, view_of}
-use Rattle.hold_filter.specs.inside.Invariant.{IsBefore, AreInTurn, IsCancelled, IsFrom, IsAsked, IsWhole, CanGo}
-use Rattle.hold_filter.specs.inside.Invariant.{EntryCanGo, FilterKept, IsInHand}
+use Rattle.hold_filter.proofs.Common.{◌≡◌, ◌≤◌, inl, inr, ℕ, List, [], ◌∷◌, ◌++◌, Some, refl, sym, subst, ap, ◌∙◌, arith, map, length, length-append, All, IsPermutation, IsFalse, map-append, All-cons, All-head, All-tail, All-push, IsPermutation-refl, IsPermutation-sym, IsPermutation-trans, IsPermutation-map, IsPermutation-append_right, All-permutation, Cancel, OpenRequest, IsSame, Cancels, framed, with_window, IsAbove, IsSame-reordered, IsSame-trans, AreDistinct-Step, Cancels-held, DeviceView, IsBeside, SameRooms, Held, TableView, packet_in, here, marked, packet_below, packet_here, without, open_here, are_late, frame_of, state_of, view_of, IsBefore, AreInTurn, IsCancelled, IsFrom, IsAsked, IsWhole, CanGo, EntryCanGo, FilterKept, IsInHand}
 use Rattle.hold_filter.proofs.Lists.{here_of, others_of}
 use Rattle.hold_filter.proofs.Here.{held_first, ended_first}
 use Rattle.hold_filter.proofs.Moving.{in_hand}

@@ -1,25 +1,7 @@
 -- Acts, returns and resets of the adapter as steps of the manager.
 use Rattle.std.proofs.Common.{◌≡◌, ◌≢◌, ℕ, true, List, [], ◌∷◌, ◌++◌, refl, sym, ◌∙◌, ap, subst, None, map, length}
-use Rattle.std.proofs.lemmas.List.{append-nil}
-use Rattle.std.proofs.lemmas.List.Elements.{All-append}
-use Rattle.slab.specs.Slab.{Slab}
-use Rattle.srb.specs.declared.DeviceLabel.{DeviceLabel}
-use Rattle.srb.specs.declared.DeviceLabel.TheVariants.{Return}
-use Rattle.machine.specs.Rules.{Rules}
-use Rattle.machine.specs.Sending.{IsStart}
-use Rattle.machine.specs.Settled.{Settled}
-use Rattle.device.specs.View.{DeviceView, KeepsOutside}
-use Rattle.adapter.specs.View.{AdapterView, MovesByAll}
-use Rattle.device.specs.Served.{Resets, fault_of, Moves, ActsOrFaults, ActsNot, Finishes, FinishesNot}
-use Rattle.machine.proofs.Same.{IsSame-refl}
-use Rattle.pnp.specs.declared.State.TheVariants.{Removing}
-use Rattle.io_manager.specs.declared.OpenHandle.{OpenHandle}
-use Rattle.io_manager.specs.declared.Limits.{Limits}
+use Rattle.io_manager.proofs.Common.{append-nil, All-append, Slab, DeviceLabel, Return, Rules, IsStart, Settled, DeviceView, KeepsOutside, AdapterView, MovesByAll, Resets, fault_of, Moves, ActsOrFaults, ActsNot, Finishes, FinishesNot, IsSame-refl, Removing, OpenHandle, Limits, Tables, ManagerView, AllWriteInside, Told, SameHandles, AdapterMoves, tells_nothing, IsRight, IsRightReset, IsRightBy, ActReplies, FinishReplies}
 use Rattle.io_manager.specs.declared.Reply.TheVariants.{Ok as OkReply, Ignored}
-use Rattle.io_manager.specs.declared.tables.Tables.{Tables}
-use Rattle.io_manager.specs.Shown.{ManagerView}
-use Rattle.io_manager.specs.inside.Inside.{AllWriteInside}
-use Rattle.io_manager.specs.Right.{Told, SameHandles, AdapterMoves, tells_nothing, IsRight, IsRightReset, IsRightBy, ActReplies, FinishReplies}
 use Rattle.io_manager.specs.inside.Sound.{view_of, AsksInside, IsSound, TakesLabels, Collects, ManagerKept}
 use Rattle.io_manager.proofs.AdapterJoins.{labels_moved, reset_joined}
 use Rattle.io_manager.proofs.Outside.{noted_inside}

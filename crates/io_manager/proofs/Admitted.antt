@@ -1,34 +1,15 @@
 -- The tables stay sound when a request is opened and its packet goes down.
 use Rattle.std.proofs.Common.{◌≡◌, ◌≢◌, ◌<◌, ◌≤◌, ◌⊎◌, inl, inr, ℕ, ◌+◌, ◌*◌, ◌/◌, Bool, true, false, List, ◌∷◌, Option, Some, None, refl, sym, ◌∙◌, ap, subst, arith, length, map}
 use Rattle.std.specs.Prelude.{IsTrue, IsFalse, All, Contains, is_some}
-use Rattle.std.specs.VecDeque.{deque_len, deque_capacity}
-use Rattle.std.proofs.lemmas.Bool.{cases_eq}
-use Rattle.std.proofs.lemmas.List.Elements.{All-cons, All-weaker, All-contains, All-map}
-use Rattle.slab.proofs.SlabLemmas.{Contains-cons}
+use Rattle.io_manager.proofs.Common.{deque_len, deque_capacity, cases_eq, All-cons, All-weaker, All-contains, All-map, Contains-cons, Extent, Read, ClientRequest, Rules, as_client, home, Opens, new_request, request_number, IsGiven, AreDistinct, taken_in, DeviceView, Packet, sent_bytes, sectors_asked, IsTopmost, IsSame-sym, Handle, Limits, LabelBytes, Tables, number_limit, disk_extent, IsOpenIn, rules_of}
 use Rattle.slab.specs.Slab.{Slab, get, slab_len, Updates as SlabUpdates}
-use Rattle.sector.specs.declared.Extent.{Extent}
-use Rattle.srb.specs.declared.Kind.TheVariants.{Read}
-use Rattle.machine.specs.declared.ClientRequest.{ClientRequest}
-use Rattle.machine.specs.Rules.{Rules, as_client, home}
 use Rattle.machine.specs.State.{OpenRequest as OpenBelow, State}
-use Rattle.machine.specs.Calling.{Opens, new_request}
-use Rattle.machine.specs.Numbers.{request_number, IsGiven, AreDistinct}
-use Rattle.machine.proofs.Places.{taken_in}
 use Rattle.pnp.specs.declared.State.{State as PnpState}
 use Rattle.pnp.specs.declared.State.TheVariants.{Started, RemovePending, Removing, Removed}
-use Rattle.device.specs.View.{DeviceView, Packet, sent_bytes, sectors_asked, IsTopmost}
-use Rattle.machine.proofs.Same.{IsSame-sym}
 use Rattle.io_manager.specs.declared.Answer.{Answer}
-use Rattle.io_manager.specs.declared.Handle.{Handle}
-use Rattle.io_manager.specs.declared.Limits.{Limits}
-use Rattle.io_manager.specs.declared.admission.LabelBytes.{LabelBytes}
 use Rattle.io_manager.specs.declared.tables.OpenRequest.{OpenRequest}
-use Rattle.io_manager.specs.declared.tables.Tables.{Tables}
-use Rattle.io_manager.specs.Calls.{number_limit, disk_extent}
 use Rattle.io_manager.specs.inside.Ordering.{HasOtherNumber}
-use Rattle.io_manager.specs.inside.Chains.{IsOpenIn}
 use Rattle.io_manager.specs.inside.Sound.{shown_state, is_gone, view_of, IsHeldAt, AreHeld, IsSpotted, WasGiven, AreApart, IsInState, IsSound}
-use Rattle.io_manager.specs.Opening.{rules_of}
 use Rattle.io_manager.specs.inside.Admitting.{request_of, answer_room_of, HasLabelBytes, Admits, SendsDown, IsAdmissible}
 use Rattle.io_manager.proofs.Chained.{AreChained-more}
 use Rattle.io_manager.proofs.Numbered.{AreNumbered-more}

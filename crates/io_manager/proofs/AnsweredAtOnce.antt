@@ -1,28 +1,9 @@
 -- Calls that end where they begin are right steps: those that are refused, those of no bytes, and those past the last number.
 use Rattle.std.proofs.Common.{◌≡◌, ◌<◌, ◌≤◌, inl, inr, ℕ, ◌+◌, Bool, true, false, List, [], ◌∷◌, ◌++◌, Some, None, refl, sym, ◌∙◌, ap, subst, arith}
-use Rattle.std.specs.Prelude.{IsNone}
-use Rattle.std.proofs.lemmas.List.Elements.{All-weaker}
-use Rattle.ntstatus.specs.declared.NtStatus.{NtStatus}
-use Rattle.srb.specs.declared.Kind.{Kind}
-use Rattle.machine.specs.declared.ClientRequest.{ClientRequest}
-use Rattle.machine.specs.declared.Label.{Label}
+use Rattle.io_manager.proofs.Common.{IsNone, All-weaker, NtStatus, Kind, ClientRequest, Label, refusal, Run, DeviceView, Handle, DeviceBusy, Reply, Refused, AtOnce, Limits, Tables, ManagerView, number_limit, are_used_up, call_on, without_bytes, tells_nothing, TransferReplies, CallReplies, IsRight, status_at_once, AnswersAtOnce, reply_at_once}
 use Rattle.machine.specs.declared.Label.TheVariants.{Call, Answer as AnswerLabel}
-use Rattle.machine.specs.Calling.{refusal}
-use Rattle.machine.specs.Step.{Run}
-use Rattle.device.specs.View.{DeviceView}
-use Rattle.io_manager.specs.declared.Handle.{Handle}
-use Rattle.io_manager.specs.declared.Refusal.TheVariants.{DeviceBusy}
-use Rattle.io_manager.specs.declared.Reply.{Reply}
-use Rattle.io_manager.specs.declared.Reply.TheVariants.{Refused}
-use Rattle.io_manager.specs.declared.admission.AtOnce.{AtOnce}
 use Rattle.io_manager.specs.declared.admission.AtOnce.TheVariants.{Empty, Refused as RefusedFor}
-use Rattle.io_manager.specs.declared.Limits.{Limits}
-use Rattle.io_manager.specs.declared.tables.Tables.{Tables}
-use Rattle.io_manager.specs.Shown.{ManagerView}
-use Rattle.io_manager.specs.Calls.{number_limit, are_used_up, call_on, without_bytes}
-use Rattle.io_manager.specs.Right.{tells_nothing, TransferReplies, CallReplies, IsRight}
 use Rattle.io_manager.specs.inside.Sound.{shown_state, is_gone, view_of, IsSpotted, WasGiven, IsSound, ManagerKept}
-use Rattle.io_manager.specs.inside.Admitting.{status_at_once, AnswersAtOnce, reply_at_once}
 use Rattle.io_manager.proofs.Refusing.{Run-refused}
 use Rattle.io_manager.proofs.Handing.{numbers_last}
 use Rattle.io_manager.proofs.Stepping.{ManagerKept-still}

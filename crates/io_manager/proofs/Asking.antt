@@ -1,9 +1,6 @@
 -- The one location of a packet asks for its request.
-use Rattle.std.proofs.Common.{◌≡◌, false, [], ◌∷◌, refl}
-use Rattle.irp.specs.declared.Irp.{Irp}
+use Rattle.io_manager.proofs.Common.{◌≡◌, false, [], ◌∷◌, refl, Irp, AsksInLocation, first_location}
 use Rattle.machine.specs.declared.Request.{Request}
-use Rattle.device.specs.View.{AsksInLocation}
-use Rattle.io_manager.specs.inside.Admitting.{first_location}
 
 pub asks_in_location : (r : Request) (irp : Irp) → irp.locations.items ≡ first_location r ∷ [] → AsksInLocation false r irp
 asks_in_location r irp only = record {

@@ -1,20 +1,9 @@
 -- What steps leave of a machine's open requests: their numbers, what they ask, and whether they are cancelled.
 use Rattle.std.proofs.Common.{◌≡◌, inl, inr, Bool, false, List, [], ◌∷◌, refl, sym, ◌∙◌, ap, subst, map, length}
 use Rattle.std.specs.Prelude.{IsPermutation, All}
-use Rattle.std.proofs.lemmas.List.Sorted.{IsPermutation-sym, IsPermutation-trans, IsPermutation-map, All-permutation, Contains-permutation, length_permutation}
-use Rattle.std.proofs.lemmas.List.Elements.{All-nil, All-head, All-tail, All-cons, All-map, All-weaker}
-use Rattle.std.proofs.lemmas.List.{length-map}
-use Rattle.slab.specs.Slab.{Slab}
-use Rattle.srb.specs.declared.DeviceLabel.{DeviceLabel}
-use Rattle.srb.specs.declared.DeviceLabel.TheVariants.{Start, Act, Fault, Return}
-use Rattle.machine.specs.declared.ClientRequest.{ClientRequest}
-use Rattle.machine.specs.Rules.{Rules}
+use Rattle.io_manager.proofs.Common.{IsPermutation-sym, IsPermutation-trans, IsPermutation-map, All-permutation, Contains-permutation, length_permutation, All-nil, All-head, All-tail, All-cons, All-map, All-weaker, length-map, Slab, DeviceLabel, Start, Act, Fault, Return, ClientRequest, Rules, sent, given_back, request_number, DeviceStep, Run, as_label, IsHeldAt, AreHeld}
 use Rattle.machine.specs.State.{OpenRequest, State, IsSame}
-use Rattle.machine.specs.Sending.{sent, given_back}
-use Rattle.machine.specs.Numbers.{request_number}
-use Rattle.machine.specs.Step.{DeviceStep, Run, as_label}
 use Rattle.io_manager.specs.declared.tables.OpenRequest.{OpenRequest as OpenEntry}
-use Rattle.io_manager.specs.inside.Sound.{IsHeldAt, AreHeld}
 
 -- a request without what becomes of it
 abbrev pub asked : OpenRequest → OpenRequest

@@ -1,19 +1,7 @@
 -- What is booked of a piece changes nothing but what the adapter shows.
 use Rattle.std.proofs.Common.{◌≡◌, ℕ, ◌==◌, Bool, true, false, List, [], Result, Ok, Err, refl, sym, ap, subst, ◌∙◌, if◌then◌else◌}
-use Rattle.std.proofs.lemmas.List.Elements.{All-map}
-use Rattle.sector.specs.declared.Extent.{Extent}
-use Rattle.srb.specs.declared.Completion.{Completion}
-use Rattle.srb.specs.declared.Entry.{Entry}
-use Rattle.adapter.specs.View.{AdapterView, TagInUse}
-use Rattle.adapter.specs.Booking.{with_booked, booked_on, with_booking}
-use Rattle.adapter.proofs.Booked.{books_labels}
-use Rattle.device.specs.View.{DeviceView}
+use Rattle.io_manager.proofs.Common.{All-map, Extent, Completion, Entry, AdapterView, TagInUse, with_booked, booked_on, with_booking, books_labels, DeviceView, Limits, Tables, WritesInside, AllWriteInside, BooksPiece, ManagerView}
 use Rattle.device.specs.Served.{BooksPiece as BooksBelow}
-use Rattle.io_manager.specs.declared.Limits.{Limits}
-use Rattle.io_manager.specs.declared.tables.Tables.{Tables}
-use Rattle.io_manager.specs.inside.Inside.{WritesInside, AllWriteInside}
-use Rattle.io_manager.specs.Right.{BooksPiece}
-use Rattle.io_manager.specs.Shown.{ManagerView}
 use Rattle.io_manager.specs.inside.Sound.{ManagerKept, IsSound, view_of}
 use Rattle.io_manager.proofs.Fitted.{FitsBelow-same}
 

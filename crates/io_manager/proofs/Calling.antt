@@ -1,40 +1,11 @@
 -- An admitted call, and one turned away for want of memory, are right steps.
 use Rattle.std.proofs.Common.{◌≡◌, ◌≢◌, ◌<◌, ◌≤◌, inl, inr, ℕ, ◌+◌, Bool, false, List, [], ◌∷◌, ◌++◌, Some, None, refl, sym, ◌∙◌, ap, subst, arith}
 use Rattle.std.specs.Prelude.{All, option_map}
-use Rattle.std.proofs.lemmas.List.Sorted.{All-permutation, IsPermutation-sym}
-use Rattle.std.specs.VecDeque.{deque_len, deque_capacity}
+use Rattle.io_manager.proofs.Common.{All-permutation, IsPermutation-sym, deque_len, deque_capacity, All-append, All-cons, Slab, get, slab_len, Extent, Payload, Kind, Read, Write, Flush, ClientRequest, Label, Call, Rules, as_client, refusal, Opens, Run, DeviceView, sent_bytes, payload_bytes, IsStart, Reserves, ReservesNear, IsSame-refl, Handle, Id, OpenHandle, InsufficientResources, Reply, Limits, LabelBytes, Tables, ManagerView, Holder, bytes_called, call_on, without_bytes, disk_extent, reserved_of, reserved_by, tells_nothing, ReservesFor, IsRight, IsRightBy, CallReplies, rules_of}
 use Rattle.std.proofs.Math.ListN.{get_or-map}
-use Rattle.std.proofs.lemmas.List.Elements.{All-append, All-cons}
-use Rattle.slab.specs.Slab.{Slab, get, slab_len}
-use Rattle.sector.specs.declared.Extent.{Extent}
 use Rattle.adapter.specs.View.{AdapterView, ReservesMore, ReservesNear as AdapterReservesNear}
-use Rattle.irp.specs.declared.Payload.{Payload}
-use Rattle.srb.specs.declared.Kind.{Kind}
-use Rattle.srb.specs.declared.Kind.TheVariants.{Read, Write, Flush}
-use Rattle.machine.specs.declared.ClientRequest.{ClientRequest}
-use Rattle.machine.specs.declared.Label.{Label}
-use Rattle.machine.specs.declared.Label.TheVariants.{Call}
-use Rattle.machine.specs.Rules.{Rules, as_client}
-use Rattle.machine.specs.Calling.{refusal, Opens}
-use Rattle.machine.specs.Step.{Run}
-use Rattle.device.specs.View.{DeviceView, sent_bytes, payload_bytes}
-use Rattle.machine.specs.Sending.{IsStart}
-use Rattle.device.specs.Served.{Reserves, ReservesNear}
-use Rattle.machine.proofs.Same.{IsSame-refl}
-use Rattle.io_manager.specs.declared.Handle.{Handle}
-use Rattle.io_manager.specs.declared.Id.{Id}
-use Rattle.io_manager.specs.declared.OpenHandle.{OpenHandle}
-use Rattle.io_manager.specs.declared.Refusal.TheVariants.{InsufficientResources}
-use Rattle.io_manager.specs.declared.Reply.{Reply}
 use Rattle.io_manager.specs.declared.Reply.TheVariants.{Request as Requested, Refused}
-use Rattle.io_manager.specs.declared.Limits.{Limits}
-use Rattle.io_manager.specs.declared.admission.LabelBytes.{LabelBytes}
-use Rattle.io_manager.specs.declared.tables.Tables.{Tables}
-use Rattle.io_manager.specs.Shown.{ManagerView, Holder}
-use Rattle.io_manager.specs.Calls.{bytes_called, call_on, without_bytes, disk_extent, reserved_of, reserved_by}
-use Rattle.io_manager.specs.Right.{tells_nothing, ReservesFor, IsRight, IsRightBy, CallReplies}
 use Rattle.io_manager.specs.inside.Sound.{shown_state, is_gone, holder_of, view_of, WasGiven, AreApart, IsInState, IsSound, AsksInside, Collects, ManagerKept}
-use Rattle.io_manager.specs.Opening.{rules_of}
 use Rattle.io_manager.specs.inside.Admitting.{request_of, HasLabelBytes, Admits, KeepsAnswers, SendsDown, IsSent, IsAdmissible}
 use Rattle.io_manager.proofs.Refusing.{Calls-opened}
 use Rattle.io_manager.proofs.Fitted.{FitsBelow-same}

@@ -1,36 +1,14 @@
 -- Cancellations as steps of the manager.
 use Rattle.std.proofs.Common.{◌≡◌, ◌≢◌, inl, inr, ℕ, Bool, true, false, not, List, [], ◌∷◌, ◌++◌, Option, Some, None, refl, sym, ◌∙◌, ap, subst, map}
 use Rattle.std.specs.Prelude.{Contains, option_map, slice_index_or, is_some, if◌then◌else◌}
-use Rattle.std.proofs.lemmas.Bool.{cases_eq}
-use Rattle.std.proofs.lemmas.List.Elements.{All-weaker, All-contains}
+use Rattle.io_manager.proofs.Common.{cases_eq, All-weaker, All-contains, AdapterView, MovesByAll, Cancel, Rules, Cancels, Run, IsSame-refl, DeviceView, IsBeside, Handle, Id, Limits, OpenHandle, Refusal, InvalidHandle, NotFound, PacketBelow, Tables, partition_of, HasSome, HasNoneOf, IsOpenAt, IsNotOpenAt, ClosesSlot, HasNoneToMark, CancelsSlot, CancelsUnlessMarked, IsUnmarked, CancelsAll, IsOpenIn, ManagerView, Holder, rules_of}
 use Rattle.slab.specs.Slab.{Slab, get, Updates as SlabUpdates}
-use Rattle.adapter.specs.View.{AdapterView, MovesByAll}
-use Rattle.machine.specs.declared.Label.TheVariants.{Cancel}
-use Rattle.machine.specs.Rules.{Rules}
 use Rattle.machine.specs.State.{OpenRequest as OpenBelow}
-use Rattle.machine.specs.Holding.{Cancels}
-use Rattle.machine.specs.Step.{Run}
-use Rattle.machine.proofs.Same.{IsSame-refl}
-use Rattle.device.specs.View.{DeviceView}
-use Rattle.device.specs.Served.{IsBeside}
-use Rattle.io_manager.specs.declared.Handle.{Handle}
-use Rattle.io_manager.specs.declared.Id.{Id}
-use Rattle.io_manager.specs.declared.Limits.{Limits}
-use Rattle.io_manager.specs.declared.OpenHandle.{OpenHandle}
-use Rattle.io_manager.specs.declared.Refusal.{Refusal}
-use Rattle.io_manager.specs.declared.Refusal.TheVariants.{InvalidHandle, NotFound}
 use Rattle.io_manager.specs.declared.Reply.TheVariants.{Ok as OkReply, Refused, Ignored}
-use Rattle.io_manager.specs.declared.cancelling.PacketBelow.{PacketBelow}
 use Rattle.io_manager.specs.declared.tables.OpenRequest.{OpenRequest}
-use Rattle.io_manager.specs.declared.tables.Tables.{Tables}
-use Rattle.io_manager.specs.Calls.{partition_of}
-use Rattle.io_manager.specs.inside.Cancelling.{HasSome, HasNoneOf, IsOpenAt, IsNotOpenAt, ClosesSlot, HasNoneToMark, CancelsSlot, CancelsUnlessMarked, IsUnmarked, CancelsAll}
-use Rattle.io_manager.specs.inside.Chains.{IsOpenIn}
 use Rattle.io_manager.specs.inside.Completion.{IsAt, HasNone}
-use Rattle.io_manager.specs.Shown.{ManagerView, Holder}
 use Rattle.io_manager.specs.Right.{Told, SameHandles, RefusesAlone, tells_nothing, as_cancel, IsHandleOpen, IsToCancel, CancelsAllOf, CancelsOne, HasTarget, HasOtherNumber, CloseReplies, CancelReplies, MarkReplies, IsRight}
 use Rattle.io_manager.specs.inside.Sound.{shown_state, is_gone, holder_of, view_of, IsHeldAt, IsOnMap, IsSound, HasNoneToStart, Collects, ManagerKept}
-use Rattle.io_manager.specs.Opening.{rules_of}
 use Rattle.io_manager.proofs.Chained.{still_open, AreChained-closed}
 use Rattle.io_manager.proofs.KeptBack.{settled_none, all_cancelled_none}
 use Rattle.io_manager.proofs.Timely.{reached_timely}

@@ -1,15 +1,9 @@
 -- The chains of the handles, as requests are opened, cancelled and closed.
 use Rattle.std.proofs.Common.{◌≡◌, ◌≢◌, ◌<◌, ◌≤◌, ◌⊎◌, inl, inr, ℕ, ◌+◌, Bool, true, false, List, [], Option, Some, None, refl, sym, ◌∙◌, ap, subst, arith, eqb-true, eq-eqb}
 use Rattle.std.specs.Prelude.{is_some, slice_index, MatchOption, ◌==◌, if◌then◌else◌}
-use Rattle.std.proofs.lemmas.Bool.{cases_eq}
+use Rattle.io_manager.proofs.Common.{cases_eq, Handle, OpenHandle, Chains, partition_at, partition_of, HasNoneToMark, IsLowestToMark, IsNextFrom, chain_end, AreEnds, AreLinked, LeadsTo, CanLeave, CanJoin, PutsLast, TakesOut, IsWaiting, IsOpenIn, AreChained}
 use Rattle.slab.specs.Slab.{Slab, get, Updates as SlabUpdates}
-use Rattle.io_manager.specs.declared.Handle.{Handle}
-use Rattle.io_manager.specs.declared.OpenHandle.{OpenHandle}
-use Rattle.io_manager.specs.declared.chains.Chains.{Chains}
 use Rattle.io_manager.specs.declared.tables.OpenRequest.{OpenRequest}
-use Rattle.io_manager.specs.Calls.{partition_at, partition_of}
-use Rattle.io_manager.specs.inside.Cancelling.{HasNoneToMark, IsLowestToMark}
-use Rattle.io_manager.specs.inside.Chains.{IsNextFrom, chain_end, AreEnds, AreLinked, LeadsTo, CanLeave, CanJoin, PutsLast, TakesOut, IsWaiting, IsOpenIn, AreChained}
 use Rattle.io_manager.proofs.Linked.{end_joint, can_leave, can_join, AreLinked-still, AreLinked-less, AreLinked-more, AreLinked-empty}
 
 pub same_item : {X : Type 0} (a b : X) → Some a ≡ Some b → a ≡ b

@@ -1,7 +1,5 @@
 -- A member comes to a chain's end, or leaves from where it stands.
-use Rattle.std.proofs.Common.{◌≡◌, ◌≢◌, ◌<◌, ◌≤◌, ◌⊎◌, inl, inr, ℕ, ◌+◌, refl, sym, ◌∙◌, ap, subst, arith}
-use Rattle.std.proofs.lemmas.Bool.{cases_eq, cases_lt}
-use Rattle.io_manager.specs.inside.Chains.{IsJoint, IsLowestFrom, IsNextFrom, IsChain}
+use Rattle.io_manager.proofs.Common.{◌≡◌, ◌≢◌, ◌<◌, ◌≤◌, ◌⊎◌, inl, inr, ℕ, ◌+◌, refl, sym, ◌∙◌, ap, subst, arith, cases_eq, cases_lt, IsJoint, IsLowestFrom, IsNextFrom, IsChain}
 
 pub joint_next : (Member : ℕ → ℕ → Type 0) (end low slot : ℕ) → IsNextFrom Member end low slot → (from : ℕ) × IsJoint Member end slot from
 joint_next Member end low slot (inl none) = (0, inl (none.0, refl))

@@ -1,29 +1,10 @@
 -- A packet that is handed up is that of one open request, whose slot is given up.
 use Rattle.std.proofs.Common.{◌≡◌, ◌≢◌, ◌<◌, ◌≤◌, ◌⊎◌, inl, inr, ℕ, zero, suc, ◌+◌, Bool, true, false, List, [], ◌∷◌, ◌++◌, Some, None, refl, sym, ◌∙◌, ap, subst, arith, map, length}
-use Rattle.std.specs.Global.{Box}
+use Rattle.io_manager.proofs.Common.{Box, list_all, IsPermutation-map, All-permutation, Contains-permutation, length_permutation, All-head, All-tail, Contains-append_cases, Slab, get, slab_len, NtStatus, Success, Driver, Irp, Kind, Read, Write, Flush, answer_bytes, is_done, AreDistinct, IsGiven, request_number, Climb, Routine, Finished, DeviceView, payload_bytes, IsTopmost, HandsUp, Tables, TakesOut, IsWaiting, AreChained, AreNumbered, IsHeldAt, AreHeld}
 use Rattle.std.specs.Prelude.{IsPermutation, IsTrue, All, Contains, ◌↔◌, MatchBool}
-use Rattle.std.specs.List.{list_all}
-use Rattle.std.proofs.lemmas.List.Sorted.{IsPermutation-map, All-permutation, Contains-permutation, length_permutation}
-use Rattle.std.proofs.lemmas.List.Elements.{All-head, All-tail, Contains-append_cases}
-use Rattle.slab.specs.Slab.{Slab, get, slab_len}
-use Rattle.ntstatus.specs.declared.NtStatus.{NtStatus}
-use Rattle.ntstatus.specs.declared.NtStatus.TheVariants.{Success}
 use Rattle.irp.specs.declared.Done.{Done}
-use Rattle.irp.specs.declared.Driver.{Driver}
-use Rattle.irp.specs.declared.Irp.{Irp}
-use Rattle.srb.specs.declared.Kind.{Kind}
-use Rattle.srb.specs.declared.Kind.TheVariants.{Read, Write, Flush}
 use Rattle.machine.specs.State.{Mark, OpenRequest as OpenBelow}
-use Rattle.machine.specs.Answering.{answer_bytes, is_done}
-use Rattle.machine.specs.Numbers.{AreDistinct, IsGiven, request_number}
-use Rattle.device.specs.declared.climbing.Climb.{Climb}
-use Rattle.device.specs.declared.climbing.Climb.TheVariants.{Routine, Finished}
-use Rattle.device.specs.View.{DeviceView, payload_bytes, IsTopmost}
-use Rattle.device.specs.Served.{HandsUp}
 use Rattle.io_manager.specs.declared.tables.OpenRequest.{OpenRequest}
-use Rattle.io_manager.specs.declared.tables.Tables.{Tables}
-use Rattle.io_manager.specs.inside.Chains.{TakesOut, IsWaiting, AreChained, AreNumbered}
-use Rattle.io_manager.specs.inside.Sound.{IsHeldAt, AreHeld}
 use Rattle.io_manager.specs.inside.Completion.{IsAt, AreFilled, IsFilled, Closes, brought, done_of}
 use Rattle.io_manager.proofs.Chained.{IsKept, AreChained-same, AreChained-less}
 use Rattle.io_manager.proofs.Numbered.{AreNumbered-less}

@@ -1,20 +1,10 @@
 -- How many requests are open on each open handle, as requests are opened, cancelled and closed.
 use Rattle.std.proofs.Common.{◌≡◌, ◌≢◌, ◌<◌, ◌≤◌, inl, inr, ℕ, zero, suc, ◌+◌, ◌-◌, Bool, true, false, List, Option, Some, None, refl, sym, ◌∙◌, ap, subst, arith, length, eq-eqb}
 use Rattle.std.specs.Prelude.{is_some, nat_lt, slice_index, slice_set, MatchBool, ◌==◌, if◌then◌else◌}
-use Rattle.std.proofs.lemmas.Bool.{cases_eq, ltb-false}
-use Rattle.std.proofs.lemmas.Bool.Decides.{nat_tests}
-use Rattle.std.proofs.lemmas.List.{length-set}
+use Rattle.io_manager.proofs.Common.{cases_eq, ltb-false, nat_tests, length-set, Handle, OpenHandle, Chains, Tables, partition_of, HasSome, HasNoneOf, IsOpenIn, AreChained, of_handle, count_open, AreCounted, Closes}
 use Rattle.slab.specs.Slab.{Slab, get, Updates as SlabUpdates}
 use Rattle.irp.specs.declared.Done.{Done}
-use Rattle.io_manager.specs.declared.Handle.{Handle}
-use Rattle.io_manager.specs.declared.OpenHandle.{OpenHandle}
-use Rattle.io_manager.specs.declared.chains.Chains.{Chains}
 use Rattle.io_manager.specs.declared.tables.OpenRequest.{OpenRequest}
-use Rattle.io_manager.specs.declared.tables.Tables.{Tables}
-use Rattle.io_manager.specs.Calls.{partition_of}
-use Rattle.io_manager.specs.inside.Cancelling.{HasSome, HasNoneOf}
-use Rattle.io_manager.specs.inside.Chains.{IsOpenIn, AreChained, of_handle, count_open, AreCounted}
-use Rattle.io_manager.specs.inside.Completion.{Closes}
 use Rattle.io_manager.proofs.Linked.{set_same, set_other}
 use Rattle.io_manager.proofs.Chained.{open_in, partition_in}
 

@@ -1,14 +1,9 @@
 -- What of the tables outlasts a move of the device below.
 use Rattle.std.proofs.Common.{◌≡◌, ◌≤◌, List, [], ◌∷◌, refl, sym, ◌∙◌, ap, subst, arith, length}
 use Rattle.std.specs.Prelude.{All, IsTrue, IsFalse}
-use Rattle.machine.specs.Rules.{Rules}
-use Rattle.machine.specs.State.{State}
-use Rattle.device.specs.View.{DeviceView}
+use Rattle.io_manager.proofs.Common.{Rules, State, DeviceView, Limits, EndsInRange, FitsBelow, IsInState, AreFirsts}
 use Rattle.pnp.specs.declared.State.{State as PnpState}
 use Rattle.pnp.specs.declared.State.TheVariants.{Started, RemovePending, Removing, Removed}
-use Rattle.io_manager.specs.declared.Limits.{Limits}
-use Rattle.io_manager.specs.inside.Sound.{EndsInRange, FitsBelow, IsInState}
-use Rattle.io_manager.specs.Opening.{AreFirsts}
 
 pub FitsBelow-same : (limits : Limits) (below below' : DeviceView) → below'.rules ≡ below.rules → below'.most ≡ below.most → FitsBelow limits below → FitsBelow limits below'
 FitsBelow-same limits below below' rules most h = record {

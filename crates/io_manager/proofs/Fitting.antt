@@ -1,22 +1,8 @@
 -- A request that nothing refuses fits the device below.
 use Rattle.std.proofs.Common.{◌≡◌, ◌<◌, ◌≤◌, ℕ, zero, suc, ◌+◌, ◌*◌, ◌/◌, ◌%◌, Bool, true, false, Option, Some, None, refl, sym, ◌∙◌, ap, subst, arith, length}
 use Rattle.std.specs.Prelude.{is_none, unwrap_or, ◌&&◌, ◌==◌, if◌then◌else◌}
-use Rattle.std.proofs.lemmas.Bool.{leb-false, leb-true, not-false, and_parts}
-use Rattle.std.proofs.lemmas.Bool.Decides.{nat_tests}
-use Rattle.std.proofs.Math.Nat.{mod-add-div', zero-mul, zero-div}
-use Rattle.slab.specs.Slab.{slab_len}
-use Rattle.srb.specs.declared.Kind.{Kind}
-use Rattle.srb.specs.declared.Kind.TheVariants.{Read, Write, Flush}
-use Rattle.machine.specs.declared.ClientRequest.{ClientRequest}
-use Rattle.machine.specs.Rules.{Rules, is_transfer, is_in_bounds, sectors_of}
-use Rattle.machine.specs.State.{State}
-use Rattle.machine.specs.Sending.{partition_number}
-use Rattle.device.specs.View.{DeviceView, IsBounded, transfer_length}
-use Rattle.machine.proofs.Places.{IsTakenIn, taken_in}
-use Rattle.io_manager.specs.declared.Limits.{Limits}
-use Rattle.io_manager.specs.declared.tables.Tables.{Tables}
+use Rattle.io_manager.proofs.Common.{leb-false, leb-true, not-false, and_parts, nat_tests, mod-add-div', zero-mul, zero-div, slab_len, Kind, Read, Write, Flush, ClientRequest, Rules, is_transfer, is_in_bounds, sectors_of, State, partition_number, DeviceView, IsBounded, transfer_length, IsTakenIn, taken_in, Limits, Tables, rules_of}
 use Rattle.io_manager.specs.inside.Sound.{view_of, IsSound}
-use Rattle.io_manager.specs.Opening.{rules_of}
 use Rattle.io_manager.specs.inside.Admitting.{request_of, IsKnown, IsAdmissible}
 
 after_true : (b c : Bool) → b ≡ true → (b && c) ≡ false → c ≡ false

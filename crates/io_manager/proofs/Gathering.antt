@@ -1,42 +1,14 @@
 -- One request that has ended after another is taken: the run that they make, and what holds meanwhile.
 use Rattle.std.proofs.Common.{◌≡◌, ◌≢◌, ◌<◌, ◌≤◌, ℕ, ◌+◌, Bool, true, false, List, [], ◌∷◌, ◌++◌, Option, Some, None, refl, sym, ◌∙◌, ap, subst, arith, map, length, nat_eq, eq-eqb, eqb-true}
 use Rattle.std.specs.Prelude.{IsPermutation, IsNone, All, option_map, ◌==◌}
-use Rattle.std.specs.VecDeque.{deque_len, deque_capacity}
-use Rattle.std.proofs.lemmas.Bool.Decides.{nat_tests}
-use Rattle.std.proofs.lemmas.List.Sorted.{IsPermutation-refl, IsPermutation-sym, IsPermutation-trans, IsPermutation-append_left, IsPermutation-cons, All-permutation, length_permutation}
-use Rattle.std.proofs.lemmas.List.Elements.{All-nil, All-head, All-tail, All-cons, All-append, All-weaker}
-use Rattle.slab.specs.Slab.{Slab, get, slab_len}
-use Rattle.ntstatus.specs.declared.NtStatus.{NtStatus}
-use Rattle.adapter.proofs.Joining.{moves_joined}
-use Rattle.std.specs.Global.{Box}
-use Rattle.irp.specs.declared.Irp.{Irp}
-use Rattle.device.specs.declared.climbing.Climb.TheVariants.{Finished}
+use Rattle.io_manager.proofs.Common.{deque_len, deque_capacity, nat_tests, IsPermutation-refl, IsPermutation-sym, IsPermutation-trans, IsPermutation-append_left, IsPermutation-cons, All-permutation, length_permutation, All-nil, All-head, All-tail, All-cons, All-append, All-weaker, Slab, get, slab_len, NtStatus, moves_joined, Box, Irp, Finished, Removing, Label, Rules, AnswersWith, information, AreDistinct, HavePlaces, request_number, DeviceView, Reserved, IsOrderly, payload_bytes, IsTopmost, IsStart, HandsUp, SameRooms, Settled, Run, as_label, distinct_first, IsSame-refl, IsSame-sym, Limits, Tables, Holder, QueueView, SameQueue, as_answer, unless_answered, end_labels, AreChained, AreCounted, Closes, EndsRemoval, TakesEnded, Gathers, brought, answer_for, done_of, unlabelled}
 use Rattle.irp.specs.declared.Done.{Done}
 use Rattle.pnp.specs.declared.State.{State as PnpState}
-use Rattle.pnp.specs.declared.State.TheVariants.{Removing}
-use Rattle.machine.specs.declared.Label.{Label}
-use Rattle.machine.specs.Rules.{Rules}
 use Rattle.machine.specs.State.{OpenRequest as OpenBelow, State}
-use Rattle.machine.specs.Answering.{AnswersWith, information}
-use Rattle.machine.specs.Numbers.{AreDistinct, HavePlaces, request_number}
-use Rattle.device.specs.View.{DeviceView, Reserved, IsOrderly, payload_bytes, IsTopmost}
-use Rattle.machine.specs.Sending.{IsStart}
-use Rattle.device.specs.Served.{HandsUp, SameRooms}
-use Rattle.machine.specs.Settled.{Settled}
-use Rattle.machine.specs.Step.{Run, as_label}
-use Rattle.machine.proofs.Permuting.{distinct_first}
-use Rattle.machine.proofs.Same.{IsSame-refl, IsSame-sym}
 use Rattle.io_manager.specs.declared.Answer.{Answer}
-use Rattle.io_manager.specs.declared.Limits.{Limits}
 use Rattle.io_manager.specs.declared.tables.OpenRequest.{OpenRequest}
-use Rattle.io_manager.specs.declared.tables.Tables.{Tables}
-use Rattle.io_manager.specs.Shown.{Holder}
-use Rattle.io_manager.specs.inside.Queue.{QueueView, SameQueue}
 use Rattle.io_manager.specs.inside.Ordering.{inserted, HasOtherNumber}
-use Rattle.io_manager.specs.Right.{as_answer, unless_answered, end_labels}
-use Rattle.io_manager.specs.inside.Chains.{AreChained, AreCounted}
 use Rattle.io_manager.specs.inside.Sound.{HasPlaces, WasGiven, AreApart, AreHeld, IsSpotted, IsInState, EndsIf, IsSound, IsSoundWith, SamePlaces, Collects, holder_of}
-use Rattle.io_manager.specs.inside.Completion.{Closes, EndsRemoval, TakesEnded, Gathers, brought, answer_for, done_of, unlabelled}
 use Rattle.io_manager.proofs.AdapterJoins.{labels_moved}
 use Rattle.io_manager.proofs.Askings.{KeepsAsked, KeepsAsked-same, KeepsAsked-trans, asks_same, as_many, run_keeps, AreHeld-along}
 use Rattle.io_manager.proofs.Counted.{AreCounted-ended}

@@ -1,28 +1,12 @@
 -- A handle given, or refused, is a right step.
 use Rattle.std.proofs.Common.{◌≡◌, ◌<◌, inl, inr, ℕ, ◌+◌, false, List, [], ◌∷◌, Option, Some, None, refl, sym, ◌∙◌, ap, subst, arith, length}
-use Rattle.std.specs.Prelude.{nat_le, slice_set}
-use Rattle.std.proofs.lemmas.Bool.{cases_eq, leb-false}
+use Rattle.io_manager.proofs.Common.{nat_le, slice_set, cases_eq, leb-false, NtStatus, when, first_some, DeviceView, IsSame-refl, none_first, OpenHandle, Reply, Limits, Tables, number_limit, are_used_up, handle_limit, open_refusal, ManagerView, tells_nothing, IsRight, OpenReplies, Rules, State, is_going, handle_refusal, OpensHandle}
 use Rattle.slab.specs.Slab.{Slab, get, slab_len, Updates as SlabUpdates}
-use Rattle.ntstatus.specs.declared.NtStatus.{NtStatus}
 use Rattle.ntstatus.specs.declared.NtStatus.TheVariants.{DeviceBusy as BusyStatus, DeletePending as PendingStatus, InvalidParameter as ParameterStatus}
-use Rattle.ntstatus.specs.First.{when, first_some}
-use Rattle.device.specs.View.{DeviceView}
-use Rattle.machine.proofs.Same.{IsSame-refl}
-use Rattle.ntstatus.proofs.First.{none_first}
-use Rattle.io_manager.specs.declared.OpenHandle.{OpenHandle}
-use Rattle.io_manager.specs.declared.Reply.{Reply}
 use Rattle.io_manager.specs.declared.Reply.TheVariants.{Handle as HandleReply, Ok as OkReply, Request as Requested, Answered, Refused, Ignored}
-use Rattle.io_manager.specs.declared.Limits.{Limits}
-use Rattle.io_manager.specs.declared.tables.Tables.{Tables}
-use Rattle.io_manager.specs.Calls.{number_limit, are_used_up, handle_limit, open_refusal}
-use Rattle.io_manager.specs.Shown.{ManagerView}
-use Rattle.io_manager.specs.Right.{tells_nothing, IsRight, OpenReplies}
 use Rattle.io_manager.specs.inside.Sound.{view_of, IsInState, IsOnMap, IsSound, ManagerKept}
 use Rattle.pnp.specs.declared.State.{State as PnpState}
 use Rattle.pnp.specs.declared.State.TheVariants.{Started, RemovePending, Removing, Removed}
-use Rattle.machine.specs.Rules.{Rules}
-use Rattle.machine.specs.State.{State}
-use Rattle.io_manager.specs.inside.Admitting.{is_going, handle_refusal, OpensHandle}
 use Rattle.io_manager.proofs.Chained.{AreChained-opened}
 use Rattle.io_manager.proofs.Counted.{AreCounted-opened}
 use Rattle.io_manager.proofs.Quiet.{right_alone, IsRightBy-unmoved}

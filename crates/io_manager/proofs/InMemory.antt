@@ -1,18 +1,9 @@
 -- Labels and answers as memory has them.
 use Rattle.std.proofs.Common.{◌≡◌, ℕ, Bool, true, false, IsTrue, List, [], ◌∷◌, ◌++◌, map, refl, sym, ap, ◌∙◌, if◌then◌else◌}
 use Rattle.std.specs.Prelude.{nat_lt}
-use Rattle.std.proofs.lemmas.List.{map-append}
-use Rattle.srb.specs.declared.DeviceLabel.{DeviceLabel}
-use Rattle.srb.specs.declared.DeviceLabel.TheVariants.{Start, Act, Fault, Return}
-use Rattle.machine.specs.Bare.{in_memory}
-use Rattle.machine.specs.Step.{as_label}
-use Rattle.machine.specs.declared.Label.{Label}
+use Rattle.io_manager.proofs.Common.{map-append, DeviceLabel, Start, Act, Fault, Return, in_memory, as_label, Label, answer_number, as_answer, shown_label, inserted, answer_in_memory}
 use Rattle.machine.specs.declared.Label.TheVariants.{Call, Device, Answer as AnswerLabel, Cancel, Pause, Resume, Remove, Surprise, Removed}
 use Rattle.io_manager.specs.declared.Answer.{Answer}
-use Rattle.io_manager.specs.Right.{answer_number, as_answer}
-use Rattle.io_manager.specs.inside.Completion.{shown_label}
-use Rattle.io_manager.specs.inside.Ordering.{inserted}
-use Rattle.io_manager.specs.inside.Queue.{answer_in_memory}
 
 -- where labels keep their bytes
 pub whole_label : (keeps : Bool) (label : Label) → IsTrue keeps → in_memory keeps label ≡ label

@@ -1,17 +1,9 @@
 -- Answers put in their place by number.
 use Rattle.std.proofs.Common.{◌≡◌, ◌<◌, ◌≤◌, ℕ, zero, suc, ◌+◌, ◌-◌, true, false, List, [], ◌∷◌, ◌++◌, take, drop, Option, Some, None, refl, sym, ◌∙◌, ap, arith, map, length, get_or, nat_lt}
 use Rattle.std.specs.Prelude.{IsPermutation, ◌==◌, ◌||◌, if◌then◌else◌}
-use Rattle.std.specs.List.{list_any}
+use Rattle.io_manager.proofs.Common.{list_any, drop-append_seam, take-append_seam, nat_tests, drop_all, length-drop, length-map, take_all, or-true, list_any-IsPermutation, Holder, inserted, lower_first, is_answer_of, unless_answered, answer_number, AreRising}
 use Rattle.std.proofs.Math.ListN.{get_or-map}
-use Rattle.std.proofs.Math.Seq.{drop-append_seam, take-append_seam}
-use Rattle.std.proofs.lemmas.Bool.Decides.{nat_tests}
-use Rattle.std.proofs.lemmas.List.{drop_all, length-drop, length-map, take_all}
-use Rattle.std.proofs.Math.Bool.{or-true}
-use Rattle.std.proofs.lemmas.List.Sorted.{list_any-IsPermutation}
 use Rattle.io_manager.specs.declared.Answer.{Answer}
-use Rattle.io_manager.specs.Shown.{Holder}
-use Rattle.io_manager.specs.inside.Ordering.{inserted, lower_first}
-use Rattle.io_manager.specs.Right.{is_answer_of, unless_answered, answer_number, AreRising}
 
 pub lower_first_within : (number : ℕ) (answers : List Answer) → lower_first number answers ≤ length answers
 lower_first_within number [] = omega arith

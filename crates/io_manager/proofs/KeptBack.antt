@@ -1,18 +1,8 @@
 -- Between two steps none is left to start, and none is with requests cancelled or with a pause begun.
 use Rattle.std.proofs.Common.{◌≡◌, ◌<◌, inl, inr, ℕ, ◌+◌, Bool, true, false, cond, List, [], ◌∷◌, Option, Some, None, refl, sym, ◌∙◌, ap, subst, map, length, get_or}
 use Rattle.std.specs.Prelude.{IsTrue, IsFalse, All, count_by, ◌||◌}
-use Rattle.std.proofs.lemmas.List.Sorted.{All-permutation, length_permutation}
-use Rattle.std.proofs.lemmas.List.Elements.{All-weaker, All-map}
-use Rattle.machine.specs.Rules.{Rules}
+use Rattle.io_manager.proofs.Common.{All-permutation, length_permutation, All-weaker, All-map, Rules, is_started, Cancels, Pauses, as_cancelled, beyond, held_back, Settled, IsAtWork, IsFull, IsHeldBack, started_count, Run, IsSame-sym, All-changed, as_cancel, IsKeptBack, HasNoneToStart}
 use Rattle.machine.specs.State.{OpenRequest, State, IsSame}
-use Rattle.machine.specs.Sending.{is_started}
-use Rattle.machine.specs.Holding.{Cancels, Pauses, as_cancelled, beyond, held_back}
-use Rattle.machine.specs.Settled.{Settled, IsAtWork, IsFull, IsHeldBack, started_count}
-use Rattle.machine.specs.Step.{Run}
-use Rattle.machine.proofs.Same.{IsSame-sym}
-use Rattle.machine.proofs.Permuting.{All-changed}
-use Rattle.io_manager.specs.Right.{as_cancel}
-use Rattle.io_manager.specs.inside.Sound.{IsKeptBack, HasNoneToStart}
 use Rattle.io_manager.proofs.Starting.{count_first, count_same}
 use Rattle.io_manager.proofs.Timely.{AreTimely}
 

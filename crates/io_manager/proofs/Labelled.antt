@@ -1,25 +1,8 @@
 -- A step after which no request can have ended: the device's labels alone are told, and the device stays settled.
 use Rattle.std.proofs.Common.{◌≡◌, ◌≢◌, ◌≤◌, inl, inr, ℕ, false, List, [], ◌∷◌, ◌++◌, refl, sym, ◌∙◌, ap, subst, arith, map, length}
 use Rattle.std.specs.Prelude.{IsPermutation, IsTrue, option_map}
-use Rattle.std.specs.VecDeque.{deque_capacity}
-use Rattle.std.proofs.lemmas.List.{append-nil}
-use Rattle.std.proofs.lemmas.List.Sorted.{IsPermutation-refl, length_permutation}
-use Rattle.std.proofs.lemmas.List.Elements.{All-nil}
-use Rattle.slab.specs.Slab.{get}
-use Rattle.srb.specs.declared.DeviceLabel.{DeviceLabel}
+use Rattle.io_manager.proofs.Common.{deque_capacity, append-nil, IsPermutation-refl, length_permutation, All-nil, get, DeviceLabel, Removing, Rules, Piece, State, IsSame, IsStart, IsFreshPiece, Settled, Run, as_label, IsSame-refl, IsSame-sym, Settled-same, DeviceView, room_at, IsActOrFault, fault_of, Limits, Tables}
 use Rattle.srb.specs.declared.DeviceLabel.TheVariants.{Start, Act as ActLabel, Fault, Return}
-use Rattle.pnp.specs.declared.State.TheVariants.{Removing}
-use Rattle.machine.specs.Rules.{Rules}
-use Rattle.machine.specs.State.{Piece, State, IsSame}
-use Rattle.machine.specs.Sending.{IsStart, IsFreshPiece}
-use Rattle.machine.specs.Settled.{Settled}
-use Rattle.machine.specs.Step.{Run, as_label}
-use Rattle.machine.proofs.Same.{IsSame-refl, IsSame-sym}
-use Rattle.machine.proofs.Settling.{Settled-same}
-use Rattle.device.specs.View.{DeviceView, room_at}
-use Rattle.device.specs.Served.{IsActOrFault, fault_of}
-use Rattle.io_manager.specs.declared.Limits.{Limits}
-use Rattle.io_manager.specs.declared.tables.Tables.{Tables}
 use Rattle.io_manager.specs.inside.Sound.{IsSound, TakesLabels, Collects, holder_of}
 use Rattle.io_manager.proofs.Fitted.{FitsBelow-same, no_length}
 use Rattle.io_manager.proofs.Quiet.{none_answered}

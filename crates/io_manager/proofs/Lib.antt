@@ -38,3 +38,4 @@ pub mod Marking
 pub mod Cancelled
 pub mod TakenOut
 pub mod Booking
+mod Common

@@ -1,10 +1,6 @@
 -- Chains in one list of links, as members come and leave.
 use Rattle.std.proofs.Common.{◌≡◌, ◌≢◌, ◌<◌, ◌⊎◌, inl, inr, ℕ, ◌+◌, List, refl, sym, ◌∙◌, ap, subst, arith, length}
-use Rattle.std.specs.Prelude.{slice_index, slice_set}
-use Rattle.std.proofs.lemmas.Bool.{cases_eq}
-use Rattle.std.proofs.lemmas.List.{get_or-set_same, get_or-set_other, length-set}
-use Rattle.io_manager.specs.declared.chains.Chains.{Chains}
-use Rattle.io_manager.specs.inside.Chains.{IsJoint, IsChain, chain_end, AreEnds, AreLinked, CanLeave, CanJoin, PutsLast, TakesOut}
+use Rattle.io_manager.proofs.Common.{slice_index, slice_set, cases_eq, get_or-set_same, get_or-set_other, length-set, Chains, IsJoint, IsChain, chain_end, AreEnds, AreLinked, CanLeave, CanJoin, PutsLast, TakesOut}
 use Rattle.io_manager.proofs.Chaining.{joint_next, IsChain-still, IsChain-longer, IsChain-shorter}
 
 -- THE JOINTS

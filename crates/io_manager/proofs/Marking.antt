@@ -2,34 +2,14 @@
 use Rattle.std.proofs.Common.{◌≡◌, ◌≢◌, ◌<◌, ◌≤◌, ◌⊎◌, inl, inr, ℕ, zero, suc, ◌+◌, Bool, true, false, not, List, [], ◌∷◌, ◌++◌, Option, Some, None, refl, sym, ◌∙◌, ap, subst, map, length, arith, append_assoc, cond}
 use Rattle.std.specs.Prelude.{IsPermutation, IsFalse, IsNone, All, Any, Contains, option_map, slice_set, count_by}
 use Rattle.std.specs.List.{remove}
-use Rattle.std.specs.VecDeque.{deque_len, deque_capacity}
-use Rattle.std.proofs.Math.Seq.{map-set_same}
-use Rattle.std.proofs.lemmas.Bool.{cases_eq}
-use Rattle.std.proofs.lemmas.List.{map-append, append-nil}
-use Rattle.std.proofs.lemmas.List.Sums.{sum_by-cons}
-use Rattle.std.proofs.lemmas.List.Sorted.{sum_by-IsPermutation, IsPermutation-refl, IsPermutation-sym, IsPermutation-trans, IsPermutation-map, IsPermutation-remove, All-permutation, Contains-permutation, length_permutation}
-use Rattle.std.proofs.lemmas.List.Elements.{All-nil, All-head, All-tail, All-cons, All-append, All-weaker, All-contains, Contains-append_left, Contains-append_right}
+use Rattle.io_manager.proofs.Common.{deque_len, deque_capacity, map-set_same, cases_eq, map-append, append-nil, sum_by-cons, sum_by-IsPermutation, IsPermutation-refl, IsPermutation-sym, IsPermutation-trans, IsPermutation-map, IsPermutation-remove, All-permutation, Contains-permutation, length_permutation, All-nil, All-head, All-tail, All-cons, All-append, All-weaker, All-contains, Contains-append_left, Contains-append_right, Cancels, as_cancelled, AreDistinct, request_number, Run, distinct_first, IsSame-refl, IsSame-sym, Run-append, DeviceView, Packet, IsOrderly, packet_number, IsTopmost, Limits, PacketBelow, Tables, as_marked, IsLowestToMark, MarksAt, CancelsSlot, IsUnmarked, IsBelowUnmarked, CancelsAll, of_handle, as_cancel, AreRising, IsAbove, Chains, IsNumbered, AreNumbered}
 use Rattle.slab.specs.Slab.{Slab, get, slab_len, Updates as SlabUpdates}
 use Rattle.machine.specs.State.{OpenRequest as OpenBelow, State}
-use Rattle.machine.specs.Holding.{Cancels, as_cancelled}
-use Rattle.machine.specs.Numbers.{AreDistinct, request_number}
-use Rattle.machine.specs.Step.{Run}
-use Rattle.machine.proofs.Permuting.{distinct_first}
-use Rattle.machine.proofs.Same.{IsSame-refl, IsSame-sym, Run-append}
-use Rattle.device.specs.View.{DeviceView, Packet, IsOrderly, packet_number, IsTopmost}
 use Rattle.device.specs.Served.{IsAt, IsBeside, CancelsAt, NoneToCancel}
 use Rattle.io_manager.specs.declared.Answer.{Answer}
-use Rattle.io_manager.specs.declared.Limits.{Limits}
-use Rattle.io_manager.specs.declared.cancelling.PacketBelow.{PacketBelow}
 use Rattle.io_manager.specs.declared.tables.OpenRequest.{OpenRequest}
-use Rattle.io_manager.specs.declared.tables.Tables.{Tables}
-use Rattle.io_manager.specs.inside.Cancelling.{as_marked, IsLowestToMark, MarksAt, CancelsSlot, IsUnmarked, IsBelowUnmarked, CancelsAll}
-use Rattle.io_manager.specs.inside.Chains.{of_handle}
 use Rattle.io_manager.specs.inside.Ordering.{HasOtherNumber}
-use Rattle.io_manager.specs.Right.{as_cancel, AreRising, IsAbove}
 use Rattle.io_manager.specs.inside.Sound.{holder_of, holders_of, IsHeldAt, AreHeld, IsSpotted, AreApart, IsSound}
-use Rattle.io_manager.specs.declared.chains.Chains.{Chains}
-use Rattle.io_manager.specs.inside.Chains.{IsNumbered, AreNumbered}
 use Rattle.io_manager.proofs.Linked.{AreLinked-still}
 use Rattle.io_manager.proofs.Chained.{IsKept, AreChained-less}
 use Rattle.io_manager.proofs.Counted.{AreCounted-same}

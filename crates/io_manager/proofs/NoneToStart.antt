@@ -2,24 +2,8 @@
 use Rattle.std.proofs.Common.{◌≡◌, ◌<◌, ◌≤◌, inl, inr, ℕ, suc, ◌+◌, Bool, true, false, cond, List, [], ◌∷◌, Option, Some, None, refl, sym, ◌∙◌, ap, subst, arith, map, length, get_or}
 use Rattle.std.specs.Prelude.{IsPermutation, IsTrue, IsFalse, All, Contains, count_by}
 use Rattle.std.specs.List.{list_any, remove}
-use Rattle.std.proofs.lemmas.List.Sorted.{IsPermutation-sym, IsPermutation-remove, All-permutation, Contains-permutation, length_permutation}
-use Rattle.std.proofs.lemmas.List.Elements.{All-head, All-tail, All-weaker, All-contains}
-use Rattle.ntstatus.specs.declared.NtStatus.{NtStatus}
-use Rattle.srb.specs.declared.DeviceLabel.{DeviceLabel}
-use Rattle.srb.specs.declared.DeviceLabel.TheVariants.{Start, Act, Fault, Return}
-use Rattle.device.specs.declared.climbing.Climb.{Climb}
-use Rattle.machine.specs.Rules.{Rules}
+use Rattle.io_manager.proofs.Common.{IsPermutation-sym, IsPermutation-remove, All-permutation, Contains-permutation, length_permutation, All-head, All-tail, All-weaker, All-contains, NtStatus, DeviceLabel, Start, Act, Fault, Return, Climb, Rules, HasOtherTag, IsStart, IsUnsent, Starts, is_started, sent, Answers, HasEnded, IsAtWork, IsFull, IsWithin, is_out, has_out, started_count, AreDistinct, request_number, Run, as_label, out_ends_not, distinct_first, is_first, DeviceView, IsOrderly, HandsUp, StaysIfStarted, IsKeptBack, HasNoneToStart}
 use Rattle.machine.specs.State.{Mark, Untouched, Out, Done, Failed, Back, OpenRequest, State, IsSame}
-use Rattle.machine.specs.Sending.{HasOtherTag, IsStart, IsUnsent, Starts, is_started, sent}
-use Rattle.machine.specs.Answering.{Answers, HasEnded}
-use Rattle.machine.specs.Settled.{IsAtWork, IsFull, IsWithin, is_out, has_out, started_count}
-use Rattle.machine.specs.Numbers.{AreDistinct, request_number}
-use Rattle.machine.specs.Step.{Run, as_label}
-use Rattle.machine.proofs.Commuting.{out_ends_not}
-use Rattle.machine.proofs.Permuting.{distinct_first, is_first}
-use Rattle.device.specs.View.{DeviceView, IsOrderly}
-use Rattle.device.specs.Served.{HandsUp, StaysIfStarted}
-use Rattle.io_manager.specs.inside.Sound.{IsKeptBack, HasNoneToStart}
 use Rattle.io_manager.proofs.Starting.{free_leaves, out_first, unsent_first, HasOutAt, out_along, count_first, count_same, one_more, started_along}
 
 -- WHAT HAS ENDED

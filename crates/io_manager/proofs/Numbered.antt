@@ -1,12 +1,9 @@
 -- The chains by number, as requests are opened and closed; and how the slot of a number is found.
 use Rattle.std.proofs.Common.{◌≡◌, ◌≢◌, ◌<◌, ◌≤◌, ◌⊎◌, inl, inr, ℕ, ◌+◌, ◌-◌, Option, Some, None, refl, sym, ◌∙◌, ap, subst, arith}
 use Rattle.std.specs.Prelude.{slice_index, MatchOption}
-use Rattle.std.proofs.lemmas.Nat.{mod_below}
+use Rattle.io_manager.proofs.Common.{mod_below, Chains, IsLowestFrom, IsNextFrom, IsChain, chain_end, LeadsTo, CanLeave, CanJoin, PutsLast, TakesOut, IsNumbered, AreNumbered, remainder_of, HasNone}
 use Rattle.slab.specs.Slab.{Slab, get, Updates as SlabUpdates}
-use Rattle.io_manager.specs.declared.chains.Chains.{Chains}
 use Rattle.io_manager.specs.declared.tables.OpenRequest.{OpenRequest}
-use Rattle.io_manager.specs.inside.Chains.{IsLowestFrom, IsNextFrom, IsChain, chain_end, LeadsTo, CanLeave, CanJoin, PutsLast, TakesOut, IsNumbered, AreNumbered, remainder_of}
-use Rattle.io_manager.specs.inside.Completion.{HasNone}
 use Rattle.io_manager.proofs.Linked.{end_joint, can_leave, can_join, AreLinked-less, AreLinked-more}
 use Rattle.io_manager.proofs.Chained.{same_item, not_free, was_or_new, still_there}
 

@@ -1,33 +1,12 @@
 -- A stack before its first event is in order.
 use Rattle.std.proofs.Common.{◌≡◌, ◌<◌, ◌≤◌, ◌+◌, ◌^◌, ℕ, zero, suc, false, List, [], ◌∷◌, inl, inr, All, Option, Some, None, refl, sym, ◌∙◌, ap, subst, map, length, get_or, arith}
-use Rattle.std.specs.Prelude.{IsPermutation, slice_get}
-use Rattle.std.proofs.lemmas.List.Sorted.{length_permutation}
-use Rattle.std.proofs.lemmas.List.Elements.{All-nil, All-head, All-tail, All-weaker}
-use Rattle.slab.specs.Slab.{Slab, slab_len}
-use Rattle.sector.specs.declared.Extent.{Extent}
-use Rattle.machine.specs.Map.{IsPartition}
-use Rattle.sector.specs.Extents.{sectors_in}
-use Rattle.machine.specs.Rules.{Rules}
-use Rattle.machine.specs.State.{State, Piece, opening}
-use Rattle.adapter.specs.View.{TagInUse}
+use Rattle.io_manager.proofs.Common.{IsPermutation, slice_get, length_permutation, All-nil, All-head, All-tail, All-weaker, Slab, slab_len, Extent, IsPartition, sectors_in, Rules, State, Piece, opening, TagInUse, Started, Removing, Settled, IsHeld, WaitsIfCancelled, Waits, IsAllSent, IsHeldBack, HasMore, IsAtWork, IsWithin, DeviceView, IsOrderly, piece_on_tag, use_on_tag, IsTopmost, IsSame-refl, AreWhole, IsReached, Limits, Tables, AreRising, answer_number, WritesInside, rules_of, IsUnasked, AreFor, AreEmpty, IsFirstView, IsNumbered, slice_is_part, length-part}
 use Rattle.pnp.specs.declared.State.{State as PnpState}
-use Rattle.pnp.specs.declared.State.TheVariants.{Started, Removing}
-use Rattle.machine.specs.Settled.{Settled, IsHeld, WaitsIfCancelled, Waits, IsAllSent, IsHeldBack, HasMore, IsAtWork, IsWithin}
-use Rattle.device.specs.View.{DeviceView, IsOrderly, piece_on_tag, use_on_tag, IsTopmost}
-use Rattle.machine.proofs.Same.{IsSame-refl}
-use Rattle.machine_laws.specs.Reached.{AreWhole, IsReached}
-use Rattle.io_manager.specs.declared.Limits.{Limits}
-use Rattle.io_manager.specs.declared.tables.Tables.{Tables}
 use Rattle.io_manager.specs.declared.Answer.{Answer}
 use Rattle.io_manager.specs.declared.tables.OpenRequest.{OpenRequest}
-use Rattle.io_manager.specs.Right.{AreRising, answer_number}
-use Rattle.io_manager.specs.inside.Inside.{WritesInside}
 use Rattle.io_manager.specs.inside.Sound.{shown_state, is_gone, holders_of, view_of, EndsInRange, FitsBelow, HasNumbers, IsHeldAt, AreHeld, HasPlaces, IsSpotted, WasGiven, IsInState, IsSound, ManagerKept}
-use Rattle.io_manager.specs.Opening.{rules_of, IsUnasked, AreFor, AreEmpty, IsFirstView}
-use Rattle.io_manager.specs.inside.Chains.{IsNumbered}
 use Rattle.io_manager.proofs.Linked.{AreLinked-empty}
 use Rattle.io_manager.proofs.Chained.{none_there, AreChained-empty}
-use Rattle.machine_laws.proofs.DiskMap.{slice_is_part, length-part}
 
 -- the arrays of a map's partitions are whole
 arrays_whole : (sectors : List (List ℕ)) (rules : Rules) (partitions : List Extent) → rules.partitions ≡ partitions → All (IsPartition (length sectors)) partitions

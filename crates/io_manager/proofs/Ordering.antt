@@ -1,25 +1,8 @@
 -- The order of answers: starts may come before them, and they may stand by their numbers.
-use Rattle.std.proofs.Common.{◌≡◌, ◌≢◌, ◌<◌, inl, inr, ℕ, Bool, true, false, List, [], ◌∷◌, ◌++◌, refl, sym, subst, arith, map}
+use Rattle.io_manager.proofs.Common.{◌≡◌, ◌≢◌, ◌<◌, inl, inr, ℕ, Bool, true, false, List, [], ◌∷◌, ◌++◌, refl, sym, subst, arith, map, nat_tests, map-append, IsPermutation-refl, IsPermutation-sym, IsPermutation-trans, IsPermutation-cons, IsPermutation-map, All-permutation, All-nil, All-head, All-tail, All-cons, All-weaker, NtStatus, DeviceLabel, Start, Act, Fault, Return, Label, Rules, State, AnswersRefused, Starts, sent, IsStart, AnswersWith, Run, as_label, IsSame-refl, IsSame-sym, AnswersWith-same, Run-same, Run-append, swapped, Start-first, Answers-swap, HasPlaces-with_marks, as_answer, answer_number, IsAbove, AreRising}
 use Rattle.std.specs.Prelude.{IsPermutation, IsNone, All, nat_lt, if◌then◌else◌}
-use Rattle.std.proofs.lemmas.Bool.Decides.{nat_tests}
-use Rattle.std.proofs.lemmas.List.{map-append}
-use Rattle.std.proofs.lemmas.List.Sorted.{IsPermutation-refl, IsPermutation-sym, IsPermutation-trans, IsPermutation-cons, IsPermutation-map, All-permutation}
-use Rattle.std.proofs.lemmas.List.Elements.{All-nil, All-head, All-tail, All-cons, All-weaker}
-use Rattle.ntstatus.specs.declared.NtStatus.{NtStatus}
-use Rattle.srb.specs.declared.DeviceLabel.{DeviceLabel}
-use Rattle.srb.specs.declared.DeviceLabel.TheVariants.{Start, Act, Fault, Return}
-use Rattle.machine.specs.declared.Label.{Label}
-use Rattle.machine.specs.Rules.{Rules}
-use Rattle.machine.specs.State.{State}
-use Rattle.machine.specs.Calling.{AnswersRefused}
-use Rattle.machine.specs.Sending.{Starts, sent, IsStart}
-use Rattle.machine.specs.Answering.{AnswersWith}
 use Rattle.machine.specs.Numbers.{HasPlaces, HavePlaces}
-use Rattle.machine.specs.Step.{Run, as_label}
-use Rattle.machine.proofs.Same.{IsSame-refl, IsSame-sym, AnswersWith-same, Run-same, Run-append}
-use Rattle.machine.proofs.Commuting.{swapped, Start-first, Answers-swap, HasPlaces-with_marks}
 use Rattle.io_manager.specs.declared.Answer.{Answer}
-use Rattle.io_manager.specs.Right.{as_answer, answer_number, IsAbove, AreRising}
 use Rattle.io_manager.specs.inside.Ordering.{inserted, HasOtherNumber}
 
 module _ (rules : Rules) where

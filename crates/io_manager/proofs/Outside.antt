@@ -1,38 +1,10 @@
 -- A piece writes inside a partition, so no step writes outside all of them.
 use Rattle.std.proofs.Common.{◌≡◌, ◌<◌, ◌≤◌, inl, inr, ℕ, zero, suc, ◌+◌, Bool, true, false, List, [], ◌∷◌, Option, Some, None, refl, sym, ◌∙◌, ap, subst, arith, map, length, get_or}
 use Rattle.std.specs.Prelude.{IsPermutation, All, Any, slice_get, is_some, unwrap_or, if◌then◌else◌}
-use Rattle.std.proofs.lemmas.Bool.{cases_lt}
-use Rattle.std.proofs.lemmas.Option.{slice_get-get_or, slice_get_past}
-use Rattle.std.proofs.lemmas.List.Sorted.{IsPermutation-sym, All-permutation}
-use Rattle.std.proofs.lemmas.List.Elements.{All-head, All-tail, All-cons}
-use Rattle.sector.specs.declared.Extent.{Extent}
-use Rattle.sector.specs.Extents.{IsIn}
-use Rattle.sector.specs.Splice.{splice}
-use Rattle.sector.proofs.Splicing.{length-splice}
-use Rattle.cdb.specs.declared.Cdb.{Cdb}
-use Rattle.cdb.specs.declared.Cdb.TheVariants.{Read10, Write10, Sync10, ReadCapacity10, Read16, Write16, Sync16, ReadCapacity16}
-use Rattle.cdb.specs.Meaning.{Means, AsksToWrite}
-use Rattle.cdb.proofs.Once.{means_once}
-use Rattle.srb.specs.declared.DeviceLabel.{DeviceLabel}
-use Rattle.srb.specs.declared.DeviceLabel.TheVariants.{Start, Act, Fault, Return}
-use Rattle.adapter.specs.View.{AdapterView, TagInUse, ReservesMore, NotesReset, met_by_reset, MovesOn, MovesByAll, acted, faulted, in_use_from}
-use Rattle.adapter.specs.Performing.{CarriesOut}
-use Rattle.srb.specs.declared.Srb.{Srb}
-use Rattle.srb.specs.declared.Kind.{Kind}
-use Rattle.srb.specs.declared.Kind.TheVariants.{Read, Write, Flush}
-use Rattle.machine.specs.declared.ClientRequest.{ClientRequest}
-use Rattle.machine.specs.Rules.{Rules, first_sector, place_count, is_transfer, sectors_of, home}
+use Rattle.io_manager.proofs.Common.{cases_lt, slice_get-get_or, slice_get_past, IsPermutation-sym, All-permutation, All-head, All-tail, All-cons, Extent, IsIn, splice, length-splice, Cdb, Read10, Write10, Sync10, ReadCapacity10, Read16, Write16, Sync16, ReadCapacity16, Means, AsksToWrite, means_once, DeviceLabel, Start, Act, Fault, Return, AdapterView, TagInUse, ReservesMore, NotesReset, met_by_reset, MovesOn, MovesByAll, acted, faulted, in_use_from, CarriesOut, Srb, Kind, Read, Write, Flush, ClientRequest, Rules, first_sector, place_count, is_transfer, sectors_of, home, Starts, command_for, partition_number, DeviceStep, Run, as_label, past, get_or-splice_below, get_or-splice_above, IsSized, KeepsOutside, ReservesFor, LieIn, WritesInside, AllWriteInside}
 use Rattle.machine.specs.State.{OpenRequest, State}
-use Rattle.machine.specs.Sending.{Starts, command_for, partition_number}
-use Rattle.machine.specs.Step.{DeviceStep, Run, as_label}
-use Rattle.machine.specs.Solo.{past}
-use Rattle.machine.proofs.Placed.{get_or-splice_below, get_or-splice_above}
-use Rattle.machine_laws.proofs.Serving.{IsSized}
 use Rattle.machine_laws.proofs.Sound.{IsSound, IsSound-Step}
-use Rattle.device.specs.View.{KeepsOutside}
-use Rattle.io_manager.specs.Right.{ReservesFor}
 use Rattle.io_manager.proofs.AdapterJoins.{reserves_more}
-use Rattle.io_manager.specs.inside.Inside.{LieIn, WritesInside, AllWriteInside}
 use Rattle.io_manager.proofs.Askings.{all_asked, device_keeps}
 
 -- A LIST OF PARTITIONS

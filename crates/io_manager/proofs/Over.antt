@@ -1,26 +1,8 @@
 -- A step of the machine below is one of the manager's: its numbers, its end of a removal and its count of open requests change nothing.
 use Rattle.std.proofs.Common.{◌≡◌, inl, inr, ℕ, Bool, List, [], ◌∷◌, Option, refl, subst, map}
-use Rattle.std.proofs.lemmas.List.Elements.{All-weaker}
-use Rattle.ntstatus.specs.declared.NtStatus.{NtStatus}
-use Rattle.sector.specs.declared.Extent.{Extent}
-use Rattle.cdb.specs.Meaning.{IsPlain, Means}
-use Rattle.srb.specs.declared.DeviceLabel.{DeviceLabel}
-use Rattle.srb.specs.declared.DeviceLabel.TheVariants.{Start, Act, Fault, Return}
-use Rattle.adapter.specs.View.{AdapterView}
-use Rattle.srb.specs.declared.Kind.{Kind}
-use Rattle.srb.specs.declared.Kind.TheVariants.{Read, Write, Flush}
-use Rattle.machine.specs.declared.ClientRequest.{ClientRequest}
-use Rattle.machine.specs.Rules.{Rules}
+use Rattle.io_manager.proofs.Common.{All-weaker, NtStatus, Extent, IsPlain, Means, DeviceLabel, Start, Act, Fault, Return, AdapterView, Kind, Read, Write, Flush, ClientRequest, Rules, Transfers, command_for, Answers, AnswersWith, Cause, HasEnded, HasCause, Cancels, Settled, IsAllSent, HasGone, DeviceStep, Run, as_label, IsRead, as_answer, as_cancel, shown_state}
 use Rattle.machine.specs.State.{Mark, Untouched, Out, Done, Failed, Back, OpenRequest, State, IsSame}
-use Rattle.machine.specs.Sending.{Transfers, command_for}
-use Rattle.machine.specs.Answering.{Answers, AnswersWith, Cause, HasEnded, HasCause}
-use Rattle.machine.specs.Holding.{Cancels}
-use Rattle.machine.specs.Settled.{Settled, IsAllSent, HasGone}
-use Rattle.machine.specs.Step.{DeviceStep, Run, as_label}
-use Rattle.device.specs.View.{IsRead}
 use Rattle.io_manager.specs.declared.Answer.{Answer}
-use Rattle.io_manager.specs.Right.{as_answer, as_cancel}
-use Rattle.io_manager.specs.inside.Sound.{shown_state}
 
 -- two states that are the same are shown the same
 pub shown_same : (next : ℕ) (removed : Bool) (s t : State) → IsSame s t → IsSame (shown_state next removed s) (shown_state next removed t)

@@ -1,20 +1,7 @@
 -- Steps in which the device below does nothing: what is told of them, and how the tables stay sound.
 use Rattle.std.proofs.Common.{◌≡◌, ℕ, Bool, false, List, [], ◌++◌, Option, Some, None, refl, sym, ◌∙◌, ap, subst}
-use Rattle.std.specs.Prelude.{IsPermutation}
-use Rattle.std.proofs.lemmas.List.{append-nil}
-use Rattle.std.proofs.lemmas.List.Sorted.{IsPermutation-refl}
-use Rattle.sector.specs.declared.Extent.{Extent}
-use Rattle.adapter.proofs.Joining.{reserves_none}
-use Rattle.machine.specs.declared.Label.{Label}
-use Rattle.machine.specs.State.{State}
-use Rattle.machine.specs.Step.{Run}
-use Rattle.device.specs.View.{DeviceView}
-use Rattle.device.specs.Served.{Reserves}
-use Rattle.machine.proofs.Same.{IsSame-refl}
+use Rattle.io_manager.proofs.Common.{IsPermutation, append-nil, IsPermutation-refl, Extent, reserves_none, Label, State, Run, DeviceView, Reserves, IsSame-refl, OpenHandle, ManagerView, Holder, Told, ReservesFor, tells_nothing, unless_answered, IsRightBy}
 use Rattle.io_manager.specs.declared.Answer.{Answer}
-use Rattle.io_manager.specs.declared.OpenHandle.{OpenHandle}
-use Rattle.io_manager.specs.Shown.{ManagerView, Holder}
-use Rattle.io_manager.specs.Right.{Told, ReservesFor, tells_nothing, unless_answered, IsRightBy}
 
 pub none_answered : (holder : Option Holder) → holder ≡ unless_answered [] holder
 none_answered None = refl

@@ -1,16 +1,8 @@
 -- A refused call and its answer change the next number alone.
 use Rattle.std.proofs.Common.{◌≡◌, inl, inr, ℕ, ◌+◌, Bool, [], ◌∷◌, Option, Some, None, refl, sym, subst}
-use Rattle.std.specs.Prelude.{IsNone}
-use Rattle.std.proofs.lemmas.List.Sorted.{IsPermutation-refl}
-use Rattle.ntstatus.specs.declared.NtStatus.{NtStatus}
-use Rattle.machine.specs.declared.ClientRequest.{ClientRequest}
+use Rattle.io_manager.proofs.Common.{IsNone, IsPermutation-refl, NtStatus, ClientRequest, Rules, State, Run, IsSame-refl, shown_state}
 use Rattle.machine.specs.declared.Label.TheVariants.{Call, Answer}
-use Rattle.machine.specs.Rules.{Rules}
-use Rattle.machine.specs.State.{State}
 use Rattle.machine.specs.Calling.{refusal, Opens, Admits, Calls}
-use Rattle.machine.specs.Step.{Run}
-use Rattle.machine.proofs.Same.{IsSame-refl}
-use Rattle.io_manager.specs.inside.Sound.{shown_state}
 
 none_is : {X : Type 0} (o : Option X) → IsNone o → o ≡ None
 none_is None h = refl

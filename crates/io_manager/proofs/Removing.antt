@@ -1,40 +1,16 @@
 -- Plug and play calls as steps of the manager.
 use Rattle.pnp.specs.declared.InvalidDeviceRequest.{InvalidDeviceRequest as InvalidDeviceRequestFault}
-use Rattle.std.specs.Result.{result_ok}
+use Rattle.io_manager.proofs.Common.{result_ok, IsPermutation-sym, IsPermutation-refl, IsPermutation-map, All-permutation, All-head, All-append, Slab, DeviceLabel, Start, Act, Fault, Return, AdapterView, MovesByAll, Label, Pause, Resume, Remove, Surprise, Rules, IsStart, beyond, held_back, as_timely, FreeStep, Run, as_label, IsSame-refl, DeviceView, IsTopmost, SameRooms, IsBeside, PausesAll, ResumesAll, DrainsAll, OpenHandle, Limits, InvalidDeviceRequest, Tables, ManagerView, Told, SameHandles, tells_nothing, TellsOne, pnp_state, IsInvalid, IsRecalled, PnpReplies, RecallReplies, IsRight, SameQueue, RequestReplies, label_of, MayDo, Does, rules_of}
 use Rattle.std.proofs.Common.{◌≡◌, ◌≤◌, Result, Ok, Err, inl, inr, ℕ, Bool, true, false, List, [], ◌∷◌, ◌++◌, Option, Some, None, refl, sym, ◌∙◌, ap, subst, map}
 use Rattle.std.specs.Prelude.{IsPermutation, IsTrue, IsFalse, All, if◌then◌else◌}
-use Rattle.std.proofs.lemmas.List.Sorted.{IsPermutation-sym, IsPermutation-refl, IsPermutation-map, All-permutation}
-use Rattle.std.proofs.lemmas.List.Elements.{All-head, All-append}
-use Rattle.slab.specs.Slab.{Slab}
-use Rattle.srb.specs.declared.DeviceLabel.{DeviceLabel}
-use Rattle.srb.specs.declared.DeviceLabel.TheVariants.{Start, Act, Fault, Return}
-use Rattle.adapter.specs.View.{AdapterView, MovesByAll}
-use Rattle.machine.specs.declared.Label.{Label}
-use Rattle.machine.specs.declared.Label.TheVariants.{Pause, Resume, Remove, Surprise}
-use Rattle.machine.specs.Rules.{Rules}
 use Rattle.machine.specs.State.{OpenRequest, State, IsSame}
-use Rattle.machine.specs.Sending.{IsStart}
-use Rattle.machine.specs.Holding.{beyond, held_back, as_timely}
-use Rattle.machine.specs.Step.{FreeStep, Run, as_label}
-use Rattle.machine.proofs.Same.{IsSame-refl}
-use Rattle.device.specs.View.{DeviceView, IsTopmost}
-use Rattle.device.specs.Served.{SameRooms, IsBeside, PausesAll, ResumesAll, DrainsAll}
 use Rattle.pnp.specs.declared.State.{State as PnpState}
 use Rattle.pnp.specs.declared.State.TheVariants.{Started, RemovePending, Removing, Removed}
 use Rattle.pnp.specs.declared.Request.{Request}
 use Rattle.pnp.specs.declared.Request.TheVariants.{QueryRemove as QueryRequest, CancelRemove as CancelRequest, Remove as RemoveRequest, SurpriseRemove as SurpriseRequest}
 use Rattle.pnp.specs.Table.{Event, QueryRemove, Remove as RemoveDevice, SurpriseRemove, event_of, next}
-use Rattle.io_manager.specs.declared.OpenHandle.{OpenHandle}
-use Rattle.io_manager.specs.declared.Limits.{Limits}
-use Rattle.io_manager.specs.declared.Refusal.TheVariants.{InvalidDeviceRequest}
 use Rattle.io_manager.specs.declared.Reply.TheVariants.{Ok as OkReply, Refused}
-use Rattle.io_manager.specs.declared.tables.Tables.{Tables}
-use Rattle.io_manager.specs.Shown.{ManagerView}
-use Rattle.io_manager.specs.Right.{Told, SameHandles, tells_nothing, TellsOne, pnp_state, IsInvalid, IsRecalled, PnpReplies, RecallReplies, IsRight}
-use Rattle.io_manager.specs.inside.Queue.{SameQueue}
-use Rattle.io_manager.specs.inside.Removal.{RequestReplies, label_of, MayDo, Does}
 use Rattle.io_manager.specs.inside.Sound.{shown_state, is_gone, view_of, IsSpotted, IsInState, IsSound, HasNoneToStart, Collects, ManagerKept}
-use Rattle.io_manager.specs.Opening.{rules_of}
 use Rattle.io_manager.proofs.AdapterJoins.{labels_moved}
 use Rattle.io_manager.proofs.Askings.{AsksSame, asked, AreHeld-along}
 use Rattle.io_manager.proofs.Fitted.{FitsBelow-same}

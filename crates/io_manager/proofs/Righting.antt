@@ -2,32 +2,12 @@
 use Rattle.std.proofs.Common.{◌≡◌, inl, ℕ, Bool, true, false, List, [], ◌++◌, Option, None, refl, sym, ◌∙◌, ap, subst, map, length, arith}
 use Rattle.std.specs.Prelude.{IsPermutation, All, option_map, slice_index_or}
 use Rattle.std.proofs.Math.ListN.{get_or-map}
-use Rattle.std.proofs.lemmas.List.{map-append}
-use Rattle.std.proofs.lemmas.List.Sorted.{All-permutation, IsPermutation-sym}
-use Rattle.std.proofs.lemmas.List.Elements.{All-weaker}
-use Rattle.slab.specs.Slab.{Slab}
-use Rattle.sector.specs.declared.Extent.{Extent}
-use Rattle.srb.specs.declared.DeviceLabel.{DeviceLabel}
-use Rattle.adapter.specs.View.{AdapterView, MovesByAll}
-use Rattle.adapter.proofs.Joining.{moves_joined}
-use Rattle.machine.specs.declared.Label.{Label}
-use Rattle.machine.specs.Rules.{Rules}
+use Rattle.io_manager.proofs.Common.{map-append, All-permutation, IsPermutation-sym, All-weaker, Slab, Extent, DeviceLabel, AdapterView, MovesByAll, moves_joined, Label, Rules, Run, as_label, DeviceView, KeepsOutside, IsTopmost, Moves, IsSame-refl, Run-append, IsReached, IsSound-Run, IsSound-reached, Limits, Tables, AllWriteInside, as_answer, labels_of, end_labels, Told, ReservesFor, AdapterMoves, IsRightBy, unless_answered, rules_of}
 use Rattle.machine.specs.State.{OpenRequest, State}
-use Rattle.machine.specs.Step.{Run, as_label}
-use Rattle.device.specs.View.{DeviceView, KeepsOutside, IsTopmost}
-use Rattle.device.specs.Served.{Moves}
-use Rattle.machine.proofs.Same.{IsSame-refl, Run-append}
-use Rattle.machine_laws.specs.Reached.{IsReached}
-use Rattle.machine_laws.proofs.Sound.{IsSound-Run, IsSound-reached}
 use Rattle.pnp.specs.declared.State.{State as PnpState}
 use Rattle.pnp.specs.declared.State.TheVariants.{Removed}
-use Rattle.io_manager.specs.declared.Limits.{Limits}
 use Rattle.io_manager.specs.declared.tables.OpenRequest.{OpenRequest as OpenEntry}
-use Rattle.io_manager.specs.declared.tables.Tables.{Tables}
-use Rattle.io_manager.specs.inside.Inside.{AllWriteInside}
-use Rattle.io_manager.specs.Right.{as_answer, labels_of, end_labels, Told, ReservesFor, AdapterMoves, IsRightBy, unless_answered}
 use Rattle.io_manager.specs.inside.Sound.{shown_state, is_gone, holder_of, holders_of, view_of, IsHeldAt, AreHeld, IsSpotted, IsInState, EndsIf, IsSound, AsksInside, Collects}
-use Rattle.io_manager.specs.Opening.{rules_of}
 use Rattle.io_manager.proofs.Over.{labels_over, answers_over}
 use Rattle.io_manager.proofs.Ordering.{Run-split}
 use Rattle.io_manager.proofs.Outside.{HasPartition, first_inside, stays_inside}

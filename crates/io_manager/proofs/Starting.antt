@@ -1,32 +1,9 @@
 -- What a start does, and with a tag free fewer pieces are out than there are tags.
 use Rattle.std.proofs.Common.{◌≡◌, ◌≢◌, ◌<◌, ◌≤◌, ℕ, zero, suc, ◌+◌, ◌-◌, Bool, true, false, not, cond, List, [], ◌∷◌, refl, sym, ◌∙◌, ap, subst, arith, map, length, get_or, replicate, inl, inr}
 use Rattle.std.specs.Prelude.{IsPermutation, IsFalse, All, AllPairs, Contains, count_by, slice_range, eqb}
-use Rattle.std.specs.List.{IsDistinct, list_all, range_with_len}
-use Rattle.std.specs.Set.{is_member}
-use Rattle.std.proofs.lemmas.Bool.{cases_lt}
-use Rattle.std.proofs.lemmas.Bool.Decides.{Decides-eqb}
-use Rattle.std.proofs.lemmas.Cmp.{nat_eq_equiv}
+use Rattle.io_manager.proofs.Common.{IsDistinct, list_all, range_with_len, is_member, cases_lt, Decides-eqb, nat_eq_equiv, get_or-between, length-between, sum_by-cons, IsPermutation-sym, IsPermutation-map, All-permutation, Contains-permutation, length_permutation, sum_by-IsPermutation, All-head, All-tail, All-cons, All-map, All-contains, AllPairs-cons, length-range_with_len, get_or-range_with_len, length-le_from_is_member, is_member-Decides, IsDistinct-from_AllPairs, Extent, splice, DeviceLabel, Start, Act, Fault, Return, TagInUse, HaveOtherTags, tag_of, Rules, HasOtherTag, IsSendable, IsStart, IsUnsent, Starts, is_started, is_untouched, sent, started_count, Run, as_label, get_or-splice_inside, get_or-splice_below, get_or-splice_above, DeviceView, IsOrderly, OnTag, piece_on_tag, use_on_tag}
 use Rattle.std.proofs.lemmas.List.{length-map, length-replicate, get_or-map, get_or-replicate}
-use Rattle.std.proofs.lemmas.List.Edits.{get_or-between, length-between}
-use Rattle.std.proofs.lemmas.List.Sums.{sum_by-cons}
-use Rattle.std.proofs.lemmas.List.Sorted.{IsPermutation-sym, IsPermutation-map, All-permutation, Contains-permutation, length_permutation, sum_by-IsPermutation}
-use Rattle.std.proofs.lemmas.List.Elements.{All-head, All-tail, All-cons, All-map, All-contains}
-use Rattle.std.proofs.lemmas.List.Kept.{AllPairs-cons}
-use Rattle.std.proofs.lemmas.List.FromFn.{length-range_with_len, get_or-range_with_len}
-use Rattle.std.proofs.lemmas.Map.Made.{length-le_from_is_member, is_member-Decides, IsDistinct-from_AllPairs}
-use Rattle.sector.specs.declared.Extent.{Extent}
-use Rattle.sector.specs.Splice.{splice}
-use Rattle.srb.specs.declared.DeviceLabel.{DeviceLabel}
-use Rattle.srb.specs.declared.DeviceLabel.TheVariants.{Start, Act, Fault, Return}
-use Rattle.adapter.specs.View.{TagInUse, HaveOtherTags}
-use Rattle.adapter.specs.Calls.{tag_of}
-use Rattle.machine.specs.Rules.{Rules}
 use Rattle.machine.specs.State.{Mark, Untouched, Out, Done, Failed, Back, OpenRequest, Piece, State}
-use Rattle.machine.specs.Sending.{HasOtherTag, IsSendable, IsStart, IsUnsent, Starts, is_started, is_untouched, sent}
-use Rattle.machine.specs.Settled.{started_count}
-use Rattle.machine.specs.Step.{Run, as_label}
-use Rattle.machine.proofs.Placed.{get_or-splice_inside, get_or-splice_below, get_or-splice_above}
-use Rattle.device.specs.View.{DeviceView, IsOrderly, OnTag, piece_on_tag, use_on_tag}
 
 -- A FREE TAG
 

@@ -2,26 +2,12 @@
 use Rattle.std.proofs.Common.{◌≡◌, ◌≢◌, ◌<◌, ℕ, Bool, true, false, List, [], ◌∷◌, ◌++◌, Option, Some, None, refl, sym, ◌∙◌, ap, subst, map}
 use Rattle.std.specs.Prelude.{All, Contains, IsTrue, IsFalse, option_map, slice_index_or}
 use Rattle.std.proofs.Math.ListN.{get_or-map}
-use Rattle.std.proofs.lemmas.List.Elements.{All-weaker, All-map, All-nil, All-cons, All-head, All-tail}
-use Rattle.std.proofs.lemmas.List.Sorted.{All-permutation, IsPermutation-sym}
-use Rattle.slab.specs.Slab.{Slab, get}
-use Rattle.adapter.specs.View.{AdapterView, IsInOrder}
+use Rattle.io_manager.proofs.Common.{All-weaker, All-map, All-nil, All-cons, All-head, All-tail, All-permutation, IsPermutation-sym, Slab, get, AdapterView, IsInOrder, request_number, Settled, IsFinished, DeviceView, IsRead, OnTag, piece_on_tag, use_on_tag, Reserves, Run-append, IsReached, Limits, Tables, ManagerView, Holder, Told, HasSlot, IsOnTag, IsRightBy, FitsTogether, rules_of}
 use Rattle.machine.specs.State.{OpenRequest, Piece, State}
-use Rattle.machine.specs.Numbers.{request_number}
-use Rattle.machine.specs.Settled.{Settled, IsFinished}
-use Rattle.device.specs.View.{DeviceView, IsRead, OnTag, piece_on_tag, use_on_tag}
-use Rattle.device.specs.Served.{Reserves}
-use Rattle.machine.proofs.Same.{Run-append}
-use Rattle.machine_laws.specs.Reached.{IsReached}
 use Rattle.pnp.specs.declared.State.{State as PnpState}
 use Rattle.pnp.specs.declared.State.TheVariants.{Started, RemovePending, Removing, Removed}
-use Rattle.io_manager.specs.declared.Limits.{Limits}
 use Rattle.io_manager.specs.declared.tables.OpenRequest.{OpenRequest as OpenEntry}
-use Rattle.io_manager.specs.declared.tables.Tables.{Tables}
-use Rattle.io_manager.specs.Shown.{ManagerView, Holder}
-use Rattle.io_manager.specs.Right.{Told, HasSlot, IsOnTag, IsRightBy, FitsTogether}
 use Rattle.io_manager.specs.inside.Sound.{is_gone, holder_of, holders_of, view_of, IsHeldAt, IsInState, EndsIf, IsSound, AsksInside, Collects, ManagerKept}
-use Rattle.io_manager.specs.Opening.{rules_of}
 use Rattle.io_manager.proofs.Over.{settled_over, read_over}
 
 -- THE SLOTS OF OPEN REQUESTS

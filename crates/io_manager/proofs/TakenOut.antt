@@ -1,24 +1,11 @@
 -- One of the answers that wait is taken out, or the earliest label.
 use Rattle.std.proofs.Common.{◌≡◌, ◌<◌, ◌≤◌, ℕ, zero, suc, Bool, IsTrue, refl, List, [], ◌∷◌, None, sym, ap, ◌∙◌, subst, arith, map}
 use Rattle.std.specs.Prelude.{All, Option, Some, OnSome, MatchOption, remove, length, option_copied}
-use Rattle.std.specs.List.{HoldsAt}
-use Rattle.std.specs.Borrow.{Bor}
-use Rattle.std.specs.VecDeque.{deque_len, deque_capacity}
-use Rattle.std.proofs.lemmas.List.Elements.{All-head, All-tail, All-cons, All-nil}
-use Rattle.slab.specs.Slab.{Slab}
-use Rattle.device.specs.View.{DeviceView}
+use Rattle.io_manager.proofs.Common.{HoldsAt, Bor, deque_len, deque_capacity, All-head, All-tail, All-cons, All-nil, Slab, DeviceView, Limits, Tables, in_memory, Label, ManagerView, QueueView, SameQueue, TakesFirst, AreRising, IsAbove, IsNextAnswer, TakesLabel, TakesShown, answer_number, WasGiven, AreApart, ManagerKept, view_of}
 use Rattle.io_manager.specs.declared.Answer.{Answer}
-use Rattle.io_manager.specs.declared.Limits.{Limits}
 use Rattle.io_manager.specs.declared.tables.OpenRequest.{OpenRequest}
-use Rattle.io_manager.specs.declared.tables.Tables.{Tables}
-use Rattle.machine.specs.Bare.{in_memory}
-use Rattle.machine.specs.declared.Label.{Label}
-use Rattle.io_manager.specs.Shown.{ManagerView}
 use Rattle.io_manager.proofs.InMemory.{whole_label}
 use Rattle.io_manager.specs.inside.Ordering.{HasOtherNumber}
-use Rattle.io_manager.specs.inside.Queue.{QueueView, SameQueue, TakesFirst}
-use Rattle.io_manager.specs.Right.{AreRising, IsAbove, IsNextAnswer, TakesLabel, TakesShown, answer_number}
-use Rattle.io_manager.specs.inside.Sound.{WasGiven, AreApart, ManagerKept, view_of}
 
 all_but : {X : Type 0} (P : X → Type 0) (xs : List X) (at : ℕ) → All P xs → All P (remove xs at)
 all_but P [] zero all = All-nil _

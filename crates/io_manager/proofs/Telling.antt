@@ -1,13 +1,5 @@
 -- A step that tells labels of its own, and then collects, is right and keeps what holds between two steps.
-use Rattle.std.proofs.Common.{◌≡◌, false, List, None, refl, sym, subst}
-use Rattle.srb.specs.declared.DeviceLabel.{DeviceLabel}
-use Rattle.adapter.specs.View.{MovesByAll}
-use Rattle.machine.specs.declared.Label.{Label}
-use Rattle.device.specs.View.{DeviceView}
-use Rattle.io_manager.specs.declared.Limits.{Limits}
-use Rattle.io_manager.specs.declared.tables.Tables.{Tables}
-use Rattle.io_manager.specs.Shown.{ManagerView}
-use Rattle.io_manager.specs.Right.{Told, IsRight, IsRightBy}
+use Rattle.io_manager.proofs.Common.{◌≡◌, false, List, None, refl, sym, subst, DeviceLabel, MovesByAll, Label, DeviceView, Limits, Tables, ManagerView, Told, IsRight, IsRightBy}
 use Rattle.io_manager.specs.inside.Sound.{view_of, IsSound, AsksInside, Collects, ManagerKept}
 use Rattle.io_manager.proofs.Righting.{IsServed, told_by, IsRightBy-served}
 use Rattle.io_manager.proofs.Stepping.{ManagerKept-collected}

@@ -1,22 +1,9 @@
 -- Unless paused or removing, no request is late, at each moment that a run reaches.
 use Rattle.std.proofs.Common.{inl, inr, ℕ, List, [], ◌∷◌, Option, Some, None, refl, subst}
 use Rattle.std.specs.Prelude.{IsFalse, All}
-use Rattle.std.proofs.lemmas.List.Sorted.{IsPermutation-sym, All-permutation}
-use Rattle.std.proofs.lemmas.List.Elements.{All-nil, All-cons, All-tail, All-map}
-use Rattle.ntstatus.specs.declared.NtStatus.{NtStatus}
-use Rattle.srb.specs.declared.DeviceLabel.TheVariants.{Start, Act, Fault, Return}
-use Rattle.machine.specs.declared.ClientRequest.{ClientRequest}
-use Rattle.machine.specs.declared.Label.{Label}
+use Rattle.io_manager.proofs.Common.{IsPermutation-sym, All-permutation, All-nil, All-cons, All-tail, All-map, NtStatus, Start, Act, Fault, Return, ClientRequest, Label, Rules, State, IsSame, opening, as_timely, IsTimely, FreeStep, OwingStep, Run, All-changed, IsSame-sym, IsReached}
 use Rattle.machine.specs.declared.Label.TheVariants.{Call, Device, Answer, Cancel, Pause, Resume, Remove, Surprise, Removed}
-use Rattle.machine.specs.Rules.{Rules}
-use Rattle.machine.specs.State.{State, IsSame, opening}
 use Rattle.machine.specs.Calling.{refusal, Admits}
-use Rattle.machine.specs.Holding.{as_timely}
-use Rattle.machine.specs.Window.{IsTimely}
-use Rattle.machine.specs.Step.{FreeStep, OwingStep, Run}
-use Rattle.machine.proofs.Permuting.{All-changed}
-use Rattle.machine.proofs.Same.{IsSame-sym}
-use Rattle.machine_laws.specs.Reached.{IsReached}
 
 abbrev pub AreTimely : State → Type 0
 AreTimely s = IsFalse s.paused → IsFalse s.removing → All IsTimely s.requests

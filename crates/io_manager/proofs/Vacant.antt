@@ -1,15 +1,8 @@
 -- That no spot below is reserved, over what is done there.
 use Rattle.std.proofs.Common.{◌≡◌, inl, inr, ℕ, Bool, List, Option, None, Some, Result, Ok, Err, refl, sym, ◌∙◌, ap, subst}
-use Rattle.std.specs.Prelude.{OnErr}
-use Rattle.std.proofs.lemmas.Bool.{cases_eq}
+use Rattle.io_manager.proofs.Common.{OnErr, cases_eq, Climb, SameRooms, SetsRoom, ReservesNone, HandsUp, Frees, Tables, CancelsUnlessMarked, HasNoRooms, TakesLabels}
 use Rattle.machine.specs.declared.Request.{Request}
-use Rattle.device.specs.declared.climbing.Climb.{Climb}
 use Rattle.device.specs.View.{DeviceView, Reserved, room_at, request_at, request_of, IsReady, IsReserved, whole_for}
-use Rattle.device.specs.Served.{SameRooms, SetsRoom, ReservesNone, HandsUp, Frees}
-use Rattle.io_manager.specs.declared.tables.Tables.{Tables}
-use Rattle.io_manager.specs.inside.Cancelling.{CancelsUnlessMarked}
-use Rattle.io_manager.specs.Opening.{HasNoRooms}
-use Rattle.io_manager.specs.inside.Sound.{TakesLabels}
 use Rattle.io_manager.proofs.Quiet.{none_reserved}
 
 -- the spots are as they were

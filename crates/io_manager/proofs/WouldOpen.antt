@@ -1,28 +1,8 @@
 -- What a call would open is told from what is decided of it, by the sizes that the manager keeps.
 use Rattle.std.proofs.Common.{◌≡◌, ◌<◌, ◌≤◌, ℕ, zero, suc, ◌+◌, ◌/◌, ◌%◌, ◌^◌, true, false, List, Option, Some, None, refl, sym, ◌∙◌, ap, subst, arith, rules, length}
 use Rattle.std.specs.Prelude.{All, ◌==◌, min, slice_get, get_or, if◌then◌else◌}
-use Rattle.std.proofs.lemmas.List.Elements.{All-get_or}
-use Rattle.std.proofs.lemmas.Bool.Decides.{nat_tests}
-use Rattle.std.proofs.lemmas.Option.{slice_get-get_or}
-use Rattle.std.specs.Int.{div_ceil}
-use Rattle.ntstatus.specs.declared.NtStatus.{NtStatus}
-use Rattle.sector.specs.declared.Extent.{Extent}
-use Rattle.srb.specs.declared.Kind.{Kind}
-use Rattle.srb.specs.declared.Kind.TheVariants.{Read, Write, Flush}
-use Rattle.machine.specs.declared.ClientRequest.{ClientRequest}
-use Rattle.machine.specs.Rules.{Rules, home, is_transfer, place_count, sectors_of}
-use Rattle.machine.specs.Calling.{refusal}
-use Rattle.machine.specs.Sending.{partition_number}
-use Rattle.device.specs.View.{DeviceView}
-use Rattle.io_manager.specs.declared.Handle.{Handle}
-use Rattle.io_manager.specs.declared.Limits.{Limits}
-use Rattle.io_manager.specs.declared.Asked.{Asked}
-use Rattle.io_manager.specs.declared.tables.Tables.{Tables}
-use Rattle.io_manager.specs.Shown.{ManagerView}
-use Rattle.io_manager.specs.Calls.{are_used_up, partition_of, call_on, without_bytes, opened_as, would_open}
+use Rattle.io_manager.proofs.Common.{All-get_or, nat_tests, slice_get-get_or, div_ceil, NtStatus, Extent, Kind, Read, Write, Flush, ClientRequest, Rules, home, is_transfer, place_count, sectors_of, refusal, partition_number, DeviceView, Handle, Limits, Asked, Tables, ManagerView, are_used_up, partition_of, call_on, without_bytes, opened_as, would_open, rules_of, asked_for, IsAdmissible}
 use Rattle.io_manager.specs.inside.Sound.{EndsInRange, view_of, IsSound}
-use Rattle.io_manager.specs.Opening.{rules_of}
-use Rattle.io_manager.specs.inside.Admitting.{asked_for, IsAdmissible}
 use Rattle.io_manager.proofs.Fitting.{AsksBy, asks_whole, no_sectors}
 
 -- BY WHAT IS DECIDED

@@ -1,26 +1,5 @@
 -- What is told of a stack over a journal before its first event.
-use Rattle.std.proofs.Common.{◌≡◌, ◌≤◌, ℕ, List, [], length, map, Some, sym, ap, subst, ◌∙◌, arith}
-use Rattle.std.specs.Prelude.{All, IsTrue}
-use Rattle.std.proofs.lemmas.List.Elements.{All-nil}
-use Rattle.srb.specs.declared.Entry.{Entry}
-use Rattle.srb.specs.Replaying.{Replays}
-use Rattle.sector.specs.Extents.{IsSector, sectors_in}
-use Rattle.adapter.specs.View.{TagInUse}
-use Rattle.machine.specs.Rules.{Rules, sectors_of}
-use Rattle.machine.specs.Map.{IsMap}
-use Rattle.machine.specs.Sending.{array_at}
-use Rattle.machine.specs.State.{State, IsSame, opening}
-use Rattle.machine.proofs.Same.{IsSame-refl}
-use Rattle.machine_laws.specs.Reached.{AreWhole, IsReached}
-use Rattle.machine_laws.specs.WriteLaws.{HaveSameLengths, RunsKeepLengths}
-use Rattle.io_manager.specs.Shown.{ManagerView}
-use Rattle.compose.specs.Journaled.{IsStartedUse}
-use Rattle.sector_journal.specs.Journal.{JournalView, entries_in, entries_of}
-use Rattle.journaled.specs.Shown.{IsBelow, StandsIn, JournaledKept, next_behind, over}
-use Rattle.sector_journal.specs.declared.reservation.Reservation.{Reservation}
-use Rattle.machine.specs.declared.Label.{Label}
-use Rattle.journaled.specs.Opening.{IsStarted, IsUnused}
-use Rattle.journaled.specs.Told.{IsTold}
+use Rattle.journaled.proofs.Common.{◌≡◌, ◌≤◌, ℕ, List, [], length, map, Some, sym, ap, subst, ◌∙◌, arith, All, IsTrue, All-nil, Entry, Replays, IsSector, sectors_in, TagInUse, Rules, sectors_of, IsMap, array_at, State, IsSame, opening, IsSame-refl, AreWhole, IsReached, HaveSameLengths, RunsKeepLengths, ManagerView, IsStartedUse, JournalView, entries_in, entries_of, IsBelow, StandsIn, JournaledKept, next_behind, over, Reservation, Label, IsStarted, IsUnused, IsTold}
 
 module _ (stack : ManagerView) (journal : JournalView) (started : IsStarted stack) (unused : IsUnused journal) where
   pub kept_at_first : (disk : List (List ℕ)) (max_transfer : ℕ) → StandsIn stack journal → 1 ≤ max_transfer → IsTrue stack.rules.keeps_bytes → Replays journal.medium.sector_size disk (entries_of journal) journal.medium.sectors

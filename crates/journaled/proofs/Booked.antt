@@ -1,20 +1,5 @@
 -- What came of a piece in the journal may be booked of it.
-use Rattle.std.proofs.Common.{◌≡◌, ◌≢◌, ℕ, ◌+◌, Bool, true, false, List, [], ◌∷◌, ◌++◌, length, Some, None, Result, Ok, Err, IsFalse, refl, sym, ap, subst, ◌∙◌, arith, if◌then◌else◌}
-use Rattle.std.specs.Prelude.{slice_get}
-use Rattle.std.proofs.lemmas.List.{map_push}
-use Rattle.srb.specs.declared.Srb.{Srb}
-use Rattle.srb.specs.declared.Entry.{Entry}
-use Rattle.srb.specs.declared.Completion.{Completion}
-use Rattle.disk.specs.Medium.{MediumView}
-use Rattle.adapter.specs.View.{AdapterView}
-use Rattle.adapter.specs.Booking.{IsArmed, IsBookable, Suits, Books, with_booking}
-use Rattle.compose.specs.Journaled.{IsOfPiece, with_entry}
-use Rattle.sector_journal.specs.Entering.{Enters}
-use Rattle.sector_journal.specs.declared.acted.Entered.{Entered}
-use Rattle.sector_journal.specs.Journal.{JournalView, entries_in, entries_of, of_arming}
-use Rattle.sector_journal.proofs.Bookable.{entered_bookable}
-use Rattle.journaled.specs.Shown.{IsAsLarge, KeepsEntries}
-use Rattle.journaled.specs.Acting.{CameTo, IsNumbered, IsThat}
+use Rattle.journaled.proofs.Common.{◌≡◌, ◌≢◌, ℕ, ◌+◌, Bool, true, false, List, [], ◌∷◌, ◌++◌, length, Some, None, Result, Ok, Err, IsFalse, refl, sym, ap, subst, ◌∙◌, arith, if◌then◌else◌, slice_get, map_push, Srb, Entry, Completion, MediumView, AdapterView, IsArmed, IsBookable, Suits, Books, with_booking, IsOfPiece, with_entry, Enters, Entered, JournalView, entries_in, entries_of, of_arming, entered_bookable, IsAsLarge, KeepsEntries, CameTo, IsNumbered, IsThat}
 use Rattle.journaled.proofs.Entered.{HasEntry, HasFailed, Left, left}
 
 -- THE ENTRY OF A NUMBER

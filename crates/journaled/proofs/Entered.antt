@@ -1,19 +1,5 @@
 -- What a piece left in the journal.
-use Rattle.std.proofs.Common.{◌≡◌, ℕ, List, [], ◌∷◌, ◌++◌, inl, inr, length, Some, None, Result, Ok, Err, sym, ap, subst, ◌∙◌, get_or-set_same}
-use Rattle.srb.specs.declared.Srb.{Srb}
-use Rattle.srb.specs.declared.Entry.{Entry}
-use Rattle.srb.specs.declared.Completion.{Completion}
-use Rattle.srb.specs.declared.Class.TheVariants.{Bad}
-use Rattle.srb.specs.Fate.{class_of}
-use Rattle.disk.specs.Medium.{MediumView}
-use Rattle.sector_journal.specs.declared.acted.Entered.{Entered}
-use Rattle.sector_journal.specs.declared.slots.Armed.{Armed}
-use Rattle.sector_journal.specs.Arming.{AskTheSame}
-use Rattle.sector_journal.specs.Entering.{Enters}
-use Rattle.sector_journal.specs.Slots.{HasNone, armed_at}
-use Rattle.sector_journal.specs.Journal.{JournalView, MayArm, Arms, Acts, Does, of_arming}
-use Rattle.journaled.specs.Shown.{KeepsEntries}
-use Rattle.journaled.specs.Acting.{CameTo}
+use Rattle.journaled.proofs.Common.{◌≡◌, ℕ, List, [], ◌∷◌, ◌++◌, inl, inr, length, Some, None, Result, Ok, Err, sym, ap, subst, ◌∙◌, get_or-set_same, Srb, Entry, Completion, Bad, class_of, MediumView, Entered, Armed, AskTheSame, Enters, HasNone, armed_at, JournalView, MayArm, Arms, Acts, Does, of_arming, KeepsEntries, CameTo}
 
 -- its entry, the last, by an SRB of the journal's own that asks for the same
 pub record HasEntry (old : JournalView) (tag piece : ℕ) (srb : Srb) (number : ℕ) (new : JournalView) : Type 0 where

@@ -1,19 +1,6 @@
 -- What a stack over a journal keeps between two calls.
-use Rattle.std.proofs.Common.{◌≡◌, ℕ, List, [], ◌∷◌, Some, length, sym, ap, subst, ◌∙◌}
-use Rattle.std.specs.Prelude.{All, IsTrue}
-use Rattle.machine.specs.declared.Label.{Label}
+use Rattle.journaled.proofs.Common.{◌≡◌, ℕ, List, [], ◌∷◌, Some, length, sym, ap, subst, ◌∙◌, All, IsTrue, Label, IsSector, IsMap, Rules, ManagerView, TakesLabel, IsJournaled, Entry, Reservation, JournalView, entries_in, GivesBack, IsBelow, JournaledKept, KeepsEntries, StandsIn, next_behind, over, IsTold}
 use Rattle.machine.specs.declared.Label.TheVariants.{Call, Device, Answer as AnswerLabel, Cancel, Pause, Resume, Remove as RemoveLabel, Surprise, Removed as RemovedLabel}
-use Rattle.sector.specs.Extents.{IsSector}
-use Rattle.machine.specs.Map.{IsMap}
-use Rattle.machine.specs.Rules.{Rules}
-use Rattle.io_manager.specs.Shown.{ManagerView}
-use Rattle.io_manager.specs.Right.{TakesLabel}
-use Rattle.compose.specs.Journaled.{IsJournaled}
-use Rattle.srb.specs.declared.Entry.{Entry}
-use Rattle.sector_journal.specs.declared.reservation.Reservation.{Reservation}
-use Rattle.sector_journal.specs.Journal.{JournalView, entries_in}
-use Rattle.journaled.specs.Shown.{GivesBack, IsBelow, JournaledKept, KeepsEntries, StandsIn, next_behind, over}
-use Rattle.journaled.specs.Told.{IsTold}
 use Rattle.journaled.proofs.Numbering.{below_without}
 
 -- BEHIND A STEP

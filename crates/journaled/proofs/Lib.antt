@@ -7,3 +7,4 @@ pub mod Taking
 pub mod Numbering
 pub mod Rooming
 pub mod Keeping
+mod Common

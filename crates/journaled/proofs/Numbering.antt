@@ -1,38 +1,10 @@
 -- The number that the next call takes, and the rooms of the requests before it.
-use Rattle.std.proofs.Common.{◌≡◌, ◌<◌, ◌≤◌, ◌⊎◌, inl, inr, ℕ, suc, ◌+◌, ◌-◌, ◌^◌, Bool, true, false, cond, List, [], ◌∷◌, ◌++◌, length, map, take, drop, Option, Some, None, refl, sym, ap, subst, ◌∙◌, arith, zero-add, append-nil, length-append}
-use Rattle.std.specs.Prelude.{All, MatchOption, min, nat_eq, nat_lt}
-use Rattle.std.specs.List.{position, position_or_len, remove}
-use Rattle.std.proofs.lemmas.List.Edits.{remove-append_right}
-use Rattle.std.proofs.lemmas.List.Recursion.{is_position_or_len}
-use Rattle.std.proofs.lemmas.Bool.Decides.{nat_tests}
-use Rattle.std.proofs.lemmas.List.Elements.{All-cons, All-head, All-tail, All-append, All-take, All-drop, All-weaker}
-use Rattle.machine.specs.declared.ClientRequest.{ClientRequest}
-use Rattle.machine.specs.declared.Label.{Label}
+use Rattle.journaled.proofs.Common.{◌≡◌, ◌<◌, ◌≤◌, ◌⊎◌, inl, inr, ℕ, suc, ◌+◌, ◌-◌, ◌^◌, Bool, true, false, cond, List, [], ◌∷◌, ◌++◌, length, map, take, drop, Option, Some, None, refl, sym, ap, subst, ◌∙◌, arith, zero-add, append-nil, length-append, All, MatchOption, min, nat_eq, nat_lt, position, position_or_len, remove, remove-append_right, is_position_or_len, nat_tests, All-cons, All-head, All-tail, All-append, All-take, All-drop, All-weaker, ClientRequest, Label, Rules, State, Run, as_label, AreFrom, CallsCount, CallsRise, call_numbers, DeviceLabel, Answer, Handle, Id, Refusal, Reply, ManagerView, are_used_up, number_limit, status_of_refusal, Event, CallsFirst, IsNoCall, IsTransferEvent, StepsCallOnce, IsRight, led, Reservation, without, is_of, IsBelow, next_behind}
 use Rattle.machine.specs.declared.Label.TheVariants.{Call, Device, Answer as AnswerLabel, Cancel, Pause, Resume, Remove as RemoveLabel, Surprise, Removed as RemovedLabel}
-use Rattle.machine.specs.Rules.{Rules}
-use Rattle.machine.specs.State.{State}
-use Rattle.machine.specs.Step.{Run, as_label}
-use Rattle.machine_laws.specs.NumberLaws.{AreFrom, CallsCount, CallsRise, call_numbers}
-use Rattle.srb.specs.declared.DeviceLabel.{DeviceLabel}
-use Rattle.io_manager.specs.declared.Answer.{Answer}
-use Rattle.io_manager.specs.declared.Handle.{Handle}
-use Rattle.io_manager.specs.declared.Id.{Id}
-use Rattle.io_manager.specs.declared.Refusal.{Refusal}
 use Rattle.io_manager.specs.declared.Refusal.TheVariants.{InvalidHandle, InvalidParameter, DeletePending, DeviceBusy, InsufficientResources, InvalidDeviceRequest, NotFound}
-use Rattle.io_manager.specs.declared.Reply.{Reply}
 use Rattle.io_manager.specs.declared.Reply.TheVariants.{Handle as HandleReply, Ok as Done, Request as Requested, Answered, Refused, Ignored}
-use Rattle.io_manager.specs.Shown.{ManagerView}
-use Rattle.io_manager.specs.Calls.{are_used_up, number_limit, status_of_refusal}
 use Rattle.io_manager.specs.Right.{CallReplies, IsAnsweredAtOnce, IsRight as IsRightCall, IsTurnedAway, Told, TransferReplies, as_answer, end_labels, labels_of}
-use Rattle.compose.specs.declared.Event.{Event}
 use Rattle.compose.specs.declared.Event.TheVariants.{Open, Close, Read, Write, Flush, CancelIoEx, Mark, QueryRemove, CancelRemove, Remove, SurpriseRemove, Act, Finish, Reset}
-use Rattle.compose.specs.StepLaws.{CallsFirst, IsNoCall, IsTransferEvent, StepsCallOnce}
-use Rattle.compose.specs.Right.{IsRight}
-use Rattle.compose.proofs.JournaledKept.{led}
-use Rattle.sector_journal.specs.declared.reservation.Reservation.{Reservation}
-use Rattle.sector_journal.specs.Journal.{without}
-use Rattle.sector_journal.specs.Reserving.{is_of}
-use Rattle.journaled.specs.Shown.{IsBelow, next_behind}
 
 -- NO CALL AMONG LABELS
 

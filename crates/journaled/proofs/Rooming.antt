@@ -1,25 +1,7 @@
 -- What the journal has reserved behind a step.
-use Rattle.std.proofs.Common.{◌≡◌, ◌≤◌, inl, inr, ℕ, ◌+◌, true, false, List, [], ◌∷◌, ◌++◌, Option, None, Result, Ok, Err, refl, sym, ap, subst, ◌∙◌, arith}
-use Rattle.std.specs.Prelude.{All, MatchBool, MatchOption, OnErr, OnOk, is_err}
-use Rattle.std.proofs.lemmas.List.Elements.{All-nil, All-cons, All-append}
-use Rattle.sector.specs.declared.Extent.{Extent}
-use Rattle.srb.specs.declared.Srb.{Srb}
-use Rattle.srb.specs.declared.Completion.{Completion}
-use Rattle.machine_laws.specs.NumberLaws.{CallsCount}
-use Rattle.io_manager.specs.declared.Id.{Id}
-use Rattle.io_manager.specs.declared.Reply.{Reply}
+use Rattle.journaled.proofs.Common.{◌≡◌, ◌≤◌, inl, inr, ℕ, ◌+◌, true, false, List, [], ◌∷◌, ◌++◌, Option, None, Result, Ok, Err, refl, sym, ap, subst, ◌∙◌, arith, All, MatchBool, MatchOption, OnErr, OnOk, is_err, All-nil, All-cons, All-append, Extent, Srb, Completion, CallsCount, Id, Reply, ManagerView, Event, OpensNone, OpensOrLacksMemory, StepsCallOnce, StepsOpenAsTold, IsRight, opened_by, Reservation, Admits, GainsRoom, JournalView, Releases, without, IsBelow, over, BooksArmed, CameTo, kind_asked, HoldsRoom, MakesRoom, WouldOpen, is_opened}
 use Rattle.io_manager.specs.declared.Reply.TheVariants.{Handle as HandleReply, Ok as Done, Request as Requested, Answered, Refused, Ignored}
-use Rattle.io_manager.specs.Shown.{ManagerView}
-use Rattle.compose.specs.declared.Event.{Event}
 use Rattle.compose.specs.declared.Event.TheVariants.{Open, Close, Read, Write, Flush, CancelIoEx, Mark, QueryRemove, CancelRemove, Remove, SurpriseRemove, Act, Finish, Reset}
-use Rattle.compose.specs.StepLaws.{OpensNone, OpensOrLacksMemory, StepsCallOnce, StepsOpenAsTold}
-use Rattle.compose.specs.Right.{IsRight, opened_by}
-use Rattle.sector_journal.specs.declared.reservation.Reservation.{Reservation}
-use Rattle.sector_journal.specs.Journal.{Admits, GainsRoom, JournalView, Releases, without}
-use Rattle.journaled.specs.Shown.{IsBelow, over}
-use Rattle.journaled.specs.Acting.{BooksArmed, CameTo}
-use Rattle.asking.specs.Asking.{kind_asked}
-use Rattle.journaled.specs.Right.{HoldsRoom, MakesRoom, WouldOpen, is_opened}
 use Rattle.journaled.proofs.Numbering.{IsOpened, below_more, last_goes, none_goes, step_opens, step_rises}
 
 -- WHAT AN EVENT WOULD OPEN

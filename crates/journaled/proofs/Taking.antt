@@ -1,19 +1,5 @@
 -- What was told stays as labels and answers are taken.
-use Rattle.std.proofs.Common.{◌≡◌, Option, Some, None, sym, ap, subst}
-use Rattle.std.specs.Prelude.{All}
-use Rattle.adapter.specs.View.{AdapterView}
-use Rattle.machine.specs.declared.Label.{Label}
-use Rattle.machine.specs.Rules.{Rules}
-use Rattle.machine.specs.State.{State, opening}
-use Rattle.machine.specs.Step.{Run}
-use Rattle.machine_laws.specs.Reached.{AreWhole}
-use Rattle.io_manager.specs.declared.Answer.{Answer}
-use Rattle.io_manager.specs.Shown.{ManagerView}
-use Rattle.io_manager.specs.Right.{TakesAnswer, TakesLabel}
-use Rattle.compose.specs.Journaled.{IsStartedUse}
-use Rattle.sector_journal.specs.Journal.{JournalView}
-use Rattle.journaled.specs.Shown.{JournaledView, over}
-use Rattle.journaled.specs.Told.{IsTold, StaysTold}
+use Rattle.journaled.proofs.Common.{◌≡◌, Option, Some, None, sym, ap, subst, All, AdapterView, Label, Rules, State, opening, Run, AreWhole, Answer, ManagerView, TakesAnswer, TakesLabel, IsStartedUse, JournalView, JournaledView, over, IsTold, StaysTold}
 
 -- the machine and the adapter are the same
 record IsAsItWas (old new : ManagerView) : Type 0 where

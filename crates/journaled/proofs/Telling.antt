@@ -1,27 +1,6 @@
 -- What was told goes on with the labels of a right step.
-use Rattle.std.proofs.Common.{◌≡◌, inl, inr, ℕ, Bool, List, ◌++◌, length, IsFalse, refl, sym, ap, subst, ◌∙◌}
-use Rattle.srb.specs.declared.Entry.{Entry}
-use Rattle.adapter.specs.View.{IsInOrder}
-use Rattle.adapter.specs.Calls.{HasNoneFresh}
-use Rattle.machine.specs.declared.Label.{Label}
-use Rattle.machine.specs.Rules.{Rules}
-use Rattle.machine.specs.State.{State, opening}
-use Rattle.machine.specs.Step.{Run}
-use Rattle.machine.proofs.Same.{Run-append}
-use Rattle.machine_laws.specs.Reached.{AreWhole, IsReached}
-use Rattle.io_manager.specs.declared.Reply.{Reply}
-use Rattle.io_manager.specs.Shown.{ManagerView}
-use Rattle.io_manager.specs.Right.{FitsTogether, IsRightBy, Told}
-use Rattle.compose.specs.declared.Event.{Event}
+use Rattle.journaled.proofs.Common.{◌≡◌, inl, inr, ℕ, Bool, List, ◌++◌, length, IsFalse, refl, sym, ap, subst, ◌∙◌, Entry, IsInOrder, HasNoneFresh, Label, Rules, State, opening, Run, Run-append, AreWhole, IsReached, Reply, ManagerView, FitsTogether, IsRightBy, Told, Event, IsRight, ArmedMayBeBooked, BookedActsAddEntries, IdleActsKeepEntries, StepsKeepEntries, StepsStayApart, IsNoAct, IsJournaled, IsLed, led, JournalView, entries_in, entries_of, JournaledView, StandsIn, IsAsLarge, KeepsEntries, over, BooksArmed, HasBooked, HasNoneToBook, BooksFor, StepsBooked, IsServed, IsTold, TellsOn}
 use Rattle.compose.specs.declared.Event.TheVariants.{Open, Close, Read, Write, Flush, CancelIoEx, Mark, QueryRemove, CancelRemove, Remove, SurpriseRemove, Act, Finish, Reset}
-use Rattle.compose.specs.Right.{IsRight}
-use Rattle.compose.specs.Journaled.{ArmedMayBeBooked, BookedActsAddEntries, IdleActsKeepEntries, StepsKeepEntries, StepsStayApart, IsNoAct, IsJournaled}
-use Rattle.compose.proofs.JournaledKept.{IsLed, led}
-use Rattle.sector_journal.specs.Journal.{JournalView, entries_in, entries_of}
-use Rattle.journaled.specs.Shown.{JournaledView, StandsIn, IsAsLarge, KeepsEntries, over}
-use Rattle.journaled.specs.Acting.{BooksArmed, HasBooked, HasNoneToBook}
-use Rattle.journaled.specs.Right.{BooksFor, StepsBooked, IsServed}
-use Rattle.journaled.specs.Told.{IsTold, TellsOn}
 use Rattle.journaled.proofs.Booked.{IsOwn, own, came_large, kept_large, booked_apart}
 
 -- what a caller has of it

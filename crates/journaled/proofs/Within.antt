@@ -1,24 +1,8 @@
 -- What a call would open lies on the disk.
-use Rattle.std.proofs.Common.{◌≡◌, ◌≤◌, ℕ, zero, suc, ◌+◌, ◌/◌, ◌&&◌, Bool, true, false, not, List, [], ◌∷◌, Option, None, Some, refl, ap, subst, ◌∙◌, arith, if◌then◌else◌}
-use Rattle.std.specs.Prelude.{All, is_some, is_none, slice_get}
-use Rattle.std.proofs.lemmas.Bool.{leb-true, not-false, and_parts}
-use Rattle.std.proofs.lemmas.List.Elements.{All-head, All-tail}
-use Rattle.std.proofs.Math.Nat.{zero-div}
-use Rattle.ntstatus.specs.declared.NtStatus.{NtStatus}
+use Rattle.journaled.proofs.Common.{◌≡◌, ◌≤◌, ℕ, zero, suc, ◌+◌, ◌/◌, ◌&&◌, Bool, true, false, not, List, [], ◌∷◌, Option, None, Some, refl, ap, subst, ◌∙◌, arith, if◌then◌else◌, All, is_some, is_none, slice_get, leb-true, not-false, and_parts, All-head, All-tail, zero-div, NtStatus, none_first, Extent, ClientRequest, Rules, home, first_sector, is_transfer, is_in_bounds, sectors_of, IsMap, IsPartition, State, refusal, ManagerView, are_used_up, call_on, disk_extent, opened_as, would_open, Event, opened_by}
 use Rattle.ntstatus.specs.declared.NtStatus.TheVariants.{InvalidHandle, InvalidParameter, DeletePending}
-use Rattle.ntstatus.proofs.First.{none_first}
-use Rattle.sector.specs.declared.Extent.{Extent}
 use Rattle.srb.specs.declared.Kind.TheVariants.{Read, Write, Flush}
-use Rattle.machine.specs.declared.ClientRequest.{ClientRequest}
-use Rattle.machine.specs.Rules.{Rules, home, first_sector, is_transfer, is_in_bounds, sectors_of}
-use Rattle.machine.specs.Map.{IsMap, IsPartition}
-use Rattle.machine.specs.State.{State}
-use Rattle.machine.specs.Calling.{refusal}
-use Rattle.io_manager.specs.Shown.{ManagerView}
-use Rattle.io_manager.specs.Calls.{are_used_up, call_on, disk_extent, opened_as, would_open}
-use Rattle.compose.specs.declared.Event.{Event}
 use Rattle.compose.specs.declared.Event.TheVariants.{Open, Close, Read as ReadEvent, Write as WriteEvent, Flush as FlushEvent, CancelIoEx, Mark, QueryRemove, CancelRemove, Remove, SurpriseRemove, Act, Finish, Reset}
-use Rattle.compose.specs.Right.{opened_by}
 
 abbrev LiesOn : Rules → Extent → Type 0
 LiesOn rules extent = extent.first + extent.count ≤ rules.disk_sectors

@@ -1,14 +1,5 @@
 -- The machine is read alike from other packets that note the same of its open requests.
-use Rattle.std.proofs.Common.{◌≡◌, List, ◌∙◌, ap, subst, map, get_or}
-use Rattle.std.specs.Prelude.{All}
-use Rattle.sector.specs.declared.Extent.{Extent}
-use Rattle.machine.specs.Rules.{Rules, as_client}
-use Rattle.machine.specs.State.{OpenRequest, State}
-use Rattle.device.specs.View.{Packet, IsBounded}
-use Rattle.partition.specs.inside.Noted.{asked}
-use Rattle.partition.specs.OnDisk.{rules_over, on_disk}
-use Rattle.partition.specs.Shown.{called, as_called, on_partitions}
-use Rattle.partition.specs.inside.Invariant.{LiesInside}
+use Rattle.partition.proofs.Common.{◌≡◌, List, ◌∙◌, ap, subst, map, get_or, All, Extent, Rules, as_client, OpenRequest, State, Packet, IsBounded, asked, rules_over, on_disk, called, as_called, on_partitions, LiesInside}
 use Rattle.partition.proofs.Noted.{map_same}
 use Rattle.partition.proofs.Steps.{Stands}
 

@@ -1,33 +1,6 @@
 -- Each call and each answer of the disk is one of the partitions' machine.
 use Rattle.std.proofs.Common.{◌≡◌, ◌<◌, ◌≤◌, ◌⊎◌, inl, inr, ℕ, ◌+◌, ◌*◌, ◌/◌, ◌%◌, ◌==◌, ◌&&◌, Bool, true, false, nat_le, List, [], ◌∷◌, None, refl, sym, ◌∙◌, ap, subst, arith, map}
-use Rattle.std.specs.Prelude.{All}
-use Rattle.std.proofs.Math.Nat.{mul-div_cancel, mul-mod_left}
-use Rattle.std.proofs.lemmas.Nat.{mul-le}
-use Rattle.std.proofs.lemmas.Bool.Decides.{nat_tests}
-use Rattle.std.proofs.lemmas.List.{length-replicate}
-use Rattle.std.proofs.lemmas.List.Sorted.{IsPermutation-sym, IsPermutation-map, All-permutation}
-use Rattle.std.proofs.lemmas.List.Elements.{All-tail, All-cons, All-weaker}
-use Rattle.ntstatus.specs.declared.NtStatus.{NtStatus}
-use Rattle.sector.specs.declared.Extent.{Extent}
-use Rattle.srb.specs.declared.Kind.{Kind}
-use Rattle.srb.specs.declared.Kind.TheVariants.{Read, Write, Flush}
-use Rattle.machine.specs.declared.Request.{Request}
-use Rattle.machine.specs.declared.ClientRequest.{ClientRequest}
-use Rattle.machine.specs.Rules.{Rules, is_transfer, is_in_bounds, place_count, as_client}
-use Rattle.machine.specs.State.{Mark, Untouched, Out, Done, Failed, Back, OpenRequest, State, IsSame}
-use Rattle.machine.specs.Calling.{refusal, Opens, new_request}
-use Rattle.machine.specs.Sending.{array_at}
-use Rattle.machine.specs.declared.Label.TheVariants.{Answer}
-use Rattle.machine.specs.Answering.{Answers, AnswersWith, Cause, HasEnded, HasCause, information}
-use Rattle.machine.specs.Numbers.{AreDistinct, IsGiven}
-use Rattle.machine.proofs.Numbers.{AreDistinct-Step, AreDistinct-Admits}
-use Rattle.machine.proofs.Placed.{ArePlaced-Answers, ArePlaced-Opens}
-use Rattle.machine.proofs.Places.{taken_in, IsTakenIn}
-use Rattle.device.specs.View.{Packet, IsBounded}
-use Rattle.partition.specs.inside.Noted.{asked}
-use Rattle.partition.specs.OnDisk.{rules_over, on_disk}
-use Rattle.partition.specs.Shown.{called, as_called, on_partitions}
-use Rattle.partition.specs.inside.Invariant.{LiesInside}
+use Rattle.partition.proofs.Common.{All, mul-div_cancel, mul-mod_left, mul-le, nat_tests, length-replicate, IsPermutation-sym, IsPermutation-map, All-permutation, All-tail, All-cons, All-weaker, NtStatus, Extent, Kind, Read, Write, Flush, Request, ClientRequest, Rules, is_transfer, is_in_bounds, place_count, as_client, Mark, Untouched, Out, Done, Failed, Back, OpenRequest, State, IsSame, refusal, Opens, new_request, array_at, Answer, Answers, AnswersWith, Cause, HasEnded, HasCause, information, AreDistinct, IsGiven, AreDistinct-Step, AreDistinct-Admits, ArePlaced-Answers, ArePlaced-Opens, taken_in, IsTakenIn, Packet, IsBounded, asked, rules_over, on_disk, called, as_called, on_partitions, LiesInside}
 use Rattle.partition.proofs.Noted.{asked_behind}
 use Rattle.partition.proofs.Alike.{AreNotedAlike, called_alike, state_alike, Stands-alike, lie_alike}
 use Rattle.partition.proofs.Steps.{Stands, IsSame-up, moved, only_array}

@@ -1,27 +1,6 @@
 -- What holds between the calls, after a call of the layer below.
 use Rattle.std.proofs.Common.{◌≡◌, ◌≢◌, ◌⊎◌, inl, inr, ℕ, Bool, true, false, List, [], Option, Some, None, Result, refl, sym, ◌∙◌, ap, subst, get_or}
-use Rattle.std.specs.Prelude.{All, IsPermutation, MatchBool}
-use Rattle.std.proofs.lemmas.Bool.{cases_eq}
-use Rattle.std.proofs.lemmas.List.Sorted.{IsPermutation-refl, IsPermutation-sym, All-permutation}
-use Rattle.std.proofs.lemmas.List.Elements.{All-map}
-use Rattle.sector.specs.declared.Extent.{Extent}
-use Rattle.sector.specs.Extents.{CoversMoreNear}
-use Rattle.srb.specs.declared.Completion.{Completion}
-use Rattle.srb.specs.declared.DeviceLabel.{DeviceLabel}
-use Rattle.srb.specs.declared.Entry.{Entry}
-use Rattle.adapter.specs.View.{AdapterView, ReservesMore}
-use Rattle.machine.specs.declared.Request.{Request}
-use Rattle.machine.specs.Rules.{Rules, home}
-use Rattle.machine.specs.Sending.{array_at}
-use Rattle.machine.specs.Holding.{Cancels}
-use Rattle.device.specs.View.{DeviceView, Packet, Reserved, IsOrderly, IsOffRooms, IsBounded, IsReady, KeepsOutside, request_of, room_at, sectors_asked, whole_for}
-use Rattle.device.specs.Served.{HasOtherSpot, SameRooms, SetsRoom, IsBeside, Reserves, ReservesSpot, ReservesNone, ReservesNear, Frees, BooksPiece, ActsOrFaults, ActsNot, Finishes, FinishesNot, Resets, CancelsIfOpen, CancelsAt, NoneToCancel, DrainsAll, PausesAll, ResumesAll, HandsUpNone, TakesLabel, ForgetsLabels}
-use Rattle.device.proofs.Reserving.{home_of_whole}
-use Rattle.partition.specs.OnDisk.{rules_over, on_disk}
-use Rattle.partition.specs.Opening.{IsWholeDisk}
-use Rattle.partition.specs.inside.Rooms.{for_wanted, rooms_with, wanted_at, Notes}
-use Rattle.partition.specs.inside.Invariant.{IsKept, IsNotedAt, IsOnDisk, IsWantedFor}
-use Rattle.partition.specs.Shown.{packet_above, view_of, shown_of}
+use Rattle.partition.proofs.Common.{All, IsPermutation, MatchBool, cases_eq, IsPermutation-refl, IsPermutation-sym, All-permutation, All-map, Extent, CoversMoreNear, Completion, DeviceLabel, Entry, AdapterView, ReservesMore, Request, Rules, home, array_at, Cancels, DeviceView, Packet, Reserved, IsOrderly, IsOffRooms, IsBounded, IsReady, KeepsOutside, request_of, room_at, sectors_asked, whole_for, HasOtherSpot, SameRooms, SetsRoom, IsBeside, Reserves, ReservesSpot, ReservesNone, ReservesNear, Frees, BooksPiece, ActsOrFaults, ActsNot, Finishes, FinishesNot, Resets, CancelsIfOpen, CancelsAt, NoneToCancel, DrainsAll, PausesAll, ResumesAll, HandsUpNone, TakesLabel, ForgetsLabels, home_of_whole, rules_over, on_disk, IsWholeDisk, for_wanted, rooms_with, wanted_at, Notes, IsKept, IsNotedAt, IsOnDisk, IsWantedFor, packet_above, view_of, shown_of}
 use Rattle.partition.proofs.Steps.{Keeps}
 use Rattle.partition.proofs.Settled.{IsOrderly-over, disk_is}
 use Rattle.partition.proofs.Moving.{GoesOn, ActsOver, acts_over, finishes_over, resets_over, cancels_over, cancels_at_over, drains_over, pauses_over, resumes_over, hands_up_none, goes_same}

@@ -1,42 +1,6 @@
 -- A packet comes back from the layer below, and is handed up.
-use Rattle.std.proofs.Common.{◌≡◌, ◌≢◌, ◌<◌, ℕ, suc, ◌-◌, ◌*◌, ◌/◌, Bool, List, [], ◌∷◌, Option, Some, None, refl, sym, ◌∙◌, ap, subst, arith, map, length, take, eqb, get_or}
-use Rattle.std.specs.Prelude.{All, Contains, IsPermutation}
-use Rattle.std.specs.List.{IsDistinct}
-use Rattle.std.proofs.Math.Nat.{mul-div_cancel}
-use Rattle.std.proofs.lemmas.Map.Keys.{IsDistinct-IsPermutation}
-use Rattle.std.proofs.lemmas.List.Sorted.{IsPermutation-sym, IsPermutation-map, All-permutation, Contains-permutation}
-use Rattle.std.proofs.lemmas.List.Elements.{All-head, All-tail, All-contains, Contains-get_or}
-use Rattle.ntstatus.specs.declared.NtStatus.{NtStatus}
-use Rattle.ntstatus.specs.declared.NtStatus.TheVariants.{Success}
-use Rattle.sector.specs.declared.Extent.{Extent}
-use Rattle.irp.specs.declared.CancelRoutine.{CancelRoutine}
-use Rattle.device.specs.declared.climbing.Climb.{Climb}
-use Rattle.device.specs.declared.climbing.Climb.TheVariants.{Routine, Finished}
-use Rattle.device.specs.Climbing.{Climbs, BringsRoutine}
-use Rattle.std.specs.Global.{Box}
-use Rattle.irp.specs.declared.Driver.{Driver}
-use Rattle.irp.specs.declared.Irp.{Irp}
-use Rattle.irp.specs.declared.Payload.{Payload}
-use Rattle.irp.specs.declared.StackLocation.{StackLocation}
-use Rattle.irp.specs.Climb.{above, succeeds}
-use Rattle.irp.specs.Packet.{HasOwn, cancel_routine_of}
+use Rattle.partition.proofs.Common.{◌≡◌, ◌≢◌, ◌<◌, ℕ, suc, ◌-◌, ◌*◌, ◌/◌, Bool, List, [], ◌∷◌, Option, Some, None, refl, sym, ◌∙◌, ap, subst, arith, map, length, take, eqb, get_or, All, Contains, IsPermutation, IsDistinct, mul-div_cancel, IsDistinct-IsPermutation, IsPermutation-sym, IsPermutation-map, All-permutation, Contains-permutation, All-head, All-tail, All-contains, Contains-get_or, NtStatus, Success, Extent, CancelRoutine, Climb, Routine, Finished, Climbs, BringsRoutine, Box, Driver, Irp, Payload, StackLocation, above, succeeds, HasOwn, cancel_routine_of, Request, ClientRequest, Rules, as_client, Done, OpenRequest, information, request_number, flips, differ_first, Read, Flush, DeviceView, Packet, Reserved, Carries, IsOrderly, IsBounded, sent_bytes, payload_bytes, packet_number, HandsUp, Moves, SetsRoom, StaysIfStarted, IsBack, sectors_moved, noted_in, asked, rules_over, on_disk, called, as_called, on_partitions, packet_above, view_of, shown_of, for_wanted, rooms_with, wanted_at, ComesBack, LiesInside, IsOnDisk, IsKept, IsNotedAt}
 use Rattle.device.proofs.Returning.{ComesBack as CameBack, comes_back, above_is}
-use Rattle.machine.specs.declared.Request.{Request}
-use Rattle.machine.specs.declared.ClientRequest.{ClientRequest}
-use Rattle.machine.specs.Rules.{Rules, as_client}
-use Rattle.machine.specs.State.{Done, OpenRequest}
-use Rattle.machine.specs.Answering.{information}
-use Rattle.machine.specs.Numbers.{request_number}
-use Rattle.machine.proofs.Permuting.{flips}
-use Rattle.machine.proofs.Placed.{differ_first}
-use Rattle.srb.specs.declared.Kind.TheVariants.{Read, Flush}
-use Rattle.device.specs.View.{DeviceView, Packet, Reserved, Carries, IsOrderly, IsBounded, sent_bytes, payload_bytes, packet_number}
-use Rattle.device.specs.Served.{HandsUp, Moves, SetsRoom, StaysIfStarted, IsBack, sectors_moved}
-use Rattle.partition.specs.inside.Noted.{noted_in, asked}
-use Rattle.partition.specs.OnDisk.{rules_over, on_disk}
-use Rattle.partition.specs.Shown.{called, as_called, on_partitions, packet_above, view_of, shown_of}
-use Rattle.partition.specs.inside.Rooms.{for_wanted, rooms_with, wanted_at}
-use Rattle.partition.specs.inside.Invariant.{ComesBack, LiesInside, IsOnDisk, IsKept, IsNotedAt}
 use Rattle.partition.proofs.Noted.{Contains-map, asked_behind, asked_same, asked_at, noted_at, front_is}
 use Rattle.partition.proofs.Steps.{Stands}
 use Rattle.partition.proofs.Alike.{AreNotedAlike}

@@ -10,3 +10,4 @@ pub mod Hand
 pub mod Submitting
 pub mod Handing
 pub mod Taken
+mod Common

@@ -1,21 +1,6 @@
 -- Cancellation, the hold and removal of the disk are those of the partitions' machine.
-use Rattle.std.proofs.Common.{◌≡◌, ◌+◌, ℕ, Bool, true, false, cond, List, [], ◌∷◌, Option, Some, None, refl, sym, ◌∙◌, ap, subst, arith, map}
+use Rattle.partition.proofs.Common.{◌≡◌, ◌+◌, ℕ, Bool, true, false, cond, List, [], ◌∷◌, Option, Some, None, refl, sym, ◌∙◌, ap, subst, arith, map, remove, sum_by-cons, IsPermutation-sym, IsPermutation-map, IsPermutation-remove, All-permutation, Contains-permutation, All-map, All-weaker, Extent, Rules, OpenRequest, State, IsSame, Cancels, Pauses, Resumes, Drains, as_cancelled, as_timely, held_back, beyond, is_lower, IsSame-refl, All-changed, Packet, NoneToCancel, rules_over, as_called, on_partitions, LiesInside}
 use Rattle.std.specs.Prelude.{All, Contains, count_by, nat_le, ◌||◌, if◌then◌else◌}
-use Rattle.std.specs.List.{remove}
-use Rattle.std.proofs.lemmas.List.Sums.{sum_by-cons}
-use Rattle.std.proofs.lemmas.List.Sorted.{IsPermutation-sym, IsPermutation-map, IsPermutation-remove, All-permutation, Contains-permutation}
-use Rattle.std.proofs.lemmas.List.Elements.{All-map, All-weaker}
-use Rattle.sector.specs.declared.Extent.{Extent}
-use Rattle.machine.specs.Rules.{Rules}
-use Rattle.machine.specs.State.{OpenRequest, State, IsSame}
-use Rattle.machine.specs.Holding.{Cancels, Pauses, Resumes, Drains, as_cancelled, as_timely, held_back, beyond, is_lower}
-use Rattle.machine.proofs.Same.{IsSame-refl}
-use Rattle.machine.proofs.Permuting.{All-changed}
-use Rattle.device.specs.View.{Packet}
-use Rattle.device.specs.Served.{NoneToCancel}
-use Rattle.partition.specs.OnDisk.{rules_over}
-use Rattle.partition.specs.Shown.{as_called, on_partitions}
-use Rattle.partition.specs.inside.Invariant.{LiesInside}
 use Rattle.partition.proofs.Noted.{maps_are, from_map}
 use Rattle.partition.proofs.Steps.{IsSame-up}
 

@@ -1,32 +1,6 @@
 -- What the layer below does is what the partition driver shows.
-use Rattle.std.proofs.Common.{◌≡◌, inl, inr, ℕ, Bool, true, false, List, [], ◌∷◌, refl, sym, ◌∙◌, ap, subst, map, get_or, eqb}
+use Rattle.partition.proofs.Common.{◌≡◌, inl, inr, ℕ, Bool, true, false, List, [], ◌∷◌, refl, sym, ◌∙◌, ap, subst, map, get_or, eqb, IsDistinct, IsPermutation-sym, IsPermutation-map, All-permutation, Contains-permutation, IsDistinct-IsPermutation, Contains-get_or, All-contains, All-weaker, Extent, DeviceLabel, Rules, OpenRequest, Piece, State, array_at, Cancels, Drains, Pauses, Resumes, AreDistinct, request_number, ArePlaced, IsMap, Run, as_label, AreDistinct-Step, flips, ArePlaced-FreeStep, ArePlaced-Drains, Cancel, Pause, Resume, DeviceView, Packet, IsOrderly, packet_number, Moves, IsBeside, IsFreshOn, ActsOrFaults, ActsNot, Finishes, FinishesNot, Resets, CancelsIfOpen, CancelsAt, IsAt, HasOtherNumber, DrainsAll, PausesAll, ResumesAll, HandsUpNone, AwaitsRestart, AwaitsRestartIfEnded, NoneToCancel, HasEnded, asked, rules_over, called, as_called, on_partitions, packet_above, view_of, IsWholeDisk, ComesBack, LiesInside, IsOnDisk}
 use Rattle.std.specs.Prelude.{All, Any, Contains, IsPermutation, MatchBool, ◌⊎◌}
-use Rattle.std.specs.List.{IsDistinct}
-use Rattle.std.proofs.lemmas.List.Sorted.{IsPermutation-sym, IsPermutation-map, All-permutation, Contains-permutation}
-use Rattle.std.proofs.lemmas.Map.Keys.{IsDistinct-IsPermutation}
-use Rattle.std.proofs.lemmas.List.Elements.{Contains-get_or, All-contains, All-weaker}
-use Rattle.sector.specs.declared.Extent.{Extent}
-use Rattle.srb.specs.declared.DeviceLabel.{DeviceLabel}
-use Rattle.machine.specs.Rules.{Rules}
-use Rattle.machine.specs.State.{OpenRequest, Piece, State}
-use Rattle.machine.specs.Sending.{array_at}
-use Rattle.machine.specs.Holding.{Cancels, Drains, Pauses, Resumes}
-use Rattle.machine.specs.Numbers.{AreDistinct, request_number}
-use Rattle.machine.specs.Pieces.{ArePlaced}
-use Rattle.machine.specs.Map.{IsMap}
-use Rattle.machine.specs.Step.{Run, as_label}
-use Rattle.machine.proofs.Numbers.{AreDistinct-Step}
-use Rattle.machine.proofs.Permuting.{flips}
-use Rattle.machine.proofs.Placed.{ArePlaced-FreeStep, ArePlaced-Drains}
-use Rattle.machine.specs.declared.Label.TheVariants.{Cancel, Pause, Resume}
-use Rattle.device.specs.View.{DeviceView, Packet, IsOrderly, packet_number}
-use Rattle.device.specs.Served.{Moves, IsBeside, IsFreshOn, ActsOrFaults, ActsNot, Finishes, FinishesNot, Resets, CancelsIfOpen, CancelsAt, IsAt, HasOtherNumber, DrainsAll, PausesAll, ResumesAll, HandsUpNone, AwaitsRestart, AwaitsRestartIfEnded, NoneToCancel}
-use Rattle.machine.specs.Answering.{HasEnded}
-use Rattle.partition.specs.inside.Noted.{asked}
-use Rattle.partition.specs.OnDisk.{rules_over}
-use Rattle.partition.specs.Shown.{called, as_called, on_partitions, packet_above, view_of}
-use Rattle.partition.specs.Opening.{IsWholeDisk}
-use Rattle.partition.specs.inside.Invariant.{ComesBack, LiesInside, IsOnDisk}
 use Rattle.partition.proofs.Noted.{Contains-map, from_map, asked_same}
 use Rattle.partition.proofs.Steps.{Stands, Run-over, Run-keeps, Keeps, moved, only_array}
 use Rattle.partition.proofs.Alike.{AreNotedAlike, state_alike, lie_alike}

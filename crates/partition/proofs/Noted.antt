@@ -1,17 +1,5 @@
 -- What a packet notes is found by its number, whatever the order of the packets.
-use Rattle.std.proofs.Common.{◌≡◌, ◌≢◌, ◌-◌, ◌+◌, ◌==◌, ℕ, zero, suc, true, false, List, [], ◌∷◌, ◌++◌, Some, refl, sym, ◌∙◌, ap, arith, map, length, take, eqb, length-append}
-use Rattle.std.specs.Prelude.{IsPermutation, All, Contains, slice_get}
-use Rattle.std.specs.List.{IsDistinct}
-use Rattle.std.proofs.lemmas.Bool.Decides.{nat_tests}
-use Rattle.std.proofs.lemmas.Grind.{common_steps}
-use Rattle.std.proofs.lemmas.Map.Keys.{IsDistinct-tail}
-use Rattle.std.proofs.lemmas.List.{get_or-map, length-map}
-use Rattle.std.proofs.lemmas.List.Elements.{All-head, All-tail, All-contains}
-use Rattle.std.proofs.lemmas.List.Sorted.{IsPermutation-refl, Contains-permutation}
-use Rattle.irp.specs.declared.StackLocation.{StackLocation}
-use Rattle.machine.proofs.Permuting.{distinct_first}
-use Rattle.device.specs.View.{Packet, packet_number}
-use Rattle.partition.specs.inside.Noted.{noted_in, noted_by, noted_last, asked}
+use Rattle.partition.proofs.Common.{◌≡◌, ◌≢◌, ◌-◌, ◌+◌, ◌==◌, ℕ, zero, suc, true, false, List, [], ◌∷◌, ◌++◌, Some, refl, sym, ◌∙◌, ap, arith, map, length, take, eqb, length-append, IsPermutation, All, Contains, slice_get, IsDistinct, nat_tests, common_steps, IsDistinct-tail, get_or-map, length-map, All-head, All-tail, All-contains, IsPermutation-refl, Contains-permutation, StackLocation, distinct_first, Packet, packet_number, noted_in, noted_by, noted_last, asked}
 
 -- LISTS
 

@@ -1,15 +1,6 @@
 -- What a call does to the rooms below it does to the rooms that the partition driver shows.
 use Rattle.std.proofs.Common.{◌≡◌, ◌⊎◌, inl, inr, ℕ, zero, suc, Bool, true, false, List, [], ◌∷◌, Option, Some, None, Result, refl, sym, ◌∙◌, ap}
-use Rattle.std.specs.Prelude.{MatchBool}
-use Rattle.std.proofs.lemmas.List.Elements.{All-weaker}
-use Rattle.srb.specs.declared.Completion.{Completion}
-use Rattle.srb.specs.declared.DeviceLabel.{DeviceLabel}
-use Rattle.srb.specs.declared.Entry.{Entry}
-use Rattle.machine.specs.declared.Request.{Request}
-use Rattle.machine.specs.Holding.{Cancels}
-use Rattle.device.specs.View.{DeviceView, Packet, Reserved, IsOrderly, IsOffRooms, room_at}
-use Rattle.device.specs.Served.{SameRooms, SetsRoom, Moves, IsBeside, BooksPiece, ActsOrFaults, ActsNot, Finishes, FinishesNot, Resets, CancelsIfOpen, CancelsAt, NoneToCancel, DrainsAll, PausesAll, ResumesAll, HandsUpNone, TakesLabel, ForgetsLabels}
-use Rattle.partition.specs.inside.Rooms.{for_wanted, first_of, others_of, rooms_with, with_rooms, wanted_at, Notes}
+use Rattle.partition.proofs.Common.{MatchBool, All-weaker, Completion, DeviceLabel, Entry, Request, Cancels, DeviceView, Packet, Reserved, IsOrderly, IsOffRooms, room_at, SameRooms, SetsRoom, Moves, IsBeside, BooksPiece, ActsOrFaults, ActsNot, Finishes, FinishesNot, Resets, CancelsIfOpen, CancelsAt, NoneToCancel, DrainsAll, PausesAll, ResumesAll, HandsUpNone, TakesLabel, ForgetsLabels, for_wanted, first_of, others_of, rooms_with, with_rooms, wanted_at, Notes}
 
 -- BY SPOTS
 

@@ -1,27 +1,6 @@
 -- A settled disk is settled partitions, and both are read from the adapter.
-use Rattle.std.proofs.Common.{◌≡◌, ◌<◌, inl, inr, ℕ, ◌+◌, ◌-◌, cond, List, [], ◌∷◌, refl, sym, ◌∙◌, ap, subst, arith, map, length, take, drop, eqb}
+use Rattle.partition.proofs.Common.{◌≡◌, ◌<◌, inl, inr, ℕ, ◌+◌, ◌-◌, cond, List, [], ◌∷◌, refl, sym, ◌∙◌, ap, subst, arith, map, length, take, drop, eqb, IsDistinct, take-length, sum_by-cons, IsPermutation-sym, IsDistinct-IsPermutation, All-map, All-weaker, Extent, AdapterView, Rules, Mark, Untouched, Out, Done, Failed, Back, OpenRequest, State, is_started, array_at, Settled, IsHeld, HasGone, WaitsIfCancelled, Waits, IsAllSent, IsHeldBack, HasMore, IsAtWork, IsFull, is_lower, AreDistinct, IsGiven, HasPlaces, request_number, sectors_in, flips, DeviceView, Packet, IsRead, IsSending, WaitsForTag, IsOrderly, IsOffRooms, packet_number, packet_spot, rules_over, as_called, on_partitions, packet_above, view_of, IsWholeDisk, IsOnDisk}
 use Rattle.std.specs.Prelude.{◌⊎◌, All, IsPermutation, count_by}
-use Rattle.std.specs.List.{IsDistinct}
-use Rattle.std.proofs.Math.Seq.{take-length}
-use Rattle.std.proofs.lemmas.List.Sums.{sum_by-cons}
-use Rattle.std.proofs.lemmas.List.Sorted.{IsPermutation-sym}
-use Rattle.std.proofs.lemmas.Map.Keys.{IsDistinct-IsPermutation}
-use Rattle.std.proofs.lemmas.List.Elements.{All-map, All-weaker}
-use Rattle.sector.specs.declared.Extent.{Extent}
-use Rattle.adapter.specs.View.{AdapterView}
-use Rattle.machine.specs.Rules.{Rules}
-use Rattle.machine.specs.State.{Mark, Untouched, Out, Done, Failed, Back, OpenRequest, State}
-use Rattle.machine.specs.Sending.{is_started, array_at}
-use Rattle.machine.specs.Settled.{Settled, IsHeld, HasGone, WaitsIfCancelled, Waits, IsAllSent, IsHeldBack, HasMore, IsAtWork, IsFull}
-use Rattle.machine.specs.Holding.{is_lower}
-use Rattle.machine.specs.Numbers.{AreDistinct, IsGiven, HasPlaces, request_number}
-use Rattle.sector.specs.Extents.{sectors_in}
-use Rattle.machine.proofs.Permuting.{flips}
-use Rattle.device.specs.View.{DeviceView, Packet, IsRead, IsSending, WaitsForTag, IsOrderly, IsOffRooms, packet_number, packet_spot}
-use Rattle.partition.specs.OnDisk.{rules_over}
-use Rattle.partition.specs.Shown.{as_called, on_partitions, packet_above, view_of}
-use Rattle.partition.specs.Opening.{IsWholeDisk}
-use Rattle.partition.specs.inside.Invariant.{IsOnDisk}
 use Rattle.partition.proofs.Noted.{maps_are}
 use Rattle.partition.proofs.Steps.{Stands}
 

@@ -1,43 +1,6 @@
 -- Each step of a piece at the disk is one of the partitions' machine.
 use Rattle.std.proofs.Common.{◌≡◌, ◌<◌, ◌≤◌, ◌⊎◌, inl, inr, ℕ, ◌+◌, ◌/◌, Bool, true, false, List, [], ◌∷◌, Option, Some, None, refl, sym, ◌∙◌, ap, subst, arith, map, length, get_or, set, replicate}
-use Rattle.std.proofs.Common.{zero, suc}
-use Rattle.std.specs.Prelude.{if◌then◌else◌, IsPermutation, IsTrue, IsNone, All, Any, Contains, unwrap_or, slice_get, slice_range, slice_set}
-use Rattle.std.proofs.Math.Nat.{mul-div_cancel}
-use Rattle.std.proofs.lemmas.Bool.{cases_lt}
-use Rattle.std.proofs.lemmas.Option.{slice_get-get_or, slice_get_past}
-use Rattle.std.proofs.lemmas.List.{length-replicate}
-use Rattle.std.proofs.lemmas.List.Sorted.{IsPermutation-sym, IsPermutation-map, All-permutation, Contains-permutation}
-use Rattle.std.proofs.lemmas.List.Elements.{All-map, All-contains}
-use Rattle.sector.specs.declared.Extent.{Extent}
-use Rattle.sector.specs.Extents.{IsIn, sectors_in}
-use Rattle.sector.specs.Splice.{splice}
-use Rattle.sector.proofs.Splicing.{length-splice}
-use Rattle.cdb.specs.Meaning.{IsPlain, Means}
-use Rattle.srb.specs.declared.DeviceLabel.{DeviceLabel}
-use Rattle.srb.specs.declared.DeviceLabel.TheVariants.{Start, Act, Fault, Return}
-use Rattle.srb.specs.declared.Kind.{Kind}
-use Rattle.srb.specs.declared.Kind.TheVariants.{Read, Write, Flush}
-use Rattle.machine.specs.declared.ClientRequest.{ClientRequest}
-use Rattle.machine.specs.declared.Request.{Request}
-use Rattle.machine.specs.Rules.{Rules, is_transfer, first_sector, home}
-use Rattle.machine.specs.State.{Mark, Out, OpenRequest, Piece, State, IsSame}
-use Rattle.machine.specs.Sending.{Starts, Acts, IsInTurn, IsFreshPiece, Transfers, partition_number, written, array_at, command_for, read_command, write_command}
-use Rattle.machine.specs.Step.{DeviceStep, Run, as_label}
-use Rattle.machine.specs.Numbers.{AreDistinct}
-use Rattle.machine.specs.Pieces.{IsPlaced, ArePlaced}
-use Rattle.machine.specs.Map.{IsPartition, IsMap}
-use Rattle.machine.proofs.Same.{IsSame-sym}
-use Rattle.machine.proofs.Numbers.{AreDistinct-same, AreDistinct-DeviceStep}
-use Rattle.machine.proofs.Permuting.{All-changed}
-use Rattle.machine.proofs.Placed.{ArePlaced-same, ArePlaced-DeviceStep, leaves, get_or-splice_below, get_or-splice_above}
-use Rattle.machine.proofs.Owners.{Owns, owns}
-use Rattle.machine_laws.proofs.DiskMap.{count_at, home_at, parts, read_at, write_at, home_inside}
-use Rattle.device.specs.View.{Packet}
-use Rattle.partition.specs.inside.Noted.{asked}
-use Rattle.partition.specs.OnDisk.{rules_over}
-use Rattle.partition.specs.Shown.{as_called, on_partitions}
-use Rattle.partition.specs.Opening.{IsWholeDisk}
-use Rattle.partition.specs.inside.Invariant.{LiesInside}
+use Rattle.partition.proofs.Common.{zero, suc, if◌then◌else◌, IsPermutation, IsTrue, IsNone, All, Any, Contains, unwrap_or, slice_get, slice_range, slice_set, mul-div_cancel, cases_lt, slice_get-get_or, slice_get_past, length-replicate, IsPermutation-sym, IsPermutation-map, All-permutation, Contains-permutation, All-map, All-contains, Extent, IsIn, sectors_in, splice, length-splice, IsPlain, Means, DeviceLabel, Start, Act, Fault, Return, Kind, Read, Write, Flush, ClientRequest, Request, Rules, is_transfer, first_sector, home, Mark, Out, OpenRequest, Piece, State, IsSame, Starts, Acts, IsInTurn, IsFreshPiece, Transfers, partition_number, written, array_at, command_for, read_command, write_command, DeviceStep, Run, as_label, AreDistinct, IsPlaced, ArePlaced, IsPartition, IsMap, IsSame-sym, AreDistinct-same, AreDistinct-DeviceStep, All-changed, ArePlaced-same, ArePlaced-DeviceStep, leaves, get_or-splice_below, get_or-splice_above, Owns, owns, count_at, home_at, parts, read_at, write_at, home_inside, Packet, asked, rules_over, as_called, on_partitions, IsWholeDisk, LiesInside}
 use Rattle.partition.proofs.Noted.{Contains-map}
 
 -- THE SECTORS OF NO PARTITION

@@ -1,37 +1,6 @@
 -- A packet is passed on to the layer below.
-use Rattle.std.proofs.Common.{◌≡◌, ◌<◌, ◌≤◌, ℕ, zero, suc, Option, None, map, ◌+◌, ◌-◌, ◌*◌, ◌/◌, ◌^◌, Bool, true, false, List, [], ◌∷◌, ◌++◌, Some, refl, sym, ◌∙◌, ap, subst, arith, add-zero, length, take, ◌==◌, bit_and}
-use Rattle.std.specs.Prelude.{All, Contains, if◌then◌else◌}
-use Rattle.std.proofs.lemmas.List.Sorted.{IsPermutation-sym, All-permutation}
-use Rattle.std.proofs.Math.Nat.{mul-div_cancel}
-use Rattle.std.proofs.lemmas.List.Elements.{All-cons, All-head, All-tail}
-use Rattle.sector.specs.declared.Extent.{Extent}
-use Rattle.cdb.specs.Meaning.{IsPlain, Means}
-use Rattle.irp.specs.declared.Irp.{Irp}
-use Rattle.irp.specs.declared.Payload.{Payload}
+use Rattle.partition.proofs.Common.{◌≡◌, ◌<◌, ◌≤◌, ℕ, zero, suc, Option, None, map, ◌+◌, ◌-◌, ◌*◌, ◌/◌, ◌^◌, Bool, true, false, List, [], ◌∷◌, ◌++◌, Some, refl, sym, ◌∙◌, ap, subst, arith, add-zero, length, take, ◌==◌, bit_and, All, Contains, if◌then◌else◌, IsPermutation-sym, All-permutation, mul-div_cancel, All-cons, All-head, All-tail, Extent, IsPlain, Means, Irp, Payload, StackLocation, above, HasOwn, KeepsAllButLocations, above_is, always_asks, Kind, Read, Write, Flush, Request, Rules, home, as_client, sectors_of, Opens, command_for, read_command, write_command, all_places, OpenRequest, IsGiven, IsPartition, DeviceView, Packet, IsOrderly, IsBounded, AsksInLocation, Carries, major_of, Reserved, packet_of, request_at, request_of, sent_bytes, whole_command, whole_for, Moves, SetsRoom, StaysOpen, Submits, noting, passed_on, kind_in, noted_in, noted_last, asked, rules_over, on_disk, called, as_called, on_partitions, packet_above, view_of, shown_of, IsWholeDisk, for_wanted, rooms_with, ComesBack, IsOnDisk, IsKept, IsNotedAt, count_at, home_at}
 use Rattle.irp.specs.declared.Payload.TheVariants.{Buffer, Srb as Packed, Sent as AtAdapter}
-use Rattle.irp.specs.declared.StackLocation.{StackLocation}
-use Rattle.irp.specs.Climb.{above}
-use Rattle.irp.specs.Packet.{HasOwn, KeepsAllButLocations}
-use Rattle.device.proofs.Returning.{above_is, always_asks}
-use Rattle.srb.specs.declared.Kind.{Kind}
-use Rattle.srb.specs.declared.Kind.TheVariants.{Read, Write, Flush}
-use Rattle.machine.specs.declared.Request.{Request}
-use Rattle.machine.specs.Rules.{Rules, home, as_client, sectors_of}
-use Rattle.machine.specs.Calling.{Opens}
-use Rattle.machine.specs.Sending.{command_for, read_command, write_command}
-use Rattle.machine.specs.Solo.{all_places}
-use Rattle.machine.specs.State.{OpenRequest}
-use Rattle.machine.specs.Numbers.{IsGiven}
-use Rattle.machine.specs.Map.{IsPartition}
-use Rattle.device.specs.View.{DeviceView, Packet, IsOrderly, IsBounded, AsksInLocation, Carries, major_of, Reserved, packet_of, request_at, request_of, sent_bytes, whole_command, whole_for}
-use Rattle.device.specs.Served.{Moves, SetsRoom, StaysOpen, Submits}
-use Rattle.partition.specs.inside.Noted.{noting, passed_on, kind_in, noted_in, noted_last, asked}
-use Rattle.partition.specs.OnDisk.{rules_over, on_disk}
-use Rattle.partition.specs.Shown.{called, as_called, on_partitions, packet_above, view_of, shown_of}
-use Rattle.partition.specs.Opening.{IsWholeDisk}
-use Rattle.partition.specs.inside.Rooms.{for_wanted, rooms_with}
-use Rattle.partition.specs.inside.Invariant.{ComesBack, IsOnDisk, IsKept, IsNotedAt}
-use Rattle.machine_laws.proofs.DiskMap.{count_at, home_at}
 use Rattle.partition.proofs.Noted.{asked_first, asked_behind, noted_at, front_is}
 use Rattle.partition.proofs.Steps.{Stands}
 use Rattle.partition.proofs.Calls.{Opens-over}

@@ -1,14 +1,5 @@
 -- What is cancelled above waits for its pieces alone exactly where it does below.
-use Rattle.std.proofs.Common.{List, [], ◌∷◌, map}
-use Rattle.std.specs.Prelude.{All}
-use Rattle.std.proofs.lemmas.List.Elements.{All-nil, All-cons, All-head, All-tail}
-use Rattle.sector.specs.declared.Extent.{Extent}
-use Rattle.machine.specs.Rules.{Rules}
-use Rattle.machine.specs.State.{OpenRequest}
-use Rattle.machine.specs.Settled.{WaitsIfCancelled}
-use Rattle.device.specs.View.{DeviceView, Packet}
-use Rattle.partition.specs.OnDisk.{rules_over}
-use Rattle.partition.specs.Shown.{as_called, view_of}
+use Rattle.partition.proofs.Common.{List, [], ◌∷◌, map, All, All-nil, All-cons, All-head, All-tail, Extent, Rules, OpenRequest, WaitsIfCancelled, DeviceView, Packet, rules_over, as_called, view_of}
 
 each_below : (rules : Rules) (packets : List Packet) (requests : List OpenRequest) → All WaitsIfCancelled (map (as_called rules packets) requests) → All WaitsIfCancelled requests
 each_below rules packets [] all = All-nil WaitsIfCancelled

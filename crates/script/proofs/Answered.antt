@@ -1,19 +1,6 @@
 -- Which answers go with the labels of a step.
-use Rattle.std.proofs.Common.{◌≡◌, ◌⊎◌, ◌∙◌, inl, inr, List, [], ◌∷◌, ◌++◌, ap, arith, length, map, refl, subst, sym}
-use Rattle.std.specs.Prelude.{IsPermutation}
-use Rattle.std.proofs.lemmas.List.{append-nil, nil_from_length}
-use Rattle.std.proofs.lemmas.List.Sorted.{length_permutation}
-use Rattle.machine.specs.declared.Label.{Label}
+use Rattle.script.proofs.Common.{◌≡◌, ◌⊎◌, ◌∙◌, inl, inr, List, [], ◌∷◌, ◌++◌, ap, arith, length, map, refl, subst, sym, IsPermutation, append-nil, nil_from_length, length_permutation, Label, Answer, Reply, AreRising, FitsTogether, answer_number, ManagerView, ComeToWait, IsSaidAlone, StepsKeepRules, StepsLeaveAnswers, answers_in, Order, Given, IsAllTaken, IsCarriedOut, GoWith, IsCarriedOutFor, Tells}
 use Rattle.machine.specs.declared.Label.TheVariants.{Call, Device, Answer as AnswerLabel, Cancel, Pause, Resume, Remove, Surprise, Removed}
-use Rattle.io_manager.specs.declared.Answer.{Answer}
-use Rattle.io_manager.specs.declared.Reply.{Reply}
-use Rattle.io_manager.specs.Right.{AreRising, FitsTogether, answer_number}
-use Rattle.io_manager.specs.Shown.{ManagerView}
-use Rattle.compose.specs.StepLaws.{ComeToWait, IsSaidAlone, StepsKeepRules, StepsLeaveAnswers, answers_in}
-use Rattle.script.specs.declared.Order.{Order}
-use Rattle.script.specs.declared.given.Given.{Given}
-use Rattle.script.specs.Trace.{IsAllTaken, IsCarriedOut}
-use Rattle.script.specs.inside.Answers.{GoWith, IsCarriedOutFor, Tells}
 use Rattle.script.proofs.Rising.{rising_same}
 
 -- all answers of the labels wait

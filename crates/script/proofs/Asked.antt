@@ -1,10 +1,7 @@
 -- What words ask for, argument by argument.
 use Rattle.std.proofs.Common.{◌≡◌, ◌↔◌, ◌+◌, ◌*◌, ℕ, Bool, IsTrue, List, [], ◌∷◌, Option, None, Some, slice_get, arith, ap, codes, drop, false, length, true, refl, slice_index, subst, sym}
-use Rattle.std.specs.Bool.{then_some}
-use Rattle.std.specs.List.{AllZip}
-use Rattle.script.specs.declared.Order.{Order}
+use Rattle.script.proofs.Common.{then_some, AllZip, Order, Argument, Asks, Byte, Finds, FirstSpells, Length, Number, Spells, request_of, through_of, verb_of}
 use Rattle.script.specs.declared.Order.TheVariants.{Read, Write, Cancel}
-use Rattle.script.specs.Script.{Argument, Asks, Byte, Finds, FirstSpells, Length, Number, Spells, request_of, through_of, verb_of}
 
 -- an argument and those after it
 pub first_spells : (words rest : List (List ℕ)) (a : Argument) (more : List Argument) → rest ≡ drop 1 words → AllZip Spells words (a ∷ more)

@@ -1,14 +1,6 @@
 -- A text that is cut at a byte, and its first line.
-use Rattle.std.proofs.Common.{◌≡◌, ◌<◌, ◌==◌, ◌+◌, ◌∙◌, ℕ, Bool, Bor, List, [], ◌∷◌, Option, Some, None, cond, not, length, get_or, arith, ap, refl, subst, sym}
+use Rattle.script.proofs.Common.{◌≡◌, ◌<◌, ◌==◌, ◌+◌, ◌∙◌, ℕ, Bool, Bor, List, [], ◌∷◌, Option, Some, None, cond, not, length, get_or, arith, ap, refl, subst, sym, after_first, before_first, position, position_or_len, slice_split, IsCharBoundary, IsUtf8, lines, lines_of_parts, strip_carriage_return, common_steps, passes_at_first, prefix_len-le-length, length-slice_split, slice_split_first, IsCharBoundary-after_ascii, IsCharBoundary-before_ascii, IsCut}
 use borrow.Author.Tests.{eqb-true, ne_eqb}
-use Rattle.std.specs.List.{after_first, before_first, position, position_or_len, slice_split}
-use Rattle.std.specs.Str.{IsCharBoundary, IsUtf8}
-use Rattle.std.specs.Str.Lines.{lines, lines_of_parts, strip_carriage_return}
-use Rattle.std.proofs.lemmas.Grind.{common_steps}
-use Rattle.std.proofs.lemmas.List.Sums.{passes_at_first, prefix_len-le-length}
-use Rattle.std.proofs.lemmas.List.Splits.{length-slice_split, slice_split_first}
-use Rattle.std.proofs.lemmas.Str.{IsCharBoundary-after_ascii, IsCharBoundary-before_ascii}
-use Rattle.script.specs.inside.Cuts.{IsCut}
 use Rattle.script.proofs.Parted.{one_part}
 
 pub none_there : (p : ℕ → Bool) (text : List ℕ) → None ≡ position p text → position_or_len p text ≡ length text

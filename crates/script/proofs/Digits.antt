@@ -1,11 +1,5 @@
 -- The number that digits spell, one digit after the other.
-use Rattle.std.proofs.Common.{◌<◌, ◌≤◌, ◌+◌, ◌*◌, ◌∙◌, ℕ, zero, suc, List, [], ◌∷◌, Option, Some, None, length, take, get_or, arith, ap, refl, sym}
-use Rattle.std.specs.Char.{digit_value}
-use Rattle.std.specs.Str.Parse.{AllDigits}
-use Rattle.std.proofs.lemmas.Int.Digits.{digits_more, digits_value_more}
-use Rattle.std.proofs.lemmas.Str.Parse.{digits_value-take-le}
-use Rattle.script.specs.inside.Cuts.{AreWorth, IsLonger}
-use Rattle.script.specs.Script.{Finds, IsNumber}
+use Rattle.script.proofs.Common.{◌<◌, ◌≤◌, ◌+◌, ◌*◌, ◌∙◌, ℕ, zero, suc, List, [], ◌∷◌, Option, Some, None, length, take, get_or, arith, ap, refl, sym, digit_value, AllDigits, digits_more, digits_value_more, digits_value-take-le, AreWorth, IsLonger, Finds, IsNumber}
 
 -- all digits are decimal, so each is
 below_at : (digits : List ℕ) (i : ℕ) → AllDigits 10 digits → i < length digits → digit_value (get_or digits i 0) < 10

@@ -12,3 +12,4 @@ mod Rising
 mod Spelled
 mod Trims
 mod Zipped
+mod Common

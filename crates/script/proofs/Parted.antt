@@ -1,13 +1,6 @@
 -- The words of a line, one by one.
-use Rattle.std.proofs.Common.{◌≡◌, ◌<◌, ◌==◌, ◌+◌, ◌++◌, ◌∙◌, ℕ, Bool, List, [], ◌∷◌, Option, Some, None, IfSome, take, arith, ap, cond, false, true, length, not, refl, slice_index, sym, filter}
+use Rattle.script.proofs.Common.{◌≡◌, ◌<◌, ◌==◌, ◌+◌, ◌++◌, ◌∙◌, ℕ, Bool, List, [], ◌∷◌, Option, Some, None, IfSome, take, arith, ap, cond, false, true, length, not, refl, slice_index, sym, filter, position_or_len, before_first, after_first, slice_split, onto_first, FindsCharPrefix, CutsPrefixes, IsFullyTrimmed, IsTrimStartMatches, encode_ascii, length-take, nil_from_length, slice_split_first, drop_at_char, words_of}
 use borrow.Author.Tests.{eqb-true, ne_eqb}
-use Rattle.std.specs.List.{position_or_len, before_first, after_first, slice_split, onto_first}
-use Rattle.std.specs.Str.Pattern.{FindsCharPrefix, CutsPrefixes, IsFullyTrimmed, IsTrimStartMatches}
-use Rattle.std.proofs.lemmas.Str.{encode_ascii}
-use Rattle.std.proofs.lemmas.List.{length-take, nil_from_length}
-use Rattle.std.proofs.lemmas.List.Splits.{slice_split_first}
-use Rattle.std.proofs.lemmas.Str.Pattern.{drop_at_char}
-use Rattle.script.specs.Script.{words_of}
 
 -- a space before a line adds no word
 words_after_spaces : (s r ns : List ℕ) → CutsPrefixes (FindsCharPrefix 32) s ns r → words_of s ≡ words_of r

@@ -1,22 +1,9 @@
 -- The lines of a script, played one after the other.
-use Rattle.std.proofs.Common.{◌≡◌, ◌<◌, ◌+◌, ℕ, List, [], ◌∷◌, ◌++◌, Option, ap, subst, sym, refl, ◌∙◌, take, length, get_or}
-use Rattle.std.proofs.lemmas.List.{append_assoc, append-nil, take_more}
-use Rattle.std.specs.BTreeMap.{IsEmpty}
+use Rattle.script.proofs.Common.{◌≡◌, ◌<◌, ◌+◌, ℕ, List, [], ◌∷◌, ◌++◌, Option, ap, subst, sym, refl, ◌∙◌, take, length, get_or, append_assoc, append-nil, take_more, IsEmpty, Label, Reply, ManagerView, line_end, Line, Style, Given, AreLinesTold, Between, IsAllTaken, IsLineTold, IsTold, IsToldTo, Prints, all_taken, line_text, labels_text, reply_line, Transcript, Trace, Tells, without_bytes}
 use Rattle.std.specs.Prelude.{codes}
 use Rattle.std.specs.Io.KnownBytes.{Keeps as KeepsBytes, append_known}
-use Rattle.machine.specs.declared.Label.{Label}
-use Rattle.io_manager.specs.declared.Reply.{Reply}
 use Rattle.io_manager.specs.declared.Reply.TheVariants.{Handle as HandleReply, Ok as OkReply, Request as Requested, Answered, Refused, Ignored}
-use Rattle.io_manager.specs.Shown.{ManagerView}
-use Rattle.label_text.specs.Lines.{line_end}
-use Rattle.script.specs.declared.Line.{Line}
-use Rattle.script.specs.declared.Style.{Style}
-use Rattle.script.specs.declared.given.Given.{Given}
 use Rattle.script.specs.Events.{Keeps}
-use Rattle.script.specs.Trace.{AreLinesTold, Between, IsAllTaken, IsLineTold, IsTold, IsToldTo, Prints, all_taken, line_text}
-use Rattle.script.specs.Printing.{labels_text, reply_line}
-use Rattle.script.specs.declared.Style.TheVariants.{Transcript, Trace}
-use Rattle.script.specs.inside.Answers.{Tells, without_bytes}
 use Rattle.script.proofs.Printed.{both, more_waits, nothing, stays}
 
 -- A LINE

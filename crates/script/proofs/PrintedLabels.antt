@@ -1,25 +1,9 @@
 -- The labels that are written, and those that are left.
-use Rattle.std.proofs.Common.{◌≡◌, ℕ, List, [], ◌∷◌, ◌++◌, Bool, true, false, Option, Some, None, ap, subst, sym, refl, ◌∙◌, drop}
+use Rattle.script.proofs.Common.{◌≡◌, ℕ, List, [], ◌∷◌, ◌++◌, Bool, true, false, Option, Some, None, ap, subst, sym, refl, ◌∙◌, drop, decimal, join_with_byte, append_assoc, append-nil, Kind, in_memory, request_in_memory, ClientRequest, Label, Answer, TakesAnswer, TakesShown, ManagerView, Words, kind_word, line_end, short_extent, short_line_of, Style, Transcript, Trace, label_line, labels_text, all_taken, GoWith, HasBytesOf, answered_by, first_bytes, left_by}
 use Rattle.std.specs.Prelude.{IsTrue, codes}
-use Rattle.std.specs.Fmt.{decimal}
-use Rattle.std.specs.List.{join_with_byte}
-use Rattle.std.proofs.lemmas.List.{append_assoc, append-nil}
 use Rattle.srb.specs.declared.DeviceLabel.TheVariants.{Start, Act, Fault, Return}
-use Rattle.srb.specs.declared.Kind.{Kind}
 use Rattle.srb.specs.declared.Kind.TheVariants.{Read, Write, Flush}
-use Rattle.machine.specs.Bare.{in_memory, request_in_memory}
-use Rattle.machine.specs.declared.ClientRequest.{ClientRequest}
-use Rattle.machine.specs.declared.Label.{Label}
 use Rattle.machine.specs.declared.Label.TheVariants.{Call, Device, Answer as AnswerLabel, Cancel, Pause, Resume, Remove, Surprise, Removed}
-use Rattle.io_manager.specs.declared.Answer.{Answer}
-use Rattle.io_manager.specs.Right.{TakesAnswer, TakesShown}
-use Rattle.io_manager.specs.Shown.{ManagerView}
-use Rattle.label_text.specs.Lines.{Words, kind_word, line_end, short_extent, short_line_of}
-use Rattle.script.specs.declared.Style.{Style}
-use Rattle.script.specs.declared.Style.TheVariants.{Transcript, Trace}
-use Rattle.script.specs.Printing.{label_line, labels_text}
-use Rattle.script.specs.Trace.{all_taken}
-use Rattle.script.specs.inside.Answers.{GoWith, HasBytesOf, answered_by, first_bytes, left_by}
 
 -- taking an answer leaves those behind the first
 pub answer_taken : (old new : ManagerView) (answer : Option Answer) → TakesAnswer old answer new → new ≡ record old { answers = drop 1 old.answers }

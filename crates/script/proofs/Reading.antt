@@ -1,12 +1,6 @@
 -- The lines that were read so far.
 use Rattle.std.proofs.Common.{◌≡◌, ◌<◌, ◌≤◌, ◌+◌, ◌++◌, ◌==◌, ◌∙◌, ◌-◌, ◌^◌, min, ℕ, suc, Bool, List, [], ◌∷◌, All, arith, ap, cond, false, filter, length, map, refl, subst, sym, true}
-use Rattle.std.specs.List.{AllZip, onto_first, slice_split}
-use Rattle.std.specs.Str.Lines.{lines, lines_of_parts}
-use Rattle.std.proofs.lemmas.List.{length-map, append-nil, append_assoc, length-append, map-append, nil_from_length}
-use Rattle.std.proofs.lemmas.List.Elements.{All-nil, All-cons, filter-append}
-use Rattle.script.specs.declared.Line.{Line}
-use Rattle.script.specs.declared.Order.{Order}
-use Rattle.script.specs.Script.{AreEvents, Asks, IsBad, IsFirstBad, IsLine, is_event, lines_of, trimmed, words_of}
+use Rattle.script.proofs.Common.{AllZip, onto_first, slice_split, lines, lines_of_parts, length-map, append-nil, append_assoc, length-append, map-append, nil_from_length, All-nil, All-cons, filter-append, Line, Order, AreEvents, Asks, IsBad, IsFirstBad, IsLine, is_event, lines_of, trimmed, words_of}
 use Rattle.script.proofs.Zipped.{all_zip_append}
 
 -- this many texts were read, and the events among them are these

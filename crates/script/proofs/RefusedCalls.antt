@@ -1,18 +1,8 @@
 -- A call that is refused without its bytes is the call with them.
-use Rattle.std.proofs.Common.{◌≡◌, inl, ℕ, List, [], Option, Some, None, ap, refl, replicate, subst, sym}
-use Rattle.std.proofs.lemmas.List.{length-replicate}
-use Rattle.io_manager.specs.declared.Asked.{Asked}
+use Rattle.script.proofs.Common.{◌≡◌, inl, ℕ, List, [], Option, Some, None, ap, refl, replicate, subst, sym, length-replicate, Asked, Refusal, Refused, Refuses, ManagerView, Order, Given, handle_of, IsCarriedOutFor, asked_by}
 use Rattle.io_manager.specs.declared.Handle.{Handle as OpenedHandle}
-use Rattle.io_manager.specs.declared.Refusal.{Refusal}
-use Rattle.io_manager.specs.declared.Reply.TheVariants.{Refused}
-use Rattle.io_manager.specs.Right.{Refuses}
-use Rattle.io_manager.specs.Shown.{ManagerView}
 use Rattle.compose.specs.declared.Event.TheVariants.{Read as ReadEvent, Write as WriteEvent}
-use Rattle.script.specs.declared.Order.{Order}
 use Rattle.script.specs.declared.Order.TheVariants.{Open, Close, Read, Write, Flush, Cancel, Mark, QueryRemove, CancelRemove, Remove, SurpriseRemove, Act, Finish, Reset}
-use Rattle.script.specs.declared.given.Given.{Given}
-use Rattle.script.specs.Events.{handle_of}
-use Rattle.script.specs.inside.Answers.{IsCarriedOutFor, asked_by}
 
 module _ (given : Given) (old new : ManagerView) (handle : OpenedHandle) (asked : Asked) (reason : Refusal) where
   -- what was found

@@ -1,12 +1,6 @@
 -- Answers in another order: where both rise by number, they are the same.
-use Rattle.std.proofs.Common.{◌≡◌, ◌<◌, ℕ, zero, suc, List, [], ◌∷◌, ap, arith, length, map, refl, subst, sym}
+use Rattle.script.proofs.Common.{◌≡◌, ◌<◌, ℕ, zero, suc, List, [], ◌∷◌, ap, arith, length, map, refl, subst, sym, nil_from_length, All-head, All-tail, Contains-permutation, IsPermutation-sym, length_permutation, IsPermutation-uncons, Answer, AreRising, IsAbove, answer_number}
 use Rattle.std.specs.Prelude.{All, Contains, IsPermutation}
-use Rattle.std.proofs.lemmas.List.{nil_from_length}
-use Rattle.std.proofs.lemmas.List.Elements.{All-head, All-tail}
-use Rattle.std.proofs.lemmas.List.Sorted.{Contains-permutation, IsPermutation-sym, length_permutation}
-use Rattle.machine.proofs.Permuting.{IsPermutation-uncons}
-use Rattle.io_manager.specs.declared.Answer.{Answer}
-use Rattle.io_manager.specs.Right.{AreRising, IsAbove, answer_number}
 
 -- an answer among those above a number is above it
 above : (number : ℕ) (answers : List Answer) (answer : Answer) → All (IsAbove number) (map answer_number answers) → Contains answers answer → number < answer.number

@@ -1,8 +1,5 @@
 -- What is read of a word of digits, as the words of the definitions.
-use Rattle.std.proofs.Common.{◌≡◌, ◌^◌, ◌<◌, ◌==◌, ℕ, List, [], ◌∷◌, Option, Result, Ok, Err, arith, ap, cond, drop, false, length, slice_index, subst, sym}
-use Rattle.std.specs.Result.{OkIff, result_ok}
-use Rattle.std.specs.Str.Parse.{AllDigits, IsNumeral, ParsesUnsigned, digits_value, without_leading_plus}
-use Rattle.script.specs.Script.{Finds, IsByte}
+use Rattle.script.proofs.Common.{◌≡◌, ◌^◌, ◌<◌, ◌==◌, ℕ, List, [], ◌∷◌, Option, Result, Ok, Err, arith, ap, cond, drop, false, length, slice_index, subst, sym, OkIff, result_ok, AllDigits, IsNumeral, ParsesUnsigned, digits_value, without_leading_plus, Finds, IsByte}
 
 -- with no plus before it, a text is read as a numeral
 plain_numeral : {E : Type 0} (k radix : ℕ) (bs : List ℕ) (r : Result ℕ E) → ParsesUnsigned k radix bs r → (slice_index bs 0 == 43) ≡ false

@@ -1,11 +1,6 @@
 -- What is left of a text without the spaces at its ends.
-use Rattle.std.proofs.Common.{◌≡◌, ◌==◌, ◌-◌, ◌++◌, ◌∙◌, ℕ, Bool, List, [], ◌∷◌, Option, None, Some, IfSome, arith, ap, cond, false, length, refl, reverse, sym, take, true}
+use Rattle.script.proofs.Common.{◌≡◌, ◌==◌, ◌-◌, ◌++◌, ◌∙◌, ℕ, Bool, List, [], ◌∷◌, Option, None, Some, IfSome, arith, ap, cond, false, length, refl, reverse, sym, take, true, CutsPrefixes, CutsSuffixes, FindsCharPrefix, FindsCharSuffix, IsFullyTrimmed, IsTrimEndMatches, IsTrimStartMatches, drop_all, reverse-append, reverse-reverse, take-append-drop, encode_ascii, drop_at_char, trimmed, without_spaces}
 use borrow.Author.Tests.{eqb-true}
-use Rattle.std.specs.Str.Pattern.{CutsPrefixes, CutsSuffixes, FindsCharPrefix, FindsCharSuffix, IsFullyTrimmed, IsTrimEndMatches, IsTrimStartMatches}
-use Rattle.std.proofs.lemmas.List.{drop_all, reverse-append, reverse-reverse, take-append-drop}
-use Rattle.std.proofs.lemmas.Str.{encode_ascii}
-use Rattle.std.proofs.lemmas.Str.Pattern.{drop_at_char}
-use Rattle.script.specs.Script.{trimmed, without_spaces}
 
 cut_before : (s r ns : List ℕ) → CutsPrefixes (FindsCharPrefix 32) s ns r → without_spaces s ≡ without_spaces r
 cut_before s r [] h = ap without_spaces (sym h)

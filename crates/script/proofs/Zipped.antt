@@ -1,6 +1,5 @@
 -- Two lists, place by place.
-use Rattle.std.proofs.Common.{List, [], ◌∷◌, ◌++◌}
-use Rattle.std.specs.List.{AllZip}
+use Rattle.script.proofs.Common.{List, [], ◌∷◌, ◌++◌, AllZip}
 
 -- one more pair at the end
 pub all_zip_append : {A B : Type 0} (R : A → B → Type 0) (xs : List A) (ys : List B) (x : A) (y : B) → AllZip R xs ys → R x y → AllZip R (xs ++ x ∷ []) (ys ++ y ∷ [])

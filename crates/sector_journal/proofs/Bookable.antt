@@ -1,17 +1,5 @@
 -- What a journal entered may be booked.
-use Rattle.std.proofs.Common.{◌≡◌, ◌≢◌, ℕ, Bool, List, length, Ok, Err, IsFalse, sym, subst, ◌∙◌, inl, inr}
-use Rattle.cdb.specs.declared.Cdb.{Cdb}
-use Rattle.cdb.specs.declared.Cdb.TheVariants.{Read10, Write10, Sync10, ReadCapacity10, Read16, Write16, Sync16, ReadCapacity16}
-use Rattle.cdb.specs.Meaning.{Means}
-use Rattle.srb.specs.declared.Srb.{Srb}
-use Rattle.srb.specs.declared.Kind.{Kind}
-use Rattle.srb.specs.declared.Entry.{Entry}
-use Rattle.srb.specs.declared.Completion.{Completion}
-use Rattle.adapter.specs.View.{AdapterView}
-use Rattle.adapter.specs.Booking.{IsArmed, IsTransferOf, IsFlushOf, MayBeOf, IsOfSrb, IsBookable}
-use Rattle.disk.specs.Medium.{MediumView}
-use Rattle.sector_journal.specs.Arming.{AskTheSame}
-use Rattle.sector_journal.specs.Entering.{Enters, Refuses}
+use Rattle.sector_journal.proofs.Common.{◌≡◌, ◌≢◌, ℕ, Bool, List, length, Ok, Err, IsFalse, sym, subst, ◌∙◌, inl, inr, Cdb, Read10, Write10, Sync10, ReadCapacity10, Read16, Write16, Sync16, ReadCapacity16, Means, Srb, Kind, Entry, Completion, AdapterView, IsArmed, IsTransferOf, IsFlushOf, MayBeOf, IsOfSrb, IsBookable, MediumView, AskTheSame, Enters, Refuses}
 
 transfer_of : (size sectors : ℕ) (one other : List ℕ) (kind : Kind) (lba count : ℕ) (entry : Entry) → length one ≡ length other → IsTransferOf size sectors one kind lba count entry
     → IsTransferOf size sectors other kind lba count entry

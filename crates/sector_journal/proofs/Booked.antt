@@ -1,14 +1,5 @@
 -- What open requests were promised, and the buffers that stay for them.
-use Rattle.std.proofs.Common.{◌≡◌, ◌≤◌, ◌<◌, ℕ, zero, suc, ◌+◌, ◌-◌, ◌==◌, min, true, false, if◌then◌else◌, List, [], ◌∷◌, ◌++◌, length, get_or, slice_index_or, slice_set, Option, Some, None, inl, inr, refl, sym, ap, subst, ◌∙◌, arith, eqb-true}
-use Rattle.std.specs.List.{position, remove, sum_by}
-use Rattle.std.proofs.lemmas.Bool.{cases_Bool}
-use Rattle.std.proofs.lemmas.List.Sums.{sum_by_push, sum_by-remove}
-use Rattle.sector_journal.specs.declared.slots.Armed.{Armed}
-use Rattle.sector_journal.specs.declared.reservation.Reservation.{Reservation}
-use Rattle.sector_journal.specs.Reserving.{is_of, of_length, pieces_with}
-use Rattle.sector_journal.specs.Slots.{armed_at, armed_with}
-use Rattle.sector_journal.specs.Stocking.{ShelfView, pieces_at, promised_at}
-use Rattle.sector_journal.specs.Journal.{JournalView, Disarms, Releases, pieces_open}
+use Rattle.sector_journal.proofs.Common.{◌≡◌, ◌≤◌, ◌<◌, ℕ, zero, suc, ◌+◌, ◌-◌, ◌==◌, min, true, false, if◌then◌else◌, List, [], ◌∷◌, ◌++◌, length, get_or, slice_index_or, slice_set, Option, Some, None, inl, inr, refl, sym, ap, subst, ◌∙◌, arith, eqb-true, position, remove, sum_by, cases_Bool, sum_by_push, sum_by-remove, Armed, Reservation, is_of, of_length, pieces_with, armed_at, armed_with, ShelfView, pieces_at, promised_at, JournalView, Disarms, Releases, pieces_open}
 
 -- each length was promised what the reservations say
 abbrev pub AreBooked : ℕ → List Reservation → List ShelfView → Type 0

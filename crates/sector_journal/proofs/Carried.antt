@@ -1,31 +1,5 @@
 -- A command carried out on a medium, as its entry says it.
-use Rattle.std.proofs.Common.{◌≡◌, ◌≤◌, ℕ, ◌+◌, ◌*◌, ◌==◌, Bool, true, false, not, List, [], ◌∷◌, length, slice_range, All, Option, Some, None, Ok, refl, sym, ap, subst, ◌∙◌, arith, length-append, if◌then◌else◌}
-use Rattle.std.specs.List.{concat}
-use Rattle.std.proofs.lemmas.Bool.{and_parts}
-use Rattle.std.proofs.lemmas.Bool.Decides.{Decides-eqb}
-use Rattle.std.proofs.lemmas.List.Elements.{All-head, All-tail}
-use Rattle.ntstatus.proofs.First.{none_first}
-use Rattle.sector.specs.declared.Extent.{Extent}
-use Rattle.sector.specs.Extents.{IsSector}
-use Rattle.sector.specs.Splice.{splice}
-use Rattle.cdb.specs.declared.Cdb.{Cdb}
-use Rattle.cdb.specs.declared.Cdb.TheVariants.{Read10, Write10, Sync10, ReadCapacity10, Read16, Write16, Sync16, ReadCapacity16}
-use Rattle.cdb.specs.Meaning.{Means}
-use Rattle.srb.specs.declared.Srb.{Srb}
-use Rattle.srb.specs.declared.Kind.{Kind}
-use Rattle.srb.specs.declared.Kind.TheVariants.{Read, Write, Flush}
-use Rattle.srb.specs.declared.Entry.{Entry}
-use Rattle.srb.specs.declared.Completion.{Completion}
-use Rattle.adapter.specs.Performing.{Performs}
-use Rattle.adapter.proofs.Performing.{Performs-length}
-use Rattle.adapter.specs.Booking.{MayBeOf, IsTransferOf, IsFlushOf}
-use Rattle.disk.specs.Medium.{MediumView, HasWholeSectors}
-use Rattle.miniport.specs.Carrying.{CarriesOut, FailsBy, disk_of, with_data}
-use Rattle.miniport.specs.Faults.{Disk, fault_of, fault_of_command, is_execute, is_past_end, fits, flags_of, bytes_of, invalid_request, error}
-use Rattle.miniport.proofs.Bad.{fault_is_bad}
-use Rattle.miniport.proofs.Sectors.{length-extent, All-extent}
-use Rattle.srb.specs.Replaying.{ReplaysKind}
-use Rattle.sector_journal.specs.Entering.{named, Enters, Refuses}
+use Rattle.sector_journal.proofs.Common.{◌≡◌, ◌≤◌, ℕ, ◌+◌, ◌*◌, ◌==◌, Bool, true, false, not, List, [], ◌∷◌, length, slice_range, All, Option, Some, None, Ok, refl, sym, ap, subst, ◌∙◌, arith, length-append, if◌then◌else◌, concat, and_parts, Decides-eqb, All-head, All-tail, none_first, Extent, IsSector, splice, Cdb, Read10, Write10, Sync10, ReadCapacity10, Read16, Write16, Sync16, ReadCapacity16, Means, Srb, Kind, Read, Write, Flush, Entry, Completion, Performs, Performs-length, MayBeOf, IsTransferOf, IsFlushOf, MediumView, HasWholeSectors, CarriesOut, FailsBy, disk_of, with_data, Disk, fault_of, fault_of_command, is_execute, is_past_end, fits, flags_of, bytes_of, invalid_request, error, fault_is_bad, length-extent, All-extent, ReplaysKind, named, Enters, Refuses}
 
 -- WHAT NO FAULT SAYS
 

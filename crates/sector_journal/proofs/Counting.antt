@@ -1,9 +1,5 @@
 -- How many pieces may act.
-use Rattle.std.proofs.Common.{◌≡◌, ◌≤◌, ◌<◌, ℕ, zero, suc, ◌+◌, ◌*◌, List, [], ◌∷◌, length, Option, Some, None, get_or, slice_set, All, ap, arith, Fits, w64}
-use Rattle.std.proofs.lemmas.List.Sums.{sum_by-set, sum_by-le}
-use Rattle.std.proofs.lemmas.List.Elements.{All-nil, All-cons}
-use Rattle.sector_journal.specs.declared.slots.Armed.{Armed}
-use Rattle.sector_journal.specs.Slots.{armed_at, armed_count, one_if_armed, IsFree}
+use Rattle.sector_journal.proofs.Common.{◌≡◌, ◌≤◌, ◌<◌, ℕ, zero, suc, ◌+◌, ◌*◌, List, [], ◌∷◌, length, Option, Some, None, get_or, slice_set, All, ap, arith, Fits, w64, sum_by-set, sum_by-le, All-nil, All-cons, Armed, armed_at, armed_count, one_if_armed, IsFree}
 
 one_at_most : (slot : Option Armed) → one_if_armed slot ≤ 1
 one_at_most (Some armed) = omega arith

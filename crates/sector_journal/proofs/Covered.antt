@@ -1,26 +1,5 @@
 -- An SRB that may be armed, by what was reserved.
-use Rattle.std.proofs.Common.{◌≡◌, ◌≢◌, ◌<◌, ◌≤◌, ◌^◌, ℕ, ◌+◌, ◌-◌, ◌∷◌, ◌++◌, Bool, true, nat_le, List, [], length, All, Option, Some, None, slice_set, refl, sym, ap, subst, ◌∙◌, arith, inl, inr, leb-true, length-append}
-use Rattle.std.specs.List.{list_any, Any}
-use Rattle.std.proofs.lemmas.Bool.{and_parts}
-use Rattle.std.proofs.lemmas.List.Folds.{Any-from_list_any}
-use Rattle.sector.specs.declared.Extent.{Extent}
-use Rattle.sector.specs.Extents.{IsIn}
-use Rattle.cdb.specs.declared.Cdb.{Cdb}
-use Rattle.cdb.specs.declared.Cdb.TheVariants.{Write10, Write16}
-use Rattle.cdb.specs.Meaning.{Means, AsksToWrite}
-use Rattle.srb.specs.declared.Srb.{Srb}
-use Rattle.srb.specs.declared.Kind.{Kind}
-use Rattle.srb.specs.declared.Kind.TheVariants.{Read, Write, Flush}
-use Rattle.disk.specs.Medium.{MediumView, IsReserved}
-use Rattle.sector_journal.specs.declared.slots.Armed.{Armed}
-use Rattle.sector_journal.specs.declared.reservation.Reservation.{Reservation}
-use Rattle.sector_journal.specs.Arming.{AskTheSame, IsCopy}
-use Rattle.sector_journal.specs.Entering.{named, Names}
-use Rattle.sector_journal.specs.Reserving.{covers, is_write, lies_in}
-use Rattle.sector_journal.specs.Slots.{armed_count, IsFree}
-use Rattle.sector_journal.specs.Stocking.{ShelfView, pieces_at}
-use Rattle.sector_journal.specs.Journal.{JournalView, IsHeld, MayArm, Arms}
-use Rattle.sector_journal.specs.inside.Journal.{CanEnter}
+use Rattle.sector_journal.proofs.Common.{◌≡◌, ◌≢◌, ◌<◌, ◌≤◌, ◌^◌, ℕ, ◌+◌, ◌-◌, ◌∷◌, ◌++◌, Bool, true, nat_le, List, [], length, All, Option, Some, None, slice_set, refl, sym, ap, subst, ◌∙◌, arith, inl, inr, leb-true, length-append, list_any, Any, and_parts, Any-from_list_any, Extent, IsIn, Cdb, Write10, Write16, Means, AsksToWrite, Srb, Kind, Read, Write, Flush, MediumView, IsReserved, Armed, Reservation, AskTheSame, IsCopy, named, Names, covers, is_write, lies_in, armed_count, IsFree, ShelfView, pieces_at, JournalView, IsHeld, MayArm, Arms, CanEnter}
 
 -- whatever the block asks for, it names this
 abbrev pub AlwaysNames : List ℕ → Kind × Extent → Type 0

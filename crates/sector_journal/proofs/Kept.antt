@@ -1,23 +1,5 @@
 -- What a journal keeps, through its calls.
-use Rattle.std.proofs.Common.{◌≡◌, ◌<◌, ◌≤◌, ℕ, zero, suc, ◌+◌, Bool, List, [], ◌∷◌, ◌++◌, length, All, Option, Some, None, get_or, slice_get, slice_set, refl, sym, ap, subst, ◌∙◌, arith, ◌^◌, length-append, inl, inr, take, drop, slice_index_or}
-use Rattle.std.specs.List.{remove}
-use Rattle.std.proofs.lemmas.Bool.{cases_eq, cases_lt}
-use Rattle.std.proofs.lemmas.List.{set_past, get_or-set_same, get_or-set_other, map_push}
-use Rattle.std.proofs.lemmas.List.Sums.{sum_by-set}
-use Rattle.std.proofs.lemmas.List.Elements.{All-weaker, All-push, All-append, All-take, All-drop}
-use Rattle.srb.specs.declared.Entry.{Entry}
-use Rattle.srb.specs.declared.Completion.{Completion}
-use Rattle.srb.specs.Replaying.{ReplaysKind, Replays}
-use Rattle.sector.specs.declared.Extent.{Extent}
-use Rattle.sector.specs.Extents.{IsCovered, IsSector}
-use Rattle.disk.specs.Medium.{MediumView, IsReserved, Reserves}
-use Rattle.sector_journal.specs.declared.acted.Entered.{Entered}
-use Rattle.sector_journal.specs.declared.slots.Armed.{Armed}
-use Rattle.sector_journal.specs.declared.reservation.Reservation.{Reservation}
-use Rattle.sector_journal.specs.Entering.{Enters, Refuses}
-use Rattle.sector_journal.specs.Slots.{armed_at, armed_count, one_if_armed, IsFree, Takes}
-use Rattle.sector_journal.specs.Journal.{IsHeld, IsOfArming, AreOfArmings, entries_in, of_arming}
-use Rattle.sector_journal.specs.inside.Journal.{CanEnter, MayAct, JournalKept}
+use Rattle.sector_journal.proofs.Common.{◌≡◌, ◌<◌, ◌≤◌, ℕ, zero, suc, ◌+◌, Bool, List, [], ◌∷◌, ◌++◌, length, All, Option, Some, None, get_or, slice_get, slice_set, refl, sym, ap, subst, ◌∙◌, arith, ◌^◌, length-append, inl, inr, take, drop, slice_index_or, remove, cases_eq, cases_lt, set_past, get_or-set_same, get_or-set_other, map_push, sum_by-set, All-weaker, All-push, All-append, All-take, All-drop, Entry, Completion, ReplaysKind, Replays, Extent, IsCovered, IsSector, MediumView, IsReserved, Reserves, Entered, Armed, Reservation, Enters, Refuses, armed_at, armed_count, one_if_armed, IsFree, Takes, IsHeld, IsOfArming, AreOfArmings, entries_in, of_arming, CanEnter, MayAct, JournalKept}
 use Rattle.sector_journal.proofs.Counting.{clear_count, put_count, within_slots}
 
 -- AN ENTRY AT THE END

@@ -6,3 +6,4 @@ pub mod Covered
 pub mod Kept
 pub mod Reserved
 pub mod Shelves
+mod Common

@@ -1,16 +1,5 @@
 -- A journal with more room.
-use Rattle.std.proofs.Common.{◌≡◌, ◌≤◌, ◌<◌, ℕ, ◌+◌, ◌-◌, List, [], ◌∷◌, ◌++◌, length, get_or, slice_index_or, Result, Ok, Err, OnErr, inl, refl, ap, subst, ◌∙◌, arith}
-use Rattle.std.specs.List.{sum_by, remove}
-use Rattle.std.proofs.lemmas.List.Sums.{sum_by_push, sum_by-remove}
-use Rattle.srb.specs.declared.Kind.{Kind}
-use Rattle.srb.specs.declared.Kind.TheVariants.{Read, Write, Flush}
-use Rattle.sector.specs.declared.Extent.{Extent}
-use Rattle.disk.specs.Medium.{MediumView, Reserves}
-use Rattle.sector_journal.specs.declared.acted.Entered.{Entered}
-use Rattle.sector_journal.specs.declared.reservation.Reservation.{Reservation}
-use Rattle.sector_journal.specs.Reserving.{pieces_of}
-use Rattle.sector_journal.specs.Stocking.{ShelfView, pieces_at}
-use Rattle.sector_journal.specs.Journal.{JournalView, GainsRoom, HoldsNear}
+use Rattle.sector_journal.proofs.Common.{◌≡◌, ◌≤◌, ◌<◌, ℕ, ◌+◌, ◌-◌, List, [], ◌∷◌, ◌++◌, length, get_or, slice_index_or, Result, Ok, Err, OnErr, inl, refl, ap, subst, ◌∙◌, arith, sum_by, remove, sum_by_push, sum_by-remove, Kind, Read, Write, Flush, Extent, MediumView, Reserves, Entered, Reservation, pieces_of, ShelfView, pieces_at, JournalView, GainsRoom, HoldsNear}
 
 pub reserves_none : (medium : MediumView) → Reserves medium medium
 reserves_none medium = record { lasts = λ extent h. h; after = refl }

@@ -1,15 +1,5 @@
 -- Buffers put on a shelf or taken from it.
-use Rattle.std.proofs.Common.{◌≡◌, ◌≢◌, ◌<◌, ◌≤◌, ℕ, ◌+◌, ◌-◌, ◌==◌, Bool, true, false, not, List, [], ◌∷◌, ◌++◌, length, length-append, eqb, min, if◌then◌else◌, Option, Some, None, get_or, slice_set, nat_lt, refl, sym, ap, subst, ◌∙◌, arith, MatchOption, Result, Ok, Err, OnOk, inl, inr, eqb-true}
-use Rattle.std.specs.List.{filter, position, position_or_len}
-use Rattle.std.proofs.lemmas.Bool.{cases_Bool, cases_eq, cases_lt, eqb-false, ltb-true, ltb-false}
-use Rattle.std.proofs.lemmas.List.{length-set, get_or-set_same, get_or-set_other, get_or_append_left, get_or_push, get_or_read, set-get_or}
-use Rattle.std.proofs.lemmas.List.Folds.{position_or_len-set, position_or_len_push}
-use Rattle.std.proofs.lemmas.List.Sums.{prefix_len-le-length, fails_before_first}
-use Rattle.std.proofs.lemmas.List.Recursion.{found_at, found_nowhere}
-use Rattle.std.proofs.lemmas.List.Quantifiers.{position-Some}
-use Rattle.sector_journal.specs.Reserving.{of_length}
-use Rattle.sector_journal.specs.Stocking.{ShelfView, count_on, count_at, is_for, is_not_for, pieces_at, promised_at}
-use Rattle.sector_journal.specs.inside.Stocking.{IsOfLength, TakesOne}
+use Rattle.sector_journal.proofs.Common.{◌≡◌, ◌≢◌, ◌<◌, ◌≤◌, ℕ, ◌+◌, ◌-◌, ◌==◌, Bool, true, false, not, List, [], ◌∷◌, ◌++◌, length, length-append, eqb, min, if◌then◌else◌, Option, Some, None, get_or, slice_set, nat_lt, refl, sym, ap, subst, ◌∙◌, arith, MatchOption, Result, Ok, Err, OnOk, inl, inr, eqb-true, filter, position, position_or_len, cases_Bool, cases_eq, cases_lt, eqb-false, ltb-true, ltb-false, length-set, get_or-set_same, get_or-set_other, get_or_append_left, get_or_push, get_or_read, set-get_or, position_or_len-set, position_or_len_push, prefix_len-le-length, fails_before_first, found_at, found_nowhere, position-Some, of_length, ShelfView, count_on, count_at, is_for, is_not_for, pieces_at, promised_at, IsOfLength, TakesOne}
 
 abbrev no_room : ShelfView
 no_room = record { bytes = 0; pieces = 0; promised = 0 }

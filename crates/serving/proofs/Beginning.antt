@@ -1,24 +1,5 @@
 -- A stack over a storage before its first event.
-use Rattle.std.proofs.Common.{◌≡◌, ℕ, false, List, [], Result, Ok, length, map, refl, sym, ap, subst, ◌∙◌}
-use Rattle.std.specs.Prelude.{All}
-use Rattle.std.proofs.lemmas.List.Elements.{All-nil}
-use Rattle.sector.specs.Extents.{sectors_in}
-use Rattle.adapter.specs.View.{AdapterView, TagInUse}
-use Rattle.sector.specs.declared.Extent.{Extent}
-use Rattle.machine.specs.Rules.{Rules}
-use Rattle.machine.specs.State.{State, IsSame, opening}
-use Rattle.machine.proofs.Same.{IsSame-refl}
-use Rattle.mbr.specs.declared.MbrFault.{MbrFault}
-use Rattle.mbr.specs.Faults.{told_by}
-use Rattle.settings.specs.declared.Config.{Config}
-use Rattle.settings.specs.Medium.{extents_of}
-use Rattle.io_manager.specs.Shown.{ManagerView}
-use Rattle.compose.specs.Journaled.{IsStartedUse}
-use Rattle.compose.specs.Opening.{first_rules}
-use Rattle.startup.specs.Started.{limits_of, rules_over}
-use Rattle.file_disk.specs.Transfers.{DiskView}
-use Rattle.serving.specs.Carried.{IsTold, StandsIn, quiet}
-use Rattle.serving.specs.OnDisk.{IsStartedOver}
+use Rattle.serving.proofs.Common.{◌≡◌, ℕ, false, List, [], Result, Ok, length, map, refl, sym, ap, subst, ◌∙◌, All, All-nil, sectors_in, AdapterView, TagInUse, Extent, Rules, State, IsSame, opening, IsSame-refl, MbrFault, told_by, Config, extents_of, ManagerView, IsStartedUse, first_rules, limits_of, rules_over, DiskView, IsTold, StandsIn, quiet, IsStartedOver}
 
 module _ (c : Config) (table : List ℕ) (stack : ManagerView) (started : IsStartedOver c table stack) where
   -- the arrays that its run starts from

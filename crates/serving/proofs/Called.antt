@@ -1,15 +1,7 @@
 -- The call that an event stands for.
-use Rattle.std.proofs.Common.{◌≡◌, ℕ, List, [], length, refl, sym, subst}
-use Rattle.machine.specs.declared.ClientRequest.{ClientRequest}
-use Rattle.machine.specs.Calling.{bytes_carried}
-use Rattle.io_manager.specs.declared.Handle.{Handle}
-use Rattle.io_manager.specs.declared.Reply.{Reply}
-use Rattle.io_manager.specs.Shown.{ManagerView}
+use Rattle.serving.proofs.Common.{◌≡◌, ℕ, List, [], length, refl, sym, subst, ClientRequest, bytes_carried, Handle, Reply, ManagerView, Event, IsRight, Asks}
 use Rattle.io_manager.specs.Right.{CallReplies, IsRight as IsRightCall}
-use Rattle.compose.specs.declared.Event.{Event}
 use Rattle.compose.specs.declared.Event.TheVariants.{Open, Close, Read as ReadEvent, Write as WriteEvent, Flush as FlushEvent, CancelIoEx, Mark, QueryRemove, CancelRemove, Remove, SurpriseRemove, Act, Finish, Reset}
-use Rattle.compose.specs.Right.{IsRight}
-use Rattle.volume.specs.Working.{Asks}
 
 -- a right call of this request, which brings as many bytes as it says
 pub record IsCalled (old : ManagerView) (q : ClientRequest) (reply : Reply) (new : ManagerView) : Type 0 where

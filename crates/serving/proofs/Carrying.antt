@@ -1,52 +1,12 @@
 -- A stack over a storage: steps, one after the other.
-use Rattle.std.proofs.Common.{◌≡◌, ◌<◌, inl, inr, ℕ, zero, suc, Bool, true, false, List, [], ◌∷◌, ◌++◌, length, map, Option, Some, None, Result, Ok, Err, IsFalse, refl, sym, ap, subst, ◌∙◌, append-nil, append_assoc}
-use Rattle.std.specs.Prelude.{All, Contains, IfOk, IsPermutation, MatchBool, MatchResult, slice_get, remove, if◌then◌else◌}
-use Rattle.std.proofs.lemmas.List.Elements.{All-nil, All-cons, All-head, All-tail, All-append, All-map, All-weaker, All-contains, All-contains_itself, Contains-append_left, Contains-append_right, Contains-append_cases}
-use Rattle.std.proofs.lemmas.List.Sorted.{IsPermutation-refl, IsPermutation-trans, IsPermutation-append_right, IsPermutation-append_left, IsPermutation-append_comm, All-permutation, Contains-permutation}
-use Rattle.ntstatus.specs.declared.NtStatus.TheVariants.{Success}
-use Rattle.srb.specs.declared.Entry.{Entry}
-use Rattle.srb.specs.declared.Srb.{Srb}
-use Rattle.srb.specs.declared.Completion.{Completion}
-use Rattle.adapter.specs.View.{AdapterView, IsInOrder}
-use Rattle.srb.specs.declared.Booked.TheVariants.{Sent}
-use Rattle.adapter.specs.Booking.{IsArmed, IsBookable, Suits, with_booking, Books, entry_sent, handed, sent_of}
-use Rattle.adapter.proofs.Handed.{srb_on_is}
-use Rattle.adapter.specs.Calls.{HasNoneFresh}
-use Rattle.machine.specs.declared.ClientRequest.{ClientRequest}
-use Rattle.machine.specs.declared.Label.{Label}
+use Rattle.serving.proofs.Common.{◌≡◌, ◌<◌, inl, inr, ℕ, zero, suc, Bool, true, false, List, [], ◌∷◌, ◌++◌, length, map, Option, Some, None, Result, Ok, Err, IsFalse, refl, sym, ap, subst, ◌∙◌, append-nil, append_assoc, All, Contains, IfOk, IsPermutation, MatchBool, MatchResult, slice_get, remove, if◌then◌else◌, All-nil, All-cons, All-head, All-tail, All-append, All-map, All-weaker, All-contains, All-contains_itself, Contains-append_left, Contains-append_right, Contains-append_cases, IsPermutation-refl, IsPermutation-trans, IsPermutation-append_right, IsPermutation-append_left, IsPermutation-append_comm, All-permutation, Contains-permutation, Success, Entry, Srb, Completion, AdapterView, IsInOrder, Sent, IsArmed, IsBookable, Suits, with_booking, Books, entry_sent, handed, sent_of, srb_on_is, HasNoneFresh, ClientRequest, Label, Rules, Settled, State, opening, Run, as_label, IsSame-refl, Run-append, CallsAreAnswered, IsReached, Answer, Handle, Id, Refusal, Reply, ManagerView, call_on, partition_of, without_bytes, Event, Open, Close, Read, Write, Flush, CancelIoEx, Mark, QueryRemove, CancelRemove, Remove, SurpriseRemove, Act, Finish, Reset, IsTransferEvent, IsRight, IsLed, led, there_mapped, Asks, IsQuiet, answers_of, fresh_count, answers-append, quiet_rest, rest_of, untaken_told, IsOn, given_known, given_on, DiskView, IsOfPiece, Transfers, BooksArmed, CarriedView, Deed, Files, Goes, HasBooked, HasNoneToBook, IsAnsweredBy, IsRefusedAtOnce, IsTold, Requests, StandsIn, TellsOn, entries_of, entry_in, over}
 use Rattle.machine.specs.declared.Label.TheVariants.{Call, Device, Answer as AnswerLabel, Cancel, Pause, Resume, Remove as RemoveLabel, Surprise, Removed as RemovedLabel}
-use Rattle.machine.specs.Rules.{Rules}
-use Rattle.machine.specs.Settled.{Settled}
-use Rattle.machine.specs.State.{State, opening}
-use Rattle.machine.specs.Step.{Run, as_label}
-use Rattle.machine.proofs.Same.{IsSame-refl, Run-append}
-use Rattle.machine_laws.specs.NumberLaws.{CallsAreAnswered}
-use Rattle.machine_laws.specs.Reached.{IsReached}
-use Rattle.io_manager.specs.declared.Answer.{Answer}
-use Rattle.io_manager.specs.declared.Handle.{Handle}
-use Rattle.io_manager.specs.declared.Id.{Id}
-use Rattle.io_manager.specs.declared.Refusal.{Refusal}
-use Rattle.io_manager.specs.declared.Reply.{Reply}
 use Rattle.io_manager.specs.declared.Reply.TheVariants.{Handle as HandleReply, Ok as Done, Request as Requested, Answered, Refused, Ignored}
-use Rattle.io_manager.specs.Shown.{ManagerView}
 use Rattle.io_manager.specs.Right.{ActReplies, BooksPiece, FinishReplies, FitsTogether, HasNoneFresh as HasNoneFreshIn, IsOfAnother, IsRight as IsRightCall, IsRightBy, TakesAnswerOf, Told, TransferReplies, as_answer, end_labels, labels_of, tells_nothing}
-use Rattle.io_manager.specs.Calls.{call_on, partition_of, without_bytes}
 use Rattle.srb.specs.declared.Kind.TheVariants.{Read as ReadKind, Write as WriteKind, Flush as FlushKind}
-use Rattle.compose.specs.declared.Event.{Event}
-use Rattle.compose.specs.declared.Event.TheVariants.{Open, Close, Read, Write, Flush, CancelIoEx, Mark, QueryRemove, CancelRemove, Remove, SurpriseRemove, Act, Finish, Reset}
-use Rattle.compose.specs.StepLaws.{IsTransferEvent}
-use Rattle.compose.specs.Right.{IsRight}
 use Rattle.compose.specs.Journaled.{ArmedMayBeBooked, BookedActsAddEntries, IdleActsKeepEntries, StepsKeepEntries, StepsStayApart, IsJournaled, IsNoAct, IsOfPiece as IsOfTags, with_entry}
-use Rattle.compose.proofs.JournaledKept.{IsLed, led}
-use Rattle.compose.proofs.JournaledStep.{there_mapped}
-use Rattle.volume.specs.Working.{Asks, IsQuiet, answers_of, fresh_count}
-use Rattle.volume.proofs.Steps.{answers-append, quiet_rest, rest_of, untaken_told}
-use Rattle.volume.specs.Opening.{IsOn}
 use Rattle.serving.proofs.Called.{IsCalled, called}
 use Rattle.serving.proofs.Steady.{IsNoAnswerTo, act_steady, asked_steady, called_unanswered, finish_steady}
-use Rattle.volume.proofs.Closing.{given_known, given_on}
-use Rattle.file_disk.specs.Transfers.{DiskView, IsOfPiece, Transfers}
-use Rattle.serving.specs.Carried.{BooksArmed, CarriedView, Deed, Files, Goes, HasBooked, HasNoneToBook, IsAnsweredBy, IsRefusedAtOnce, IsTold, Requests, StandsIn, TellsOn, entries_of, entry_in, over}
 
 -- WHAT THE STORAGE KEEPS
 

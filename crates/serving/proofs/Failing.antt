@@ -1,26 +1,9 @@
 -- Why no partition of a disk in a storage was opened.
-use Rattle.std.proofs.Common.{◌≡◌, ◌<◌, ◌≤◌, ◌⊎◌, inl, inr, ℕ, Bool, true, false, List, ◌∷◌, [], Some, None, Result, Ok, Err, length, refl, sym, subst, arith}
-use Rattle.std.specs.Prelude.{IfErr, count_by, is_some, nat_le}
-use Rattle.std.proofs.lemmas.Bool.Decides.{nat_tests}
+use Rattle.serving.proofs.Common.{◌≡◌, ◌<◌, ◌≤◌, ◌⊎◌, inl, inr, ℕ, Bool, true, false, List, ◌∷◌, [], Some, None, Result, Ok, Err, length, refl, sym, subst, arith, IfErr, count_by, is_some, nat_le, nat_tests, when, first_some, Rules, Config, extents_of, Handle, InvalidParameter, Reply, are_used_up, handle_limit, open_refusal, ManagerView, Open, IsRight, rules_over, Error, Usage, Startup, NoPartition, Disk, Malformed, InputEnded, OutputFailed, NoMemory, NotOpened, NotCreated, InUse, OtherSize, Unreadable, OtherTable, BadSectors, IsConfig, IsOutput}
 use Rattle.ntstatus.specs.declared.NtStatus.TheVariants.{InvalidParameter as ParameterStatus, DeletePending as PendingStatus, DeviceBusy as BusyStatus}
-use Rattle.ntstatus.specs.First.{when, first_some}
-use Rattle.machine.specs.Rules.{Rules}
-use Rattle.settings.specs.declared.Config.{Config}
-use Rattle.settings.specs.Medium.{extents_of}
-use Rattle.io_manager.specs.declared.Handle.{Handle}
-use Rattle.io_manager.specs.declared.Refusal.TheVariants.{InvalidParameter}
-use Rattle.io_manager.specs.declared.Reply.{Reply}
 use Rattle.io_manager.specs.declared.Reply.TheVariants.{Refused}
-use Rattle.io_manager.specs.Calls.{are_used_up, handle_limit, open_refusal}
-use Rattle.io_manager.specs.Shown.{ManagerView}
-use Rattle.compose.specs.declared.Event.TheVariants.{Open}
-use Rattle.compose.specs.Right.{IsRight}
 use Rattle.startup.specs.declared.faults.Error.TheVariants.{ConfigUnreadable, Settings as WrongSettings, Start, NoMemory as LacksMemory}
-use Rattle.startup.specs.Started.{rules_over}
 use Rattle.file_disk.specs.Calls.{Call}
-use Rattle.serving.specs.declared.faults.Error.{Error}
-use Rattle.serving.specs.declared.faults.Error.TheVariants.{Usage, Startup, NoPartition, Disk, Malformed, InputEnded, OutputFailed, NoMemory}
-use Rattle.serving.specs.declared.faults.DiskFault.TheVariants.{NotOpened, NotCreated, InUse, OtherSize, Unreadable, OtherTable, BadSectors, IsConfig, IsOutput}
 use Rattle.serving.specs.OnDisk.{AreServable, IsNotStarted, IsOpenFault, IsTableFault, ReadsTable}
 
 -- an open that is refused for its parameter is one of a partition that isn't there

@@ -1,18 +1,5 @@
 -- What a partition of a disk in a storage comes to by its requests.
-use Rattle.std.proofs.Common.{◌≡◌, ◌≢◌, ◌≤◌, ◌<◌, ◌^◌, ℕ, ◌+◌, arith, List, [], ◌∷◌, Bool, None, Some, Option, Result, Ok, Err, IsFalse, replicate, refl, sym, ap, subst, ◌∙◌}
-use Rattle.std.specs.Result.{result_err}
-use Rattle.io_manager.specs.declared.Answer.{Answer}
-use Rattle.io_manager.specs.declared.Handle.{Handle}
-use Rattle.io_manager.specs.declared.Refusal.{Refusal}
-use Rattle.io_manager.specs.Shown.{ManagerView}
-use Rattle.compose.specs.declared.Event.{Event}
-use Rattle.nbd.specs.declared.arrays.Sizes.{Sizes}
-use Rattle.nbd.specs.declared.requests.Command.TheVariants.{WriteZeroes}
-use Rattle.nbd.specs.declared.requests.ReplyError.{ReplyError}
-use Rattle.nbd.specs.Requests.{IsWithin}
-use Rattle.file_disk.specs.Transfers.{DiskView}
-use Rattle.serving.specs.Carried.{Requests, StandsIn, over}
-use Rattle.serving.specs.Filed.{ComesTo, FiledKept, FiledView, HasCleared, IsAsked, IsDone, Writes}
+use Rattle.serving.proofs.Common.{◌≡◌, ◌≢◌, ◌≤◌, ◌<◌, ◌^◌, ℕ, ◌+◌, arith, List, [], ◌∷◌, Bool, None, Some, Option, Result, Ok, Err, IsFalse, replicate, refl, sym, ap, subst, ◌∙◌, result_err, Answer, Handle, Refusal, ManagerView, Event, Sizes, WriteZeroes, ReplyError, IsWithin, DiskView, Requests, StandsIn, over, ComesTo, FiledKept, FiledView, HasCleared, IsAsked, IsDone, Writes}
 
 -- ONE REQUEST
 

@@ -1,10 +1,5 @@
 -- What the parser says of a flag.
-use Rattle.std.proofs.Common.{◌≡◌, Bool, true, false, List, Option, None, Some, ap, codes, refl, subst}
-use Rattle.clap.specs.Words.{Text, one_text}
-use Rattle.clap.specs.Walk.{one_of, rows_of}
-use Rattle.clap.specs.declared.parser.matches.Found.{Found}
-use Rattle.clap.proofs.WalkLemmas.{one_text-rows}
-use Rattle.serving.specs.CommandLine.{IsFlag}
+use Rattle.serving.proofs.Common.{◌≡◌, Bool, true, false, List, Option, None, Some, ap, codes, refl, subst, Text, one_text, one_of, rows_of, Found, one_text-rows, IsFlag}
 
 by_text : (text : Option Text) (flag : Bool) → (◌≡◌ {A = Option Text} text None → flag ≡ false) → (◌≡◌ {A = Option Text} text (Some (codes "true")) → flag ≡ true)
     → (◌≡◌ {A = Option Text} text (Some (codes "false")) → flag ≡ false) → IsFlag text flag

@@ -11,3 +11,4 @@ pub mod Beginning
 pub mod Filing
 pub mod Failing
 pub mod Noting
+mod Common

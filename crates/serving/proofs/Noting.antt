@@ -1,7 +1,5 @@
 -- An adapter that keeps no bytes of labels.
-use Rattle.std.proofs.Common.{◌≡◌, ℕ, List, false, sym, subst}
-use Rattle.miniport.specs.Apart.{IsNewBooked}
-use Rattle.miniport.specs.Memory.{MemView}
+use Rattle.serving.proofs.Common.{◌≡◌, ℕ, List, false, sym, subst, IsNewBooked, MemView}
 
 -- is as new as it was
 pub noted_new : (first : List ℕ) (sectors max_transfer depth : ℕ) (view noted : MemView) → noted ≡ record view { shown = record view.shown { keeps_bytes = false } }

@@ -1,12 +1,8 @@
 -- The array that is served, over a volume of some settings.
-use Rattle.std.proofs.Common.{◌≡◌, ℕ, ap}
-use Rattle.io_manager.specs.declared.Refusal.TheVariants.{InvalidHandle, InvalidParameter, DeletePending, DeviceBusy, InsufficientResources, InvalidDeviceRequest, NotFound}
-use Rattle.settings.specs.declared.Config.{Config}
-use Rattle.volume.specs.declared.OpenFault.{OpenFault}
+use Rattle.serving.proofs.Common.{◌≡◌, ℕ, ap, InvalidHandle, InvalidParameter, DeletePending, DeviceBusy, InsufficientResources, InvalidDeviceRequest, NotFound, Config, OpenFault, IsStartFault, array_of, fault_of_open, new_array}
 use Rattle.volume.specs.declared.OpenFault.TheVariants.{Start as NotStarted, Refused}
 use Rattle.volume.specs.Shown.{Content, VolumeView}
 use Rattle.startup.specs.Started.{IsOpenFault, IsVolumeOf}
-use Rattle.serving.specs.Serving.{IsStartFault, array_of, fault_of_open, new_array}
 
 pub array_is : (c : Config) (p : ℕ) (volume : VolumeView) → IsVolumeOf c p volume → array_of volume.content c.write_protected ≡ new_array c p
 array_is c p volume h =

@@ -1,20 +1,6 @@
 -- A partition table in sector 0.
-use Rattle.std.proofs.Common.{◌≡◌, ◌≢◌, ◌<◌, ℕ, ◌+◌, inl, inr, List, [], ◌∷◌, ◌++◌, Some, None, Result, Ok, Err, get_or, length, map, take, refl, sym, ap, subst, ◌∙◌}
-use Rattle.std.specs.Prelude.{IfErr, OnOk}
-use Rattle.std.specs.Result.{result_err}
-use Rattle.std.proofs.lemmas.List.{map-append, take_more}
-use Rattle.std.proofs.Math.Seq.{take-length}
-use Rattle.sector.specs.declared.Extent.{Extent}
-use Rattle.settings.specs.declared.Partition.{Partition}
-use Rattle.settings.specs.Medium.{extent_of}
-use Rattle.mbr.specs.declared.MbrFault.{MbrFault}
-use Rattle.mbr.specs.Faults.{told_by}
-use Rattle.file_disk.specs.declared.storage.Failure.{Failure}
+use Rattle.serving.proofs.Common.{◌≡◌, ◌≢◌, ◌<◌, ℕ, ◌+◌, inl, inr, List, [], ◌∷◌, ◌++◌, Some, None, Result, Ok, Err, get_or, length, map, take, refl, sym, ap, subst, ◌∙◌, IfErr, OnOk, result_err, map-append, take_more, take-length, Extent, Partition, extent_of, MbrFault, told_by, Failure, SyncsAfter, Difference, BadTable, Differs, DiffersFrom, IsFirstOther, StopsPutting}
 use Rattle.file_disk.specs.Calls.{Call, Since, StopsWriting, Sync, WritesAll}
-use Rattle.file_disk.specs.Transfers.{SyncsAfter}
-use Rattle.serving.specs.declared.faults.Difference.{Difference}
-use Rattle.serving.specs.declared.faults.Difference.TheVariants.{BadTable}
-use Rattle.serving.specs.OnDisk.{Differs, DiffersFrom, IsFirstOther, StopsPutting}
 
 -- bytes that were all told, and then synced
 pub put_synced : (old mid new : List Call) (offset : ℕ) (bytes : List ℕ) → Since old mid (WritesAll offset bytes) → new ≡ Sync None ∷ mid → Since old new (SyncsAfter offset bytes None)

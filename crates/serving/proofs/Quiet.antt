@@ -1,14 +1,5 @@
 -- A step of which no label is kept is one of a stack that keeps none.
-use Rattle.std.proofs.Common.{◌≡◌, ℕ, Bool, false, [], inl, inr, Option, Some, None, sym, ap, ◌∙◌}
-use Rattle.io_manager.specs.declared.Answer.{Answer}
-use Rattle.io_manager.specs.declared.Reply.{Reply}
-use Rattle.io_manager.specs.Shown.{ManagerView}
-use Rattle.io_manager.specs.Right.{FitsTogether, TakesAnswerOf}
-use Rattle.compose.specs.declared.Event.{Event}
-use Rattle.compose.specs.Right.{StepsUntraced}
-use Rattle.compose.proofs.JournaledKept.{led}
-use Rattle.file_disk.specs.Transfers.{DiskView}
-use Rattle.serving.specs.Carried.{BooksArmed, quiet}
+use Rattle.serving.proofs.Common.{◌≡◌, ℕ, Bool, false, [], inl, inr, Option, Some, None, sym, ap, ◌∙◌, Answer, Reply, ManagerView, FitsTogether, TakesAnswerOf, Event, StepsUntraced, led, DiskView, BooksArmed, quiet}
 
 pub quiet_after : (old : ManagerView) (event : Event) (reply : Reply) (new : ManagerView) (u : StepsUntraced old event reply new) → quiet new ≡ record u.stepped { labels = [] }
 quiet_after old event reply new u =

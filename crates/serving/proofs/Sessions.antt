@@ -1,12 +1,6 @@
 -- What a run of the program reads and writes.
-use Rattle.std.proofs.Common.{◌≡◌, ℕ, List, Option, Some, inl, inr, refl, subst}
-use Rattle.settings.specs.declared.Config.{Config}
+use Rattle.serving.proofs.Common.{◌≡◌, ℕ, List, Option, Some, inl, inr, refl, subst, Config, IsSession, End, Error, AreRead, IsServed, IsStartFault, fault_of_end, may_fail, new_array}
 use Rattle.nbd.specs.Content.{Content}
-use Rattle.nbd.specs.Handshake.{IsSession}
-use Rattle.nbd.specs.declared.End.{End}
-use Rattle.serving.specs.declared.faults.Error.{Error}
-use Rattle.startup.specs.Reading.{AreRead}
-use Rattle.serving.specs.Serving.{IsServed, IsStartFault, fault_of_end, may_fail, new_array}
 
 module _ (config : Option (List ℕ)) (p : ℕ) (input out : Option (List ℕ)) where
   module _ (settings : Config) (are_read : AreRead config settings) where

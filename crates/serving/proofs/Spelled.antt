@@ -1,9 +1,5 @@
 -- What is read of the word of a partition.
-use Rattle.std.proofs.Common.{◌≡◌, ◌^◌, ◌<◌, ◌==◌, ℕ, List, Result, Ok, Err, ap, cond, drop, false, slice_index, subst, sym}
-use Rattle.std.specs.Prelude.{IfOk, IfErr}
-use Rattle.std.specs.Result.{OkIff}
-use Rattle.std.specs.Str.Parse.{IsNumeral, ParsesUnsigned, digits_value, without_leading_plus}
-use Rattle.serving.specs.CommandLine.{SpellsPartition}
+use Rattle.serving.proofs.Common.{◌≡◌, ◌^◌, ◌<◌, ◌==◌, ℕ, List, Result, Ok, Err, ap, cond, drop, false, slice_index, subst, sym, IfOk, IfErr, OkIff, IsNumeral, ParsesUnsigned, digits_value, without_leading_plus, SpellsPartition}
 
 found : {E : Type 0} (bs : List ℕ) (r : Result ℕ E) → OkIff r (IsNumeral 10 bs × (digits_value 10 bs < 2 ^ 8)) (digits_value 10 bs) → IfOk r (SpellsPartition bs)
 found bs (Ok n) h = record { digits = h.0.0; value = h.1; range = subst (λ m. m < 256) (sym h.1) h.0.1 }

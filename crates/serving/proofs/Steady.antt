@@ -1,34 +1,9 @@
 -- Which steps leave the device's pause as it is, and what that comes to once nothing is out.
-use Rattle.std.proofs.Common.{◌≡◌, ◌≢◌, ◌⊎◌, inl, inr, ℕ, Bool, true, false, List, [], ◌∷◌, ◌++◌, map, Option, Some, None, IsFalse, refl, sym, ap, subst, ◌∙◌}
-use Rattle.std.specs.Prelude.{All, IsNone}
-use Rattle.std.proofs.lemmas.List.Elements.{All-nil, All-cons, All-head, All-tail, All-append, All-contains}
-use Rattle.ntstatus.specs.declared.NtStatus.{NtStatus}
-use Rattle.srb.specs.declared.DeviceLabel.{DeviceLabel}
+use Rattle.serving.proofs.Common.{◌≡◌, ◌≢◌, ◌⊎◌, inl, inr, ℕ, Bool, true, false, List, [], ◌∷◌, ◌++◌, map, Option, Some, None, IsFalse, refl, sym, ap, subst, ◌∙◌, All, IsNone, All-nil, All-cons, All-head, All-tail, All-append, All-contains, NtStatus, DeviceLabel, ClientRequest, Label, Rules, OpenRequest, Owed, State, Admits, refusal, Settled, DeviceStep, Step, Run, as_label, CallsAreAnswered, answer_numbers, owed_number, request_number, Answer, Handle, Refusal, InvalidHandle, InvalidParameter, DeletePending, DeviceBusy, InsufficientResources, InvalidDeviceRequest, NotFound, Reply, status_of_refusal, ManagerView, Event, Open, Close, Read, Write, Flush, CancelIoEx, Mark, QueryRemove, CancelRemove, Remove, SurpriseRemove, Act, Finish, Reset, IsTransferEvent, IsRight, answers_of}
 use Rattle.srb.specs.declared.DeviceLabel.TheVariants.{Start, Act as ActLabel, Fault, Return}
-use Rattle.machine.specs.declared.ClientRequest.{ClientRequest}
-use Rattle.machine.specs.declared.Label.{Label}
 use Rattle.machine.specs.declared.Label.TheVariants.{Call, Device, Answer as AnswerLabel, Cancel, Pause, Resume, Remove as RemoveLabel, Surprise, Removed as RemovedLabel}
-use Rattle.machine.specs.Rules.{Rules}
-use Rattle.machine.specs.State.{OpenRequest, Owed, State}
-use Rattle.machine.specs.Calling.{Admits, refusal}
-use Rattle.machine.specs.Settled.{Settled}
-use Rattle.machine.specs.Step.{DeviceStep, Step, Run, as_label}
-use Rattle.machine_laws.specs.NumberLaws.{CallsAreAnswered, answer_numbers, owed_number}
-use Rattle.machine.specs.Numbers.{request_number}
-use Rattle.io_manager.specs.declared.Answer.{Answer}
-use Rattle.io_manager.specs.declared.Handle.{Handle}
-use Rattle.io_manager.specs.declared.Refusal.{Refusal}
-use Rattle.io_manager.specs.declared.Refusal.TheVariants.{InvalidHandle, InvalidParameter, DeletePending, DeviceBusy, InsufficientResources, InvalidDeviceRequest, NotFound}
-use Rattle.io_manager.specs.declared.Reply.{Reply}
 use Rattle.io_manager.specs.declared.Reply.TheVariants.{Handle as HandleReply, Ok as Done, Request as Requested, Answered, Refused, Ignored}
-use Rattle.io_manager.specs.Calls.{status_of_refusal}
-use Rattle.io_manager.specs.Shown.{ManagerView}
 use Rattle.io_manager.specs.Right.{ActReplies, CallReplies, FinishReplies, IsRight as IsRightCall, IsRightBy, IsAnsweredAtOnce, IsTurnedAway, OpenReplies, Told, TransferReplies, as_answer, end_labels, tells_nothing}
-use Rattle.compose.specs.declared.Event.{Event}
-use Rattle.compose.specs.declared.Event.TheVariants.{Open, Close, Read, Write, Flush, CancelIoEx, Mark, QueryRemove, CancelRemove, Remove, SurpriseRemove, Act, Finish, Reset}
-use Rattle.compose.specs.StepLaws.{IsTransferEvent}
-use Rattle.compose.specs.Right.{IsRight}
-use Rattle.volume.specs.Working.{answers_of}
 
 -- LABELS THAT LEAVE THE PAUSE
 

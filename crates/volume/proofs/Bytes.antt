@@ -1,16 +1,6 @@
 -- The bytes of a partition, and the sectors of a disk.
-use Rattle.std.proofs.Common.{◌≡◌, ◌<◌, ◌≤◌, ◌⊎◌, inl, inr, ℕ, zero, suc, ◌+◌, ◌-◌, ◌*◌, List, [], ◌∷◌, ◌++◌, Some, None, refl, sym, ◌∙◌, ap, subst, arith, append_assoc, length, take, drop, length-append, length-take, length-drop}
-use Rattle.std.specs.Prelude.{All, slice_get, slice_range}
-use Rattle.std.specs.List.{concat}
-use Rattle.std.proofs.Math.Nat.{mul-le-mul_right}
-use Rattle.std.proofs.lemmas.Bool.{cases_lt}
-use Rattle.std.proofs.lemmas.List.{take-append-drop, drop-drop, take_at, drop_at}
-use Rattle.std.proofs.lemmas.List.Elements.{All-head, All-tail, All-take, All-drop}
-use Rattle.sector.specs.declared.Extent.{Extent}
-use Rattle.sector.specs.Extents.{IsSector}
-use Rattle.sector.specs.Splice.{splice}
+use Rattle.volume.proofs.Common.{◌≡◌, ◌<◌, ◌≤◌, ◌⊎◌, inl, inr, ℕ, zero, suc, ◌+◌, ◌-◌, ◌*◌, List, [], ◌∷◌, ◌++◌, Some, None, refl, sym, ◌∙◌, ap, subst, arith, append_assoc, length, take, drop, length-append, length-take, length-drop, All, slice_get, slice_range, concat, mul-le-mul_right, cases_lt, take-append-drop, drop-drop, take_at, drop_at, All-head, All-tail, All-take, All-drop, Extent, IsSector, splice, parted_at}
 use Rattle.volume.specs.Calls.{sector_of}
-use Rattle.volume.specs.Shown.{parted_at}
 use Rattle.volume.proofs.Disk.{same_items, same_take, same_drop, slice_get-drop, slice_get-take, slice_get-take_past, slice_get-range, slice_get-range_past}
 
 -- SECTORS OF ONE SIZE, JOINED

@@ -1,43 +1,11 @@
 -- A call on a stack on which nothing else is open: it goes, or ends at once.
-use Rattle.std.proofs.Common.{◌≡◌, ◌<◌, ◌≤◌, ◌⊎◌, inl, inr, ℕ, ◌+◌, ◌-◌, ◌/◌, Bool, true, false, List, [], ◌∷◌, ◌++◌, Option, Some, None, refl, sym, ◌∙◌, ap, subst, arith, length, take, drop, map}
-use Rattle.std.specs.Prelude.{All, Any, IsPermutation, IsNone, IsFalse, slice_get, ◌&&◌, ◌==◌, not, nat_le, is_none, is_some, if◌then◌else◌}
-use Rattle.std.specs.List.{concat}
-use Rattle.std.proofs.lemmas.Bool.Decides.{nat_tests}
-use Rattle.std.proofs.Math.Nat.{mod-add-div'}
-use Rattle.std.proofs.lemmas.List.Elements.{All-append, All-cons, All-nil}
-use Rattle.std.proofs.lemmas.List.Sorted.{IsPermutation-sym, IsPermutation-trans, IsPermutation-append_right, IsPermutation-append_comm}
-use Rattle.ntstatus.specs.declared.NtStatus.{NtStatus}
+use Rattle.volume.proofs.Common.{◌≡◌, ◌<◌, ◌≤◌, ◌⊎◌, inl, inr, ℕ, ◌+◌, ◌-◌, ◌/◌, Bool, true, false, List, [], ◌∷◌, ◌++◌, Option, Some, None, refl, sym, ◌∙◌, ap, subst, arith, length, take, drop, map, All, Any, IsPermutation, IsNone, IsFalse, slice_get, ◌&&◌, ◌==◌, not, nat_le, is_none, is_some, if◌then◌else◌, concat, nat_tests, mod-add-div', All-append, All-cons, All-nil, IsPermutation-sym, IsPermutation-trans, IsPermutation-append_right, IsPermutation-append_comm, NtStatus, when, first_some, IsIn, IsSector, sectors_in, DeviceLabel, Kind, Read, Write, Flush, ClientRequest, Label, Call, Answer, Rules, is_transfer, is_in_bounds, place_count, OpenRequest, Owed, State, IsSame, refusal, is_full, Opens, Refuses, Admits, bytes_carried, Step, Run, as_label, Run-append, none_there, IsReached, Handle, Id, Refusal, InvalidHandle, InvalidParameter, DeletePending, DeviceBusy, InsufficientResources, InvalidDeviceRequest, NotFound, Reply, ManagerView, number_limit, status_of_refusal, without_bytes, Event, AreUsable, IsIdle, IsReady, IsBetween, IsQuiet, answers_of, Quietly, Goes, Asks, Leaves, ComesTo, Ends, HasReason, Turns, disk_first, sectors_on, IsRead}
 use Rattle.ntstatus.specs.declared.NtStatus.TheVariants.{Success, InvalidHandle as InvalidHandleStatus, InvalidParameter as InvalidParameterStatus, DeletePending as DeletePendingStatus, DeviceBusy as DeviceBusyStatus, InsufficientResources as ResourcesStatus, InvalidDeviceRequest as RequestStatus, NotFound as FoundStatus}
-use Rattle.ntstatus.specs.First.{when, first_some}
-use Rattle.sector.specs.Extents.{IsIn, IsSector, sectors_in}
-use Rattle.srb.specs.declared.DeviceLabel.{DeviceLabel}
-use Rattle.srb.specs.declared.Kind.{Kind}
-use Rattle.srb.specs.declared.Kind.TheVariants.{Read, Write, Flush}
-use Rattle.machine.specs.declared.ClientRequest.{ClientRequest}
-use Rattle.machine.specs.declared.Label.{Label}
-use Rattle.machine.specs.declared.Label.TheVariants.{Call, Answer}
-use Rattle.machine.specs.Rules.{Rules, is_transfer, is_in_bounds, place_count}
-use Rattle.machine.specs.State.{OpenRequest, Owed, State, IsSame}
-use Rattle.machine.specs.Calling.{refusal, is_full, Opens, Refuses, Admits, bytes_carried}
-use Rattle.machine.specs.Step.{Step, Run, as_label}
-use Rattle.machine.proofs.Same.{Run-append, none_there}
-use Rattle.machine_laws.specs.Reached.{IsReached}
 use Rattle.io_manager.specs.declared.Answer.{Answer as AnswerOf}
-use Rattle.io_manager.specs.declared.Handle.{Handle}
-use Rattle.io_manager.specs.declared.Id.{Id}
-use Rattle.io_manager.specs.declared.Refusal.{Refusal}
-use Rattle.io_manager.specs.declared.Refusal.TheVariants.{InvalidHandle, InvalidParameter, DeletePending, DeviceBusy, InsufficientResources, InvalidDeviceRequest, NotFound}
-use Rattle.io_manager.specs.declared.Reply.{Reply}
 use Rattle.io_manager.specs.declared.Reply.TheVariants.{Handle as HandleReply, Request as Requested, Answered, Refused}
-use Rattle.io_manager.specs.Shown.{ManagerView}
-use Rattle.io_manager.specs.Calls.{number_limit, status_of_refusal, without_bytes}
 use Rattle.io_manager.specs.Right.{Told, IsRight as IsRightCall, IsRightBy, SameHandles, CallReplies, IsAdmitted, IsAnsweredAtOnce, IsTurnedAway, TakesAnswer, as_answer, end_labels}
-use Rattle.compose.specs.declared.Event.{Event}
 use Rattle.compose.specs.declared.Event.TheVariants.{Open, Close, Read as ReadEvent, Write as WriteEvent, Flush as FlushEvent, CancelIoEx, Mark, QueryRemove, CancelRemove, Remove, SurpriseRemove, Act, Finish, Reset}
 use Rattle.compose.specs.Right.{IsRight}
-use Rattle.volume.specs.Ready.{AreUsable, IsIdle, IsReady}
-use Rattle.volume.specs.Working.{IsBetween, IsQuiet, answers_of, Quietly, Goes, Asks, Leaves, ComesTo, Ends, HasReason, Turns, disk_first, sectors_on}
-use Rattle.device.specs.View.{IsRead}
 use Rattle.volume.proofs.Steps.{answers-append, rest_of, quiet_rest, untaken_told, goes_on_reached}
 use Rattle.volume.proofs.Untraced.{untraced, forgotten}
 use Rattle.volume.proofs.Disk.{same_sectors}

@@ -1,36 +1,9 @@
 -- A handle that is opened or closed on a stack on which nothing else is open.
-use Rattle.std.proofs.Common.{◌≡◌, ◌<◌, inl, inr, ℕ, ◌+◌, Bool, true, false, List, [], ◌∷◌, ◌++◌, Option, Some, None, refl, sym, ◌∙◌, ap, subst, arith, length, map}
-use Rattle.std.specs.Prelude.{All, nat_le, if◌then◌else◌, ◌==◌, count_by, is_some}
-use Rattle.std.proofs.lemmas.Bool.Decides.{nat_tests}
-use Rattle.std.proofs.lemmas.List.Elements.{All-head}
-use Rattle.std.proofs.lemmas.List.Sorted.{IsPermutation-sym}
+use Rattle.volume.proofs.Common.{◌≡◌, ◌<◌, inl, inr, ℕ, ◌+◌, Bool, true, false, List, [], ◌∷◌, ◌++◌, Option, Some, None, refl, sym, ◌∙◌, ap, subst, arith, length, map, All, nat_le, if◌then◌else◌, ◌==◌, count_by, is_some, nat_tests, All-head, IsPermutation-sym, when, first_some, none_first, IsSector, sectors_in, DeviceLabel, Label, Removed, Rules, State, Step, Run, as_label, none_there, IsReached, IsRead, Handle, Refusal, InvalidHandle, InvalidParameter, DeletePending, DeviceBusy, InsufficientResources, InvalidDeviceRequest, NotFound, Reply, OpenHandle, ManagerView, are_used_up, handle_limit, open_refusal, partition_at, partition_of, status_of_refusal, content_of, extent_at, handle_count, parted_at, AreUsable, IsReady, IsOpenRefusal, answers_of}
 use Rattle.ntstatus.specs.declared.NtStatus.TheVariants.{InvalidHandle as HandleStatus, InvalidParameter as ParameterStatus, DeletePending as PendingStatus, DeviceBusy as BusyStatus, InvalidDeviceRequest as RequestStatus, NotFound as FoundStatus, InsufficientResources as MemoryStatus}
-use Rattle.ntstatus.specs.First.{when, first_some}
-use Rattle.ntstatus.proofs.First.{none_first}
-use Rattle.sector.specs.Extents.{IsSector, sectors_in}
-use Rattle.srb.specs.declared.DeviceLabel.{DeviceLabel}
-use Rattle.machine.specs.declared.Label.{Label}
-use Rattle.machine.specs.declared.Label.TheVariants.{Removed}
-use Rattle.machine.specs.Rules.{Rules}
-use Rattle.machine.specs.State.{State}
-use Rattle.machine.specs.Step.{Step, Run, as_label}
-use Rattle.machine.proofs.Same.{none_there}
-use Rattle.machine_laws.specs.Reached.{IsReached}
-use Rattle.device.specs.View.{IsRead}
 use Rattle.io_manager.specs.declared.Answer.{Answer as AnswerOf}
-use Rattle.io_manager.specs.declared.Handle.{Handle}
-use Rattle.io_manager.specs.declared.Refusal.{Refusal}
-use Rattle.io_manager.specs.declared.Refusal.TheVariants.{InvalidHandle, InvalidParameter, DeletePending, DeviceBusy, InsufficientResources, InvalidDeviceRequest, NotFound}
-use Rattle.io_manager.specs.declared.Reply.{Reply}
 use Rattle.io_manager.specs.declared.Reply.TheVariants.{Handle as HandleReply, Ok as Done, Request as Requested, Answered, Refused, Ignored}
-use Rattle.io_manager.specs.declared.OpenHandle.{OpenHandle}
-use Rattle.io_manager.specs.Shown.{ManagerView}
-use Rattle.io_manager.specs.Calls.{are_used_up, handle_limit, open_refusal, partition_at, partition_of, status_of_refusal}
 use Rattle.io_manager.specs.Right.{Told, IsRight, IsRightBy, CloseReplies, OpenReplies, IsGiven, IsToCancel, tells_nothing, as_answer, as_cancel, end_labels}
-use Rattle.volume.specs.Shown.{content_of, extent_at, handle_count, parted_at}
-use Rattle.volume.specs.Ready.{AreUsable, IsReady}
-use Rattle.volume.specs.Opening.{IsOpenRefusal}
-use Rattle.volume.specs.Working.{answers_of}
 use Rattle.volume.proofs.Phases.{IsOver, none_in, run_over}
 use Rattle.volume.proofs.Steps.{answers_told, goes_on_reached, quiet_rest, rest_of}
 use Rattle.volume.proofs.Untraced.{untraced, forgotten}

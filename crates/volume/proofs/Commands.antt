@@ -1,19 +1,7 @@
 -- A request that is open has a command sent for it before its answer.
-use Rattle.std.proofs.Common.{◌≡◌, ◌<◌, ◌≤◌, ◌⊎◌, inl, inr, ℕ, zero, suc, Bool, true, false, List, [], ◌∷◌, sym, ◌∙◌, subst, arith, replicate}
-use Rattle.std.specs.Prelude.{All, IsFalse, IsTrue}
-use Rattle.std.proofs.lemmas.List.Elements.{All-nil, All-cons, All-head, All-tail}
-use Rattle.std.proofs.lemmas.List.Sorted.{All-permutation}
-use Rattle.ntstatus.specs.declared.NtStatus.{NtStatus}
-use Rattle.srb.specs.declared.DeviceLabel.{DeviceLabel}
+use Rattle.volume.proofs.Common.{◌≡◌, ◌<◌, ◌≤◌, ◌⊎◌, inl, inr, ℕ, zero, suc, Bool, true, false, List, [], ◌∷◌, sym, ◌∙◌, subst, arith, replicate, All, IsFalse, IsTrue, All-nil, All-cons, All-head, All-tail, All-permutation, NtStatus, DeviceLabel, Label, Rules, Untouched, OpenRequest, State, IsSame, Answers, HasEnded, DeviceStep, Step, Run, none_there, IsQuiet}
 use Rattle.srb.specs.declared.DeviceLabel.TheVariants.{Start, Act, Fault, Return}
-use Rattle.machine.specs.declared.Label.{Label}
 use Rattle.machine.specs.declared.Label.TheVariants.{Call, Device, Answer, Cancel, Pause, Resume, Remove, Surprise, Removed}
-use Rattle.machine.specs.Rules.{Rules}
-use Rattle.machine.specs.State.{Untouched, OpenRequest, State, IsSame}
-use Rattle.machine.specs.Answering.{Answers, HasEnded}
-use Rattle.machine.specs.Step.{DeviceStep, Step, Run}
-use Rattle.machine.proofs.Same.{none_there}
-use Rattle.volume.specs.Working.{IsQuiet}
 use Rattle.volume.proofs.Phases.{IsDevice, none_first, quiet_rises}
 
 -- no place of it was sent, of which there are so many, and it is not cancelled

@@ -1,23 +1,6 @@
 -- A request on the bytes of a volume.
-use Rattle.std.proofs.Common.{◌≡◌, ◌<◌, ◌≤◌, ◌⊎◌, inl, inr, ℕ, ◌+◌, ◌*◌, ◌/◌, ◌%◌, Bool, true, false, List, [], Some, refl, sym, ◌∙◌, ap, subst, arith, length, get_or}
-use Rattle.std.specs.Prelude.{All, IsTrue, IsFalse, slice_get, slice_range, ◌&&◌, ◌==◌, nat_le, unwrap_or}
-use Rattle.std.specs.List.{concat}
-use Rattle.std.proofs.Math.Nat.{mul-le-mul_right, le_of_mul-le-mul_right, mod-add-div'}
-use Rattle.std.proofs.lemmas.Bool.{cases_lt}
-use Rattle.std.proofs.lemmas.Option.{slice_get-get_or}
-use Rattle.std.proofs.lemmas.Bool.Decides.{nat_tests}
-use Rattle.sector.specs.declared.Extent.{Extent}
-use Rattle.sector.specs.Extents.{IsSector}
-use Rattle.sector.specs.Splice.{splice}
-use Rattle.machine.specs.declared.ClientRequest.{ClientRequest}
-use Rattle.machine.specs.Map.{IsPartition}
-use Rattle.machine.specs.Rules.{Rules, is_transfer, is_in_bounds, first_sector, place_count, sectors_of}
-use Rattle.machine_laws.specs.Sectors.{bytes_for}
-use Rattle.io_manager.specs.Shown.{ManagerView}
-use Rattle.volume.specs.Shown.{extent_at, parted_at, content_of}
-use Rattle.volume.specs.Ready.{IsReady}
+use Rattle.volume.proofs.Common.{◌≡◌, ◌<◌, ◌≤◌, ◌⊎◌, inl, inr, ℕ, ◌+◌, ◌*◌, ◌/◌, ◌%◌, Bool, true, false, List, [], Some, refl, sym, ◌∙◌, ap, subst, arith, length, get_or, All, IsTrue, IsFalse, slice_get, slice_range, ◌&&◌, ◌==◌, nat_le, unwrap_or, concat, mul-le-mul_right, le_of_mul-le-mul_right, mod-add-div', cases_lt, slice_get-get_or, nat_tests, Extent, IsSector, splice, ClientRequest, IsPartition, Rules, is_transfer, is_in_bounds, first_sector, place_count, sectors_of, bytes_for, ManagerView, extent_at, parted_at, content_of, IsReady, ChangesSome, Leaves, disk_first, sectors_on}
 use Rattle.volume.specs.Calls.{AreInBounds, AreMixed, sector_of}
-use Rattle.volume.specs.Working.{ChangesSome, Leaves, disk_first, sectors_on}
 use Rattle.volume.proofs.Disk.{sectors_of-extent, slice_get-range}
 use Rattle.volume.proofs.Ending.{Fits, fits, count_is}
 use Rattle.volume.proofs.Bytes.{Elsewhere, around, bytes_read, length_bytes, sector_at_place, sector_past, whole_range}

@@ -1,14 +1,5 @@
 -- The sectors of a disk, and those of its partitions.
-use Rattle.std.proofs.Common.{◌≡◌, ◌<◌, ◌≤◌, ◌⊎◌, inl, inr, ℕ, zero, suc, ◌+◌, ◌-◌, List, [], ◌∷◌, Some, None, refl, sym, ◌∙◌, ap, arith, length, take, drop, map}
-use Rattle.std.specs.Prelude.{All, Any, slice_get, slice_range}
-use Rattle.std.proofs.lemmas.Bool.{cases_lt}
-use Rattle.std.proofs.lemmas.List.{get_or_past}
-use Rattle.std.proofs.lemmas.List.Elements.{All-nil, All-cons, All-contains}
-use Rattle.sector.specs.declared.Extent.{Extent}
-use Rattle.sector.specs.Extents.{IsIn, sectors_in}
-use Rattle.machine.specs.Rules.{Rules, sectors_of}
-use Rattle.machine.specs.Sending.{array_at}
-use Rattle.volume.specs.Shown.{extent_at}
+use Rattle.volume.proofs.Common.{◌≡◌, ◌<◌, ◌≤◌, ◌⊎◌, inl, inr, ℕ, zero, suc, ◌+◌, ◌-◌, List, [], ◌∷◌, Some, None, refl, sym, ◌∙◌, ap, arith, length, take, drop, map, All, Any, slice_get, slice_range, cases_lt, get_or_past, All-nil, All-cons, All-contains, Extent, IsIn, sectors_in, Rules, sectors_of, array_at, extent_at}
 
 -- ITEMS BY THEIR PLACE
 

@@ -1,42 +1,9 @@
 -- A request from its call to its answer, on the disk.
-use Rattle.std.proofs.Common.{◌≡◌, ◌≢◌, ◌<◌, ◌≤◌, ◌⊎◌, inl, inr, ℕ, zero, suc, ◌+◌, ◌-◌, ◌*◌, ◌/◌, ◌%◌, Bool, true, false, List, [], ◌∷◌, Option, Some, None, refl, sym, ◌∙◌, ap, subst, arith, length, take, drop, map, length-take, length-drop}
-use Rattle.std.specs.Prelude.{All, Any, IsPermutation, IsNone, IsFalse, IsTrue, slice_get, slice_range, ◌&&◌, ◌==◌, not, nat_le, is_none, unwrap_or, if◌then◌else◌}
-use Rattle.std.specs.List.{concat}
-use Rattle.std.proofs.Math.Nat.{mul-le-mul_right, mod-add-div'}
-use Rattle.std.proofs.lemmas.Bool.{cases_lt}
-use Rattle.std.proofs.lemmas.Bool.Decides.{nat_tests}
-use Rattle.std.proofs.lemmas.List.Elements.{All-nil, All-cons, All-head, All-tail}
-use Rattle.std.proofs.lemmas.List.Sorted.{IsPermutation-sym}
-use Rattle.ntstatus.specs.declared.NtStatus.TheVariants.{Success}
-use Rattle.sector.specs.declared.Extent.{Extent}
-use Rattle.sector.specs.Extents.{IsSector, sectors_in}
-use Rattle.srb.specs.declared.Kind.{Kind}
-use Rattle.srb.specs.declared.Kind.TheVariants.{Read, Write, Flush}
-use Rattle.machine.specs.declared.ClientRequest.{ClientRequest}
-use Rattle.machine.specs.declared.Label.{Label}
+use Rattle.volume.proofs.Common.{◌≡◌, ◌≢◌, ◌<◌, ◌≤◌, ◌⊎◌, inl, inr, ℕ, zero, suc, ◌+◌, ◌-◌, ◌*◌, ◌/◌, ◌%◌, Bool, true, false, List, [], ◌∷◌, Option, Some, None, refl, sym, ◌∙◌, ap, subst, arith, length, take, drop, map, length-take, length-drop, All, Any, IsPermutation, IsNone, IsFalse, IsTrue, slice_get, slice_range, ◌&&◌, ◌==◌, not, nat_le, is_none, unwrap_or, if◌then◌else◌, concat, mul-le-mul_right, mod-add-div', cases_lt, nat_tests, All-nil, All-cons, All-head, All-tail, IsPermutation-sym, Success, Extent, IsSector, sectors_in, Kind, Read, Write, Flush, ClientRequest, Label, Rules, is_transfer, is_in_bounds, first_sector, place_count, sectors_of, OpenRequest, Piece, State, opening, ArePlaced, IsOwner, IsPlaced, refusal, Admits, Calls, new_request, bytes_carried, array_at, partition_number, Run, AreDistinct-opening, ArePlaced-opening, ArePlaced-Run, IsTakenIn, some_places, taken_in, IsSame-refl, none_there, CallsCount, call_numbers, IsReached, SoloReadsHold, SoloWritesHold, FailedWritesHold, RunsKeepSectors, ManagerView, TakesAnswer, as_answer, extent_at, AreUsable, IsReady, IsQuiet, answers_of, IsBetween, Goes, IsPlaceOf, ChangesSome, ComesTo, Ends, disk_first, sectors_on}
 use Rattle.machine.specs.declared.Label.TheVariants.{Call, Device, Answer, Cancel, Pause, Resume, Remove, Surprise, Removed}
-use Rattle.machine.specs.Rules.{Rules, is_transfer, is_in_bounds, first_sector, place_count, sectors_of}
-use Rattle.machine.specs.State.{OpenRequest, Piece, State, opening}
-use Rattle.machine.specs.Pieces.{ArePlaced, IsOwner, IsPlaced}
-use Rattle.machine.specs.Calling.{refusal, Admits, Calls, new_request, bytes_carried}
-use Rattle.machine.specs.Sending.{array_at, partition_number}
 use Rattle.machine.specs.Solo.{IsAnswered}
-use Rattle.machine.specs.Step.{Run}
-use Rattle.machine.proofs.Numbers.{AreDistinct-opening}
-use Rattle.machine.proofs.Placed.{ArePlaced-opening, ArePlaced-Run}
-use Rattle.machine.proofs.Places.{IsTakenIn, some_places, taken_in}
-use Rattle.machine.proofs.Same.{IsSame-refl, none_there}
-use Rattle.machine_laws.specs.NumberLaws.{CallsCount, call_numbers}
-use Rattle.machine_laws.specs.Reached.{IsReached}
 use Rattle.machine_laws.specs.Sectors.{sector_of, bytes_for}
-use Rattle.machine_laws.specs.SoloLaws.{SoloReadsHold, SoloWritesHold, FailedWritesHold}
-use Rattle.machine_laws.specs.WriteLaws.{RunsKeepSectors}
 use Rattle.io_manager.specs.declared.Answer.{Answer as AnswerOf}
-use Rattle.io_manager.specs.Shown.{ManagerView}
-use Rattle.io_manager.specs.Right.{TakesAnswer, as_answer}
-use Rattle.volume.specs.Shown.{extent_at}
-use Rattle.volume.specs.Ready.{AreUsable, IsReady}
-use Rattle.volume.specs.Working.{IsQuiet, answers_of, IsBetween, Goes, IsPlaceOf, ChangesSome, ComesTo, Ends, disk_first, sectors_on}
 use Rattle.volume.proofs.Commands.{IsWaiting, NoneSent, sent_by}
 use Rattle.volume.proofs.Phases.{IsWorking, IsServed, run_working, always_alone, of_sole, works_last, written_at, single}
 use Rattle.volume.proofs.Steps.{goes_on_reached}

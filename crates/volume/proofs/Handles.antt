@@ -1,13 +1,5 @@
 -- How many handles are open, as one is opened or closed.
-use Rattle.std.proofs.Common.{◌≡◌, ◌≢◌, ℕ, zero, suc, ◌+◌, List, [], ◌∷◌, Option, Some, None, refl, sym, ◌∙◌, ap, arith, cond, true}
-use Rattle.std.specs.Prelude.{count_by, is_some, slice_index_or}
-use Rattle.std.proofs.lemmas.List.Sums.{sum_by-cons}
-use Rattle.io_manager.specs.Shown.{ManagerView}
-use Rattle.io_manager.specs.Calls.{partition_at}
-use Rattle.io_manager.specs.Right.{IsClosed, IsGiven}
-use Rattle.io_manager.specs.declared.Handle.{Handle}
-use Rattle.io_manager.specs.declared.OpenHandle.{OpenHandle}
-use Rattle.volume.specs.Shown.{handle_count}
+use Rattle.volume.proofs.Common.{◌≡◌, ◌≢◌, ℕ, zero, suc, ◌+◌, List, [], ◌∷◌, Option, Some, None, refl, sym, ◌∙◌, ap, arith, cond, true, count_by, is_some, slice_index_or, sum_by-cons, ManagerView, partition_at, IsClosed, IsGiven, Handle, OpenHandle, handle_count}
 
 abbrev Places : Type 0
 Places = List (Option OpenHandle)

@@ -12,3 +12,4 @@ pub mod Methods
 pub mod Handles
 pub mod Closing
 pub mod Starting
+mod Common

@@ -1,24 +1,7 @@
 -- What a call on a volume leaves, in the words of its user.
-use Rattle.std.proofs.Common.{◌≡◌, ◌≢◌, ◌<◌, ◌≤◌, ◌⊎◌, ℕ, ◌+◌, ◌*◌, ◌/◌, ◌^◌, arith, true, false, List, [], Option, Some, refl, sym, ◌∙◌, ap, subst, length}
-use Rattle.std.specs.Prelude.{IsTrue, IsFalse, count_by, is_none, is_some, if◌then◌else◌}
-use Rattle.std.specs.List.{concat}
-use Rattle.ntstatus.specs.declared.NtStatus.TheVariants.{Success}
-use Rattle.machine.specs.Map.{IsPartition}
-use Rattle.srb.specs.declared.Kind.TheVariants.{Read, Write, Flush}
-use Rattle.machine.specs.declared.ClientRequest.{ClientRequest}
-use Rattle.machine.specs.Rules.{Rules, is_transfer, sectors_of}
+use Rattle.volume.proofs.Common.{◌≡◌, ◌≢◌, ◌<◌, ◌≤◌, ◌⊎◌, ℕ, ◌+◌, ◌*◌, ◌/◌, ◌^◌, arith, true, false, List, [], Option, Some, refl, sym, ◌∙◌, ap, subst, length, IsTrue, IsFalse, count_by, is_none, is_some, if◌then◌else◌, concat, Success, IsPartition, Read, Write, Flush, ClientRequest, Rules, is_transfer, sectors_of, Handle, OpenHandle, Refusal, InvalidHandle, InvalidParameter, DeletePending, DeviceBusy, InsufficientResources, InvalidDeviceRequest, NotFound, ManagerView, partition_of, Sizes, content_of, extent_at, handle_count, volume_over, VolumeKept, ComesTo, Ends, HasReason, Leaves, sectors_on}
 use Rattle.io_manager.specs.declared.Answer.{Answer as AnswerOf}
-use Rattle.io_manager.specs.declared.Handle.{Handle}
-use Rattle.io_manager.specs.declared.OpenHandle.{OpenHandle}
-use Rattle.io_manager.specs.declared.Refusal.{Refusal}
-use Rattle.io_manager.specs.declared.Refusal.TheVariants.{InvalidHandle, InvalidParameter, DeletePending, DeviceBusy, InsufficientResources, InvalidDeviceRequest, NotFound}
-use Rattle.io_manager.specs.Shown.{ManagerView}
-use Rattle.io_manager.specs.Calls.{partition_of}
-use Rattle.volume.specs.declared.Sizes.{Sizes}
-use Rattle.volume.specs.Shown.{content_of, extent_at, handle_count, volume_over}
-use Rattle.volume.specs.Ready.{VolumeKept}
 use Rattle.volume.specs.Calls.{AreInBounds, IsAnswered, IsRefusal, IsSameDisk, Reads, Writes, WritesSome}
-use Rattle.volume.specs.Working.{ComesTo, Ends, HasReason, Leaves, sectors_on}
 use Rattle.volume.proofs.Disk.{sectors_of-extent}
 use Rattle.volume.proofs.Content.{in_content, out_of_content, read_content, same_content, write_content, mixed_content, bytes_counted}
 

@@ -1,26 +1,8 @@
 -- A request alone: what quiet labels make of it.
-use Rattle.std.proofs.Common.{◌≡◌, ◌<◌, ◌≤◌, ◌⊎◌, inl, inr, ℕ, Bool, true, false, List, [], ◌∷◌, Option, Some, refl, sym, ◌∙◌, ap, subst, arith, length}
-use Rattle.std.specs.Prelude.{All, Contains, IsPermutation, IsNone, IsTrue, IsFalse}
-use Rattle.std.proofs.lemmas.List.Elements.{All-nil, All-cons, All-head, All-tail, All-contains}
-use Rattle.std.proofs.lemmas.List.Sorted.{IsPermutation-sym, length_permutation, All-permutation}
-use Rattle.ntstatus.specs.declared.NtStatus.{NtStatus}
-use Rattle.srb.specs.declared.DeviceLabel.{DeviceLabel}
+use Rattle.volume.proofs.Common.{◌≡◌, ◌<◌, ◌≤◌, ◌⊎◌, inl, inr, ℕ, Bool, true, false, List, [], ◌∷◌, Option, Some, refl, sym, ◌∙◌, ap, subst, arith, length, All, Contains, IsPermutation, IsNone, IsTrue, IsFalse, All-nil, All-cons, All-head, All-tail, All-contains, IsPermutation-sym, length_permutation, All-permutation, NtStatus, DeviceLabel, Write, ClientRequest, Label, Rules, place_count, OpenRequest, Owed, State, IsSame, Answers, sent, given_back, partition_number, IsSolo, IsSoloAt, LeavesAlone, DeviceStep, OwingStep, Step, Run, IsSame-refl, IsSame-sym, none_there, Sometime, IsWriteAt, IsQuiet, answers_of, IsPlaceOf}
 use Rattle.srb.specs.declared.DeviceLabel.TheVariants.{Start, Act, Fault, Return}
-use Rattle.srb.specs.declared.Kind.TheVariants.{Write}
-use Rattle.machine.specs.declared.ClientRequest.{ClientRequest}
-use Rattle.machine.specs.declared.Label.{Label}
 use Rattle.machine.specs.declared.Label.TheVariants.{Call, Device, Answer, Cancel, Pause, Resume, Remove, Surprise, Removed}
-use Rattle.machine.specs.Rules.{Rules, place_count}
-use Rattle.machine.specs.State.{OpenRequest, Owed, State, IsSame}
-use Rattle.machine.specs.Answering.{Answers}
-use Rattle.machine.specs.Sending.{sent, given_back, partition_number}
-use Rattle.machine.specs.Solo.{IsSolo, IsSoloAt, LeavesAlone}
-use Rattle.machine.specs.Step.{DeviceStep, OwingStep, Step, Run}
-use Rattle.machine.proofs.Same.{IsSame-refl, IsSame-sym, none_there}
-use Rattle.machine_laws.specs.Along.{Sometime}
 use Rattle.machine_laws.specs.Sectors.{WritesSector, sector_of}
-use Rattle.machine_laws.specs.WriteLaws.{IsWriteAt}
-use Rattle.volume.specs.Working.{IsQuiet, answers_of, IsPlaceOf}
 
 -- ONE REQUEST
 

@@ -1,29 +1,5 @@
 -- A stack before its first event is ready.
-use Rattle.std.proofs.Common.{◌≡◌, ◌≤◌, inl, inr, ℕ, ◌+◌, true, false, List, [], Option, Some, refl, sym, ◌∙◌, ap, subst, arith, length, map, length-take, length-drop}
-use Rattle.std.specs.Prelude.{All, IsPermutation, IsTrue, count_by, is_some, nat_le, slice_range}
-use Rattle.std.proofs.lemmas.Bool.{cases_lt}
-use Rattle.std.proofs.lemmas.Bool.Decides.{nat_tests}
-use Rattle.std.proofs.lemmas.List.Sorted.{IsPermutation-refl}
-use Rattle.sector.specs.declared.Extent.{Extent}
-use Rattle.sector.specs.Extents.{IsSector, sectors_in}
-use Rattle.adapter.specs.View.{AdapterView, IsInOrder, TagInUse}
-use Rattle.machine.specs.Map.{IsPartition}
-use Rattle.machine.specs.Rules.{Rules, sectors_of}
-use Rattle.machine.specs.State.{State, opening}
-use Rattle.machine.specs.Sending.{array_at}
-use Rattle.machine.proofs.Same.{IsSame-refl}
-use Rattle.machine_laws.specs.Reached.{AreWhole, IsReached}
-use Rattle.device.specs.View.{IsRead, piece_on_tag, use_on_tag}
-use Rattle.io_manager.specs.Shown.{ManagerView}
-use Rattle.io_manager.specs.Calls.{are_used_up, handle_limit}
-use Rattle.io_manager.specs.declared.OpenHandle.{OpenHandle}
-use Rattle.compose.specs.declared.Settings.{Settings}
-use Rattle.compose.specs.Opening.{IsFirstView, first_rules}
-use Rattle.volume.specs.Shown.{content_of, extent_at, handle_count, parted_at}
-use Rattle.io_manager.specs.declared.Refusal.{Refusal}
-use Rattle.io_manager.specs.declared.Refusal.TheVariants.{InvalidHandle, InvalidParameter, DeletePending, DeviceBusy, InsufficientResources, InvalidDeviceRequest, NotFound}
-use Rattle.volume.specs.Opening.{IsOpenRefusal, IsRefusedOf, LacksHandle}
-use Rattle.volume.specs.Ready.{AreUsable, IsIdle, IsReady}
+use Rattle.volume.proofs.Common.{◌≡◌, ◌≤◌, inl, inr, ℕ, ◌+◌, true, false, List, [], Option, Some, refl, sym, ◌∙◌, ap, subst, arith, length, map, length-take, length-drop, All, IsPermutation, IsTrue, count_by, is_some, nat_le, slice_range, cases_lt, nat_tests, IsPermutation-refl, Extent, IsSector, sectors_in, AdapterView, IsInOrder, TagInUse, IsPartition, Rules, sectors_of, State, opening, array_at, IsSame-refl, AreWhole, IsReached, IsRead, piece_on_tag, use_on_tag, ManagerView, are_used_up, handle_limit, OpenHandle, Settings, IsFirstView, first_rules, content_of, extent_at, handle_count, parted_at, Refusal, InvalidHandle, InvalidParameter, DeletePending, DeviceBusy, InsufficientResources, InvalidDeviceRequest, NotFound, IsOpenRefusal, IsRefusedOf, LacksHandle, AreUsable, IsIdle, IsReady}
 use Rattle.volume.proofs.Disk.{array_is, extent_past, sectors_of-extent}
 
 module _ (disk : AdapterView) (settings : Settings) (order : IsInOrder disk) (faithful : IsTrue disk.faithful) (v : ManagerView) (first : IsFirstView disk settings v) where

@@ -1,34 +1,10 @@
 -- Steps of the adapter while a request goes on.
-use Rattle.std.proofs.Common.{◌≡◌, ◌≢◌, ◌<◌, ◌≤◌, ◌↔◌, inl, inr, ℕ, ◌+◌, Bool, true, false, cond, List, [], ◌∷◌, ◌++◌, refl, sym, ◌∙◌, ap, subst, arith, append_assoc, length, map}
-use Rattle.std.specs.Prelude.{All, Any, Contains, IsPermutation, IsTrue, MatchBool, count_by}
-use Rattle.std.specs.List.{sum_by}
-use Rattle.std.proofs.lemmas.List.{map-append}
-use Rattle.std.proofs.lemmas.List.Elements.{All-nil, All-cons, All-head, All-tail, All-append}
-use Rattle.std.proofs.lemmas.List.Sorted.{IsPermutation-refl, IsPermutation-sym, IsPermutation-trans, IsPermutation-map, IsPermutation-append_left, IsPermutation-append_right, IsPermutation-append_comm, Contains-permutation, sum_by-IsPermutation, sum_by_popped, length_permutation}
-use Rattle.sector.specs.Extents.{IsIn}
-use Rattle.srb.specs.declared.Class.{Class}
-use Rattle.srb.specs.declared.Class.TheVariants.{Busy}
-use Rattle.srb.specs.declared.DeviceLabel.{DeviceLabel}
+use Rattle.volume.proofs.Common.{◌≡◌, ◌≢◌, ◌<◌, ◌≤◌, ◌↔◌, inl, inr, ℕ, ◌+◌, Bool, true, false, cond, List, [], ◌∷◌, ◌++◌, refl, sym, ◌∙◌, ap, subst, arith, append_assoc, length, map, All, Any, Contains, IsPermutation, IsTrue, MatchBool, count_by, sum_by, map-append, All-nil, All-cons, All-head, All-tail, All-append, IsPermutation-refl, IsPermutation-sym, IsPermutation-trans, IsPermutation-map, IsPermutation-append_left, IsPermutation-append_right, IsPermutation-append_comm, Contains-permutation, sum_by-IsPermutation, sum_by_popped, length_permutation, IsIn, Class, Busy, DeviceLabel, Fate, Fresh, Acted, Faulted, is_fresh, Label, Rules, Piece, State, IsSame, opening, IsStart, HasOtherTag, LeavesMarks, Returns, with_fate, DeviceStep, Step, Run, as_label, AreDistinct, piece_number, AreDistinct-opening, AreDistinct-Run, distinct_first, is_first, IsSame-refl, Run-append, none_there, IsReached, IsFreshOn, IsActOrFault, is_fresh_piece, piece_tag, Reply, ManagerView, IsQuiet, answers_of, Quietly, tags_out, unsent_places, work, fresh_count}
 use Rattle.srb.specs.declared.DeviceLabel.TheVariants.{Start, Act, Fault, Return}
-use Rattle.srb.specs.Fate.{Fate, Fresh, Acted, Faulted, is_fresh}
-use Rattle.machine.specs.declared.Label.{Label}
 use Rattle.machine.specs.declared.Label.TheVariants.{Call, Device, Answer, Cancel, Pause, Resume, Remove, Surprise, Removed}
-use Rattle.machine.specs.Rules.{Rules}
-use Rattle.machine.specs.State.{Piece, State, IsSame, opening}
-use Rattle.machine.specs.Sending.{IsStart, HasOtherTag, LeavesMarks, Returns, with_fate}
-use Rattle.machine.specs.Step.{DeviceStep, Step, Run, as_label}
-use Rattle.machine.specs.Numbers.{AreDistinct, piece_number}
-use Rattle.machine.proofs.Numbers.{AreDistinct-opening, AreDistinct-Run}
-use Rattle.machine.proofs.Permuting.{distinct_first, is_first}
-use Rattle.machine.proofs.Same.{IsSame-refl, Run-append, none_there}
-use Rattle.machine_laws.specs.Reached.{IsReached}
-use Rattle.device.specs.Served.{IsFreshOn, IsActOrFault, is_fresh_piece, piece_tag}
 use Rattle.io_manager.specs.declared.Answer.{Answer as AnswerOf}
-use Rattle.io_manager.specs.declared.Reply.{Reply}
 use Rattle.io_manager.specs.declared.Reply.TheVariants.{Handle as HandleReply, Ok as Done, Request as Requested, Answered, Refused, Ignored}
-use Rattle.io_manager.specs.Shown.{ManagerView}
 use Rattle.io_manager.specs.Right.{Told, IsRight, IsRightBy, SameHandles, ActReplies, FinishReplies, TellsAct, TellsFinish, HasNoneFresh, IsOnTag, tells_nothing, as_answer, end_labels}
-use Rattle.volume.specs.Working.{IsQuiet, answers_of, Quietly, tags_out, unsent_places, work, fresh_count}
 use Rattle.volume.proofs.Untraced.{untraced, forgotten}
 use Rattle.volume.proofs.Using.{starts_use, returns_use, acts_keep, faults_keep, answers_use, same_work}
 

@@ -1,11 +1,5 @@
 -- A step whose labels nobody keeps.
-use Rattle.std.proofs.Common.{[], true, false, subst}
-use Rattle.device.specs.View.{IsRead}
-use Rattle.io_manager.specs.declared.Reply.{Reply}
-use Rattle.io_manager.specs.Shown.{ManagerView}
-use Rattle.compose.specs.declared.Event.{Event}
-use Rattle.compose.specs.Right.{StepsUntraced}
-use Rattle.volume.specs.Working.{IsBetween}
+use Rattle.volume.proofs.Common.{[], true, false, subst, IsRead, Reply, ManagerView, Event, StepsUntraced, IsBetween}
 
 -- what is shown before it, once no label is kept
 abbrev pub untraced : ManagerView → ManagerView

@@ -1,20 +1,6 @@
 -- What starts and returns use up, where no piece comes back busy.
-use Rattle.std.proofs.Common.{◌≡◌, ◌≢◌, ◌<◌, ◌≤◌, ℕ, suc, ◌+◌, ◌-◌, false, cond, List, [], ◌∷◌, ◌++◌, refl, sym, ◌∙◌, ap, subst, arith, length, take, drop, replicate, length-take, length-drop}
-use Rattle.std.specs.Prelude.{All, IsPermutation, count_by, slice_range}
-use Rattle.std.specs.List.{sum_by}
-use Rattle.std.proofs.lemmas.List.{drop-drop, length-replicate}
-use Rattle.std.proofs.lemmas.List.Elements.{All-nil, All-cons, All-head, All-tail, All-replicate, All-map}
-use Rattle.std.proofs.lemmas.List.Sums.{sum_by-append, sum_by-cons, sum_by-take-drop}
-use Rattle.std.proofs.lemmas.List.Sorted.{sum_by-IsPermutation, sum_by_popped, length_permutation}
-use Rattle.ntstatus.specs.declared.NtStatus.{NtStatus}
-use Rattle.sector.specs.Splice.{splice}
-use Rattle.srb.specs.declared.Class.{Class}
-use Rattle.srb.specs.declared.Class.TheVariants.{Good, Busy, Bad}
-use Rattle.machine.specs.Rules.{Rules}
+use Rattle.volume.proofs.Common.{◌≡◌, ◌≢◌, ◌<◌, ◌≤◌, ℕ, suc, ◌+◌, ◌-◌, false, cond, List, [], ◌∷◌, ◌++◌, refl, sym, ◌∙◌, ap, subst, arith, length, take, drop, replicate, length-take, length-drop, All, IsPermutation, count_by, slice_range, sum_by, drop-drop, length-replicate, All-nil, All-cons, All-head, All-tail, All-replicate, All-map, sum_by-append, sum_by-cons, sum_by-take-drop, sum_by-IsPermutation, sum_by_popped, length_permutation, NtStatus, splice, Class, Good, Busy, Bad, Rules, Answers, Starts, Acts, Faults, Returns, LeavesMarks, IsUnsent, is_unsent, sent, given_back, new_piece, status_of_completion, unsent_places, work}
 use Rattle.machine.specs.State.{Mark, Out, Done, Failed, OpenRequest, Piece, State, IsSame}
-use Rattle.machine.specs.Answering.{Answers}
-use Rattle.machine.specs.Sending.{Starts, Acts, Faults, Returns, LeavesMarks, IsUnsent, is_unsent, sent, given_back, new_piece, status_of_completion}
-use Rattle.volume.specs.Working.{unsent_places, work}
 
 -- MARKS
 

@@ -1,15 +1,5 @@
 -- What was carried out so far is just the events that were taken.
-use Rattle.std.proofs.Common.{◌≡◌, ◌<◌, ◌≤◌, ◌+◌, false, List, [], ◌∷◌, ◌++◌, refl, sym, ◌∙◌, ap, subst, arith, length, length-append, take, eqb-true}
-use Rattle.std.specs.Prelude.{◌==◌}
-use Rattle.std.specs.Vec.{vec_len, vec_capacity}
-use Rattle.std.proofs.lemmas.Bool.Decides.{nat_tests}
-use Rattle.std.proofs.lemmas.List.{map-id, nil_from_length}
-use Rattle.std.proofs.lemmas.Iterator.Adapters.{YieldsList-from_vec}
-use Rattle.std.proofs.lemmas.Iterator.Consumers.{YieldsList-so_far, YieldsList-turn}
-use Rattle.io_manager.specs.Shown.{ManagerView}
-use Rattle.compose.specs.declared.Event.{Event}
-use Rattle.compose.specs.declared.Shown.{Shown}
-use Rattle.compose.specs.Runs.{CarriesAll}
+use Rattle.compose.proofs.Common.{◌≡◌, ◌<◌, ◌≤◌, ◌+◌, false, List, [], ◌∷◌, ◌++◌, refl, sym, ◌∙◌, ap, subst, arith, length, length-append, take, eqb-true, ◌==◌, vec_len, vec_capacity, nat_tests, map-id, nil_from_length, YieldsList-from_vec, YieldsList-so_far, YieldsList-turn, ManagerView, Event, Shown, CarriesAll}
 use Rattle.compose.proofs.Lawful.{CarriesAll-pushed}
 use Rattle.compose.proofs.events.carry_all.Goals as goal
 

@@ -1,6 +1,5 @@
 use Rattle.std.proofs.Common.{◌≡◌, ◌≤◌, [], length, IsTrue}
-use Rattle.std.specs.Vec.{vec_len, vec_capacity}
-use Rattle.compose.specs.Runs.{CarriesAll}
+use Rattle.compose.proofs.Common.{vec_len, vec_capacity, CarriesAll}
 use Rattle.compose.proofs.events.carry_all.Given as goal
 
 abbrev pub invariant-loop-event : goal.invariant-loop-event

@@ -1,5 +1,4 @@
-use Rattle.std.proofs.Common.{◌∙◌, ap}
-use Rattle.machine.specs.Rules.{Rules}
+use Rattle.compose.proofs.Common.{◌∙◌, ap, Rules}
 use Rattle.compose.proofs.KeepsLabels.{step_keeps, step_same_rules}
 use Rattle.compose.proofs.events.carry_out.Goals as goal
 

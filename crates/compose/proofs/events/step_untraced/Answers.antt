@@ -1,6 +1,4 @@
-use Rattle.std.proofs.Common.{◌∙◌, ap, subst, true}
-use Rattle.io_manager.specs.Shown.{ManagerView}
-use Rattle.compose.specs.Right.{IsRight}
+use Rattle.compose.proofs.Common.{◌∙◌, ap, subst, true, ManagerView, IsRight}
 use Rattle.compose.proofs.events.step_untraced.Goals as goal
 
 pub returns-clause-untraced : goal.returns-clause-untraced

@@ -1,6 +1,4 @@
-use Rattle.std.proofs.Common.{◌≡◌, ◌<◌, ◌≤◌, length, ◌∙◌, arith}
-use Rattle.std.proofs.lemmas.List.{length-set}
-use Rattle.std.proofs.lemmas.Option.{slice_get_within}
+use Rattle.compose.proofs.Common.{◌≡◌, ◌<◌, ◌≤◌, length, ◌∙◌, arith, length-set, slice_get_within}
 use Rattle.compose.proofs.FirstSectors.{first_more}
 use Rattle.compose.proofs.start.first_sectors_of.Goals as goal
 

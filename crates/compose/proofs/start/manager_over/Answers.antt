@@ -1,7 +1,4 @@
-use Rattle.std.proofs.Common.{List, ◌∙◌, ap, refl, subst}
-use Rattle.sector.specs.declared.Extent.{Extent}
-use Rattle.io_manager.specs.Opening.{AreFirsts}
-use Rattle.device.specs.View.{DeviceView}
+use Rattle.compose.proofs.Common.{List, ◌∙◌, ap, refl, subst, Extent, AreFirsts, DeviceView}
 use Rattle.compose.proofs.FirstView.{port_fresh, disk_fresh, fresh_partitions, unasked, limits_for, first_view, adapter_is, fresh_after, lacks_memory}
 use Rattle.compose.proofs.start.manager_over.Goals as goal
 

@@ -1,6 +1,5 @@
 use Rattle.std.proofs.Common.{◌≡◌, inl, inr, length, sym, ap, subst, ◌∙◌}
-use Rattle.std.specs.Prelude.{IfOk}
-use Rattle.io_manager.specs.inside.Admitting.{answer_room_of}
+use Rattle.io_manager.proofs.Common.{IfOk, answer_room_of}
 use Rattle.io_manager.proofs.admission.answer_room.Goals as goal
 
 pub returns-in-Read : goal.returns-in-Read

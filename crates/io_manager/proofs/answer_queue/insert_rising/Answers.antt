@@ -1,8 +1,7 @@
 -- An answer goes in behind all, or the place is within the queue, and an answer that goes in at the front between two
 -- turns stands there.
 use Rattle.std.proofs.Common.{◌≡◌, ◌≤◌, ◌+◌, ◌∙◌, ap, arith, length}
-use Rattle.std.specs.VecDeque.{deque_len}
-use Rattle.io_manager.specs.inside.Ordering.{lower_first}
+use Rattle.io_manager.proofs.Common.{deque_len, lower_first}
 use Rattle.io_manager.proofs.Inserting.{lower_first_within, put_last, turned_in}
 use Rattle.io_manager.proofs.answer_queue.insert_rising.Goals as goal
 

@@ -1,7 +1,4 @@
-use Rattle.std.proofs.Common.{map, sym, ap, ◌∙◌, subst}
-use Rattle.io_manager.specs.Right.{AreRising, answer_number}
-use Rattle.io_manager.specs.inside.Ordering.{inserted}
-use Rattle.io_manager.specs.inside.Queue.{answer_in_memory}
+use Rattle.io_manager.proofs.Common.{map, sym, ap, ◌∙◌, subst, AreRising, answer_number, inserted, answer_in_memory}
 use Rattle.io_manager.proofs.InMemory.{inserted_shown, numbers_shown}
 use Rattle.io_manager.proofs.answer_queue.keep_rising.Goals as goal
 

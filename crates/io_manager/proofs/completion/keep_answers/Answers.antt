@@ -1,7 +1,4 @@
-use Rattle.std.proofs.Common.{◌++◌, map, sym, ap, ◌∙◌}
-use Rattle.machine.specs.Bare.{in_memory}
-use Rattle.io_manager.specs.Right.{as_answer}
-use Rattle.io_manager.specs.inside.Queue.{answer_in_memory}
+use Rattle.io_manager.proofs.Common.{◌++◌, map, sym, ap, ◌∙◌, in_memory, as_answer, answer_in_memory}
 use Rattle.io_manager.proofs.InMemory.{answers_shown}
 use Rattle.io_manager.proofs.completion.keep_answers.Goals as goal
 

@@ -1,5 +1,4 @@
-use Rattle.std.proofs.Common.{◌++◌, map}
-use Rattle.io_manager.specs.Right.{as_answer}
+use Rattle.io_manager.proofs.Common.{◌++◌, map, as_answer}
 use Rattle.io_manager.proofs.completion.keep_answers.Given as goal
 
 abbrev pub ghost-with : goal.ghost-with

@@ -1,6 +1,4 @@
-use Rattle.std.proofs.Common.{◌++◌, map, sym, ap, ◌∙◌}
-use Rattle.machine.specs.Bare.{in_memory}
-use Rattle.io_manager.specs.inside.Completion.{shown_label}
+use Rattle.io_manager.proofs.Common.{◌++◌, map, sym, ap, ◌∙◌, in_memory, shown_label}
 use Rattle.io_manager.proofs.InMemory.{recorded_shown}
 use Rattle.io_manager.proofs.completion.keep_device_labels.Goals as goal
 

@@ -1,6 +1,5 @@
 use Rattle.std.proofs.Common.{◌≡◌, ◌≤◌, ◌+◌, ◌++◌, map, length}
-use Rattle.std.specs.VecDeque.{deque_capacity}
-use Rattle.io_manager.specs.Right.{as_answer}
+use Rattle.io_manager.proofs.Common.{deque_capacity, as_answer}
 use Rattle.io_manager.proofs.completion.move_answers.Given as goal
 
 abbrev pub invariant-loop-answer : goal.invariant-loop-answer

@@ -1,6 +1,5 @@
 use Rattle.std.proofs.Common.{◌≡◌, ◌≤◌, ◌+◌, ◌++◌, map, length}
-use Rattle.std.specs.VecDeque.{deque_capacity}
-use Rattle.io_manager.specs.inside.Completion.{shown_label, unlabelled}
+use Rattle.io_manager.proofs.Common.{deque_capacity, shown_label, unlabelled}
 use Rattle.io_manager.proofs.completion.move_labels.Given as goal
 
 abbrev pub invariant-loop-label : goal.invariant-loop-label

@@ -1,6 +1,5 @@
-use Rattle.std.proofs.Common.{take}
+use Rattle.io_manager.proofs.Common.{take, IsOfAnother}
 use Rattle.std.specs.Prelude.{All}
-use Rattle.io_manager.specs.Right.{IsOfAnother}
 use Rattle.io_manager.proofs.handover.place_of.Given as goal
 
 abbrev pub invariant-loop-at : goal.invariant-loop-at

@@ -1,8 +1,6 @@
-use Rattle.std.proofs.Common.{ℕ, sym, ap, ◌∙◌}
-use Rattle.journaled.specs.Shown.{next_behind}
+use Rattle.journaled.proofs.Common.{ℕ, sym, ap, ◌∙◌, next_behind, Act}
 use Rattle.journaled.proofs.Numbering.{step_counts}
 use Rattle.journaled.proofs.Rooming.{act_below, act_room, booked_next}
-use Rattle.compose.specs.declared.Event.TheVariants.{Act}
 use Rattle.journaled.proofs.Telling.{act_right, act_stands, act_told}
 use Rattle.journaled.proofs.acting.act.Goals as goal
 

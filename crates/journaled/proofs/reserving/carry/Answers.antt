@@ -1,10 +1,4 @@
-use Rattle.std.proofs.Common.{◌≡◌, ℕ, List, true, false, sym, ap, subst, ◌∙◌}
-use Rattle.std.specs.Prelude.{All, is_err}
-use Rattle.machine.specs.declared.Label.{Label}
-use Rattle.io_manager.specs.declared.Reply.{Reply}
-use Rattle.sector_journal.specs.declared.reservation.Reservation.{Reservation}
-use Rattle.journaled.specs.Right.{HoldsRoom, MakesRoom}
-use Rattle.journaled.specs.Shown.{IsBelow, next_behind, over}
+use Rattle.journaled.proofs.Common.{◌≡◌, ℕ, List, true, false, sym, ap, subst, ◌∙◌, All, is_err, Label, Reply, Reservation, HoldsRoom, MakesRoom, IsBelow, next_behind, over}
 use Rattle.journaled.proofs.Numbering.{step_counts}
 use Rattle.journaled.proofs.Rooming.{room_below, room_held, where_err, where_ok}
 use Rattle.journaled.proofs.Telling.{keeps_on, others_follow, others_served}

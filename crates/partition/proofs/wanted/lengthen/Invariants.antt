@@ -1,5 +1,4 @@
-use Rattle.std.proofs.Common.{◌≡◌, ◌-◌, ◌+◌, ℕ, length}
-use Rattle.partition.specs.inside.Rooms.{wanted_at}
+use Rattle.partition.proofs.Common.{◌≡◌, ◌-◌, ◌+◌, ℕ, length, wanted_at}
 use Rattle.partition.proofs.wanted.lengthen.Given as goal
 
 abbrev pub invariant-loop-wanted : goal.invariant-loop-wanted

@@ -1,6 +1,4 @@
-use Rattle.std.proofs.Common.{[], ◌≡◌, refl}
-use Rattle.std.specs.List.{AllZip}
-use Rattle.script.specs.Script.{Spells}
+use Rattle.script.proofs.Common.{[], ◌≡◌, refl, AllZip, Spells}
 use Rattle.script.proofs.Asked.{finds_at_end}
 use Rattle.script.proofs.orders.alone.Goals as goal
 

@@ -1,6 +1,4 @@
-use Rattle.std.proofs.Common.{[], ◌∷◌, drop, refl}
-use Rattle.std.specs.List.{AllZip}
-use Rattle.script.specs.Script.{Number, Spells}
+use Rattle.script.proofs.Common.{[], ◌∷◌, drop, refl, AllZip, Number, Spells}
 use Rattle.script.proofs.Asked.{finds_at_end, finds_none, first_spells, spells_more}
 use Rattle.script.proofs.orders.last_number.Goals as goal
 

@@ -1,6 +1,5 @@
-use Rattle.std.proofs.Common.{arith, rules, ◌∙◌, ap, length, subst, sym}
+use Rattle.script.proofs.Common.{arith, rules, ◌∙◌, ap, length, subst, sym, Asks, is_event, words_of}
 use borrow.Author.Tests.{eqb-true}
-use Rattle.script.specs.Script.{Asks, is_event, words_of}
 use Rattle.script.proofs.Reading.{all_read, bad_line, nothing_read, read_event, read_past}
 use Rattle.script.proofs.orders.lines.Goals as goal
 

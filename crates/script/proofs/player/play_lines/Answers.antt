@@ -1,7 +1,4 @@
-use Rattle.std.proofs.Common.{◌∙◌, ap, refl, rules}
-use Rattle.std.proofs.lemmas.List.{take_all}
-use Rattle.machine.specs.Rules.{Rules}
-use Rattle.io_manager.specs.Shown.{ManagerView}
+use Rattle.script.proofs.Common.{◌∙◌, ap, refl, rules, take_all, Rules, ManagerView}
 use Rattle.script.proofs.Playing.{all_played, line_played, none_played, none_waits, one_waits}
 use Rattle.script.proofs.player.play_lines.Goals as goal
 

@@ -1,7 +1,4 @@
-use Rattle.std.proofs.Common.{◌≡◌, take}
-use Rattle.std.specs.Io.KnownBytes.{append_known}
-use Rattle.script.specs.Events.{AreNamed}
-use Rattle.script.specs.Trace.{IsAllTaken, IsToldTo, Prints}
+use Rattle.script.proofs.Common.{◌≡◌, take, append_known, AreNamed, IsAllTaken, IsToldTo, Prints}
 use Rattle.script.proofs.player.play_lines.Given as goal
 
 -- the lines so far are played, what was given stands under its number, and the rules stay

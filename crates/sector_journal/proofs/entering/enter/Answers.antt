@@ -1,5 +1,4 @@
-use Rattle.std.proofs.Common.{sym, ◌∙◌}
-use Rattle.miniport.proofs.Sectors.{refused_ends}
+use Rattle.sector_journal.proofs.Common.{sym, ◌∙◌, refused_ends}
 use Rattle.sector_journal.proofs.Carried.{moved_enters, failed_refuses}
 use Rattle.sector_journal.proofs.entering.enter.Goals as goal
 

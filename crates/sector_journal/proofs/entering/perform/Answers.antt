@@ -1,8 +1,4 @@
-use Rattle.std.proofs.Common.{refl, inl, inr}
-use Rattle.cdb.specs.declared.Cdb.TheVariants.{Read10, Write10, Read16, Write16}
-use Rattle.miniport.specs.Checking.{Passes}
-use Rattle.miniport.specs.Carrying.{sizes_of}
-use Rattle.miniport.proofs.Sectors.{read_ends, write_ends, sync_ends, long_sync_ends}
+use Rattle.sector_journal.proofs.Common.{refl, inl, inr, Read10, Write10, Read16, Write16, Passes, sizes_of, read_ends, write_ends, sync_ends, long_sync_ends}
 use Rattle.sector_journal.proofs.entering.perform.Goals as goal
 
 pub write-requires-clause-reserved : goal.write-requires-clause-reserved

@@ -1,6 +1,4 @@
-use Rattle.std.proofs.Common.{◌≡◌, ◌≤◌, take}
-use Rattle.std.specs.List.{sum_by}
-use Rattle.sector_journal.specs.Slots.{one_if_long}
+use Rattle.sector_journal.proofs.Common.{◌≡◌, ◌≤◌, take, sum_by, one_if_long}
 use Rattle.sector_journal.proofs.slots.count_long.Given as goal
 
 abbrev pub invariant-loop-slot : goal.invariant-loop-slot

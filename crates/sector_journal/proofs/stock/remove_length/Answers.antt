@@ -1,5 +1,4 @@
-use Rattle.std.proofs.Common.{rules}
-use Rattle.std.proofs.lemmas.Fn.{filter_same}
+use Rattle.sector_journal.proofs.Common.{rules, filter_same}
 use Rattle.sector_journal.proofs.stock.remove_length.Goals as goal
 
 pub returns : goal.returns

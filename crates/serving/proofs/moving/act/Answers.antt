@@ -1,5 +1,4 @@
-use Rattle.std.proofs.Common.{refl, ◌∙◌}
-use Rattle.std.proofs.lemmas.List.Sorted.{IsPermutation-refl, IsPermutation-trans}
+use Rattle.serving.proofs.Common.{refl, ◌∙◌, IsPermutation-refl, IsPermutation-trans}
 use Rattle.serving.proofs.Carrying.{Goes-refl, Goes-trans}
 use Rattle.serving.proofs.moving.act.Goals as goal
 

@@ -1,7 +1,4 @@
-use Rattle.std.proofs.Common.{◌≡◌, []}
-use Rattle.std.specs.Prelude.{IsPermutation}
-use Rattle.volume.specs.Working.{fresh_count, tags_out, work}
-use Rattle.serving.specs.Carried.{Goes, over, quiet}
+use Rattle.serving.proofs.Common.{◌≡◌, [], IsPermutation, fresh_count, tags_out, work, Goes, over, quiet}
 use Rattle.serving.proofs.moving.act.Given as goal
 
 abbrev pub invariant-acting : goal.invariant-acting

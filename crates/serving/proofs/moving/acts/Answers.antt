@@ -1,10 +1,4 @@
-use Rattle.std.proofs.Common.{sym, subst, ap, ◌∙◌}
-use Rattle.std.specs.Prelude.{IsPermutation}
-use Rattle.io_manager.specs.Shown.{ManagerView}
-use Rattle.machine.specs.State.{State}
-use Rattle.volume.specs.Working.{tags_out, work}
-use Rattle.volume.proofs.Steps.{ActsOr, acts_done, acts_kept, acts_or}
-use Rattle.serving.specs.Carried.{Goes, over, quiet}
+use Rattle.serving.proofs.Common.{sym, subst, ap, ◌∙◌, IsPermutation, ManagerView, State, tags_out, work, ActsOr, acts_done, acts_kept, acts_or, Goes, over, quiet}
 use Rattle.serving.proofs.Carrying.{act_goes, booked_labels, booked_state, fewer_since}
 use Rattle.serving.proofs.Quiet.{quiet_after, quiet_fits}
 use Rattle.serving.proofs.moving.acts.Goals as goal

@@ -1,6 +1,4 @@
-use Rattle.std.proofs.Common.{Ok, sym, ap, ◌∙◌}
-use Rattle.file_disk.specs.declared.file_disk.Moved.{Moved}
-use Rattle.file_disk.specs.Transfers.{entry_moved}
+use Rattle.serving.proofs.Common.{Ok, sym, ap, ◌∙◌, Moved, entry_moved}
 use Rattle.serving.proofs.Carrying.{has_booked, sent_given}
 use Rattle.serving.proofs.Quiet.{quiet_books}
 use Rattle.serving.proofs.moving.book_armed.Goals as goal

@@ -1,5 +1,4 @@
-use Rattle.std.proofs.Common.{ap, ◌∙◌, Some, None}
-use Rattle.serving.specs.Carried.{over, quiet}
+use Rattle.serving.proofs.Common.{ap, ◌∙◌, Some, None, over, quiet}
 use Rattle.serving.proofs.Carrying.{carry_answers, carry_later, carry_paused, carry_refused, carry_stands, carry_waits, labels_still, pause_still, stands_still}
 use Rattle.serving.proofs.Quiet.{quiet_after, quiet_takes}
 use Rattle.serving.proofs.moving.carry_out.Goals as goal

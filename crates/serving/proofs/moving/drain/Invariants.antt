@@ -1,6 +1,4 @@
-use Rattle.std.proofs.Common.{◌≡◌, []}
-use Rattle.volume.specs.Working.{work}
-use Rattle.serving.specs.Carried.{Goes, over, quiet}
+use Rattle.serving.proofs.Common.{◌≡◌, [], work, Goes, over, quiet}
 use Rattle.serving.proofs.moving.drain.Given as goal
 
 abbrev pub invariant-finishing : goal.invariant-finishing

@@ -1,12 +1,4 @@
-use Rattle.std.proofs.Common.{◌≡◌, ◌<◌, ℕ, [], refl, sym, ap, ◌∙◌, subst}
-use Rattle.std.specs.Prelude.{All, IsPermutation}
-use Rattle.std.proofs.lemmas.List.Sorted.{All-permutation}
-use Rattle.machine.specs.Rules.{Rules}
-use Rattle.machine.specs.State.{State}
-use Rattle.machine.specs.Sending.{HasOtherTag}
-use Rattle.io_manager.specs.Right.{IsOnTag}
-use Rattle.volume.specs.Working.{tags_out, work}
-use Rattle.volume.proofs.Steps.{IsFrom, from_next, from_zero, none_left}
+use Rattle.serving.proofs.Common.{◌≡◌, ◌<◌, ℕ, [], refl, sym, ap, ◌∙◌, subst, All, IsPermutation, All-permutation, Rules, State, HasOtherTag, IsOnTag, tags_out, work, IsFrom, from_next, from_zero, none_left}
 use Rattle.serving.proofs.Carrying.{Goes-refl, Goes-trans}
 use Rattle.serving.proofs.moving.finish_one.Goals as goal
 

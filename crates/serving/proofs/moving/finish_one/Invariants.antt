@@ -1,8 +1,4 @@
-use Rattle.std.proofs.Common.{◌≡◌, []}
-use Rattle.std.specs.Prelude.{All}
-use Rattle.volume.specs.Working.{tags_out, work}
-use Rattle.volume.proofs.Steps.{IsFrom}
-use Rattle.serving.specs.Carried.{Goes, over, quiet}
+use Rattle.serving.proofs.Common.{◌≡◌, [], All, tags_out, work, IsFrom, Goes, over, quiet}
 use Rattle.serving.proofs.moving.finish_one.Given as goal
 
 -- no piece is on the tags so far

@@ -1,7 +1,4 @@
-use Rattle.std.proofs.Common.{sym, subst}
-use Rattle.io_manager.specs.Shown.{ManagerView}
-use Rattle.volume.proofs.Steps.{FinishesOr, finishes_done, finishes_or}
-use Rattle.serving.specs.Carried.{Goes, over, quiet}
+use Rattle.serving.proofs.Common.{sym, subst, ManagerView, FinishesOr, finishes_done, finishes_or, Goes, over, quiet}
 use Rattle.serving.proofs.Carrying.{finish_goes}
 use Rattle.serving.proofs.Quiet.{quiet_after}
 use Rattle.serving.proofs.moving.finishes.Goals as goal

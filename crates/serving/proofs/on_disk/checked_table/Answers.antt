@@ -1,7 +1,4 @@
-use Rattle.std.proofs.Common.{◌≡◌, ◌≢◌, ℕ, List, Ok, subst}
-use Rattle.mbr.specs.Faults.{told_by}
-use Rattle.settings.specs.Medium.{extents_of}
-use Rattle.serving.specs.OnDisk.{Differs}
+use Rattle.serving.proofs.Common.{◌≡◌, ◌≢◌, ℕ, List, Ok, subst, told_by, extents_of, Differs}
 use Rattle.serving.proofs.on_disk.checked_table.Goals as goal
 
 pub returns-in-Ok-clause-told : goal.returns-in-Ok-clause-told

@@ -1,5 +1,4 @@
-use Rattle.std.proofs.Common.{◌≡◌, ◌≤◌, ◌-◌, length, map, take}
-use Rattle.settings.specs.Medium.{extent_of}
+use Rattle.serving.proofs.Common.{◌≡◌, ◌≤◌, ◌-◌, length, map, take, extent_of}
 use Rattle.serving.proofs.on_disk.compare.Given as goal
 
 -- so far each is that of its partition

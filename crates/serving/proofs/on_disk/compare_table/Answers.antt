@@ -1,9 +1,4 @@
-use Rattle.std.proofs.Common.{◌≡◌, ◌≢◌, List, map, subst}
-use Rattle.std.specs.Prelude.{IfErr, OnOk}
-use Rattle.sector.specs.declared.Extent.{Extent}
-use Rattle.settings.specs.declared.Partition.{Partition}
-use Rattle.settings.specs.Medium.{extent_of, extents_of}
-use Rattle.serving.specs.OnDisk.{DiffersFrom}
+use Rattle.serving.proofs.Common.{◌≡◌, ◌≢◌, List, map, subst, IfErr, OnOk, Extent, Partition, extent_of, extents_of, DiffersFrom}
 use Rattle.serving.proofs.Putting.{bad_table, compared_differs, compared_other, compared_same, gives_none}
 use Rattle.serving.proofs.on_disk.compare_table.Goals as goal
 

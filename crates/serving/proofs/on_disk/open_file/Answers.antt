@@ -1,7 +1,5 @@
-use Rattle.std.proofs.Common.{◌≡◌, ◌⊎◌, ℕ, List, [], Err, refl, rules, sym, ap, subst, ◌∙◌}
-use Rattle.machine.specs.State.{State}
+use Rattle.serving.proofs.Common.{◌≡◌, ◌⊎◌, ℕ, List, [], Err, refl, rules, sym, ap, subst, ◌∙◌, State, DiskView}
 use Rattle.file_disk.specs.Calls.{Call, ReadsAll, Since}
-use Rattle.file_disk.specs.Transfers.{DiskView}
 use Rattle.serving.proofs.Failing.{fault_of_handle, fault_of_start, fault_of_table, no_partition}
 use Rattle.serving.proofs.Beginning.{first_arrays, rules_at_first, stands_at_first, told_at_first}
 use Rattle.serving.proofs.on_disk.open_file.Goals as goal

@@ -1,9 +1,4 @@
-use Rattle.std.proofs.Common.{◌≡◌, List, [], sym, subst, ap, ◌∙◌}
-use Rattle.machine.specs.declared.Label.{Label}
-use Rattle.io_manager.specs.Shown.{ManagerView}
-use Rattle.compose.specs.declared.Event.TheVariants.{Open}
-use Rattle.compose.proofs.JournaledKept.{led}
-use Rattle.serving.specs.Carried.{StandsIn, TellsOn, quiet}
+use Rattle.serving.proofs.Common.{◌≡◌, List, [], sym, subst, ap, ◌∙◌, Label, ManagerView, Open, led, StandsIn, TellsOn, quiet}
 use Rattle.serving.proofs.Carrying.{on_opened, open_silent, others_stand, others_told}
 use Rattle.serving.proofs.Failing.{on_refused}
 use Rattle.serving.proofs.Quiet.{quiet_after}

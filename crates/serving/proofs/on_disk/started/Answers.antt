@@ -1,7 +1,4 @@
-use Rattle.std.proofs.Common.{refl, ap, get_or, length, List, [], ℕ, ◌∙◌, arith}
-use Rattle.miniport.specs.Apart.{apart, IsNewBooked}
-use Rattle.miniport.specs.Memory.{MemView}
-use Rattle.miniport.proofs.OneSector.{counted}
+use Rattle.serving.proofs.Common.{refl, ap, get_or, length, List, [], ℕ, ◌∙◌, arith, apart, IsNewBooked, MemView, counted}
 use Rattle.serving.proofs.Noting.{noted_new}
 use Rattle.serving.proofs.on_disk.started.Goals as goal
 

@@ -1,5 +1,4 @@
-use Rattle.std.proofs.Common.{◌≡◌, Err, rules}
-use Rattle.std.specs.Result.{result_err}
+use Rattle.serving.proofs.Common.{◌≡◌, Err, rules, result_err}
 use Rattle.serving.proofs.Sessions.{with_session, without_disk}
 use Rattle.serving.proofs.serving.serve_disk.Goals as goal
 

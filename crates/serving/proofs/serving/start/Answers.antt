@@ -1,6 +1,4 @@
-use Rattle.std.proofs.Common.{◌∙◌, subst, sym}
-use Rattle.serving.specs.declared.faults.Error.{Error}
-use Rattle.serving.specs.Serving.{IsStartFault}
+use Rattle.serving.proofs.Common.{◌∙◌, subst, sym, Error, IsStartFault}
 use Rattle.serving.proofs.Opening.{array_is, fault_is}
 use Rattle.serving.proofs.serving.start.Goals as goal
 

@@ -1,5 +1,4 @@
-use Rattle.std.proofs.Common.{refl, ◌∙◌}
-use Rattle.std.proofs.lemmas.List.Sorted.{IsPermutation-refl, IsPermutation-trans}
+use Rattle.volume.proofs.Common.{refl, ◌∙◌, IsPermutation-refl, IsPermutation-trans}
 use Rattle.volume.proofs.Steps.{Quietly-refl, Quietly-trans}
 use Rattle.volume.proofs.carrying.act.Goals as goal
 

@@ -1,6 +1,4 @@
-use Rattle.std.proofs.Common.{◌≡◌}
-use Rattle.std.specs.Prelude.{IsPermutation}
-use Rattle.volume.specs.Working.{IsBetween, Quietly, fresh_count, tags_out, work}
+use Rattle.volume.proofs.Common.{◌≡◌, IsPermutation, IsBetween, Quietly, fresh_count, tags_out, work}
 use Rattle.volume.proofs.carrying.act.Given as goal
 
 -- nothing but acts on the tag has happened

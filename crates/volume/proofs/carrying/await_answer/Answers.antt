@@ -1,7 +1,5 @@
-use Rattle.std.proofs.Common.{Option, ◌∙◌, ap, subst}
-use Rattle.std.specs.Prelude.{not}
+use Rattle.volume.proofs.Common.{Option, ◌∙◌, ap, subst, not, TakesAnswer}
 use Rattle.io_manager.specs.declared.Answer.{Answer as AnswerOf}
-use Rattle.io_manager.specs.Right.{TakesAnswer}
 use Rattle.volume.proofs.Steps.{Quietly-refl, Quietly-trans}
 use Rattle.volume.proofs.Calling.{goes_further, none_yet}
 use Rattle.volume.proofs.Ending.{ends, some_out}

@@ -1,7 +1,4 @@
-use Rattle.std.proofs.Common.{sym, subst}
-use Rattle.machine.specs.declared.ClientRequest.{ClientRequest}
-use Rattle.io_manager.specs.Shown.{ManagerView}
-use Rattle.volume.specs.Working.{Ends, Goes, Turns}
+use Rattle.volume.proofs.Common.{sym, subst, ClientRequest, ManagerView, Ends, Goes, Turns}
 use Rattle.volume.proofs.Calling.{called, ends_called, goes_called, turns_called}
 use Rattle.volume.proofs.Untraced.{read_stepped}
 use Rattle.volume.proofs.carrying.carry_out.Goals as goal

@@ -1,11 +1,4 @@
-use Rattle.std.proofs.Common.{◌≡◌, [], refl, sym, ◌∙◌, ap, subst}
-use Rattle.std.specs.Prelude.{All, IsPermutation}
-use Rattle.std.proofs.lemmas.List.Sorted.{All-permutation, IsPermutation-refl, IsPermutation-trans}
-use Rattle.machine.specs.Rules.{Rules}
-use Rattle.machine.specs.State.{State}
-use Rattle.machine.specs.Sending.{HasOtherTag}
-use Rattle.io_manager.specs.Right.{IsOnTag}
-use Rattle.volume.specs.Working.{tags_out, work}
+use Rattle.volume.proofs.Common.{◌≡◌, [], refl, sym, ◌∙◌, ap, subst, All, IsPermutation, All-permutation, IsPermutation-refl, IsPermutation-trans, Rules, State, HasOtherTag, IsOnTag, tags_out, work}
 use Rattle.volume.proofs.Steps.{IsFrom, Quietly-refl, Quietly-trans, from_next, from_zero, none_before, none_left}
 use Rattle.volume.proofs.carrying.finish_one.Goals as goal
 

@@ -1,6 +1,4 @@
-use Rattle.std.proofs.Common.{◌≡◌}
-use Rattle.std.specs.Prelude.{All, IsPermutation}
-use Rattle.volume.specs.Working.{IsBetween, Quietly, tags_out, work}
+use Rattle.volume.proofs.Common.{◌≡◌, All, IsPermutation, IsBetween, Quietly, tags_out, work}
 use Rattle.volume.proofs.Steps.{IsFrom}
 use Rattle.volume.proofs.carrying.finish_one.Given as goal
 

@@ -1,6 +1,4 @@
-use Rattle.std.proofs.Common.{sym, subst}
-use Rattle.io_manager.specs.Shown.{ManagerView}
-use Rattle.volume.specs.Working.{Quietly}
+use Rattle.volume.proofs.Common.{sym, subst, ManagerView, Quietly}
 use Rattle.volume.proofs.Steps.{FinishesOr, finish_quietly, finishes_done, finishes_or}
 use Rattle.volume.proofs.carrying.finishes.Goals as goal
 

@@ -1,10 +1,5 @@
-use Rattle.std.proofs.Common.{◌<◌, sym, subst, ap, ◌∙◌, length}
-use Rattle.machine.specs.Rules.{Rules}
-use Rattle.io_manager.specs.Calls.{partition_of}
+use Rattle.volume.proofs.Common.{◌<◌, sym, subst, ap, ◌∙◌, length, Rules, partition_of, ManagerView, content_of, handle_count, IsReady}
 use Rattle.io_manager.specs.declared.Reply.TheVariants.{Handle as HandleReply}
-use Rattle.io_manager.specs.Shown.{ManagerView}
-use Rattle.volume.specs.Shown.{content_of, handle_count}
-use Rattle.volume.specs.Ready.{IsReady}
 use Rattle.volume.proofs.Closing.{IsSilent, given_known, given_on, ready_still, refused_open, same_content, silent_open, still_open}
 use Rattle.volume.proofs.Handles.{one_more}
 use Rattle.volume.proofs.Untraced.{read_stepped, untraced}

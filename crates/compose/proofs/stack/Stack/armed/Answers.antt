@@ -1,7 +1,5 @@
 use Rattle.std.proofs.Common.{MatchOption, subst}
-use Rattle.adapter.specs.Calls.{HasNoneFresh}
-use Rattle.adapter.specs.Booking.{IsArmed}
-use Rattle.io_manager.specs.Shown.{ManagerView}
+use Rattle.compose.proofs.Common.{HasNoneFresh, IsArmed, ManagerView}
 use Rattle.compose.proofs.stack.Stack.armed.Goals as goal
 
 pub returns : goal.returns

@@ -1,8 +1,4 @@
-use Rattle.std.proofs.Common.{◌≡◌, subst, sym}
-use Rattle.hold_filter.specs.Opening.{opening_over}
-use Rattle.hold_filter.specs.inside.TableView.{TableView}
-use Rattle.hold_filter.specs.inside.View.{view_of}
-use Rattle.hold_filter.specs.inside.Invariant.{IsInHand}
+use Rattle.hold_filter.proofs.Common.{◌≡◌, subst, sym, opening_over, TableView, view_of, IsInHand}
 use Rattle.hold_filter.proofs.Opening.{hand_opening, opening_is}
 use Rattle.hold_filter.proofs.filter.Filter.new.Goals as goal
 

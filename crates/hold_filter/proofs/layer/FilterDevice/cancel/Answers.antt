@@ -1,7 +1,4 @@
-use Rattle.std.proofs.Common.{subst, sym}
-use Rattle.std.specs.Prelude.{All}
-use Rattle.hold_filter.specs.inside.TableView.{TableView, books_of}
-use Rattle.hold_filter.specs.inside.TableCalls.{MayEnd}
+use Rattle.hold_filter.proofs.Common.{subst, sym, All, TableView, books_of, MayEnd}
 use Rattle.hold_filter.proofs.Cancelling.{may_end_all, cancelled_held, cancelled_below}
 use Rattle.hold_filter.proofs.layer.FilterDevice.cancel.Goals as goal
 

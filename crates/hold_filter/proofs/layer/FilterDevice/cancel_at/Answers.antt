@@ -1,5 +1,4 @@
-use Rattle.std.proofs.Common.{inl, inr, refl}
-use Rattle.hold_filter.specs.inside.TableView.{books_of}
+use Rattle.hold_filter.proofs.Common.{inl, inr, refl, books_of}
 use Rattle.hold_filter.proofs.Cancelling.{may_end_all, if_true, if_false, at_held, at_any, leaves_held, holds_none}
 use Rattle.hold_filter.proofs.layer.FilterDevice.cancel_at.Goals as goal
 

@@ -1,8 +1,4 @@
-use Rattle.std.proofs.Common.{subst, sym}
-use Rattle.device.specs.Served.{DrainsAll}
-use Rattle.hold_filter.specs.inside.TableView.{TableView, books_of}
-use Rattle.hold_filter.specs.inside.View.{view_of}
-use Rattle.hold_filter.specs.inside.Invariant.{IsInHand}
+use Rattle.hold_filter.proofs.Common.{subst, sym, DrainsAll, TableView, books_of, view_of, IsInHand}
 use Rattle.hold_filter.proofs.Turning.{drains, hand_drained}
 use Rattle.hold_filter.proofs.layer.FilterDevice.drain.Goals as goal
 

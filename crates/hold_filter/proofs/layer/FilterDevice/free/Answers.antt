@@ -1,6 +1,4 @@
-use Rattle.std.proofs.Common.{ap}
-use Rattle.hold_filter.specs.inside.TableView.{books_of}
-use Rattle.hold_filter.specs.Shown.{FilterView}
+use Rattle.hold_filter.proofs.Common.{ap, books_of, FilterView}
 use Rattle.hold_filter.proofs.Calls.{reserved_below, freed}
 use Rattle.hold_filter.proofs.layer.FilterDevice.free.Goals as goal
 

@@ -1,8 +1,4 @@
-use Rattle.std.proofs.Common.{ap}
-use Rattle.device.specs.View.{DeviceView}
-use Rattle.device.proofs.Reserving.{near_after}
-use Rattle.hold_filter.specs.Shown.{FilterView}
-use Rattle.hold_filter.specs.inside.TableView.{books_of}
+use Rattle.hold_filter.proofs.Common.{ap, DeviceView, near_after, FilterView, books_of}
 use Rattle.hold_filter.proofs.Calls.{bounds, near_above, refused_below, reserved, given_back}
 use Rattle.hold_filter.proofs.layer.FilterDevice.reserve.Goals as goal
 

@@ -1,8 +1,4 @@
-use Rattle.std.proofs.Common.{arith, ap, ◌∙◌}
-use Rattle.irp.specs.declared.Irp.{Irp}
-use Rattle.hold_filter.specs.Shown.{FilterView}
-use Rattle.hold_filter.specs.inside.TableView.{books_of}
-use Rattle.hold_filter.specs.inside.TableCalls.{counted}
+use Rattle.hold_filter.proofs.Common.{arith, ap, ◌∙◌, Irp, FilterView, books_of, counted}
 use Rattle.hold_filter.proofs.Calls.{may_take_in}
 use Rattle.hold_filter.proofs.Submitting.{may_hold, has_held, may_send_now, window_now, has_gone}
 use Rattle.hold_filter.proofs.layer.FilterDevice.submit.Goals as goal

@@ -1,5 +1,4 @@
-use Rattle.std.proofs.Common.{◌≡◌, None, rules}
-use Rattle.hold_filter.specs.inside.TableView.{books_of}
+use Rattle.hold_filter.proofs.Common.{◌≡◌, None, rules, books_of}
 use Rattle.hold_filter.proofs.Ending.{has_ended}
 use Rattle.hold_filter.proofs.Returning.{some_below, kept_back, hands_back}
 use Rattle.hold_filter.proofs.Settling.{none_up}

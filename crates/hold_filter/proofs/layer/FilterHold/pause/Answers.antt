@@ -1,9 +1,4 @@
-use Rattle.std.proofs.Common.{subst, sym, ◌∙◌, ap}
-use Rattle.device.specs.Served.{PausesAll}
-use Rattle.hold_filter.specs.Shown.{FilterView}
-use Rattle.hold_filter.specs.inside.TableView.{TableView, books_of}
-use Rattle.hold_filter.specs.inside.View.{view_of}
-use Rattle.hold_filter.specs.inside.Invariant.{IsInHand}
+use Rattle.hold_filter.proofs.Common.{subst, sym, ◌∙◌, ap, PausesAll, FilterView, TableView, books_of, view_of, IsInHand}
 use Rattle.hold_filter.proofs.Turning.{pauses, hand_paused}
 use Rattle.hold_filter.proofs.layer.FilterHold.pause.Goals as goal
 

@@ -1,11 +1,4 @@
-use Rattle.std.proofs.Common.{ap, subst, sym, ◌∙◌}
-use Rattle.std.specs.Prelude.{All}
-use Rattle.machine.specs.Settled.{WaitsIfCancelled}
-use Rattle.hold_filter.specs.Shown.{FilterView}
-use Rattle.hold_filter.specs.inside.TableView.{TableView, books_of}
-use Rattle.hold_filter.specs.inside.View.{view_of}
-use Rattle.hold_filter.specs.inside.Invariant.{FilterKept}
-use Rattle.hold_filter.specs.inside.Releases.{Releases}
+use Rattle.hold_filter.proofs.Common.{ap, subst, sym, ◌∙◌, All, WaitsIfCancelled, FilterView, TableView, books_of, view_of, FilterKept, Releases}
 use Rattle.hold_filter.proofs.Turning.{kept_resumed, resumes}
 use Rattle.hold_filter.proofs.layer.FilterHold.resume.Goals as goal
 

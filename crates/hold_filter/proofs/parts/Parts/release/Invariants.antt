@@ -1,8 +1,4 @@
-use Rattle.std.proofs.Common.{length}
-use Rattle.hold_filter.specs.inside.TableView.{books_of}
-use Rattle.hold_filter.specs.inside.View.{view_of}
-use Rattle.hold_filter.specs.inside.Invariant.{FilterKept}
-use Rattle.hold_filter.specs.inside.Releases.{Releases, Spares}
+use Rattle.hold_filter.proofs.Common.{length, books_of, view_of, FilterKept, Releases, Spares}
 use Rattle.hold_filter.proofs.parts.Parts.release.Given as goal
 
 abbrev pub invariant-loop : goal.invariant-loop

@@ -1,7 +1,4 @@
-use Rattle.std.proofs.Common.{ap, ◌∙◌}
-use Rattle.irp.specs.declared.Irp.{Irp}
-use Rattle.irp.specs.Packet.{with_cancel_routine}
-use Rattle.hold_filter.specs.inside.TableView.{books_of}
+use Rattle.hold_filter.proofs.Common.{ap, ◌∙◌, Irp, with_cancel_routine, books_of}
 use Rattle.hold_filter.proofs.Releasing.{none_may, releases_none, releases_same, none_left, kept_none, step_may}
 use Rattle.hold_filter.proofs.Releasing.{step_window, step_does}
 use Rattle.hold_filter.proofs.Staying.{spares_same, spares_none}

@@ -1,7 +1,4 @@
-use Rattle.std.proofs.Common.{◌<◌, subst, sym}
-use Rattle.arrayvec.specs.ArrayVec.{array_vec_len}
-use Rattle.irp.specs.declared.Irp.{Irp}
-use Rattle.hold_filter.specs.inside.Packets.{PassesDown}
+use Rattle.hold_filter.proofs.Common.{◌<◌, subst, sym, array_vec_len, Irp, PassesDown}
 use Rattle.hold_filter.proofs.Sending.{some_location, few_locations, number_below, locations_below}
 use Rattle.hold_filter.proofs.Sending.{timely_below}
 use Rattle.hold_filter.proofs.Sending.{own_below, carries_below}

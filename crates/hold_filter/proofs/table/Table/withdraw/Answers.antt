@@ -1,6 +1,4 @@
-use Rattle.std.proofs.Common.{refl, true, ap, ◌∙◌}
-use Rattle.irp.specs.declared.Irp.{Irp}
-use Rattle.hold_filter.specs.inside.TableView.{books_of}
+use Rattle.hold_filter.proofs.Common.{refl, true, ap, ◌∙◌, Irp, books_of}
 use Rattle.hold_filter.proofs.Queued.{withdrawn_none, may_end, pushed_marked, withdrawn}
 use Rattle.hold_filter.proofs.table.Table.withdraw.Goals as goal
 

@@ -1,10 +1,5 @@
-use Rattle.std.proofs.Common.{[], ◌∷◌, subst}
-use Rattle.std.specs.Prelude.{MatchBool}
-use Rattle.device.specs.View.{DeviceView}
-use Rattle.device.specs.Served.{ActsOrFaults, ActsNot}
+use Rattle.io_manager.proofs.Common.{[], ◌∷◌, subst, MatchBool, DeviceView, ActsOrFaults, ActsNot, IsRight, ActReplies, view_of, ManagerKept}
 use Rattle.io_manager.specs.declared.Reply.TheVariants.{Ok as OkReply}
-use Rattle.io_manager.specs.Right.{IsRight, ActReplies}
-use Rattle.io_manager.specs.inside.Sound.{view_of, ManagerKept}
 use Rattle.io_manager.proofs.Vacant.{vacant_still, vacant_told}
 use Rattle.io_manager.proofs.Righting.{IsSound-moves}
 use Rattle.io_manager.proofs.AdapterSteps.{act_kept, act_ignored}

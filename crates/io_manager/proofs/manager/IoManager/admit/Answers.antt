@@ -1,15 +1,8 @@
 use Rattle.std.proofs.Common.{◌≡◌, ◌≢◌, ◌<◌, ◌≤◌, ℕ, arith, None, Some, ap, sym, ◌∙◌, subst}
-use Rattle.slab.specs.Slab.{slab_len}
-use Rattle.srb.specs.declared.Kind.TheVariants.{Write}
+use Rattle.io_manager.proofs.Common.{slab_len, Write, IsBounded, room_at, whole_for, SetsRoom, ReservesNear, Limits, ManagerView, call_on, IsRight, CallReplies}
 use Rattle.machine.specs.declared.Request.{Request}
-use Rattle.device.specs.View.{IsBounded, room_at, whole_for}
-use Rattle.device.specs.Served.{SetsRoom, ReservesNear}
-use Rattle.io_manager.specs.declared.Limits.{Limits}
 use Rattle.io_manager.specs.declared.Reply.TheVariants.{Request as Requested}
-use Rattle.io_manager.specs.Shown.{ManagerView}
-use Rattle.io_manager.specs.Calls.{call_on}
 use Rattle.io_manager.specs.inside.Admitting.{request_of, HasLabelBytes, IsSent, IsAdmissible}
-use Rattle.io_manager.specs.Right.{IsRight, CallReplies}
 use Rattle.io_manager.specs.inside.Sound.{IsSound, ManagerKept, view_of}
 use Rattle.io_manager.proofs.Vacant.{vacant_still, sent_vacant}
 use Rattle.io_manager.proofs.Fitting.{is_bounded, free_place}

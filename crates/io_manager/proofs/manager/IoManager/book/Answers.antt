@@ -1,5 +1,4 @@
-use Rattle.std.proofs.Common.{sym, subst}
-use Rattle.io_manager.specs.Opening.{HasNoRooms}
+use Rattle.io_manager.proofs.Common.{sym, subst, HasNoRooms}
 use Rattle.io_manager.proofs.Booking.{kept_booked}
 use Rattle.io_manager.proofs.manager.IoManager.book.Goals as goal
 

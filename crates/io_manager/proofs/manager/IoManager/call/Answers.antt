@@ -1,11 +1,5 @@
 use Rattle.std.proofs.Common.{◌≡◌, true, false, Some, sym, ◌∙◌, ap, subst}
-use Rattle.machine.specs.declared.ClientRequest.{ClientRequest}
-use Rattle.machine.specs.Calling.{refusal}
-use Rattle.io_manager.specs.Shown.{ManagerView}
-use Rattle.io_manager.specs.Calls.{are_used_up, partition_of, call_on, without_bytes}
-use Rattle.io_manager.specs.inside.Admitting.{status_at_once}
-use Rattle.io_manager.specs.Right.{IsRight, CallReplies}
-use Rattle.io_manager.specs.inside.Sound.{view_of, ManagerKept}
+use Rattle.io_manager.proofs.Common.{ClientRequest, refusal, ManagerView, are_used_up, partition_of, call_on, without_bytes, status_at_once, IsRight, CallReplies, view_of, ManagerKept}
 use Rattle.io_manager.proofs.AnsweredAtOnce.{used_up_shown, at_once_kept}
 use Rattle.io_manager.proofs.WouldOpen.{asked_is}
 use Rattle.io_manager.proofs.manager.IoManager.call.Goals as goal

@@ -1,7 +1,4 @@
-use Rattle.std.proofs.Common.{subst, sym}
-use Rattle.io_manager.specs.declared.Reply.{Reply}
-use Rattle.io_manager.specs.Shown.{ManagerView}
-use Rattle.io_manager.specs.Right.{IsHandleOpen, IsRight, CancelReplies}
+use Rattle.io_manager.proofs.Common.{subst, sym, Reply, ManagerView, IsHandleOpen, IsRight, CancelReplies}
 use Rattle.io_manager.proofs.Cancelled.{none_of, some_of, cancel_invalid}
 use Rattle.io_manager.proofs.manager.IoManager.cancel_io_ex.Goals as goal
 

@@ -1,11 +1,5 @@
-use Rattle.std.proofs.Common.{None, subst, sym, ◌∙◌}
-use Rattle.std.specs.Prelude.{MatchBool}
-use Rattle.io_manager.specs.declared.Limits.{Limits}
-use Rattle.io_manager.specs.declared.Reply.{Reply}
+use Rattle.io_manager.proofs.Common.{None, subst, sym, ◌∙◌, MatchBool, Limits, Reply, HasSome, HasNoneOf, ManagerView, IsHandleOpen, IsRight, CancelReplies}
 use Rattle.io_manager.specs.declared.Reply.TheVariants.{Ok as OkReply}
-use Rattle.io_manager.specs.inside.Cancelling.{HasSome, HasNoneOf}
-use Rattle.io_manager.specs.Shown.{ManagerView}
-use Rattle.io_manager.specs.Right.{IsHandleOpen, IsRight, CancelReplies}
 use Rattle.io_manager.specs.inside.Sound.{IsSound, view_of, ManagerKept}
 use Rattle.io_manager.proofs.Vacant.{vacant_through}
 use Rattle.io_manager.proofs.Cancelled.{cancel_all_kept, cancel_none_found}

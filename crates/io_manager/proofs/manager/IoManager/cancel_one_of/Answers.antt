@@ -1,11 +1,6 @@
 use Rattle.std.proofs.Common.{Some, subst, sym, ◌∙◌}
-use Rattle.std.specs.Prelude.{MatchBool}
-use Rattle.io_manager.specs.declared.Limits.{Limits}
-use Rattle.io_manager.specs.declared.Reply.{Reply}
+use Rattle.io_manager.proofs.Common.{MatchBool, Limits, Reply, IsOpenAt, IsNotOpenAt, ManagerView, IsHandleOpen, IsRight, CancelReplies}
 use Rattle.io_manager.specs.declared.Reply.TheVariants.{Ok as OkReply}
-use Rattle.io_manager.specs.inside.Cancelling.{IsOpenAt, IsNotOpenAt}
-use Rattle.io_manager.specs.Shown.{ManagerView}
-use Rattle.io_manager.specs.Right.{IsHandleOpen, IsRight, CancelReplies}
 use Rattle.io_manager.specs.inside.Sound.{IsSound, view_of, ManagerKept}
 use Rattle.io_manager.proofs.Vacant.{vacant_through, same_unless_marked}
 use Rattle.io_manager.proofs.Cancelled.{cancel_one_kept, cancel_one_not_found}

@@ -1,11 +1,5 @@
-use Rattle.std.proofs.Common.{◌≡◌, true, subst, sym, ◌∙◌}
-use Rattle.std.specs.Prelude.{is_some}
-use Rattle.io_manager.specs.declared.Limits.{Limits}
-use Rattle.io_manager.specs.declared.Reply.{Reply}
+use Rattle.io_manager.proofs.Common.{◌≡◌, true, subst, sym, ◌∙◌, is_some, Limits, Reply, Tables, partition_of, IsRight, CloseReplies}
 use Rattle.io_manager.specs.declared.Reply.TheVariants.{Ok as OkReply}
-use Rattle.io_manager.specs.declared.tables.Tables.{Tables}
-use Rattle.io_manager.specs.Calls.{partition_of}
-use Rattle.io_manager.specs.Right.{IsRight, CloseReplies}
 use Rattle.io_manager.specs.inside.Sound.{IsSound, view_of, ManagerKept}
 use Rattle.io_manager.proofs.Vacant.{vacant_through}
 use Rattle.io_manager.proofs.Chained.{open_in}

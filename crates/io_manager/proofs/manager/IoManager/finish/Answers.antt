@@ -1,11 +1,5 @@
-use Rattle.std.proofs.Common.{◌∷◌, subst}
-use Rattle.std.specs.Prelude.{MatchBool}
-use Rattle.srb.specs.declared.DeviceLabel.TheVariants.{Return}
-use Rattle.device.specs.View.{DeviceView}
-use Rattle.device.specs.Served.{Finishes, FinishesNot}
+use Rattle.io_manager.proofs.Common.{◌∷◌, subst, MatchBool, Return, DeviceView, Finishes, FinishesNot, IsRight, FinishReplies, view_of, ManagerKept}
 use Rattle.io_manager.specs.declared.Reply.TheVariants.{Ok as OkReply}
-use Rattle.io_manager.specs.Right.{IsRight, FinishReplies}
-use Rattle.io_manager.specs.inside.Sound.{view_of, ManagerKept}
 use Rattle.io_manager.proofs.Vacant.{vacant_through}
 use Rattle.io_manager.proofs.Righting.{IsSound-moves}
 use Rattle.io_manager.proofs.AdapterSteps.{finish_kept, finish_ignored}

@@ -1,7 +1,5 @@
 use Rattle.std.proofs.Common.{refl, subst, option_copied}
-use Rattle.io_manager.specs.Shown.{ManagerView}
-use Rattle.io_manager.specs.Right.{IsNextAnswer}
-use Rattle.io_manager.specs.inside.Sound.{view_of}
+use Rattle.io_manager.proofs.Common.{ManagerView, IsNextAnswer, view_of}
 use Rattle.io_manager.proofs.TakenOut.{seen_first}
 use Rattle.io_manager.proofs.manager.IoManager.first_answer.Goals as goal
 

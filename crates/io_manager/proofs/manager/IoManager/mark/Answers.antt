@@ -1,7 +1,5 @@
-use Rattle.std.proofs.Common.{subst, ◌∙◌}
-use Rattle.io_manager.specs.declared.Limits.{Limits}
+use Rattle.io_manager.proofs.Common.{subst, ◌∙◌, Limits, IsRight, MarkReplies}
 use Rattle.io_manager.specs.declared.Reply.TheVariants.{Ok as OkReply}
-use Rattle.io_manager.specs.Right.{IsRight, MarkReplies}
 use Rattle.io_manager.specs.inside.Sound.{IsSound, view_of, ManagerKept}
 use Rattle.io_manager.proofs.Vacant.{vacant_through, same_unless_marked}
 use Rattle.io_manager.proofs.Cancelled.{mark_kept, mark_ignored}

@@ -1,11 +1,6 @@
 use Rattle.std.proofs.Common.{◌≡◌, ◌∙◌, Some, sym, subst}
-use Rattle.pnp.specs.Table.{event_of, next}
-use Rattle.io_manager.specs.declared.tables.Tables.{Tables}
-use Rattle.io_manager.specs.declared.Reply.{Reply}
+use Rattle.io_manager.proofs.Common.{event_of, next, Tables, Reply, IsRight, RequestReplies, label_of, view_of, ManagerKept}
 use Rattle.io_manager.specs.declared.Reply.TheVariants.{Ok as OkReply}
-use Rattle.io_manager.specs.Right.{IsRight}
-use Rattle.io_manager.specs.inside.Removal.{RequestReplies, label_of}
-use Rattle.io_manager.specs.inside.Sound.{view_of, ManagerKept}
 use Rattle.io_manager.proofs.Vacant.{vacant_through}
 use Rattle.io_manager.proofs.Removing.{MovedTo, invalid_of, valid_of, invalid_right, may_do, unmoved_right, moved_sound, moved_kept, does_rooms}
 use Rattle.io_manager.proofs.manager.IoManager.move_by.Goals as goal

@@ -1,7 +1,4 @@
-use Rattle.std.proofs.Common.{ℕ, subst}
-use Rattle.io_manager.specs.inside.Admitting.{OpensHandle}
-use Rattle.io_manager.specs.Right.{IsRight, OpenReplies}
-use Rattle.io_manager.specs.inside.Sound.{view_of, ManagerKept}
+use Rattle.io_manager.proofs.Common.{ℕ, subst, OpensHandle, IsRight, OpenReplies, view_of, ManagerKept}
 use Rattle.io_manager.proofs.Handing.{opened_kept}
 use Rattle.io_manager.proofs.manager.IoManager.open.Goals as goal
 

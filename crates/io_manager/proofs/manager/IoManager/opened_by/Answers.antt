@@ -1,11 +1,4 @@
-use Rattle.std.proofs.Common.{◌≡◌, ◌<◌, ◌+◌, ◌/◌, ◌^◌, ℕ, sym, subst, arith}
-use Rattle.machine.specs.Rules.{home}
-use Rattle.device.specs.View.{DeviceView}
-use Rattle.sector.specs.declared.Extent.{Extent}
-use Rattle.io_manager.specs.Shown.{ManagerView}
-use Rattle.io_manager.specs.Calls.{opened_as}
-use Rattle.io_manager.specs.inside.Admitting.{asked_for, IsAdmissible}
-use Rattle.io_manager.specs.inside.Sound.{view_of}
+use Rattle.io_manager.proofs.Common.{◌≡◌, ◌<◌, ◌+◌, ◌/◌, ◌^◌, ℕ, sym, subst, arith, home, DeviceView, Extent, ManagerView, opened_as, asked_for, IsAdmissible, view_of}
 use Rattle.io_manager.proofs.WouldOpen.{first_in_range, told_is}
 use Rattle.io_manager.proofs.manager.IoManager.opened_by.Goals as goal
 

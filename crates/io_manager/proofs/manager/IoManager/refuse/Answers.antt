@@ -1,15 +1,6 @@
 use Rattle.std.proofs.Common.{◌≡◌, true, false, ℕ, List, Some, sym, refl, ◌∙◌, ap, subst, length, replicate}
-use Rattle.std.proofs.lemmas.List.{length-replicate}
-use Rattle.machine.specs.declared.ClientRequest.{ClientRequest}
-use Rattle.machine.specs.Calling.{refusal}
-use Rattle.io_manager.specs.declared.Refusal.TheVariants.{DeviceBusy}
-use Rattle.io_manager.specs.declared.Reply.TheVariants.{Refused}
+use Rattle.io_manager.proofs.Common.{length-replicate, ClientRequest, refusal, DeviceBusy, Refused, ManagerView, are_used_up, partition_of, call_on, without_bytes, status_of_refusal, IsRight, CallReplies, Refuses, AnswersAtOnce, reply_at_once, status_at_once, view_of, ManagerKept}
 use Rattle.io_manager.specs.declared.admission.AtOnce.TheVariants.{Refused as RefusedFor}
-use Rattle.io_manager.specs.Shown.{ManagerView}
-use Rattle.io_manager.specs.Calls.{are_used_up, partition_of, call_on, without_bytes, status_of_refusal}
-use Rattle.io_manager.specs.Right.{IsRight, CallReplies, Refuses}
-use Rattle.io_manager.specs.inside.Admitting.{AnswersAtOnce, reply_at_once, status_at_once}
-use Rattle.io_manager.specs.inside.Sound.{view_of, ManagerKept}
 use Rattle.io_manager.proofs.AnsweredAtOnce.{used_up_shown, at_once_kept}
 use Rattle.io_manager.proofs.WouldOpen.{asked_is}
 use Rattle.io_manager.proofs.manager.IoManager.refuse.Goals as goal

@@ -1,5 +1,4 @@
-use Rattle.io_manager.specs.Right.{IsRightReset}
-use Rattle.io_manager.specs.inside.Sound.{view_of, ManagerKept}
+use Rattle.io_manager.proofs.Common.{IsRightReset, view_of, ManagerKept}
 use Rattle.io_manager.proofs.Vacant.{vacant_still, vacant_told}
 use Rattle.io_manager.proofs.AdapterSteps.{reset_kept, reset_sound}
 use Rattle.io_manager.proofs.manager.IoManager.reset.Goals as goal

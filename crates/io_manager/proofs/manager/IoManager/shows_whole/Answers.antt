@@ -1,9 +1,4 @@
-use Rattle.std.proofs.Common.{subst}
-use Rattle.machine.specs.Settled.{Settled, IsFinished}
-use Rattle.adapter.specs.View.{IsInOrder}
-use Rattle.device.specs.View.{DeviceView, IsOrderly}
-use Rattle.io_manager.specs.Shown.{ManagerView}
-use Rattle.io_manager.specs.Right.{FitsTogether}
+use Rattle.io_manager.proofs.Common.{subst, Settled, IsFinished, IsInOrder, DeviceView, IsOrderly, ManagerView, FitsTogether}
 use Rattle.io_manager.proofs.Stepping.{FitsTogether-view, Settled-view, IsFinished-view}
 use Rattle.io_manager.proofs.manager.IoManager.shows_whole.Goals as goal
 

@@ -1,6 +1,5 @@
-use Rattle.std.proofs.Common.{rules, arith, ◌≡◌, ◌<◌, ◌≤◌, ◌+◌}
+use Rattle.io_manager.proofs.Common.{rules, arith, ◌≡◌, ◌<◌, ◌≤◌, ◌+◌, deque_len}
 use Rattle.std.specs.Prelude.{remove}
-use Rattle.std.specs.VecDeque.{deque_len}
 use Rattle.io_manager.specs.inside.Handover.{IsAt}
 use Rattle.io_manager.proofs.TakenOut.{with_fewer, of_some}
 use Rattle.io_manager.proofs.manager.IoManager.take_answer_of.Goals as goal

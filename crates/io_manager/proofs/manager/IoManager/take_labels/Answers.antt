@@ -1,6 +1,4 @@
-use Rattle.std.proofs.Common.{map, sym, ap, ◌∙◌}
-use Rattle.machine.specs.Bare.{in_memory}
-use Rattle.io_manager.specs.Shown.{ManagerView}
+use Rattle.io_manager.proofs.Common.{map, sym, ap, ◌∙◌, in_memory, ManagerView}
 use Rattle.io_manager.proofs.InMemory.{whole_labels}
 use Rattle.io_manager.proofs.manager.IoManager.take_labels.Goals as goal
 

@@ -1,11 +1,6 @@
 -- Each that is cancelled is one fewer that can be.
 use Rattle.std.proofs.Common.{◌≡◌, ◌≤◌, ◌<◌, ◌+◌, ◌∙◌, ℕ, true, sym, subst, arith, length}
-use Rattle.std.specs.Prelude.{count_by, is_some}
-use Rattle.io_manager.specs.declared.Handle.{Handle}
-use Rattle.io_manager.specs.declared.cancelling.PacketBelow.{PacketBelow}
-use Rattle.io_manager.specs.declared.tables.Tables.{Tables}
-use Rattle.io_manager.specs.Calls.{partition_of}
-use Rattle.io_manager.specs.inside.Cancelling.{MarksAt}
+use Rattle.io_manager.proofs.Common.{count_by, is_some, Handle, PacketBelow, Tables, partition_of, MarksAt}
 use Rattle.io_manager.proofs.Marking.{is_unmarked, one_fewer, cancels_more}
 use Rattle.io_manager.proofs.parts.Parts.cancel_all_of.Goals as goal
 

@@ -1,7 +1,5 @@
 use Rattle.std.proofs.Common.{◌≡◌, ◌≤◌, ◌+◌, true, length}
-use Rattle.std.specs.Prelude.{count_by, is_some}
-use Rattle.io_manager.specs.Calls.{partition_of}
-use Rattle.io_manager.specs.inside.Cancelling.{CancelsAll}
+use Rattle.io_manager.proofs.Common.{count_by, is_some, partition_of, CancelsAll}
 use Rattle.io_manager.specs.inside.Sound.{IsSound}
 use Rattle.io_manager.proofs.Marking.{is_unmarked}
 use Rattle.io_manager.proofs.parts.Parts.cancel_all_of.Given as goal

@@ -1,8 +1,5 @@
 -- The packet is where the entry says, so the device cancels it.
-use Rattle.std.proofs.Common.{sym, subst}
-use Rattle.machine.specs.Holding.{Cancels}
-use Rattle.device.specs.Served.{IsBeside, CancelsAt}
-use Rattle.io_manager.specs.declared.cancelling.PacketBelow.{PacketBelow}
+use Rattle.io_manager.proofs.Common.{sym, subst, Cancels, IsBeside, CancelsAt, PacketBelow}
 use Rattle.io_manager.proofs.Marking.{cancelled_below, marked_sound}
 use Rattle.io_manager.proofs.parts.Parts.cancel_slot.Goals as goal
 

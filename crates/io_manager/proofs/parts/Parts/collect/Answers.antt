@@ -1,8 +1,5 @@
 -- What was gathered, with the labels told.
-use Rattle.std.proofs.Common.{◌∙◌, refl, ap, subst, map, ◌++◌}
-use Rattle.device.specs.View.{DeviceView}
-use Rattle.io_manager.specs.Right.{as_answer}
-use Rattle.io_manager.specs.inside.Sound.{EndsIf}
+use Rattle.io_manager.proofs.Common.{◌∙◌, refl, ap, subst, map, ◌++◌, DeviceView, as_answer, EndsIf}
 use Rattle.io_manager.proofs.Gathering.{collects, removal_of, told_sound}
 use Rattle.io_manager.proofs.parts.Parts.collect.Goals as goal
 

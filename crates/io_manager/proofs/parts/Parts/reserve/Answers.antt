@@ -1,6 +1,5 @@
 -- What is refused leaves the device below as it was.
-use Rattle.std.proofs.Common.{refl}
-use Rattle.device.proofs.Reserving.{near_same}
+use Rattle.io_manager.proofs.Common.{refl, near_same}
 use Rattle.io_manager.proofs.Vacant.{on_err, none_asked}
 use Rattle.io_manager.proofs.parts.Parts.reserve.Goals as goal
 

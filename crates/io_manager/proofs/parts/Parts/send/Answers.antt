@@ -1,10 +1,6 @@
 use Rattle.std.proofs.Common.{◌≡◌, ◌<◌, refl, ◌-◌, arith, take, List, Bool, false, length, ap, sym, ◌∙◌, subst}
-use Rattle.slab.specs.Slab.{slab_len}
+use Rattle.io_manager.proofs.Common.{slab_len, StackLocation, Payload, Carries, AsksInLocation, transfer_length, packet_of, payload_bytes, request_at, Submits}
 use Rattle.machine.specs.declared.Request.{Request}
-use Rattle.irp.specs.declared.StackLocation.{StackLocation}
-use Rattle.irp.specs.declared.Payload.{Payload}
-use Rattle.device.specs.View.{Carries, AsksInLocation, transfer_length, packet_of, payload_bytes, request_at}
-use Rattle.device.specs.Served.{Submits}
 use Rattle.io_manager.specs.inside.Admitting.{request_of, SendsDown}
 use Rattle.io_manager.proofs.Fitting.{transfer_is, free_place}
 use Rattle.io_manager.proofs.Vacant.{asked_at, ready_at}

@@ -1,7 +1,5 @@
 -- Each request that is taken is one more that was gathered.
-use Rattle.std.proofs.Common.{◌∙◌, refl, sym, subst}
-use Rattle.device.specs.View.{IsOrderly}
-use Rattle.io_manager.specs.inside.Sound.{IsSoundWith}
+use Rattle.io_manager.proofs.Common.{◌∙◌, refl, sym, subst, IsOrderly, IsSoundWith}
 use Rattle.io_manager.proofs.Gathering.{gathers_none, gathers_more, few_open}
 use Rattle.io_manager.proofs.parts.Parts.take_all_ended.Goals as goal
 

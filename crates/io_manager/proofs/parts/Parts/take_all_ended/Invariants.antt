@@ -1,7 +1,5 @@
 use Rattle.std.proofs.Common.{◌≡◌, ◌≤◌, ◌+◌, length}
-use Rattle.slab.specs.Slab.{slab_len}
-use Rattle.io_manager.specs.inside.Completion.{Gathers}
-use Rattle.io_manager.specs.inside.Sound.{IsSoundWith}
+use Rattle.io_manager.proofs.Common.{slab_len, Gathers, IsSoundWith}
 use Rattle.io_manager.proofs.parts.Parts.take_all_ended.Given as goal
 
 abbrev pub invariant-ended : goal.invariant-ended

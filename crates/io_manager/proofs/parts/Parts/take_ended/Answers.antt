@@ -1,9 +1,6 @@
 -- The packet is of an open request, whose slot and places are there.
 use Rattle.std.proofs.Common.{◌<◌, ◌≤◌, ◌^◌, refl, sym, subst, arith, length}
-use Rattle.device.specs.View.{DeviceView}
-use Rattle.device.specs.Served.{HandsUp}
-use Rattle.io_manager.specs.inside.Completion.{AreFilled, TakesEnded}
-use Rattle.io_manager.specs.inside.Sound.{IsSoundWith}
+use Rattle.io_manager.proofs.Common.{DeviceView, HandsUp, AreFilled, TakesEnded, IsSoundWith}
 use Rattle.io_manager.proofs.Vacant.{handed_reserved, given_back}
 use Rattle.io_manager.proofs.Closing.{no_routine, handed, is_at, is_given, are_filled, answered_place}
 use Rattle.io_manager.proofs.Gathering.{takes_ended, sound_after, few_after}

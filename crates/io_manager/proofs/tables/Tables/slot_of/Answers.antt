@@ -1,7 +1,6 @@
 -- A walk through the numbers of one remainder.
-use Rattle.std.proofs.Common.{ℕ, sym, ◌∙◌, ap, subst}
+use Rattle.io_manager.proofs.Common.{ℕ, sym, ◌∙◌, ap, subst, LeadsTo, chain_end}
 use Rattle.std.specs.Prelude.{slice_index, option_copied}
-use Rattle.io_manager.specs.inside.Chains.{LeadsTo, chain_end}
 use Rattle.io_manager.proofs.Numbered.{Seeks, seeks_first, seeks_next, distance_less, none_found, none_beyond, slot_small}
 use Rattle.io_manager.proofs.tables.Tables.slot_of.Goals as goal
 

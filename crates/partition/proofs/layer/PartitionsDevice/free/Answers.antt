@@ -1,5 +1,4 @@
-use Rattle.std.proofs.Common.{◌≡◌, Some, sym, subst}
-use Rattle.device.specs.View.{DeviceView, room_at}
+use Rattle.partition.proofs.Common.{◌≡◌, Some, sym, subst, DeviceView, room_at}
 use Rattle.partition.proofs.Hand.{under, frees_shown}
 use Rattle.partition.proofs.layer.PartitionsDevice.free.Goals as goal
 

@@ -1,7 +1,4 @@
-use Rattle.std.proofs.Common.{rules, ◌≡◌, Err, ap, refl, sym, subst}
-use Rattle.sector.specs.declared.Extent.{Extent}
-use Rattle.device.specs.View.{DeviceView, IsBounded}
-use Rattle.device.proofs.Reserving.{near_after}
+use Rattle.partition.proofs.Common.{rules, ◌≡◌, Err, ap, refl, sym, subst, Extent, DeviceView, IsBounded, near_after}
 use Rattle.partition.proofs.Hand.{none_reserved, given_back, spot_reserved_as, near_up}
 use Rattle.partition.proofs.Submitting.{bounded_down}
 use Rattle.partition.proofs.layer.PartitionsDevice.reserve.Goals as goal

@@ -1,10 +1,4 @@
-use Rattle.std.proofs.Common.{◌≡◌, ◌∙◌, Some, sym, subst}
-use Rattle.irp.specs.declared.Irp.{Irp}
-use Rattle.machine.specs.declared.Request.{Request}
-use Rattle.device.specs.View.{DeviceView, AsksInLocation, Carries, packet_of, request_at, room_at, whole_for}
-use Rattle.device.specs.Served.{Submits}
-use Rattle.partition.specs.OnDisk.{rules_over}
-use Rattle.partition.specs.Shown.{shown_of}
+use Rattle.partition.proofs.Common.{◌≡◌, ◌∙◌, Some, sym, subst, Irp, Request, DeviceView, AsksInLocation, Carries, packet_of, request_at, room_at, whole_for, Submits, rules_over, shown_of}
 use Rattle.partition.proofs.Hand.{IsUnder, under, same_wanted, ready_under}
 use Rattle.partition.proofs.Submitting.{IsPassedOn, IsHandedDown, begins_within, handed_down, asks_in_location, carries_all, submits_over}
 use Rattle.partition.proofs.layer.PartitionsDevice.submit.Goals as goal

@@ -1,7 +1,4 @@
-use Rattle.std.proofs.Common.{sym, subst}
-use Rattle.std.specs.Prelude.{All}
-use Rattle.machine.specs.Settled.{WaitsIfCancelled}
-use Rattle.device.specs.View.{DeviceView}
+use Rattle.partition.proofs.Common.{sym, subst, All, WaitsIfCancelled, DeviceView}
 use Rattle.partition.proofs.Taken.{taken_below}
 use Rattle.partition.proofs.Hand.{resumes_shown}
 use Rattle.partition.proofs.layer.PartitionsHold.resume.Goals as goal

@@ -1,5 +1,4 @@
-use Rattle.std.proofs.Common.{◌==◌, ◌∙◌, ap}
-use Rattle.std.specs.List.{position}
+use Rattle.script.proofs.Common.{◌==◌, ◌∙◌, ap, position}
 use Rattle.script.proofs.Cuts.{cut_before, cut_behind, not_cut}
 use Rattle.script.proofs.orders.cuts.cut.Goals as goal
 

@@ -1,5 +1,4 @@
-use Rattle.std.proofs.Common.{◌∷◌, ◌∙◌, ap, sym}
-use Rattle.std.specs.Str.Lines.{lines, strip_carriage_return}
+use Rattle.script.proofs.Common.{◌∷◌, ◌∙◌, ap, sym, lines, strip_carriage_return}
 use Rattle.script.proofs.Cuts.{first_of_more, only_line}
 use Rattle.script.proofs.orders.cuts.first_line.Goals as goal
 

@@ -1,7 +1,5 @@
-use Rattle.std.proofs.Common.{arith, length, subst, sym, ◌∙◌}
+use Rattle.script.proofs.Common.{arith, length, subst, sym, ◌∙◌, AreWorth, Finds}
 use borrow.Author.Tests.{eqb-true}
-use Rattle.script.specs.inside.Cuts.{AreWorth}
-use Rattle.script.specs.Script.{Finds}
 use Rattle.script.proofs.Digits.{number_of}
 use Rattle.script.proofs.Parted.{some_from_test}
 use Rattle.script.proofs.orders.words.number.Goals as goal

@@ -1,5 +1,4 @@
-use Rattle.std.proofs.Common.{take}
-use Rattle.script.specs.inside.Cuts.{AreWorth}
+use Rattle.script.proofs.Common.{take, AreWorth}
 use Rattle.script.proofs.orders.words.worth.Given as goal
 
 -- the digits so far are worth the number

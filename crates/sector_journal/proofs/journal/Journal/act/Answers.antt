@@ -1,6 +1,4 @@
-use Rattle.std.proofs.Common.{[], ◌∷◌, ◌++◌, refl, sym, ap, ◌∙◌}
-use Rattle.sector_journal.specs.Journal.{of_arming}
-use Rattle.disk.specs.Medium.{MediumView}
+use Rattle.sector_journal.proofs.Common.{[], ◌∷◌, ◌++◌, refl, sym, ap, ◌∙◌, of_arming, MediumView}
 use Rattle.sector_journal.proofs.Booked.{still_booked}
 use Rattle.sector_journal.proofs.Kept.{entered_kept, refused_kept}
 use Rattle.sector_journal.proofs.journal.Journal.act.Goals as goal

@@ -1,8 +1,5 @@
 use Rattle.std.proofs.Common.{rules, ◌≡◌, ◌≢◌, ℕ, ◌<◌, ◌+◌, ◌-◌, ◌^◌, length, vec_capacity, true, refl, sym, ◌∙◌}
-use Rattle.std.specs.List.{list_any}
-use Rattle.sector_journal.specs.Reserving.{covers}
-use Rattle.sector_journal.specs.Slots.{IsFree, armed_count}
-use Rattle.sector_journal.specs.Stocking.{pieces_at}
+use Rattle.sector_journal.proofs.Common.{list_any, covers, IsFree, armed_count, pieces_at}
 use Rattle.sector_journal.proofs.Booked.{still_booked}
 use Rattle.sector_journal.proofs.Covered.{AlwaysNames, can_enter, may_arm, arms, one_longer}
 use Rattle.sector_journal.proofs.Kept.{armed_kept}

@@ -1,5 +1,4 @@
-use Rattle.std.proofs.Common.{sym, ap, ◌∙◌}
-use Rattle.std.specs.Option.{option_copied}
+use Rattle.sector_journal.proofs.Common.{sym, ap, ◌∙◌, option_copied}
 use Rattle.sector_journal.proofs.journal.Journal.arming_receipt.Goals as goal
 
 pub claim-requires : goal.claim-requires

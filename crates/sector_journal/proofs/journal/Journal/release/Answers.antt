@@ -1,7 +1,4 @@
-use Rattle.std.proofs.Common.{rules, ◌≡◌, ℕ, ◌<◌, ◌-◌, None, length, sym, ap, ◌∙◌}
-use Rattle.std.specs.List.{position}
-use Rattle.sector_journal.specs.Reserving.{is_of, of_length, pieces_with}
-use Rattle.sector_journal.specs.Slots.{armed_with}
+use Rattle.sector_journal.proofs.Common.{rules, ◌≡◌, ℕ, ◌<◌, ◌-◌, None, length, sym, ap, ◌∙◌, position, is_of, of_length, pieces_with, armed_with}
 use Rattle.sector_journal.proofs.Booked.{AreBooked, less_booked, releases, releases_none, withdrawn, withdrawn_twice}
 use Rattle.sector_journal.proofs.Kept.{released_kept, held_at}
 use Rattle.sector_journal.proofs.Reserved.{released}

@@ -1,9 +1,4 @@
-use Rattle.std.proofs.Common.{rules, ◌≡◌, ℕ, ◌+◌, ◌∷◌, ◌++◌, [], refl, sym, ap, ◌∙◌, le_refl}
-use Rattle.std.specs.List.{sum_by}
-use Rattle.sector_journal.specs.Reserving.{of_length, pieces_of, pieces_with}
-use Rattle.disk.specs.Medium.{MediumView}
-use Rattle.sector_journal.specs.Stocking.{promised_at}
-use Rattle.sector_journal.specs.Journal.{IsHeld}
+use Rattle.sector_journal.proofs.Common.{rules, ◌≡◌, ℕ, ◌+◌, ◌∷◌, ◌++◌, [], refl, sym, ap, ◌∙◌, le_refl, sum_by, of_length, pieces_of, pieces_with, MediumView, promised_at, IsHeld}
 use Rattle.sector_journal.proofs.Booked.{more_booked, still_booked}
 use Rattle.sector_journal.proofs.Kept.{roomier_kept, admitted_kept}
 use Rattle.sector_journal.proofs.Reserved.{reserves_none, near_seen, none_near, on_err, gains, admitted}

@@ -1,5 +1,4 @@
-use Rattle.std.proofs.Common.{ap}
-use Rattle.sector_journal.specs.Stocking.{ShelfView}
+use Rattle.sector_journal.proofs.Common.{ap, ShelfView}
 use Rattle.sector_journal.proofs.Shelves.{booked, made_less_in, others_kept_in, still_there_in, trimmed_in}
 use Rattle.sector_journal.proofs.stock.Stock.count_off.Goals as goal
 

@@ -1,5 +1,4 @@
-use Rattle.std.proofs.Common.{sym, ap, ◌∙◌}
-use Rattle.sector_journal.specs.Stocking.{ShelfView}
+use Rattle.sector_journal.proofs.Common.{sym, ap, ◌∙◌, ShelfView}
 use Rattle.sector_journal.proofs.Shelves.{booked, stocked, made_less_in}
 use Rattle.sector_journal.proofs.stock.Stock.forget.Goals as goal
 

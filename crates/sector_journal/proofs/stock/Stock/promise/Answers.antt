@@ -1,6 +1,4 @@
-use Rattle.std.proofs.Common.{◌+◌, ap, ◌∙◌}
-use Rattle.sector_journal.specs.Reserving.{of_length}
-use Rattle.sector_journal.specs.Stocking.{ShelfView}
+use Rattle.sector_journal.proofs.Common.{◌+◌, ap, ◌∙◌, of_length, ShelfView}
 use Rattle.sector_journal.proofs.Shelves.{booked, stocked, made_more_in, on_made}
 use Rattle.sector_journal.proofs.stock.Stock.promise.Goals as goal
 

@@ -1,5 +1,4 @@
-use Rattle.std.proofs.Common.{sym, ap, ◌∙◌}
-use Rattle.sector_journal.specs.Stocking.{ShelfView}
+use Rattle.sector_journal.proofs.Common.{sym, ap, ◌∙◌, ShelfView}
 use Rattle.sector_journal.proofs.Shelves.{booked, stocked, is_there_in, put_more_in, kept_count_in, came_back_in}
 use Rattle.sector_journal.proofs.stock.Stock.put.Goals as goal
 

@@ -1,5 +1,4 @@
-use Rattle.std.proofs.Common.{rules, ◌+◌, List, ℕ, None, subst, ◌∙◌}
-use Rattle.serving.specs.Filed.{Writes}
+use Rattle.serving.proofs.Common.{rules, ◌+◌, List, ℕ, None, subst, ◌∙◌, Writes}
 use Rattle.serving.proofs.Filing.{cleared_more}
 use Rattle.serving.proofs.filed.Filed.clear.Goals as goal
 

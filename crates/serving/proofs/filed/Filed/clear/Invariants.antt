@@ -1,5 +1,4 @@
-use Rattle.std.proofs.Common.{◌≡◌, ◌≤◌, ◌-◌}
-use Rattle.serving.specs.Filed.{HasCleared}
+use Rattle.serving.proofs.Common.{◌≡◌, ◌≤◌, ◌-◌, HasCleared}
 use Rattle.serving.proofs.filed.Filed.clear.Given as goal
 
 -- this many zeros were written

@@ -1,6 +1,4 @@
-use Rattle.std.proofs.Common.{arith, subst}
-use Rattle.nbd.specs.declared.requests.Command.{Command}
-use Rattle.nbd.specs.Requests.{IsWithin}
+use Rattle.serving.proofs.Common.{arith, subst, Command, IsWithin}
 use Rattle.serving.proofs.Filing.{clears_within}
 use Rattle.serving.proofs.filed.FiledBacking.carry_out.Goals as goal
 

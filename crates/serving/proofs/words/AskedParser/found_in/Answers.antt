@@ -1,9 +1,5 @@
-use Rattle.std.proofs.Common.{◌≡◌, ◌∙◌, Option, codes, subst, sym}
-use Rattle.std.specs.Prelude.{MatchOption}
-use Rattle.clap.specs.Words.{Text, found_of}
-use Rattle.clap.proofs.WalkLemmas.{first_value-rows}
+use Rattle.serving.proofs.Common.{◌≡◌, ◌∙◌, Option, codes, subst, sym, MatchOption, Text, found_of, first_value-rows, SpellsPartition}
 use Rattle.serving.proofs.Flags.{flag_is}
-use Rattle.serving.specs.CommandLine.{SpellsPartition}
 use Rattle.serving.proofs.words.AskedParser.found_in.Goals as goal
 
 pub returns-clause-some : goal.returns-clause-some

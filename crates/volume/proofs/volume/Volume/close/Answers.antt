@@ -1,7 +1,4 @@
-use Rattle.std.proofs.Common.{◌≡◌, ◌+◌, refl, sym, subst, ap, ◌∙◌}
-use Rattle.io_manager.specs.Shown.{ManagerView}
-use Rattle.volume.specs.Ready.{IsReady}
-use Rattle.volume.specs.Shown.{VolumeView, content_of, handle_count}
+use Rattle.volume.proofs.Common.{◌≡◌, ◌+◌, refl, sym, subst, ap, ◌∙◌, ManagerView, IsReady, VolumeView, content_of, handle_count}
 use Rattle.volume.proofs.Closing.{IsSilent, one_closed, ready_still, same_content, silent_close}
 use Rattle.volume.proofs.Untraced.{read_stepped, untraced}
 use Rattle.volume.proofs.volume.Volume.close.Goals as goal

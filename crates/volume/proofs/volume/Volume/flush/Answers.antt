@@ -1,12 +1,5 @@
-use Rattle.std.proofs.Common.{◌≡◌, ◌≢◌, ◌<◌, [], false, refl, subst}
-use Rattle.std.specs.Prelude.{is_none}
-use Rattle.srb.specs.declared.Kind.TheVariants.{Write, Flush}
-use Rattle.machine.specs.declared.ClientRequest.{ClientRequest}
-use Rattle.io_manager.specs.Calls.{call_on}
-use Rattle.ntstatus.specs.declared.NtStatus.TheVariants.{Success}
-use Rattle.volume.specs.Shown.{VolumeView, volume_over}
+use Rattle.volume.proofs.Common.{◌≡◌, ◌≢◌, ◌<◌, [], false, refl, subst, is_none, Write, Flush, ClientRequest, call_on, Success, VolumeView, volume_over, Ends, Turns}
 use Rattle.volume.specs.Calls.{IsAnswered, IsRefusal, IsSameDisk, flush_of}
-use Rattle.volume.specs.Working.{Ends, Turns}
 use Rattle.volume.proofs.Methods.{has_partition, kept_after, kept_content, refused_flush, same_disk, sent_failed, sent_flush, told_as}
 use Rattle.volume.proofs.volume.Volume.flush.Goals as goal
 

@@ -1,11 +1,5 @@
-use Rattle.std.proofs.Common.{◌≡◌, ◌≢◌, false, refl, subst, length}
-use Rattle.std.specs.Prelude.{IfErr, MatchResult, is_none}
-use Rattle.srb.specs.declared.Kind.TheVariants.{Read, Write}
-use Rattle.machine.specs.declared.ClientRequest.{ClientRequest}
-use Rattle.io_manager.specs.Calls.{call_on}
-use Rattle.volume.specs.Shown.{VolumeView, volume_over}
+use Rattle.volume.proofs.Common.{◌≡◌, ◌≢◌, false, refl, subst, length, IfErr, MatchResult, is_none, Read, Write, ClientRequest, call_on, VolumeView, volume_over, Ends, Turns}
 use Rattle.volume.specs.Calls.{AreInBounds, IsFault, IsRefusal, IsAnswered, IsSameDisk, IsToldAsAnswered, Reads, WasSent, read_of}
-use Rattle.volume.specs.Working.{Ends, Turns}
 use Rattle.volume.proofs.Methods.{has_partition, in_bounds, kept_after, kept_content, reads, refused, same_disk, sent_failed, told_as}
 use Rattle.volume.proofs.volume.Volume.read.Goals.{in-Success, in_default}
 use Rattle.volume.proofs.volume.Volume.read.Goals as goal

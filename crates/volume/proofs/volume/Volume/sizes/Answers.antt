@@ -1,5 +1,4 @@
-use Rattle.std.proofs.Common.{◌≡◌, ◌*◌, subst, length}
-use Rattle.volume.specs.Shown.{VolumeView}
+use Rattle.volume.proofs.Common.{◌≡◌, ◌*◌, subst, length, VolumeView}
 use Rattle.volume.proofs.Methods.{counted, few_sectors, usual_sectors}
 use Rattle.volume.proofs.volume.Volume.sizes.Goals as goal
 

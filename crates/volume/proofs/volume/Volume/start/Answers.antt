@@ -1,6 +1,5 @@
-use Rattle.std.proofs.Common.{◌≡◌, ℕ, ◌+◌, ◌∙◌, ap, subst, sym}
+use Rattle.volume.proofs.Common.{◌≡◌, ℕ, ◌+◌, ◌∙◌, ap, subst, sym, IsReadBy, asked_by_probe}
 use Rattle.probe.specs.Exchange.{IsSameDisk}
-use Rattle.probe.specs.Probing.{IsReadBy, asked_by_probe}
 use Rattle.volume.proofs.Starting.{content_at_start, none_at_start, ready_at_start, refused_of}
 use Rattle.volume.proofs.volume.Volume.start.Goals as goal
 

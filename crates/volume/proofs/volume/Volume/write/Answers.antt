@@ -1,12 +1,5 @@
-use Rattle.std.proofs.Common.{◌≡◌, ◌<◌, false, refl, subst, length}
-use Rattle.std.specs.Prelude.{is_none}
-use Rattle.srb.specs.declared.Kind.TheVariants.{Write}
-use Rattle.machine.specs.declared.ClientRequest.{ClientRequest}
-use Rattle.io_manager.specs.Calls.{call_on}
-use Rattle.ntstatus.specs.declared.NtStatus.TheVariants.{Success}
-use Rattle.volume.specs.Shown.{VolumeView, volume_over}
+use Rattle.volume.proofs.Common.{◌≡◌, ◌<◌, false, refl, subst, length, is_none, Write, ClientRequest, call_on, Success, VolumeView, volume_over, Ends, Turns}
 use Rattle.volume.specs.Calls.{AreInBounds, IsRefusal, IsAnswered, IsSameDisk, Writes, WritesSome, write_of}
-use Rattle.volume.specs.Working.{Ends, Turns}
 use Rattle.volume.proofs.Methods.{has_partition, in_bounds, kept_after, refused, same_disk, sent_failed, told_as, writes, writes_part}
 use Rattle.volume.proofs.volume.Volume.write.Goals as goal
 

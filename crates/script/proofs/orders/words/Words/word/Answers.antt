@@ -1,6 +1,5 @@
-use Rattle.std.proofs.Common.{◌≡◌, ◌∷◌, [], ap, drop, length, slice_get, sym, ◌∙◌}
+use Rattle.script.proofs.Common.{◌≡◌, ◌∷◌, [], ap, drop, length, slice_get, sym, ◌∙◌, words_of}
 use borrow.Author.Tests.{eqb-true}
-use Rattle.script.specs.Script.{words_of}
 use Rattle.script.proofs.Parted.{last_word, next_word, no_word, some_from_test}
 use Rattle.script.proofs.orders.words.Words.word.Goals as goal
 
