@@ -41,6 +41,10 @@ lint() {
     check_layout || status=1
     look_over shellcheck shellcheck -s bash -S warning -e SC1090,SC1091,SC2034,SC2125,SC2154 \
         "${shell[@]}" "$top"/launcher/*.sh || status=1
-    look_over ruff ruff check -q "${python[@]}" || status=1
+    if command -v ruff > /dev/null; then
+        ruff check -q "${python[@]}" || status=1
+    else
+        look_over pyflakes3 pyflakes3 "${python[@]}" || status=1
+    fi
     [ "$status" = 0 ] && echo "nothing to change"
 }

@@ -17,7 +17,6 @@ Prints how many sectors could have had several values, and what was found; its s
 import argparse
 import os
 import random
-import subprocess
 import sys
 import time
 
