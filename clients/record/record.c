@@ -6,11 +6,11 @@
  * server did what it did between the two lines, and the client saw no less time between them. The lines are those of
  * docs/TRACES.md:
  *
- *     call R read|write OFF LEN [through] in 0 [BYTES]    call R flush in 0    call R trim OFF LEN [through] in 0
+ *     call R read|write OFF LEN [through] in 0 [BYTES]    call R flush in 0
  *     answer R STATUS INFO [BYTES]
  *
- * BYTES are runs, a5*512,00*2, or x and hexadecimal digits where that is shorter. A request to write zeros is a
- * write of them. A broken connection is no answer, and a remark says so. A file that is there is gone on with, and
+ * BYTES are runs, a5*512,00*2. A request to write zeros is a write of them, and none to trim is offered, since what
+ * that leaves nobody can judge. A broken connection is no answer, and a remark says so. A file that is there is gone on with, and
  * its numbers too. A request that can't be written down is not made, or has no answer in the file and fails. Whole
  * lines are written, as soon as they have more than BYTES (262,144) together, and when a client leaves: with a limit
  * of 0 the file has them all, also where this is killed. */
@@ -28,8 +28,9 @@
 #define NBDKIT_API_VERSION 2
 #include <nbdkit-filter.h>
 
-/* What a line has beside its bytes. */
+/* What a line has beside its bytes, and for a byte at most: ",a5*1", or less for each of more. */
 #define HEAD 128
+#define RUN 5
 
 static char *path;
 static int file = -1;
@@ -126,33 +127,25 @@ run_of(const uint8_t *bytes, size_t count)
 	return run;
 }
 
-/* Whether runs are no longer than digits. */
-static bool
-are_runs_short(const uint8_t *bytes, size_t count)
+static void
+add_decimal(size_t number)
 {
-	size_t text = 0;
-	for (size_t at = 0, run; at < count && text <= 2 * count; at += run) {
-		run = run_of(bytes + at, count - at);
-		text += snprintf(NULL, 0, "%zu", run) + 4;
-	}
-	return text <= 2 * count;
+	if (number > 9)
+		add_decimal(number / 10);
+	lines[length++] = '0' + number % 10;
 }
 
 /* The bytes of a line, behind a space. There is room. */
 static void
 add_bytes(const uint8_t *bytes, size_t count)
 {
-	if (are_runs_short(bytes, count)) {
-		for (size_t at = 0, run; at < count; at += run) {
-			run = run_of(bytes + at, count - at);
-			length += sprintf(lines + length, "%c%02x*%zu", at == 0 ? ' ' : ',', bytes[at], run);
-		}
-		return;
-	}
-	length += sprintf(lines + length, " x");
-	for (size_t at = 0; at < count; at++, length += 2) {
-		lines[length] = "0123456789abcdef"[bytes[at] >> 4];
-		lines[length + 1] = "0123456789abcdef"[bytes[at] & 15];
+	for (size_t at = 0, run; at < count; at += run) {
+		run = run_of(bytes + at, count - at);
+		lines[length++] = at == 0 ? ' ' : ',';
+		lines[length++] = "0123456789abcdef"[bytes[at] >> 4];
+		lines[length++] = "0123456789abcdef"[bytes[at] & 15];
+		lines[length++] = '*';
+		add_decimal(run);
 	}
 }
 
@@ -161,7 +154,7 @@ static bool
 note(const uint8_t *bytes, size_t count, const char *format, ...)
 {
 	va_list arguments;
-	if (!make_room(HEAD + 2 * count))
+	if (!make_room(HEAD + RUN * count))
 		return false;
 	va_start(arguments, format);
 	length += vsnprintf(lines + length, HEAD, format, arguments);
@@ -194,7 +187,6 @@ status_of(int error)
 	case ENOSPC:
 		return "MEDIA_WRITE_PROTECTED";
 	case EINVAL:
-		return "INVALID_PARAMETER";
 	case EOPNOTSUPP:
 		return "INVALID_DEVICE_REQUEST";
 	default:
@@ -274,17 +266,6 @@ zero(nbdkit_next *next, void *handle, uint32_t count, uint64_t offset, uint32_t 
 }
 
 static int
-trim(nbdkit_next *next, void *handle, uint32_t count, uint64_t offset, uint32_t flags, int *error)
-{
-	(void) handle;
-	uint64_t number = called("trim", count, offset, flags, NULL, 0);
-	if (number == 0)
-		return not_made(error);
-	int result = next->trim(next, count, offset, flags, error);
-	return answered(number, result, error, count, NULL, 0);
-}
-
-static int
 flush_(nbdkit_next *next, void *handle, uint32_t flags, int *error)
 {
 	(void) handle;
@@ -295,9 +276,9 @@ flush_(nbdkit_next *next, void *handle, uint32_t flags, int *error)
 	return answered(number, result, error, 0, NULL, 0);
 }
 
-/* Where holes are is no matter of calls and answers. */
+/* Where holes are is no matter of calls and answers, and what a trim leaves is not known. */
 static int
-can_extents(nbdkit_next *next, void *handle)
+not_offered(nbdkit_next *next, void *handle)
 {
 	(void) next;
 	(void) handle;
@@ -334,11 +315,11 @@ static struct nbdkit_filter filter = {
 	.get_ready = get_ready,
 	.unload = unload,
 	.finalize = finalize,
-	.can_extents = can_extents,
+	.can_extents = not_offered,
+	.can_trim = not_offered,
 	.pread = pread_,
 	.pwrite = pwrite_,
 	.zero = zero,
-	.trim = trim,
 	.flush = flush_,
 };
 

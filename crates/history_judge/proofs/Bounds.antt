@@ -1,12 +1,16 @@
 -- Bounds of a request, by the sectors of its bytes.
 use Rattle.std.proofs.Common.{◌≡◌, ◌<◌, ◌≤◌, ℕ, ◌+◌, ◌*◌, ◌/◌, ◌%◌, ◌==◌, ◌&&◌, Bool, true, false, Option, Some, None, refl, sym, ◌∙◌, ap, subst, arith}
-use Rattle.std.specs.Prelude.{nat_le, if◌then◌else◌}
+use Rattle.std.specs.Prelude.{is_some, nat_le, if◌then◌else◌}
 use Rattle.std.proofs.lemmas.Bool.{and_from, and_parts, eqb-true, leb-true}
 use Rattle.std.proofs.lemmas.Bool.Decides.{nat_tests}
 use Rattle.std.proofs.lemmas.Nat.{div-add-mod'}
 use Rattle.std.proofs.Math.Nat.{mul-div_cancel, div-le_of_le-mul, mul-le-mul_right}
 use Rattle.sector.specs.declared.Extent.{Extent}
 use Rattle.sector.specs.Extents.{AreWholeSectors}
+
+pub is_there : (b : Bool) (x : Extent) → is_some (if b then Some x else None) ≡ b
+is_there true x = refl
+is_there false x = refl
 
 -- whole sectors of the partition, no more than the longest
 abbrev pub are_in : ℕ → ℕ → ℕ → ℕ → ℕ → Bool

@@ -1,15 +1,15 @@
 -- Verdicts of sectors.
-use Rattle.std.proofs.Common.{◌≡◌, ◌<◌, ◌⊎◌, inl, inr, ℕ, ◌+◌, List, [], ◌∷◌, refl, sym, ◌∙◌, subst, length, get_or, take}
-use Rattle.std.specs.Prelude.{All, Contains}
+use Rattle.std.proofs.Common.{◌≡◌, ◌<◌, ◌⊎◌, inl, inr, ℕ, ◌+◌, true, false, List, [], ◌∷◌, Option, Some, None, refl, sym, ◌∙◌, subst, length, get_or, take}
+use Rattle.std.specs.Prelude.{MatchOption, All, Contains}
 use Rattle.std.proofs.lemmas.List.{take_more}
 use Rattle.std.proofs.lemmas.List.Elements.{All-nil, All-append, All-contains, All-cons}
 use Rattle.std.proofs.lemmas.List.Sorted.{All-permutation, IsPermutation-sym}
 use Rattle.std.specs.List.Sorted.{IsPermutation}
 use Rattle.machine.specs.declared.Label.{Label}
 use Rattle.machine.specs.Rules.{Rules}
-use Rattle.machine_laws.specs.NumberLaws.{AreFrom, call_numbers}
 use Rattle.history_laws.specs.History.{IsExplained}
-use Rattle.history_laws.specs.Laws.{ExplainedAreNumbered}
+use Rattle.history_laws.specs.Fitting.{all_fit_at_first}
+use Rattle.history_laws.specs.Laws.{ExplainedFit}
 use Rattle.register.specs.declared.Sight.{Sight}
 use Rattle.register.specs.Schedules.{HasSchedule, PrefixesAreScheduled}
 use Rattle.register_judge.specs.declared.Verdict.{Verdict as RegisterVerdict}
@@ -20,13 +20,13 @@ use Rattle.history.specs.Refusing.{RefusedAreUnexplained}
 use Rattle.history_judge.specs.declared.service.Service.{Service}
 use Rattle.history_judge.specs.declared.service.Place.{Place}
 use Rattle.history_judge.specs.declared.judging.Verdict.{Verdict}
-use Rattle.history_judge.specs.declared.judging.Verdict.TheVariants.{Passed, Misnumbered, Refused, Undecided}
+use Rattle.history_judge.specs.declared.judging.Verdict.TheVariants.{Passed, Misfit, Refused, Undecided}
 use Rattle.history_judge.specs.Services.{rules_of}
 use Rattle.history_judge.specs.Values.{number_in}
-use Rattle.history_judge.specs.Verdicts.{Passes, IsUnexplained, IsRight}
+use Rattle.history_judge.specs.Verdicts.{Passes, IsUnexplained, IsUnfit, IsRight}
 use Rattle.history_judge.specs.inside.Touching.{HasTouched}
 use Rattle.history_judge.specs.inside.Judging.{IsRightOf, IsOneOf}
-use Rattle.history_judge.proofs.Alike.{shown_alike}
+use Rattle.history_judge.proofs.Alike.{shown_alike, fits_alike}
 
 pub refused : RefusedAreUnexplained → PrefixesAreScheduled → (service : Service) (start : List ℕ) (labels : List Label) (place : Place) (table : List (List ℕ)) (value : ℕ) (shown : List Sight)
     (verdict : RegisterVerdict) (count : ℕ) → value ≡ number_in table start → shown ≡ sights_of (number_in table) (rules_of service) place.partition place.sector [] labels
@@ -40,14 +40,32 @@ refused law prefixes service start labels place table value shown verdict count 
     refusal : IsRefusal value shown count
     refusal = subst (IsRightOfRegister value shown) told right
 
-pub misnumbered : ExplainedAreNumbered → (labels : List Label) → (AreFrom 1 (call_numbers labels) → ⊥) → (rules : Rules) (arrays : List (List (List ℕ))) → IsExplained rules arrays labels → ⊥
-misnumbered law labels none rules arrays explained = none (law rules arrays labels explained)
+-- labels that don't fit are explained by no run
+pub unfit : ExplainedFit → (service : Service) (labels : List Label) → all_fit_at_first (rules_of service) labels ≡ false → IsUnfit service labels
+unfit law service labels not_fit rules arrays of whole explained =
+    let fit : all_fit_at_first rules labels ≡ true = law rules arrays labels whole explained in
+    let same : all_fit_at_first rules labels ≡ all_fit_at_first (rules_of service) labels = fits_alike service rules of (None ∷ []) None labels in
+    cc (fit, same, not_fit)
+
+module _ {X : Type 0} (service : Service) (labels : List Label) (found : Option X) where
+  abbrev Tells : Option X → Type 0
+  Tells f = MatchOption f (all_fit_at_first (rules_of service) labels ≡ true) (λ _. all_fit_at_first (rules_of service) labels ≡ false)
+
+  pub fit_if : found ≡ None → Tells found → all_fit_at_first (rules_of service) labels ≡ true
+  fit_if is h = subst Tells is h
+
+  unfit_found : {x : X} → found ≡ Some x → Tells found → all_fit_at_first (rules_of service) labels ≡ false
+  unfit_found is h = subst Tells is h
+
+pub unfit_if : {X : Type 0} → ExplainedFit → (service : Service) (labels : List Label) (found : Option X) {x : X} → found ≡ Some x
+    → MatchOption found (all_fit_at_first (rules_of service) labels ≡ true) (λ _. all_fit_at_first (rules_of service) labels ≡ false) → IsUnfit service labels
+unfit_if law service labels found is h = unfit law service labels (unfit_found service labels found is h)
 
 -- what is right of no sector, or of these two lists, is so whatever they are, unless it passes
 other_right : (service : Service) (start : List ℕ) (labels : List Label) (old new : List Place) (verdict : Verdict) → (All (Passes service start labels) old → All (Passes service start labels) new)
     → IsRightOf service start labels old verdict → IsRightOf service start labels new verdict
 other_right service start labels old new Passed more h = more h
-other_right service start labels old new (Misnumbered label) more h = h
+other_right service start labels old new (Misfit label why) more h = h
 other_right service start labels old new (Refused place label) more h = h
 other_right service start labels old new (Undecided place) more h = h
 
@@ -70,16 +88,15 @@ right_more service start labels places index d found verdict both low h here one
         subst (All (Passes service start labels)) (sym (take_more places index d low))
         (All-append (Passes service start labels) (take index places) (get_or places index d ∷ []) (subst (IsRightOf service start labels (take index places)) (passes refl).0 h)
         (subst (IsRightOf service start labels (get_or places index d ∷ [])) (passes refl).1 here))
-    by_both (Misnumbered label) passes (inl e) = subst (IsRightOf service start labels (take index places)) (sym e) h
-    by_both (Misnumbered label) passes (inr e) = subst (IsRightOf service start labels (get_or places index d ∷ [])) (sym e) here
+    by_both (Misfit label why) passes (inl e) = subst (IsRightOf service start labels (take index places)) (sym e) h
+    by_both (Misfit label why) passes (inr e) = subst (IsRightOf service start labels (get_or places index d ∷ [])) (sym e) here
     by_both (Refused other label) passes (inl e) = subst (IsRightOf service start labels (take index places)) (sym e) h
     by_both (Refused other label) passes (inr e) = subst (IsRightOf service start labels (get_or places index d ∷ [])) (sym e) here
     by_both (Undecided other) passes one = tt
 
-pub right_all : (service : Service) (start : List ℕ) (labels : List Label) (places sorted : List Place) (verdict : Verdict) → HasTouched (rules_of service) labels places → IsPermutation places sorted
-    → IsRightOf service start labels sorted verdict → IsRight service start labels verdict
-right_all service start labels places sorted Passed touched moved h =
-    λ place t. All-contains (Passes service start labels) places place (All-permutation (Passes service start labels) sorted places (IsPermutation-sym places sorted moved) h) (touched _ t.called place t.moves)
-right_all service start labels places sorted (Misnumbered label) touched moved h = h
-right_all service start labels places sorted (Refused place label) touched moved h = h
-right_all service start labels places sorted (Undecided place) touched moved h = h
+pub right_all : (service : Service) (start : List ℕ) (labels : List Label) (places sorted : List Place) (verdict : Verdict) → all_fit_at_first (rules_of service) labels ≡ true → HasTouched (rules_of service) labels places
+    → IsPermutation places sorted → IsRightOf service start labels sorted verdict → IsRight service start labels verdict
+right_all service start labels places sorted Passed fit touched moved h = record { fit = fit; passes = λ place t. All-contains (Passes service start labels) places place (All-permutation (Passes service start labels) sorted places (IsPermutation-sym places sorted moved) h) (touched _ t.called place t.moves) }
+right_all service start labels places sorted (Misfit label why) fit touched moved h = h
+right_all service start labels places sorted (Refused place label) fit touched moved h = h
+right_all service start labels places sorted (Undecided place) fit touched moved h = h

@@ -7,12 +7,13 @@ use Rattle.machine.specs.Rules.{Rules}
 use Rattle.machine.specs.Sending.{array_at}
 use Rattle.machine_laws.specs.Reached.{AreWhole}
 use Rattle.history_laws.specs.History.{IsExplained}
+use Rattle.history_laws.specs.Fitting.{all_fit_at_first}
 use Rattle.register.specs.Schedules.{HasSchedule}
 use Rattle.history.specs.Sights.{has_sector, sights_of}
 use Rattle.history_judge.specs.declared.service.Service.{Service}
 use Rattle.history_judge.specs.declared.service.Place.{Place}
 use Rattle.history_judge.specs.declared.judging.Verdict.{Verdict}
-use Rattle.history_judge.specs.declared.judging.Verdict.TheVariants.{Passed, Misnumbered, Refused, Undecided}
+use Rattle.history_judge.specs.declared.judging.Verdict.TheVariants.{Passed, Misfit, Refused, Undecided}
 use Rattle.history_judge.specs.Services.{rules_of, AreOf}
 use Rattle.history_judge.specs.Values.{number_in, IsBelow}
 
@@ -35,9 +36,18 @@ abbrev pub IsUnexplained : Service → List ℕ → List Label → Place → Typ
 IsUnexplained service start history place = (rules : Rules) (arrays : List (List (List ℕ))) → AreOf service rules → AreWhole rules arrays
     → slice_get (array_at arrays place.partition) place.sector ≡ Some start → IsExplained rules arrays history → ⊥
 
--- each touched sector of what passes has a schedule; no run explains what is refused
+-- the labels fit behind each other, and each touched sector has a schedule
+pub record IsPassed (service : Service) (start : List ℕ) (history : List Label) : Type 0 where
+  pub fit : all_fit_at_first (rules_of service) history ≡ true
+  pub passes : (place : Place) → IsTouched (rules_of service) place history → Passes service start history place
+
+-- no run of a service of these sizes explains the history, whatever the sectors have
+abbrev pub IsUnfit : Service → List Label → Type 0
+IsUnfit service history = (rules : Rules) (arrays : List (List (List ℕ))) → AreOf service rules → AreWhole rules arrays → IsExplained rules arrays history → ⊥
+
+-- what passes fits, and has schedules; no run explains what is refused
 abbrev pub IsRight : Service → List ℕ → List Label → Verdict → Type 0
-IsRight service start history Passed = (place : Place) → IsTouched (rules_of service) place history → Passes service start history place
-IsRight service start history (Misnumbered label) = (rules : Rules) (arrays : List (List (List ℕ))) → IsExplained rules arrays history → ⊥
+IsRight service start history Passed = IsPassed service start history
+IsRight service start history (Misfit label why) = IsUnfit service history
 IsRight service start history (Refused place label) = IsUnexplained service start history place
 IsRight service start history (Undecided place) = Unit {0}

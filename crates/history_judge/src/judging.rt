@@ -1,18 +1,20 @@
 //! Verdicts of histories.
 
-ghost use Rattle.std.specs.Prelude.{◌<◌, ◌∷◌, [], Contains, IfOk, IfSome, length, slice_index_or, take};
+ghost use Rattle.std.specs.Prelude.{◌≡◌, ◌<◌, ◌∷◌, [], Contains, IfOk, length, slice_index_or, take, true};
 ghost use Rattle.std.specs.Bool.{OnTrue};
-ghost use Rattle.machine_laws.specs.NumberLaws.{AreFrom, call_numbers};
+ghost use Rattle.history_laws.specs.Fitting.{all_fit_at_first};
 ghost use Rattle.history_judge.specs.declared.service.Place.{Place};
+ghost use Rattle.history_judge.specs.Services.{rules_of};
 ghost use Rattle.history_judge.specs.Verdicts.{IsRight};
 ghost use Rattle.history_judge.specs.inside.Judging.{IsOneOf, IsRightOf};
 
+use crate::fitting::{Misfit, first_misfit};
 use crate::sectors::{Watched, sights_of, values_of};
 use crate::service::{Place, Service};
 use crate::touched::touched;
 use crate::values::{are_below, number_in};
 use history::refused_are_unexplained;
-use history_laws::explained_are_numbered;
+use history_laws::explained_fit;
 use machine::Label;
 use register::{Sight, prefixes_are_scheduled};
 use register_judge::judge as judge_register;
@@ -21,30 +23,14 @@ use std::alloc::{AllocError, Global};
 /// What the judge says of a history. Labels are counted from 0.
 #[derive(Debug, Clone, Copy, PartialEq, Eq)]
 pub enum Verdict {
-    /// Each sector that it touches has a schedule.
+    /// Calls carry their bytes, answers are to open calls and of their sizes, and each sector that it touches has a schedule.
     Passed,
-    /// This call doesn't have the next number: no run explains the history.
-    Misnumbered { label: usize },
+    /// This label can't come behind those before it, whatever the sectors hold: no run explains the history.
+    Misfit { label: usize, why: Misfit },
     /// The sector has no schedule, and had none behind this answer: no run explains the history.
     Refused { place: Place, label: usize },
     /// Too many of the sector's requests were open at once.
     Undecided { place: Place },
-}
-
-/// The first call that doesn't have the next number.
-fn misnumbered(labels: &[Label]) -> Option<usize>
-    ensures { IfSome result (λ _. ¬ (AreFrom 1 (call_numbers labels.now))) }
-{
-    let mut next: u64 = 1;
-    for (index, label) in labels.iter().enumerate() {
-        if let Label::Call { number, .. } = label {
-            if *number != next {
-                return Some(index);
-            }
-            next += 1;
-        }
-    }
-    None
 }
 
 /// The answer at which the last sight ends a request.
@@ -144,6 +130,22 @@ fn judge_all(
     Ok(found)
 }
 
+/// Judges a history whose labels fit.
+fn judge_sectors(
+    alloc: Global,
+    service: &Service,
+    start: &[u8],
+    labels: &[Label],
+) -> Result<Verdict, AllocError>
+    requires sized { 0 < service.now.sector_size }
+    requires fit { all_fit_at_first (rules_of service.now) labels.now ≡ true }
+    ensures right { IfOk result (IsRight service.now start.now labels.now) }
+{
+    let mut places = touched(alloc, service, labels)?;
+    places.sort()?;
+    judge_all(alloc, service, start, labels, places.as_slice())
+}
+
 /// Judges a history of a service whose sectors all had these bytes at the start. Labels of its device are passed over.
 ///
 /// The sectors have bytes, more than none. A refusal tells the earliest answer at which some sector has no schedule.
@@ -160,11 +162,9 @@ pub fn judge(
     requires { 0 < service.now.sector_size }
     ensures right { IfOk result (IsRight service.now start.now labels.now) }
 {
-    explained_are_numbered();
-    if let Some(label) = misnumbered(labels) {
-        return Ok(Verdict::Misnumbered { label });
+    explained_fit();
+    match first_misfit(alloc, service, labels)? {
+        Some((label, why)) => Ok(Verdict::Misfit { label, why }),
+        None => judge_sectors(alloc, service, start, labels),
     }
-    let mut places = touched(alloc, service, labels)?;
-    places.sort()?;
-    judge_all(alloc, service, start, labels, places.as_slice())
 }

@@ -4,14 +4,17 @@
 //! # Promises
 //!
 //! `judge` (`right`) refuses a history only if no run of the sector machine explains it, however the service cuts its
-//! requests and whatever it has open at once: the calls don't count 1, 2 and on; or a sector has no schedule, and then that
-//! is said of runs that begin with the given bytes in it. It passes a history only if each sector that it touches has a
-//! schedule (`Passes`), in which different bytes of the sector are different values (`numbers_tell`).
+//! requests and whatever it has open at once: a call has not the next number or not its bytes, a refused one isn't answered
+//! at once, an answer is to no open call, or by a status or with a length that no run gives; or a sector has no schedule,
+//! and then that is said of runs that begin with the given bytes in it. It passes a history only if none of that is so
+//! (`all_fit_at_first`), and each sector that it touches has a schedule (`Passes`), in which different bytes of the sector
+//! are different values (`numbers_tell`).
 //!
-//! It doesn't promise that a run explains what passes, nor that there is a verdict: a sector with more than 16 requests open
-//! at once, or with eight open writes of values of their own, is undecided. Whether answers fit their calls is not judged.
+//! It doesn't promise that a run explains what passes, nor that there is a verdict: a sector with more than 64 requests open
+//! at once, or with nine open writes of values of their own, is undecided.
 #![tactic(auto)]
 
+mod fitting;
 mod judging;
 mod sectors;
 mod service;
@@ -22,6 +25,7 @@ mod values;
 
 ghost use Rattle.history_judge.specs.Values.{NumbersTell};
 
+pub use fitting::Misfit;
 pub use judging::{Verdict, judge};
 pub use service::{Place, Service};
 

@@ -1,7 +1,7 @@
 //! What is known of a service from outside.
 
 ghost use Rattle.std.specs.Prelude.{◌≡◌, ◌+◌, ◌^◌, ◌<◌, IfSome};
-ghost use Rattle.machine.specs.Rules.{sectors_of};
+ghost use Rattle.machine.specs.Rules.{is_in_bounds, sectors_of};
 ghost use Rattle.history.specs.Sights.{is_partition, has_sector};
 ghost use Rattle.history_judge.specs.Services.{rules_of, moved, within};
 
@@ -66,6 +66,15 @@ impl Service {
             return None;
         }
         Some(extent)
+    }
+
+    /// Whether a transfer asks for whole sectors of its partition, no more than the longest may.
+    #[tactic(auto, using(crate::proofs::Bounds::is_there))]
+    pub(crate) fn is_in_bounds(&self, request: &ClientRequest) -> bool
+        requires { 0 < self.now.sector_size }
+        ensures { result ≡ is_in_bounds (rules_of self.now) request.now }
+    {
+        self.within(request).is_some()
     }
 
     /// The sectors of its partition that a request moves.

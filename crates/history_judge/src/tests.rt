@@ -1,6 +1,6 @@
 //! Histories that are legal, and histories that are not.
 
-use crate::{Place, Service, Verdict, judge};
+use crate::{Misfit, Place, Service, Verdict, judge};
 use machine::{ClientRequest, Kind, Label};
 use ntstatus::NtStatus;
 use sector::{Bytes, Extent};
@@ -23,6 +23,10 @@ enum Step {
         number: u64,
         bytes: &'static [u8],
     },
+    Written {
+        number: u64,
+        length: u64,
+    },
     Bad {
         number: u64,
     },
@@ -35,7 +39,7 @@ const SECOND: Place = Place {
 };
 
 /// What clients saw of four sectors of zeros, and the verdict.
-static CASES: [(&str, &[Step], Verdict); 9] = [
+static CASES: [(&str, &[Step], Verdict); 11] = [
     (
         "a write is read back",
         &[
@@ -44,9 +48,9 @@ static CASES: [(&str, &[Step], Verdict); 9] = [
                 sector: 0,
                 bytes: &[1, 2, 3, 4],
             },
-            Step::Good {
+            Step::Written {
                 number: 1,
-                bytes: &[],
+                length: 4,
             },
             Step::Read {
                 number: 2,
@@ -68,9 +72,9 @@ static CASES: [(&str, &[Step], Verdict); 9] = [
                 sector: 0,
                 bytes: &[1, 2, 3, 4],
             },
-            Step::Good {
+            Step::Written {
                 number: 1,
-                bytes: &[],
+                length: 4,
             },
             Step::Read {
                 number: 2,
@@ -220,16 +224,42 @@ static CASES: [(&str, &[Step], Verdict); 9] = [
         },
     ),
     (
-        "a write beyond the end touches nothing",
+        "a write beyond the end is refused, and has no bytes",
+        &[Step::Write {
+            number: 1,
+            sector: 3,
+            bytes: &[1, 2, 3, 4],
+        }],
+        Verdict::Misfit {
+            label: 0,
+            why: Misfit::Bytes,
+        },
+    ),
+    (
+        "a read of two sectors brings one",
         &[
-            Step::Write {
+            Step::Read {
                 number: 1,
-                sector: 3,
-                bytes: &[1, 2, 3, 4],
+                sector: 0,
+                count: 2,
             },
-            Step::Bad { number: 1 },
+            Step::Good {
+                number: 1,
+                bytes: &[0, 0],
+            },
         ],
-        Verdict::Passed,
+        Verdict::Misfit {
+            label: 1,
+            why: Misfit::Answer,
+        },
+    ),
+    (
+        "what was not called is answered",
+        &[Step::Bad { number: 1 }],
+        Verdict::Misfit {
+            label: 0,
+            why: Misfit::NotOpen,
+        },
     ),
     (
         "a number is left out",
@@ -245,7 +275,10 @@ static CASES: [(&str, &[Step], Verdict); 9] = [
                 count: 1,
             },
         ],
-        Verdict::Misnumbered { label: 1 },
+        Verdict::Misfit {
+            label: 1,
+            why: Misfit::Number,
+        },
     ),
 ];
 
@@ -295,6 +328,7 @@ fn label_of(alloc: Global, step: &Step) -> Result<Label, AllocError> {
             let bytes = Bytes::new(Vec::from_slice(alloc, bytes)?);
             answer(number, NtStatus::Success, length, bytes)
         }
+        Step::Written { number, length } => answer(number, NtStatus::Success, length, none),
         Step::Bad { number } => answer(number, NtStatus::IoDeviceError, 0, none),
     })
 }

@@ -73,7 +73,7 @@ some_is : {a b : List ℕ} → Some a ≡ Some b → a ≡ b
 some_is e = cc (e)
 
 -- a read's sectors are whole
-read_sized : (rules : Rules) (s : State) (q : ClientRequest) (places : Extent) (kind : Kind) (sectors : List (List ℕ)) (arrays' : List (List (List ℕ)))
+pub read_sized : (rules : Rules) (s : State) (q : ClientRequest) (places : Extent) (kind : Kind) (sectors : List (List ℕ)) (arrays' : List (List (List ℕ)))
     → Transfers rules s q places kind sectors arrays' → kind ≡ Read → All (IsSector rules.sector_size) sectors
 read_sized rules s q places Read sectors arrays' t e = t.1
 read_sized rules s q places Write sectors arrays' t e = t.1

@@ -45,7 +45,7 @@ refused_nowhere rules p i s q refused k at =
     success_last (is_none q.partition) s.removing (is_transfer q.kind && not (is_in_bounds rules q)) (is_transfer q.kind && (q.length == 0)) (is_full rules.open_requests (length s.requests)) refused in
     none_empty q.kind q.length rules.sector_size k (eqb-true q.length 0 (and_parts (is_transfer q.kind) _ empty).1) at.transfer at.inside
 
-bounds_of : (kind : Kind) (b : Bool) → is_transfer kind ≡ true → (is_transfer kind && not b) ≡ false → b ≡ true
+pub bounds_of : (kind : Kind) (b : Bool) → is_transfer kind ≡ true → (is_transfer kind && not b) ≡ false → b ≡ true
 bounds_of Write b e h = not-false b h
 bounds_of Read b e h = not-false b h
 bounds_of Flush b e h = absurd (cc (e))

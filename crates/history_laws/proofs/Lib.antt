@@ -5,3 +5,5 @@ pub mod Answering
 pub mod Acting
 pub mod Scheduling
 pub mod Widening
+pub mod Failing
+pub mod Fitting

@@ -1,4 +1,5 @@
 pub mod History
 pub mod Schedules
+pub mod Fitting
 pub mod Laws
 pub mod Widening

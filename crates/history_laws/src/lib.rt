@@ -13,8 +13,18 @@
 //! said.
 #![tactic(auto)]
 
-ghost use Rattle.history_laws.specs.Laws.{ExplainedAreNumbered, ExplainedAreScheduled};
+ghost use Rattle.history_laws.specs.Laws.{ExplainedAreNumbered, ExplainedAreScheduled, ExplainedFit};
 ghost use Rattle.history_laws.specs.Widening.{AnswersMoveDown, CallsMoveUp};
+
+use srb::Kind;
+
+/// What an open request asks for.
+#[derive(Debug, Clone, Copy, PartialEq, Eq)]
+pub struct Asked {
+    pub kind: Kind,
+    /// In bytes.
+    pub length: u64,
+}
 
 /// Each sector of an explained history has a schedule, from the bytes that it had at the start.
 pub fn explained_are_scheduled()
@@ -24,6 +34,11 @@ pub fn explained_are_scheduled()
 /// The calls of an explained history count 1, 2 and on.
 pub fn explained_are_numbered()
     ensures { ExplainedAreNumbered }
+{}
+
+/// Each label of an explained history may come behind those before it, whatever the sectors hold.
+pub fn explained_fit()
+    ensures { ExplainedFit }
 {}
 
 /// A schedule holds where a call is seen earlier or an answer later: so a recorder anywhere above the service accuses it of

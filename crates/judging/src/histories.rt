@@ -9,8 +9,8 @@ use crate::opened::{extents, zero_sector};
 use crate::reading::{is_ended, next_line, without_end};
 use crate::told::{Told, told_by};
 use compose::LONGEST_REQUEST;
-use history_judge::{Place, Service, judge};
-use machine::Label;
+use history_judge::{Misfit, Place, Service, judge};
+use machine::{ClientRequest, Kind, Label};
 use settings::Config;
 use startup::{Verdict, read_settings};
 use std::alloc::{AllocError, Global};
@@ -55,6 +55,48 @@ impl Recorded {
         }
     }
 
+    /// What the call of this number asks for.
+    fn request(&self, number: u64) -> Option<&ClientRequest> {
+        for label in self.labels.as_slice() {
+            if let Label::Call {
+                number: called,
+                request,
+            } = label
+            {
+                if *called == number {
+                    return Some(request);
+                }
+            }
+        }
+        None
+    }
+
+    /// What an answer gives of a sector, if it is of a read.
+    fn read_at(&self, label: usize, size: u32, place: Place) -> Option<&[u8]> {
+        let Some(Label::Answer { number, bytes, .. }) = self.labels.get(label) else {
+            return None;
+        };
+        let request = self.request(*number)?;
+        match request.kind {
+            Kind::Read => part_of(request, bytes.as_slice(), size, place.sector),
+            Kind::Write | Kind::Flush => None,
+        }
+    }
+
+    /// The last call before a label that writes these bytes to a sector.
+    fn writer_of(&self, label: usize, size: u32, place: Place, bytes: &[u8]) -> Option<usize> {
+        let mut found = None;
+        for (index, call) in self.labels.iter().enumerate() {
+            if index >= label {
+                return found;
+            }
+            if writes(call, size, place, bytes) {
+                found = Some(index);
+            }
+        }
+        found
+    }
+
     /// How many calls there are.
     fn requests(&self) -> usize {
         let calls = self.labels.iter();
@@ -62,6 +104,47 @@ impl Recorded {
             .filter(|label| matches!(label, Label::Call { .. }))
             .count()
     }
+}
+
+/// What bytes of a request are of a sector.
+fn part_of<'a>(
+    request: &ClientRequest,
+    bytes: &'a [u8],
+    size: u32,
+    sector: u64,
+) -> Option<&'a [u8]> {
+    let size = size as u64;
+    let from = sector.checked_mul(size)?.checked_sub(request.offset)?;
+    let to = from.checked_add(size)?;
+    bytes.get(from as usize..to as usize)
+}
+
+/// Whether a label is the call of a write of these bytes to a sector.
+fn writes(label: &Label, size: u32, place: Place, bytes: &[u8]) -> bool {
+    let Label::Call { request, .. } = label else {
+        return false;
+    };
+    let is_there = match request.partition {
+        Some(partition) => partition == place.partition,
+        None => false,
+    };
+    if !is_there {
+        return false;
+    }
+    match part_of(request, request.bytes.as_slice(), size, place.sector) {
+        Some(part) => part == bytes,
+        None => false,
+    }
+}
+
+/// Whether all bytes are zero, as at the start.
+fn are_zero(bytes: &[u8]) -> bool {
+    for byte in bytes {
+        if *byte != 0 {
+            return false;
+        }
+    }
+    true
 }
 
 /// Judges a history by the sizes and partitions of some settings, from sectors of zeros, and writes what it is: `legal` with
@@ -87,7 +170,7 @@ pub fn judge_history<C: Read + Drop, T: Read + Drop, O: Write>(
         return Err(Error::NoLabel);
     }
     let verdict = verdict_of(alloc, &config, recorded.labels.as_slice())?;
-    write_verdict(out, &recorded, verdict)?;
+    write_verdict(out, &recorded, config.sector_size, verdict)?;
     out.flush()?;
     Ok(match verdict {
         history_judge::Verdict::Passed => Verdict::Passed,
@@ -144,6 +227,7 @@ fn verdict_of(
 fn write_verdict<O: Write>(
     out: &mut O,
     recorded: &Recorded,
+    size: u32,
     verdict: history_judge::Verdict,
 ) -> io::Result<()> {
     match verdict {
@@ -151,12 +235,13 @@ fn write_verdict<O: Write>(
             let requests = recorded.requests();
             writeln!(out, "legal: {requests} requests")
         }
-        history_judge::Verdict::Misnumbered { label } => {
+        history_judge::Verdict::Misfit { label, why } => {
             let line = recorded.line_of(label);
-            writeln!(out, "line {line}: the call has not the next number")
+            let told = text_of(why);
+            writeln!(out, "line {line}: {told}")
         }
         history_judge::Verdict::Refused { place, label } => {
-            write_refused(out, recorded, place, label)
+            write_refused(out, recorded, size, place, label)
         }
         history_judge::Verdict::Undecided { place } => {
             let Place { partition, sector } = place;
@@ -168,18 +253,62 @@ fn write_verdict<O: Write>(
     }
 }
 
-/// Writes of which sector no order of requests explains an answer.
+/// Why a label can't come where it stands.
+fn text_of(why: Misfit) -> &'static str {
+    match why {
+        Misfit::Number => "the call has not the next number",
+        Misfit::Bytes =>
+            "the call has not the bytes that it asks to write, or is refused and has some",
+        Misfit::Owing => "the refused call before it is to be answered first",
+        Misfit::NotOpen => "no request of this number is open",
+        Misfit::Answer => "no run answers the request so",
+    }
+}
+
+/// Writes of which sector no order of requests explains an answer, what it read there, and who wrote that.
 fn write_refused<O: Write>(
     out: &mut O,
     recorded: &Recorded,
+    size: u32,
     place: Place,
     label: usize,
 ) -> io::Result<()> {
     let line = recorded.line_of(label);
     let request = recorded.request_of(label);
     let Place { partition, sector } = place;
-    writeln!(
+    write!(out, "line {line}: request {request} ")?;
+    let Some(bytes) = recorded.read_at(label, size, place) else {
+        return writeln!(
+            out,
+            "ended, and no order of the requests explains sector {sector} of partition {partition}"
+        );
+    };
+    write!(out, "read sector {sector} of partition {partition} as ")?;
+    write_source(
         out,
-        "line {line}: request {request} read in sector {sector} of partition {partition} what no order of its requests explains"
-    )
+        recorded,
+        recorded.writer_of(label, size, place, bytes),
+        bytes,
+    )?;
+    writeln!(out, ", and no order of the requests explains that")
+}
+
+/// Writes where bytes that were read are from.
+fn write_source<O: Write>(
+    out: &mut O,
+    recorded: &Recorded,
+    writer: Option<usize>,
+    bytes: &[u8],
+) -> io::Result<()> {
+    let Some(call) = writer else {
+        let text = if are_zero(bytes) {
+            "it was at the start"
+        } else {
+            "nobody had written it"
+        };
+        return write!(out, "{text}");
+    };
+    let request = recorded.request_of(call);
+    let line = recorded.line_of(call);
+    write!(out, "request {request} (line {line}) wrote it")
 }

@@ -17,7 +17,7 @@ use Rattle.register_judge.specs.inside.Registers.{operation_at}
 
 -- the operation in a slot
 pub record IsSlotFor (operations : List Operation) (slot number : ℕ) (writes : Bool) (value : ℕ) : Type 0 where
-  pub within : slot < 16
+  pub within : slot < 64
   pub is : operation_at operations slot ≡ record { is_open = true; number = number; writes = writes; value = value }
 
 abbrev pub IsAtMost : ℕ → Event → Type 0
@@ -29,9 +29,9 @@ IsAtMost last (Effect number value) = number ≤ last
 
 -- the slots have the open operations, each under a number of its own
 pub record AreTidy (operations : List Operation) (last : ℕ) : Type 0 where
-  pub long : length operations ≡ 16
-  pub given : (slot : ℕ) → slot < 16 → (operation_at operations slot).is_open ≡ true → (operation_at operations slot).number ≤ last
-  pub apart : (j k : ℕ) → j < 16 → k < 16 → (operation_at operations j).is_open ≡ true → (operation_at operations k).is_open ≡ true
+  pub long : length operations ≡ 64
+  pub given : (slot : ℕ) → slot < 64 → (operation_at operations slot).is_open ≡ true → (operation_at operations slot).number ≤ last
+  pub apart : (j k : ℕ) → j < 64 → k < 64 → (operation_at operations j).is_open ≡ true → (operation_at operations k).is_open ≡ true
       → (operation_at operations j).number ≡ (operation_at operations k).number → j ≡ k
 
 -- what was called and did not end is in a slot
@@ -43,9 +43,9 @@ pub record Knows (operations : List Operation) (last : ℕ) (past : List Event) 
 -- the state is that after these events
 pub record Matches (start : ℕ) (operations : List Operation) (past : List Event) (s : State) : Type 0 where
   pub value : s.value ≡ value_after start past
-  pub long : length s.waits ≡ 16
-  pub fresh : (slot : ℕ) → slot < 16 → (operation_at operations slot).is_open ≡ true → waits_at s slot ≡ true → All (IsNoEffect (operation_at operations slot).number) past
-  pub acted : (slot : ℕ) → slot < 16 → (operation_at operations slot).is_open ≡ true → waits_at s slot ≡ false → (value : ℕ) × Contains past (Effect (operation_at operations slot).number value)
+  pub long : length s.waits ≡ 64
+  pub fresh : (slot : ℕ) → slot < 64 → (operation_at operations slot).is_open ≡ true → waits_at s slot ≡ true → All (IsNoEffect (operation_at operations slot).number) past
+  pub acted : (slot : ℕ) → slot < 64 → (operation_at operations slot).is_open ≡ true → waits_at s slot ≡ false → (value : ℕ) × Contains past (Effect (operation_at operations slot).number value)
 
 pub record IsCovered (start : ℕ) (operations : List Operation) (last : ℕ) (states : List State) (past : List Event) : Type 0 where
   pub knows : Knows operations last past
@@ -91,7 +91,7 @@ acts_read o slot s number value is waits same = let e : (value == s.value) ≡ t
 
 module _ (start : ℕ) (operations : List Operation) (last : ℕ) (states : List State) (tidy : AreTidy operations last) (closed : IsClosed operations states) where
   -- a state of the set leads to one of the set
-  led : (s s' : State) (slot : ℕ) → slot < 16 → Contains states s → effect_of (operation_at operations slot) slot s ≡ Some s' → Contains states s'
+  led : (s s' : State) (slot : ℕ) → slot < 64 → Contains states s → effect_of (operation_at operations slot) slot s ≡ Some s' → Contains states s'
   led s s' slot within (k, low, is) e =
       let there : IfSome (effect_of (operation_at operations slot) slot (get_or states k s)) (Contains states) = closed k low slot s within in
       let there' : IfSome (effect_of (operation_at operations slot) slot s) (Contains states) = subst (λ x. IfSome (effect_of (operation_at operations slot) slot x) (Contains states)) is there in

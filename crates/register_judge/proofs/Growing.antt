@@ -86,7 +86,7 @@ effects_more operations state slot old new grows now before k low =
 
 -- of all slots
 pub effects_of_all : (operations : List Operation) (state : State) (at : ℕ) (old new : List State) → ((d : State) → get_or old at d ≡ state)
-    → ((k : ℕ) → k < 16 → IfSome (effect_of (get_or operations k no_operation) k state) (Contains new)) → EffectsAreIn operations old at new
+    → ((k : ℕ) → k < 64 → IfSome (effect_of (get_or operations k no_operation) k state) (Contains new)) → EffectsAreIn operations old at new
 effects_of_all operations state at old new is all slot d low = subst (λ x. IfSome (effect_of (get_or operations slot no_operation) slot x) (Contains new)) (sym (is d)) (all slot low)
 
 -- of one more state
@@ -141,7 +141,7 @@ only_pushed xs ys state e s there = elim (Contains-push_cases xs state s (subst 
 ]
 
 -- of one more slot
-pub only_more : (operations : List Operation) (state : State) (at slot : ℕ) (first old new : List State) (next : State) → slot < 16 → ((d : State) → get_or first at d ≡ state)
+pub only_more : (operations : List Operation) (state : State) (at slot : ℕ) (first old new : List State) (next : State) → slot < 64 → ((d : State) → get_or first at d ≡ state)
     → effect_of (get_or operations slot no_operation) slot state ≡ Some next → ((s : State) → Contains old s → IsEffect operations first at s) → ((s : State) → Contains new s → Contains old s ⊎ (s ≡ next))
     → (s : State) → Contains new s → IsEffect operations first at s
 only_more operations state at slot first old new next low is acts before only s there = elim (only s there) [

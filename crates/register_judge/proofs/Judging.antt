@@ -16,25 +16,25 @@ use Rattle.register_judge.proofs.Reaching.{IsReal, reals_more}
 
 -- BEGINNING
 
-none_open : (slot : ℕ) → slot < 16 → operation_at (replicate 16 no_operation) slot ≡ no_operation
-none_open slot low = get_or-replicate 16 slot no_operation no_operation low
+none_open : (slot : ℕ) → slot < 64 → operation_at (replicate 64 no_operation) slot ≡ no_operation
+none_open slot low = get_or-replicate 64 slot no_operation no_operation low
 
 -- the opening state, and the others of its list, lead nowhere
-none_leads : (states : List State) → IsClosed (replicate 16 no_operation) states
+none_leads : (states : List State) → IsClosed (replicate 64 no_operation) states
 none_leads states at within slot d low = rw (none_open slot low) tt
 
 module _ (start : ℕ) (register : Register) (b : Begins start register) where
   abbrev first : State
-  first = record { value = start; waits = replicate 16 false }
+  first = record { value = start; waits = replicate 64 false }
 
-  none : (slot : ℕ) → slot < 16 → (operation_at register.operations slot).is_open ≡ true → ⊥
+  none : (slot : ℕ) → slot < 64 → (operation_at register.operations slot).is_open ≡ true → ⊥
   none slot low is_open =
       let e : (operation_at register.operations slot).is_open ≡ false = ap (λ os. (operation_at os slot).is_open) b.operations ∙ ap (λ o. o.is_open) (none_open slot low) in
       absurd (cc (e, is_open))
 
   begins_tidy : AreTidy register.operations register.last
   begins_tidy = record {
-    long = ap length b.operations ∙ length-replicate 16 no_operation;
+    long = ap length b.operations ∙ length-replicate 64 no_operation;
     given = λ slot low is_open. absurd (none slot low is_open);
     apart = λ j k j_low k_low j_open k_open e. absurd (none j j_low j_open);
   }
@@ -45,7 +45,7 @@ module _ (start : ℕ) (register : Register) (b : Begins start register) where
   first_match : Matches start register.operations [] first
   first_match = record {
     value = refl;
-    long = length-replicate 16 false;
+    long = length-replicate 64 false;
     fresh = λ slot low is_open waits. absurd (none slot low is_open);
     acted = λ slot low is_open waits. absurd (none slot low is_open);
   }
@@ -79,7 +79,7 @@ pub record IsExact (start : ℕ) (register : Register) (sights : List Sight) : T
   pub some : register.states.items ≡ [] → ⊥
 
 module _ (start : ℕ) (register : Register) (b : Begins start register) where
-  first_real : IsReal start register.operations register.last [] (record { value = start; waits = replicate 16 false })
+  first_real : IsReal start register.operations register.last [] (record { value = start; waits = replicate 64 false })
   first_real = record {
     events = [];
     in_turn = tt;
@@ -98,7 +98,7 @@ module _ (start : ℕ) (register : Register) (b : Begins start register) where
       not_none : (s : State) (states : List State) → s ∷ states ≡ [] → ⊥
       not_none s states e = cc (e)
 
-      only : (s : State) → Contains (record { value = start; waits = replicate 16 false } ∷ []) s → IsReal start register.operations register.last [] s
+      only : (s : State) → Contains (record { value = start; waits = replicate 64 false } ∷ []) s → IsReal start register.operations register.last [] s
       only s (zero, low, is) = subst (IsReal start register.operations register.last []) is first_real
       only s (suc k, low, is) = absurd (omega arith)
 

@@ -24,8 +24,8 @@ IsCallOf o past = IsCallBy o.writes o.number o.value past
 
 -- what is in the slots was called, and has not ended
 pub record IsBacked (operations : List Operation) (last : ℕ) (past : List Event) : Type 0 where
-  pub called : (slot : ℕ) → slot < 16 → (operation_at operations slot).is_open ≡ true → IsCallOf (operation_at operations slot) past
-  pub awaits : (slot : ℕ) → slot < 16 → (operation_at operations slot).is_open ≡ true → All (IsNoEnd (operation_at operations slot).number) past
+  pub called : (slot : ℕ) → slot < 64 → (operation_at operations slot).is_open ≡ true → IsCallOf (operation_at operations slot) past
+  pub awaits : (slot : ℕ) → slot < 64 → (operation_at operations slot).is_open ≡ true → All (IsNoEnd (operation_at operations slot).number) past
   pub below : All (IsAtMost last) past
 
 -- the state is that after some schedule of these sights
@@ -53,7 +53,7 @@ no_end_above n last newer (Effect number value) h = tt
 -- AN EFFECT
 
 module _ (start : ℕ) (operations : List Operation) (last : ℕ) (sights : List Sight) (tidy : AreTidy operations last) where
-  acted : (s : State) (slot : ℕ) → slot < 16 → (operation_at operations slot).is_open ≡ true → waits_at s slot ≡ true → ((operation_at operations slot).writes || ((operation_at operations slot).value == s.value)) ≡ true
+  acted : (s : State) (slot : ℕ) → slot < 64 → (operation_at operations slot).is_open ≡ true → waits_at s slot ≡ true → ((operation_at operations slot).writes || ((operation_at operations slot).value == s.value)) ≡ true
       → IsReal start operations last sights s → IsReal start operations last sights (record s { value = (operation_at operations slot).value; waits = set s.waits slot false })
   acted s slot within is_open waits fits r = record {
     events = Effect (operation_at operations slot).number (operation_at operations slot).value ∷ r.events;
@@ -80,7 +80,7 @@ module _ (start : ℕ) (operations : List Operation) (last : ℕ) (sights : List
       called true c fits = inl c
       called false c fits = inr (c, eqb-true (operation_at operations slot).value s.value fits ∙ r.is_match.value)
 
-  real_effect : (s s' : State) (slot : ℕ) → slot < 16 → effect_of (operation_at operations slot) slot s ≡ Some s' → IsReal start operations last sights s → IsReal start operations last sights s'
+  real_effect : (s s' : State) (slot : ℕ) → slot < 64 → effect_of (operation_at operations slot) slot s ≡ Some s' → IsReal start operations last sights s → IsReal start operations last sights s'
   real_effect s s' slot within acts r = by_test (may_act (operation_at operations slot) slot s) refl acts
     where
       by_test : (b : Bool) → may_act (operation_at operations slot) slot s ≡ b
@@ -119,14 +119,14 @@ module _ (start : ℕ) (old : Register) (number : ℕ) (writes : Bool) (value : 
       same_as : (k : ℕ) → k ≢ h.slot → operation_at new.operations k ≡ operation_at old.operations k
       same_as k other = others start old number writes value new tidy h k other
 
-      called : (k : ℕ) → k < 16 → (operation_at new.operations k).is_open ≡ true → IsCallOf (operation_at new.operations k) (Seen sight ∷ r.events)
+      called : (k : ℕ) → k < 64 → (operation_at new.operations k).is_open ≡ true → IsCallOf (operation_at new.operations k) (Seen sight ∷ r.events)
       called k low k_open = elim (cases_eq k h.slot) [
         | inl same ↦ subst (λ o. IsCallOf o (Seen sight ∷ r.events)) (sym (ap (λ j. operation_at new.operations j) same ∙ its)) (own r.events)
         | inr other ↦ subst (λ o. IsCallOf o (Seen sight ∷ r.events)) (sym (same_as k other))
             (call_further (operation_at old.operations k) (Seen sight) r.events (r.backed.called k low (sym (ap (λ o. o.is_open) (same_as k other)) ∙ k_open)))
       ]
 
-      awaits : (k : ℕ) → k < 16 → (operation_at new.operations k).is_open ≡ true → All (IsNoEnd (operation_at new.operations k).number) (Seen sight ∷ r.events)
+      awaits : (k : ℕ) → k < 64 → (operation_at new.operations k).is_open ≡ true → All (IsNoEnd (operation_at new.operations k).number) (Seen sight ∷ r.events)
       awaits k low k_open = elim (cases_eq k h.slot) [
         | inl same ↦ subst (λ m. All (IsNoEnd m) (Seen sight ∷ r.events)) (sym (ap (λ j. (operation_at new.operations j).number) same ∙ ap (λ o. o.number) its))
             (All-cons (IsNoEnd number) (Seen sight) r.events (quiet number) (All-weaker (IsAtMost old.last) (IsNoEnd number) (no_end_above number old.last h.newer) r.events r.backed.below))
@@ -186,7 +186,7 @@ module _ (start : ℕ) (old : Register) (n : ℕ) (must : Bool) (new : Register)
       was_open : (k : ℕ) → (operation_at new.operations k).is_open ≡ true → (operation_at old.operations k).is_open ≡ true
       was_open k k_open = open_before start old n must new tidy h k k_open
 
-      another : (k : ℕ) → k < 16 → (operation_at new.operations k).is_open ≡ true → n ≢ (operation_at old.operations k).number
+      another : (k : ℕ) → k < 64 → (operation_at new.operations k).is_open ≡ true → n ≢ (operation_at old.operations k).number
       another k low k_open e = apart k k_open (tidy.apart k h.slot low h.is_slot.within (was_open k k_open) h.is_slot.is_open (sym e ∙ sym h.is_slot.is_number))
 
   reals_end : (sight : Sight) → (sight ≡ Done n) ⊎ (sight ≡ Failed n) → ((past : List Event) → (must ≡ true → (v : ℕ) × Contains past (Effect n v)) → May start past (Seen sight))

@@ -60,7 +60,7 @@ module _ (start : ℕ) (old : Register) (number : ℕ) (writes : Bool) (value : 
     apart = apart;
   }
     where
-      given : (k : ℕ) → k < 16 → (operation_at new.operations k).is_open ≡ true → (operation_at new.operations k).number ≤ number
+      given : (k : ℕ) → k < 64 → (operation_at new.operations k).is_open ≡ true → (operation_at new.operations k).number ≤ number
       given k low is_open = elim (cases_eq k h.slot) [
         | inl same ↦ let e : (operation_at new.operations k).number ≡ number = ap (λ j. (operation_at new.operations j).number) same ∙ ap (λ o. o.number) its_own in omega arith
         | inr other ↦
@@ -71,7 +71,7 @@ module _ (start : ℕ) (old : Register) (number : ℕ) (writes : Bool) (value : 
       ]
 
       -- an older operation has another number
-      not_its_own : (k : ℕ) → k < 16 → k ≢ h.slot → (operation_at new.operations k).is_open ≡ true → (operation_at new.operations k).number ≡ (operation_at new.operations h.slot).number → ⊥
+      not_its_own : (k : ℕ) → k < 64 → k ≢ h.slot → (operation_at new.operations k).is_open ≡ true → (operation_at new.operations k).number ≡ (operation_at new.operations h.slot).number → ⊥
       not_its_own k low other is_open e =
           let a : (operation_at new.operations h.slot).number ≡ number = ap (λ o. o.number) its_own in
           let b : (operation_at new.operations k).number ≡ (operation_at old.operations k).number = ap (λ o. o.number) (others k other) in
@@ -79,7 +79,7 @@ module _ (start : ℕ) (old : Register) (number : ℕ) (writes : Bool) (value : 
           let newer = h.newer in
           absurd (omega arith)
 
-      apart : (j k : ℕ) → j < 16 → k < 16 → (operation_at new.operations j).is_open ≡ true → (operation_at new.operations k).is_open ≡ true
+      apart : (j k : ℕ) → j < 64 → k < 64 → (operation_at new.operations j).is_open ≡ true → (operation_at new.operations k).is_open ≡ true
           → (operation_at new.operations j).number ≡ (operation_at new.operations k).number → j ≡ k
       apart j k j_low k_low j_open k_open e = elim (cases_eq j h.slot) [
         | inl j_same ↦ elim (cases_eq k h.slot) [
@@ -117,7 +117,7 @@ module _ (start : ℕ) (old : Register) (number : ℕ) (writes : Bool) (value : 
       within : h.slot < length s.waits
       within = let low = h.is_free.within in rw m.long low
 
-      fresh : (k : ℕ) → k < 16 → (operation_at new.operations k).is_open ≡ true → waits_at (with_wait h.slot s) k ≡ true → All (IsNoEffect (operation_at new.operations k).number) (Seen sight ∷ past)
+      fresh : (k : ℕ) → k < 64 → (operation_at new.operations k).is_open ≡ true → waits_at (with_wait h.slot s) k ≡ true → All (IsNoEffect (operation_at new.operations k).number) (Seen sight ∷ past)
       fresh k low is_open waits = elim (cases_eq k h.slot) [
         | inl same ↦ subst (λ n. All (IsNoEffect n) (Seen sight ∷ past)) (sym (ap (λ j. (operation_at new.operations j).number) same ∙ ap (λ o. o.number) its_own))
             (All-cons (IsNoEffect number) (Seen sight) past tt (All-weaker (IsAtMost old.last) (IsNoEffect number) (above number old.last h.newer) past below))
@@ -126,7 +126,7 @@ module _ (start : ℕ) (old : Register) (number : ℕ) (writes : Bool) (value : 
             (m.fresh k low (sym (ap (λ o. o.is_open) (others k other)) ∙ is_open) (sym (get_or-set_other s.waits h.slot k true false other) ∙ waits)))
       ]
 
-      acted : (k : ℕ) → k < 16 → (operation_at new.operations k).is_open ≡ true → waits_at (with_wait h.slot s) k ≡ false → (v : ℕ) × Contains (Seen sight ∷ past) (Effect (operation_at new.operations k).number v)
+      acted : (k : ℕ) → k < 64 → (operation_at new.operations k).is_open ≡ true → waits_at (with_wait h.slot s) k ≡ false → (v : ℕ) × Contains (Seen sight ∷ past) (Effect (operation_at new.operations k).number v)
       acted k low is_open waits = elim (cases_eq k h.slot) [
         | inl same ↦
             let a : get_or (set s.waits h.slot true) h.slot false ≡ true = get_or-set_same s.waits h.slot true false within in

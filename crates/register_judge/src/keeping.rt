@@ -17,7 +17,7 @@ use std::alloc::{AllocError, Global};
 
 #[derive(Debug, Drop)]
 pub(crate) struct Register {
-    pub operations: [Operation; 16],
+    pub operations: [Operation; 64],
     // The number of the last call.
     pub last: u64,
     pub states: Vec<State>,
@@ -31,7 +31,7 @@ const NONE: Operation = Operation {
 };
 
 /// A slot with nothing open.
-fn free_slot(operations: &[Operation; 16]) -> Option<usize>
+fn free_slot(operations: &[Operation; 64]) -> Option<usize>
     ensures { IfSome result (λ slot. IsFree operations.now slot) }
 {
     for slot in 0..SLOTS {
@@ -43,7 +43,7 @@ fn free_slot(operations: &[Operation; 16]) -> Option<usize>
 }
 
 /// The slot of an open operation.
-fn slot_of(operations: &[Operation; 16], number: u64) -> Option<usize>
+fn slot_of(operations: &[Operation; 64], number: u64) -> Option<usize>
     ensures { MatchOption result (IsInNoSlot operations.now number) (λ slot. IsSlotOf operations.now number slot) }
 {
     for slot in 0..SLOTS {
@@ -62,10 +62,10 @@ impl Register {
         let mut states = Vec::new(alloc);
         states.push(State {
             value: start,
-            waits: [false; 16],
+            waits: [false; 64],
         })?;
         Ok(Register {
-            operations: [NONE; 16],
+            operations: [NONE; 64],
             last: 0,
             states,
         })

@@ -5,7 +5,7 @@
 //! # Promises
 //!
 //! `judge` passes only what some schedule explains, refuses only what none does, and tells how many sights suffice
-//! (`right`). It is `Undecided` with more than 16 operations open or 1,024 states left, or where numbers don't rise or
+//! (`right`). It is `Undecided` with more than 64 operations open or 2,048 states left, or where numbers don't rise or
 //! what isn't open ends.
 #![tactic(auto)]
 

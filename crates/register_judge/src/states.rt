@@ -17,10 +17,10 @@ ghost use Rattle.register_judge.specs.inside.States.{
 use std::alloc::{AllocError, Global};
 
 /// The number of operations that may be open at once.
-pub(crate) const SLOTS: usize = 16;
+pub(crate) const SLOTS: usize = 64;
 
 /// The number of states that are kept.
-const MOST: usize = 1024;
+const MOST: usize = 2048;
 
 /// An operation in its slot.
 #[derive(Debug, Clone, Copy)]
@@ -35,12 +35,12 @@ pub(crate) struct Operation {
 #[derive(Debug, Clone, Copy)]
 pub(crate) struct State {
     pub value: u64,
-    pub waits: [bool; 16],
+    pub waits: [bool; 64],
 }
 
 /// The state after an operation takes effect, if it may.
 fn effect(operation: &Operation, slot: usize, state: &State) -> Option<State>
-    requires { slot < 16 }
+    requires { slot < 64 }
     ensures { result ≡ effect_of operation.now slot state.now }
 {
     if operation.is_open
@@ -90,7 +90,7 @@ fn add(states: &mut Vec<State>, state: State) -> Result<(), AllocError>
 
 /// Adds the states that one state leads to.
 fn add_effects(
-    operations: &[Operation; 16],
+    operations: &[Operation; 64],
     states: &mut Vec<State>,
     at: usize,
 ) -> Result<(), AllocError>
@@ -110,7 +110,7 @@ fn add_effects(
 
 /// Adds all states that these lead to, if they are not too many.
 pub(crate) fn close(
-    operations: &[Operation; 16],
+    operations: &[Operation; 64],
     states: &mut Vec<State>,
 ) -> Result<bool, AllocError>
     ensures grows { OnOk result (Grows states.old.items states.new.items) }
@@ -128,7 +128,7 @@ pub(crate) fn close(
 
 /// Lets the operation of a slot wait in each state.
 pub(crate) fn wait_in_each(states: &mut Vec<State>, slot: usize)
-    requires { slot < 16 }
+    requires { slot < 64 }
     ensures { EachWaits slot states.old.items states.new.items }
 {
     for state in states.iter_mut() {
@@ -143,7 +143,7 @@ pub(crate) fn settled(
     slot: usize,
     must: bool,
 ) -> Result<Vec<State>, AllocError>
-    requires { slot < 16 }
+    requires { slot < 64 }
     ensures kept { IfOk result (λ settled. KeepsCleared slot must states.now settled.items) }
     ensures only { IfOk result (λ settled. (s : State) → Contains settled.items s → IsCleared slot must states.now s) }
 {

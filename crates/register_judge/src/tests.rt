@@ -5,7 +5,7 @@ use register::Sight;
 use std::test::Fail;
 
 /// What is seen of a register that has 7 at the start, and the verdict.
-static CASES: [(&str, &[Sight], Verdict); 13] = [
+static CASES: [(&str, &[Sight], Verdict); 14] = [
     (
         "a read of the start",
         &[
@@ -182,6 +182,44 @@ static CASES: [(&str, &[Sight], Verdict); 13] = [
                 value: 5,
             },
             Sight::Done { number: 3 },
+        ],
+        Verdict::Passed,
+    ),
+    (
+        "eight open writes of values of their own",
+        &[
+            Sight::Write {
+                number: 1,
+                value: 1,
+            },
+            Sight::Write {
+                number: 2,
+                value: 2,
+            },
+            Sight::Write {
+                number: 3,
+                value: 3,
+            },
+            Sight::Write {
+                number: 4,
+                value: 4,
+            },
+            Sight::Write {
+                number: 5,
+                value: 5,
+            },
+            Sight::Write {
+                number: 6,
+                value: 6,
+            },
+            Sight::Write {
+                number: 7,
+                value: 7,
+            },
+            Sight::Write {
+                number: 8,
+                value: 8,
+            },
         ],
         Verdict::Passed,
     ),

@@ -13,23 +13,23 @@ operation_at operations slot = slice_index_or operations slot no_operation
 
 -- the slot of the open operation of this number
 pub record IsSlotOf (operations : List Operation) (number slot : ℕ) : Type 0 where
-  pub within : slot < 16
+  pub within : slot < 64
   pub is_open : (operation_at operations slot).is_open ≡ true
   pub is_number : (operation_at operations slot).number ≡ number
 
 -- no open operation has the number
 abbrev pub IsInNoSlot : List Operation → ℕ → Type 0
-IsInNoSlot operations number = (slot : ℕ) → slot < 16 → (operation_at operations slot).is_open ≡ true → (operation_at operations slot).number ≡ number → ⊥
+IsInNoSlot operations number = (slot : ℕ) → slot < 64 → (operation_at operations slot).is_open ≡ true → (operation_at operations slot).number ≡ number → ⊥
 
 pub record IsFree (operations : List Operation) (slot : ℕ) : Type 0 where
-  pub within : slot < 16
+  pub within : slot < 64
   pub free : (operation_at operations slot).is_open ≡ false
 
 -- nothing is open, and there is one state
 pub record Begins (start : ℕ) (register : Register) : Type 0 where
-  pub operations : register.operations ≡ replicate 16 no_operation
+  pub operations : register.operations ≡ replicate 64 no_operation
   pub last : register.last ≡ 0
-  pub states : register.states.items ≡ record { value = start; waits = replicate 16 false } ∷ []
+  pub states : register.states.items ≡ record { value = start; waits = replicate 64 false } ∷ []
 
 -- each state is there with the operation of the slot waiting
 abbrev pub KeepsWaiting : ℕ → List State → List State → Type 0

@@ -33,7 +33,7 @@ no_operation = record { is_open = false; number = 0; writes = false; value = 0 }
 -- what the operations make of one of the states is among others
 abbrev pub EffectsAreIn : List Operation → List State → ℕ → List State → Type 0
 EffectsAreIn operations states at others =
-    (slot : ℕ) (d : State) → slot < 16 → IfSome (effect_of (slice_index_or operations slot no_operation) slot (slice_index_or states at d)) (Contains others)
+    (slot : ℕ) (d : State) → slot < 64 → IfSome (effect_of (slice_index_or operations slot no_operation) slot (slice_index_or states at d)) (Contains others)
 
 -- and of each of them, among them
 abbrev pub IsClosed : List Operation → List State → Type 0
@@ -42,13 +42,13 @@ IsClosed operations states = (at : ℕ) → at < length states → EffectsAreIn 
 -- the states that effects lead to from these
 pub data IsLed : List Operation → List State → State → Type 0 where
   There : {operations : List Operation} {first : List State} {s : State} → Contains first s → IsLed operations first s
-  Acts : {operations : List Operation} {first : List State} {s s' : State} (slot : ℕ) → slot < 16 → IsLed operations first s
+  Acts : {operations : List Operation} {first : List State} {s s' : State} (slot : ℕ) → slot < 64 → IsLed operations first s
       → effect_of (slice_index_or operations slot no_operation) slot s ≡ Some s' → IsLed operations first s'
 
 -- the state is one of these, or what an operation makes of that one
 abbrev pub IsEffect : List Operation → List State → ℕ → State → Type 0
 IsEffect operations states at s =
-    Contains states s ⊎ ((slot : ℕ) × (slot < 16) × ((d : State) → effect_of (slice_index_or operations slot no_operation) slot (slice_index_or states at d) ≡ Some s))
+    Contains states s ⊎ ((slot : ℕ) × (slot < 64) × ((d : State) → effect_of (slice_index_or operations slot no_operation) slot (slice_index_or states at d) ≡ Some s))
 
 -- the state is one of these without a slot's operation, which took effect or need not have
 pub record IsCleared (slot : ℕ) (must : Bool) (old : List State) (s : State) : Type 0 where

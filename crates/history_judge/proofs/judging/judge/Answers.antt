@@ -1,17 +1,11 @@
-use Rattle.std.proofs.Common.{subst}
-use Rattle.std.specs.Prelude.{IfOk}
-use Rattle.std.proofs.lemmas.Result.{IfOk-weaker}
-use Rattle.history_judge.specs.Verdicts.{IsRight}
-use Rattle.history_judge.specs.inside.Judging.{IsRightOf}
-use Rattle.history_judge.proofs.Judged.{misnumbered, right_all}
+use Rattle.history_judge.proofs.Judged.{unfit_if, fit_if}
 use Rattle.history_judge.proofs.judging.judge.Goals as goal
 
-pub returns-in-Some : goal.returns-in-Some
-returns-in-Some c = record { right = misnumbered c.explained_are_numbered.ensures c.args.labels.now c.in-Some.ensures }
-
-pub returns : goal.returns
-returns c = record {
-  right = IfOk-weaker c.judge_all.result (IsRightOf c.args.service.now c.args.start.now c.args.labels.now c.sort.new.self.items) (IsRight c.args.service.now c.args.start.now c.args.labels.now)
-      (λ verdict h. right_all c.args.service.now c.args.start.now c.args.labels.now c.in_ok-places.places.items c.sort.new.self.items verdict c.in_ok-places.ensures c.sort.ensures.permutation h)
-      (subst (λ xs. IfOk c.judge_all.result (IsRightOf c.args.service.now c.args.start.now c.args.labels.now xs)) c.as_slice.ensures.value c.judge_all.ensures);
+pub judge_sectors-requires : goal.judge_sectors-requires
+judge_sectors-requires c = record {
+  sized = c.requires;
+  fit = fit_if c.args.service.now c.args.labels.now c.in_ok-label.field-0 c.in-None.is c.in_ok-label.ensures;
 }
+
+pub returns-in-Some : goal.returns-in-Some
+returns-in-Some c = record { right = unfit_if c.explained_fit.ensures c.args.service.now c.args.labels.now c.in_ok-label.field-0 c.in-Some.is c.in_ok-label.ensures }
