@@ -1,42 +1,10 @@
 -- The calls that move both machines by the same labels: act and reset, and the taking of a label.
 use Rattle.std.proofs.Common.{◌≡◌, ◌<◌, ◌≤◌, ◌⊎◌, inl, inr, ℕ, zero, suc, ◌+◌, Bool, true, false, List, [], ◌∷◌, refl, sym, ◌∙◌, ap, subst, arith, map, length, cond, Option, Some, None, Result, Ok, Err, MatchBool, length-append}
 use Rattle.std.specs.Prelude.{IsPermutation, All, Any, Contains, IsTrue, IsFalse}
-use Rattle.std.proofs.lemmas.List.{length-map}
-use Rattle.std.proofs.lemmas.List.Sorted.{IsPermutation-refl, IsPermutation-sym, IsPermutation-trans, IsPermutation-map, All-permutation, Contains-permutation, length_permutation, sum_by-IsPermutation}
-use Rattle.std.proofs.lemmas.List.Elements.{All-nil, All-cons, All-head, All-tail, All-weaker, All-map}
-use Rattle.srb.specs.declared.DeviceLabel.{DeviceLabel}
-use Rattle.srb.specs.declared.DeviceLabel.TheVariants.{Start, Act, Fault, Return}
-use Rattle.machine.specs.declared.ClientRequest.{ClientRequest}
-use Rattle.machine.specs.declared.Request.{Request}
-use Rattle.machine.specs.Rules.{Rules, place_count}
-use Rattle.machine.specs.State.{Mark, Untouched, Out, Done, Failed, Back, OpenRequest, Piece, State, IsSame}
-use Rattle.machine.specs.Numbers.{AreDistinct, HasPlaces, HavePlaces, request_number}
-use Rattle.machine.specs.Sending.{is_started, with_fate}
-use Rattle.machine.specs.Answering.{HasEnded}
-use Rattle.srb.specs.Fate.{Acted}
+use Rattle.class_disk.proofs.Common.{length-map, IsPermutation-refl, IsPermutation-sym, IsPermutation-trans, IsPermutation-map, All-permutation, Contains-permutation, length_permutation, sum_by-IsPermutation, All-nil, All-cons, All-head, All-tail, All-weaker, All-map, DeviceLabel, Start, Act, Fault, Return, ClientRequest, Request, Rules, place_count, Mark, Untouched, Out, Done, Failed, Back, OpenRequest, Piece, State, IsSame, AreDistinct, HasPlaces, HavePlaces, request_number, is_started, with_fate, HasEnded, Acted, IsCounted, AreCounted, Run, as_label, DeviceView, Packet, OnTag, packet_number, piece_on_tag, use_on_tag, label_places, IsOrderly, IsTopmost, Entry, Completion, AdapterView, TagInUse, with_booked, books_tags, books_sectors, sectors_in, BooksPiece, Moves, AwaitsRestartIfEnded, IsFreshOn, IsActOrFault, ActsOrFaults, ActsNot, TakesLabel, ForgetsLabels, IsAt, Run-same, none_there, AreDistinct-Run, AreDistinct-same, Opened, TableView, all_open, Progress, IsSound, Keeps, AreParts, IsMadeUp, HasSome, IsOver, class_rules, IsPort, divided_of, shown_state, knowns, view_of, AreKept, AreBelow, IsCoupled, IsInHand, AsksUnder, IsAskedBy, IsAsked, AreAsked, IsSpottedBy, IsSpotted, AreSpotted, tickets, most_over, AllOut}
 use Rattle.machine.specs.Settled.{Settled, IsHeld, WaitsIfCancelled, Waits, IsAllSent, IsHeldBack, HasMore, IsAtWork, IsFull, IsWithin, started_count}
-use Rattle.machine.specs.Marks.{IsCounted, AreCounted}
-use Rattle.machine.specs.Step.{Run, as_label}
-use Rattle.device.specs.View.{DeviceView, Packet, OnTag, packet_number, piece_on_tag, use_on_tag, label_places, IsOrderly, IsTopmost}
-use Rattle.srb.specs.declared.Entry.{Entry}
-use Rattle.srb.specs.declared.Completion.{Completion}
-use Rattle.adapter.specs.View.{AdapterView, TagInUse}
-use Rattle.adapter.specs.Booking.{with_booked}
-use Rattle.adapter.proofs.Booked.{books_tags, books_sectors}
-use Rattle.sector.specs.Extents.{sectors_in}
-use Rattle.device.specs.Served.{BooksPiece, Moves, AwaitsRestartIfEnded, IsFreshOn, IsActOrFault, ActsOrFaults, ActsNot, TakesLabel, ForgetsLabels, IsAt}
-use Rattle.machine.proofs.Same.{Run-same, none_there}
-use Rattle.machine.proofs.Numbers.{AreDistinct-Run, AreDistinct-same}
-use Rattle.class_disk.specs.inside.TableView.{Opened, TableView, all_open}
-use Rattle.class_disk.specs.declared.parts.Progress.{Progress}
 use Rattle.class_disk.specs.declared.parts.Progress.TheVariants.{Ready, Below as SentBelow, Ended as PartEnded}
 use Rattle.class_disk.specs.inside.Joint.{Part, Below, Here, Known, known_of, Divided, Joint, parts_marks, pieces_below, pieces_above, shown, above}
-use Rattle.class_disk.specs.inside.Invariant.{IsSound, Keeps, AreParts, IsMadeUp, HasSome, IsOver}
-use Rattle.class_disk.specs.Shown.{class_rules, IsPort}
-use Rattle.class_disk.specs.inside.Machine.{divided_of, shown_state}
-use Rattle.class_disk.specs.inside.Driver.{knowns, view_of, AreKept, AreBelow, IsCoupled, IsInHand, AsksUnder, IsAskedBy, IsAsked, AreAsked, IsSpottedBy, IsSpotted, AreSpotted, tickets}
-use Rattle.class_disk.specs.Opening.{most_over}
-use Rattle.class_disk.specs.inside.Rooms.{AllOut}
 use Rattle.class_disk.proofs.Rooms.{out_same}
 use Rattle.class_disk.proofs.CoupledRun.{Ran, run_coupled, Contains-map}
 use Rattle.class_disk.proofs.Showing.{shown_is}

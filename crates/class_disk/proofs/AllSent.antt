@@ -2,34 +2,17 @@
 use Rattle.std.proofs.Common.{◌≡◌, ◌≢◌, ◌<◌, ℕ, ◌+◌, Bool, List, [], ◌∷◌, ◌++◌, Some, refl, sym, ◌∙◌, ap, subst, arith, length, map, drop, take, get_or, append_assoc}
 use Rattle.std.specs.Prelude.{IsPermutation, All, Contains, slice_get}
 use Rattle.std.proofs.lemmas.List.{append-nil, length-take-le}
-use Rattle.std.proofs.lemmas.List.Sorted.{IsPermutation-sym, IsPermutation-map, All-permutation, Contains-permutation}
-use Rattle.std.proofs.lemmas.List.Elements.{All-nil, All-cons, All-head, All-tail, All-append, All-contains, All-weaker, Contains-get_or}
-use Rattle.adapter.proofs.Joining.{moves_joined, moves_none}
-use Rattle.srb.specs.declared.DeviceLabel.{DeviceLabel}
-use Rattle.device.specs.inside.Out.{Ticket}
-use Rattle.device.specs.declared.climbing.Climb.{Climb}
-use Rattle.machine.specs.Rules.{Rules}
-use Rattle.machine.specs.Sending.{IsStart}
-use Rattle.machine.specs.State.{State}
-use Rattle.device.specs.View.{DeviceView, IsOrderly}
-use Rattle.device.specs.Served.{StaysOpen, HandsUp}
+use Rattle.class_disk.proofs.Common.{IsPermutation-sym, IsPermutation-map, All-permutation, Contains-permutation, All-nil, All-cons, All-head, All-tail, All-append, All-contains, All-weaker, Contains-get_or, moves_joined, DeviceLabel, Ticket, Climb, Rules, IsStart, State, DeviceView, IsOrderly, StaysOpen, HandsUp, Place, Progress, Opened, TableView, opened, open_at, part_count_of, part_request_of, note, note_by, known, knowns, IsCauseBy, HaveCauses, IsOpen, WentAs, WentInTurn, IsNothing, IsIfEnded, EndedAre, IsOver, IsOverNote, GoesOn, IsMidway, IsOpening, OpeningSoFar, SendsAll, SendsDown, CanSendPart, class_rules}
 use Rattle.class_disk.specs.declared.parts.Part.{Part}
-use Rattle.class_disk.specs.declared.parts.Place.{Place}
-use Rattle.class_disk.specs.declared.parts.Progress.{Progress}
 use Rattle.class_disk.specs.declared.parts.Progress.TheVariants.{Ready, Below, Ended as HasEnded}
-use Rattle.class_disk.specs.inside.TableView.{Opened, TableView, opened, open_at}
-use Rattle.class_disk.specs.inside.Blocks.{part_count_of, part_request_of}
-use Rattle.class_disk.specs.inside.Driver.{note, note_by, known, knowns, IsCauseBy, HaveCauses, IsOpen, WentAs, WentInTurn}
-use Rattle.class_disk.specs.inside.Invariant.{IsNothing, IsIfEnded, EndedAre, IsOver, IsOverNote}
-use Rattle.class_disk.specs.inside.DuringACall.{GoesOn, IsMidway, IsOpening, OpeningSoFar, SendsAll, SendsDown, CanSendPart}
 use Rattle.class_disk.specs.inside.Parts.{IsDown, IsDownBy, WasSent, WasSentBy, unfinished_of, unfinished_by}
-use Rattle.class_disk.specs.Shown.{class_rules}
 use Rattle.class_disk.proofs.OnlyPart.{lent_whole}
 use Rattle.class_disk.proofs.Parting.{drop_whole, found_same}
 use Rattle.class_disk.proofs.PiecePlaces.{as_many}
 use Rattle.class_disk.proofs.ReadyParts.{part, is_there, with_place, place, rooms_left, can_send_part}
 use Rattle.class_disk.proofs.SendingOn.{new_part, number_on, part_on, packets_on, table_on, long_on, taking_on, goes_on, sent_on}
 use Rattle.class_disk.proofs.Standing.{AreRising}
+use Rattle.class_disk.proofs.TakingAll.{stays_there}
 
 -- ALL PARTS ARE BELOW
 
@@ -172,16 +155,7 @@ module _ (v0 : DeviceView)
   pub none_sent : SentSoFar v0 b0 slot 0 v0 b0
   none_sent = record {
     starts = [];
-    goes = record {
-      only_starts = All-nil IsStart;
-      adapter = moves_none v0.adapter;
-      same_rules = refl;
-      same_most = refl;
-      same_last = refl;
-      same_submitted = refl;
-      same_packets = refl;
-      same_rooms = refl;
-    };
+    goes = stays_there v0 b0;
     others_stay = λ i d low. Contains-get_or v0.state.requests i d low;
     next_packet = omega arith;
     in_turn = λ o is_open. tt;

@@ -1,14 +1,9 @@
 -- The open requests in another order: the rooms that they keep, the slots of the ended ones, and the restarts that are left.
-use Rattle.device.specs.inside.Out.{Ticket}
+use Rattle.class_disk.proofs.Common.{Ticket, length-replicate, IsPermutation-refl, IsPermutation-sym, IsPermutation-trans, IsPermutation-middle, IsPermutation-append_left, IsPermutation-append_right, IsPermutation-append_comm, Contains-permutation, length_permutation, none_there, IsPermutation-uncons, tickets_held, tickets_open}
 use Rattle.std.proofs.Common.{◌≡◌, ℕ, zero, suc, ◌-◌, ◌==◌, Bool, true, false, List, [], ◌∷◌, ◌++◌, refl, sym, ◌∙◌, ap, subst, arith, length, replicate, length-append, append_assoc}
 use Rattle.std.specs.Prelude.{IsPermutation, Contains, if◌then◌else◌}
-use Rattle.std.proofs.lemmas.List.{length-replicate}
-use Rattle.std.proofs.lemmas.List.Sorted.{IsPermutation-refl, IsPermutation-sym, IsPermutation-trans, IsPermutation-middle, IsPermutation-append_left, IsPermutation-append_right, IsPermutation-append_comm, Contains-permutation, length_permutation}
-use Rattle.machine.proofs.Same.{none_there}
-use Rattle.machine.proofs.Permuting.{IsPermutation-uncons}
 use Rattle.class_disk.specs.inside.Parts.{tickets_of}
 use Rattle.class_disk.specs.inside.TableView.{Opened, ClosedSlot, ended_in, restarts_left}
-use Rattle.class_disk.specs.inside.Driver.{tickets_held, tickets_open}
 
 -- LISTS PUT TOGETHER, IN ANY ORDER
 

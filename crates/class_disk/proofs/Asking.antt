@@ -1,30 +1,9 @@
 -- What a part asks for below stays as it is while the layer below moves.
 use Rattle.std.proofs.Common.{◌≡◌, ◌<◌, inl, inr, ℕ, ◌*◌, ◌/◌, Bool, List, [], ◌∷◌, Some, refl, sym, ◌∙◌, ap, subst, arith, map}
-use Rattle.std.proofs.Math.Nat.{mul-div_cancel}
+use Rattle.class_disk.proofs.Common.{mul-div_cancel, Extent, IsPermutation-sym, All-permutation, Contains-permutation, All-cons, All-tail, All-weaker, All-contains, NtStatus, DeviceLabel, Start, Act, Fault, Return, Climb, Payload, ClientRequest, Request, Rules, place_count, as_client, State, IsGiven, AreDistinct, Opens, new_request, sent, given_back, Answers, DeviceStep, Run, as_label, DeviceView, Packet, HandsUp, Submits, All-changed, AsksUnder, places_of, IsAsked, IsAskedBy}
 use Rattle.std.specs.Prelude.{All}
-use Rattle.sector.specs.declared.Extent.{Extent}
-use Rattle.std.proofs.lemmas.List.Sorted.{IsPermutation-sym, All-permutation, Contains-permutation}
-use Rattle.std.proofs.lemmas.List.Elements.{All-cons, All-tail, All-weaker, All-contains}
-use Rattle.ntstatus.specs.declared.NtStatus.{NtStatus}
-use Rattle.srb.specs.declared.DeviceLabel.{DeviceLabel}
-use Rattle.srb.specs.declared.DeviceLabel.TheVariants.{Start, Act, Fault, Return}
-use Rattle.device.specs.declared.climbing.Climb.{Climb}
-use Rattle.irp.specs.declared.Payload.{Payload}
-use Rattle.machine.specs.declared.ClientRequest.{ClientRequest}
-use Rattle.machine.specs.declared.Request.{Request}
-use Rattle.machine.specs.Rules.{Rules, place_count, as_client}
-use Rattle.machine.specs.State.{State}
-use Rattle.machine.specs.Numbers.{IsGiven, AreDistinct}
-use Rattle.machine.specs.Calling.{Opens, new_request}
-use Rattle.machine.specs.Sending.{sent, given_back}
-use Rattle.machine.specs.Answering.{Answers}
-use Rattle.machine.specs.Step.{DeviceStep, Run, as_label}
-use Rattle.device.specs.View.{DeviceView, Packet}
-use Rattle.device.specs.Served.{HandsUp, Submits}
-use Rattle.machine.proofs.Permuting.{All-changed}
 use Rattle.class_disk.specs.declared.parts.Part.{Part}
 use Rattle.class_disk.specs.declared.parts.Progress.TheVariants.{Below}
-use Rattle.class_disk.specs.inside.Driver.{AsksUnder, places_of, IsAsked, IsAskedBy}
 
 module _ (rules : Rules) (r : Request) (number : ℕ) where
   abbrev pub AllUnder : State → Type 0

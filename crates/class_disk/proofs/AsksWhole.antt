@@ -1,20 +1,7 @@
 -- The SRB of a request of a whole disk asks for all of it.
-use Rattle.split.specs.Pieces.{piece_of}
+use Rattle.class_disk.proofs.Common.{piece_of, mul-div_cancel, Extent, IsPlain, Means, Srb, ExecuteScsi, Kind, Read, Write, Flush, Request, Rules, home, as_client, is_transfer, place_count, command_for, read_command, write_command, flush_command, all_places, AsksFor, transfer_length, direction, IsWholeDisk, disk_command, part_request_of}
 use Rattle.std.proofs.Common.{◌≤◌, ◌≡◌, ◌⊎◌, inl, inr, ℕ, ◌+◌, ◌*◌, ◌/◌, true, IsTrue, List, [], ◌∷◌, Option, Some, None, refl, sym, ◌∙◌, ap, subst, arith, length}
 use Rattle.std.specs.Prelude.{slice_get, if◌then◌else◌}
-use Rattle.std.proofs.Math.Nat.{mul-div_cancel}
-use Rattle.sector.specs.declared.Extent.{Extent}
-use Rattle.cdb.specs.Meaning.{IsPlain, Means}
-use Rattle.srb.specs.declared.Srb.{Srb}
-use Rattle.srb.specs.declared.SrbFunction.TheVariants.{ExecuteScsi}
-use Rattle.srb.specs.declared.Kind.{Kind}
-use Rattle.srb.specs.declared.Kind.TheVariants.{Read, Write, Flush}
-use Rattle.machine.specs.declared.Request.{Request}
-use Rattle.machine.specs.Rules.{Rules, home, as_client, is_transfer, place_count}
-use Rattle.machine.specs.Sending.{command_for, read_command, write_command, flush_command}
-use Rattle.machine.specs.Solo.{all_places}
-use Rattle.device.specs.View.{AsksFor, transfer_length, direction}
-use Rattle.class_disk.specs.inside.Blocks.{IsWholeDisk, disk_command, part_request_of}
 
 abbrev at_home : Option Extent → ℕ → ℕ
 at_home None i = i

@@ -1,14 +1,8 @@
 -- A request is found by its number, and cancelled.
 use Rattle.std.proofs.Common.{◌≡◌, ℕ, ◌+◌, Bool, true, false, List, [], ◌∷◌, Some, None, refl, sym, ◌∙◌, ap, arith}
 use Rattle.std.specs.Prelude.{All, IsTrue, MatchBool, slice_index_or}
-use Rattle.std.proofs.lemmas.List.Elements.{All-cons}
-use Rattle.slab.specs.Slab.{entries_from, get}
-use Rattle.class_disk.specs.declared.requests.Slot.{Slot}
+use Rattle.class_disk.proofs.Common.{All-cons, entries_from, get, Slot, Transfer, Table, Opened, books_of, opened_of, open_from, open_at, TakesOut, PutsBack, is_cancellable, can_cancel, CannotCancel, CanCancelAt, CannotCancelAt, CancelsAtSlot, cancelled_one}
 use Rattle.class_disk.specs.declared.requests.Slot.TheVariants.{Reserved, Open, Left}
-use Rattle.class_disk.specs.declared.requests.Transfer.{Transfer}
-use Rattle.class_disk.specs.declared.table.Table.{Table}
-use Rattle.class_disk.specs.inside.TableView.{Opened, books_of, opened_of, open_from, open_at, TakesOut, PutsBack}
-use Rattle.class_disk.specs.inside.TableCalls.{is_cancellable, can_cancel, CannotCancel, CanCancelAt, CannotCancelAt, CancelsAtSlot, cancelled_one}
 use Rattle.class_disk.proofs.Slots.{Slots, open_is, is_there}
 use Rattle.class_disk.proofs.Replacing.{stands_as, replaces, books_replaced}
 

@@ -1,22 +1,8 @@
 -- A packet is cancelled by its spot, or by its number.
 use Rattle.std.proofs.Common.{◌≡◌, inl, inr, ℕ, ◌==◌, ◌&&◌, not, Bool, true, false, List, [], Some, refl, sym, ◌∙◌, ap, subst, arith, map}
 use Rattle.std.specs.Prelude.{All, Any, Contains, IsTrue, IsFalse}
-use Rattle.std.proofs.lemmas.Bool.{eqb-true, eqb-false}
-use Rattle.std.proofs.lemmas.List.Sorted.{IsPermutation-sym, Contains-permutation}
-use Rattle.std.proofs.lemmas.List.Elements.{All-contains}
-use Rattle.machine.specs.State.{OpenRequest, State}
-use Rattle.machine.specs.Holding.{Cancels}
-use Rattle.device.specs.View.{DeviceView, Packet, IsOrderly}
-use Rattle.device.specs.Served.{CancelsIfOpen, CancelsAt, NoneToCancel, IsAt, HasOtherNumber}
+use Rattle.class_disk.proofs.Common.{eqb-true, eqb-false, IsPermutation-sym, Contains-permutation, All-contains, OpenRequest, State, Cancels, DeviceView, Packet, IsOrderly, CancelsIfOpen, CancelsAt, NoneToCancel, IsAt, HasOtherNumber, Unsent, Known, Divided, shown, NeverSent, class_rules, divided_of, Opened, TableView, opened, all_open, open_at, put_at, cancelled_one, is_cancellable, CancelsAtSlot, CancelsNoneAt, CannotCancel, known, knowns, view_of, packet_above, IsInHand, IsMidway, CancelsAll, packet_of_part, TakesAll}
 use Rattle.class_disk.proofs.Standing.{IsApart}
-use Rattle.class_disk.specs.inside.Joint.{Known, Divided, shown}
-use Rattle.class_disk.specs.inside.Invariant.{NeverSent}
-use Rattle.class_disk.specs.Shown.{class_rules}
-use Rattle.class_disk.specs.inside.Machine.{divided_of}
-use Rattle.class_disk.specs.inside.TableView.{Opened, TableView, opened, all_open, open_at, put_at}
-use Rattle.class_disk.specs.inside.TableCalls.{cancelled_one, is_cancellable, CancelsAtSlot, CancelsNoneAt, CannotCancel}
-use Rattle.class_disk.specs.inside.Driver.{known, knowns, view_of, packet_above, IsInHand}
-use Rattle.class_disk.specs.inside.DuringACall.{IsMidway, CancelsAll, packet_of_part, WithdrawsAll}
 use Rattle.class_disk.proofs.Acting.{map_there}
 use Rattle.class_disk.proofs.CoupledRun.{one_request, Contains-map}
 use Rattle.class_disk.proofs.Standing.{AreRising, StandsIn, stands_there, stands_by, is_found, found_put, found_there}
@@ -129,9 +115,9 @@ module _ (v : DeviceView) (b : TableView) (r : AreRising 0 b.opens) (slot number
         let m = midway_cancelled v b h slot c.o stands timely v1 all ordered1 in
         (m.0, subst (λ x. IsMidway NeverSent m.0 [] v1 x) (sym (same ∙ c.after)) m.1)
 
-    module _ (v2 : DeviceView) (b2 : TableView) (w : WithdrawsAll v1 b1' v2 b2) (apart : IsApart b2) where
-      withdraws : WithdrawsAll v1 (record b { opens = put_at slot (cancelled_one c.o) b.opens }) v2 b2
-      withdraws = subst (λ x. WithdrawsAll v1 x v2 b2) (same ∙ c.after) w
+    module _ (v2 : DeviceView) (b2 : TableView) (w : TakesAll Unsent v1 b1' v2 b2) (apart : IsApart b2) where
+      withdraws : TakesAll Unsent v1 (record b { opens = put_at slot (cancelled_one c.o) b.opens }) v2 b2
+      withdraws = subst (λ x. TakesAll Unsent v1 x v2 b2) (same ∙ c.after) w
 
       pub hand_at : IsInHand v2 b2
       hand_at = hand_cancelled v b h slot c.o stands timely v1 all ordered1 v2 b2 withdraws apart

@@ -1,36 +1,13 @@
 -- A cancellation: the class driver's own flag, and then the parts below one by one.
 use Rattle.std.proofs.Common.{◌≡◌, ◌≤◌, inl, inr, ℕ, ◌+◌, true, false, List, [], ◌∷◌, ◌++◌, refl, sym, ◌∙◌, ap, subst, arith, map, length, length-append}
 use Rattle.std.specs.Prelude.{IsPermutation, All, Contains, IsFalse}
-use Rattle.std.proofs.lemmas.List.{map-append}
-use Rattle.std.proofs.lemmas.List.Sorted.{IsPermutation-refl, IsPermutation-sym, IsPermutation-trans, IsPermutation-cons, IsPermutation-middle, IsPermutation-map, All-permutation, Contains-permutation}
-use Rattle.std.proofs.lemmas.List.Elements.{All-nil, All-cons, All-head, All-tail, All-weaker, All-map}
-use Rattle.machine.specs.declared.ClientRequest.{ClientRequest}
-use Rattle.machine.specs.declared.Label.TheVariants.{Cancel}
-use Rattle.machine.specs.declared.Request.{Request}
-use Rattle.machine.specs.Rules.{Rules}
-use Rattle.machine.specs.State.{OpenRequest, State, IsSame}
-use Rattle.machine.specs.Numbers.{request_number}
-use Rattle.machine.specs.Marks.{AreCounted}
-use Rattle.machine.specs.Holding.{Cancels, as_cancelled}
-use Rattle.machine.specs.Step.{Step}
-use Rattle.machine.proofs.Same.{IsSame-refl, IsSame-sym, IsSame-trans, Step-same}
-use Rattle.machine.proofs.Permuting.{IsPermutation-uncons}
-use Rattle.machine.proofs.Numbers.{AreDistinct-Step, AreDistinct-same}
-use Rattle.device.specs.View.{DeviceView, IsOrderly, IsTopmost, room_at}
-use Rattle.device.specs.Served.{IsBeside}
-use Rattle.class_disk.specs.declared.parts.Progress.{Progress}
+use Rattle.class_disk.proofs.Common.{map-append, IsPermutation-refl, IsPermutation-sym, IsPermutation-trans, IsPermutation-cons, IsPermutation-middle, IsPermutation-map, All-permutation, Contains-permutation, All-nil, All-cons, All-head, All-tail, All-weaker, All-map, ClientRequest, Cancel, Request, Rules, OpenRequest, State, IsSame, request_number, AreCounted, Cancels, as_cancelled, Step, IsSame-refl, IsSame-sym, IsSame-trans, Step-same, IsPermutation-uncons, AreDistinct-Step, AreDistinct-same, DeviceView, IsOrderly, IsTopmost, room_at, IsBeside, Progress, Unsent, class_rules, cancelled_one, note, known, knowns, view_of, packet_above, tickets_held, tickets_open, IsAsked, IsAskedBy, AreAsked, AreSpotted, IsOpen, AreKept, AreBelow, IsInHand, HaveCauses, tickets, most_over, AllOut, IsTaking, IsMidway, CancelsAll, packet_of_part, TakesAll}
 use Rattle.class_disk.specs.declared.parts.Progress.TheVariants.{Ready, Below as SentBelow, Ended as HasEnded}
 use Rattle.class_disk.specs.inside.Joint.{Part, Below, Here, Known, note_of, known_of, Divided, Joint, IsPartOf, parts_requests, parts_marks, parts_busy, parts_lifted, shown, pieces_above, below, above, lifted, shown_mark}
 use Rattle.class_disk.specs.inside.Invariant.{AreParts, IsMadeUp, IsCancelledAs, AgreesOnCancel, IsAhead, AreBehind, IsInTurn, places_in, AreCut, begins_back, parts_back, IsInPieces, Keeps, NeverSent, IsOver, HasSome, noted_busy}
-use Rattle.class_disk.specs.Shown.{class_rules}
 use Rattle.class_disk.specs.inside.TableView.{Opened, TableView, opened, all_open, put_at, ended_in, restarts_left}
-use Rattle.class_disk.specs.inside.TableCalls.{cancelled_one}
-use Rattle.class_disk.specs.inside.Driver.{note, known, knowns, view_of, packet_above, tickets_held, tickets_open, IsAsked, IsAskedBy, AreAsked, AreSpotted, IsOpen, AreKept, AreBelow, IsInHand, HaveCauses, tickets}
-use Rattle.class_disk.specs.Opening.{most_over}
-use Rattle.class_disk.specs.inside.Rooms.{AllOut}
 use Rattle.class_disk.proofs.Rooms.{out_same}
 use Rattle.class_disk.proofs.Standing.{IsApart}
-use Rattle.class_disk.specs.inside.DuringACall.{IsTaking, IsMidway, CancelsAll, packet_of_part, WithdrawsAll}
 use Rattle.class_disk.proofs.Focus as focus
 use Rattle.class_disk.proofs.CoupledSteps.{Cancels-above}
 use Rattle.class_disk.proofs.Acting.{map_there, spotted_still, shows}
@@ -39,8 +16,9 @@ use Rattle.class_disk.proofs.Causes.{causes_more}
 use Rattle.class_disk.proofs.Standing.{StandsIn, is_put, split_there, All-middle, All-at}
 use Rattle.class_disk.proofs.Noting.{ended-append, left-append, tickets_open-append}
 use Rattle.class_disk.proofs.Midst.{InMidst, AllCancelled, cancelled_part, all_cancelled}
-use Rattle.class_disk.proofs.Withdrawn.{StandsAgain, stands_again, over_more}
+use Rattle.class_disk.proofs.Withdrawn.{StandsAgain, stands_again, same_adapter, over_more}
 use Rattle.class_disk.proofs.PortRules.{port_rules}
+use Rattle.class_disk.proofs.CoupledRun.{keeps_permuted}
 
 -- CANCELLED PARTS SHOW AS THEY WERE
 
@@ -95,18 +73,6 @@ agree_cancelled (Here marks busy ∷ ps) = agree_cancelled ps
 -- the request with its parts, cancelled
 abbrev pub cancelled_divided : Divided → Divided
 cancelled_divided e = record e { cancelled = true; parts = map cancelled_part e.parts }
-
-keeps_permuted : (rules : Rules) (j : Joint) (ms : List Divided) → IsPermutation j.divided ms → Keeps rules j → Keeps rules (record j { divided = ms })
-keeps_permuted rules j ms p k = record {
-  made_up = All-permutation (IsMadeUp rules) _ _ p k.made_up;
-  agree = All-permutation AgreesOnCancel _ _ p k.agree;
-  in_turn = All-permutation (IsInTurn j.removing ms) _ _ p
-      (All-weaker (IsInTurn j.removing j.divided) (IsInTurn j.removing ms)
-      (λ e. All-weaker (AreBehind j.removing j.divided e.number) (AreBehind j.removing ms e.number)
-      (λ n. All-permutation (IsAhead j.removing e.number n) _ _ p) (map request_number (parts_requests e.parts)))
-      j.divided k.in_turn);
-  in_pieces = All-permutation (IsInPieces rules) _ _ p k.in_pieces;
-}
 
 pieces_cancelled : (rules : Rules) (e : Divided) → IsInPieces rules e → IsInPieces rules (cancelled_divided e)
 pieces_cancelled rules e h =
@@ -371,7 +337,7 @@ module _ (v : DeviceView) (b : TableView) (h : IsInHand v b) (slot : ℕ) (o : O
         })
 
     -- ALL IS TAKEN
-    module _ (v2 : DeviceView) (b2 : TableView) (w : WithdrawsAll v1 books_cancelled v2 b2) (apart : IsApart b2) where
+    module _ (v2 : DeviceView) (b2 : TableView) (w : TakesAll Unsent v1 books_cancelled v2 b2) (apart : IsApart b2) where
       first_shows : IsSame (above (record j { divided = i.e ∷ i.es })) (view_of v b).state
       first_shows = IsSame-trans _ _ _ (IsSame-sym _ _ i.same_above) (shows v b h)
 
@@ -395,21 +361,21 @@ module _ (v : DeviceView) (b : TableView) (h : IsInHand v b) (slot : ℕ) (o : O
 
       beside_shown : IsBeside (view_of v b) (view_of v2 b2)
       beside_shown = record {
-        same_rules = ap class_rules (w.same_rules ∙ m.beside.same_rules);
-        same_packets = subst (λ ps. IsPermutation ps (map packet_above b.opens)) (sym (w.same_packets ∙ same_packets)) (IsPermutation-refl _);
-        same_rooms = λ spot. ap (λ rooms. room_at rooms spot) w.same_rooms;
-        same_submitted = w.same_submitted;
-        same_most = ap most_over (w.same_most ∙ m.beside.same_most);
-        same_adapter = w.same_adapter ∙ m.beside.same_adapter;
+        same_rules = ap class_rules (w.goes_on.same_rules ∙ m.beside.same_rules);
+        same_packets = subst (λ ps. IsPermutation ps (map packet_above b.opens)) (sym (w.goes_on.same_packets ∙ same_packets)) (IsPermutation-refl _);
+        same_rooms = λ spot. ap (λ rooms. room_at rooms spot) w.goes_on.same_rooms;
+        same_submitted = w.goes_on.same_submitted;
+        same_most = ap most_over (w.goes_on.same_most ∙ m.beside.same_most);
+        same_adapter = same_adapter v1 books_cancelled v2 b2 w ∙ m.beside.same_adapter;
       }
 
   -- AND SO
   pub midway_cancelled : (first : State) × IsMidway NeverSent first [] v1 books_cancelled
   midway_cancelled = (above (joint_cancelled in_coupling), midway_with in_coupling)
 
-  pub hand_cancelled : (v2 : DeviceView) (b2 : TableView) → WithdrawsAll v1 books_cancelled v2 b2 → IsApart b2 → IsInHand v2 b2
+  pub hand_cancelled : (v2 : DeviceView) (b2 : TableView) → TakesAll Unsent v1 books_cancelled v2 b2 → IsApart b2 → IsInHand v2 b2
   hand_cancelled v2 b2 w apart = (stands in_coupling v2 b2 w apart).in_hand
 
-  pub cancels_above : (v2 : DeviceView) (b2 : TableView) → WithdrawsAll v1 books_cancelled v2 b2 → IsApart b2
+  pub cancels_above : (v2 : DeviceView) (b2 : TableView) → TakesAll Unsent v1 books_cancelled v2 b2 → IsApart b2
       → Cancels (view_of v b).state o.irp.number (view_of v2 b2).state × IsBeside (view_of v b) (view_of v2 b2)
   cancels_above v2 b2 w apart = (cancels_shown in_coupling v2 b2 w apart, beside_shown in_coupling v2 b2 w apart)

@@ -1,19 +1,10 @@
 -- Why a part ended with no success: with more cancelled, removed or come back, it is so still.
 use Rattle.std.proofs.Common.{◌≡◌, ◌<◌, ◌≤◌, ◌⊎◌, inl, inr, ℕ, Bool, false, List, [], ◌∷◌, subst, arith, length}
 use Rattle.std.specs.Prelude.{All, IsTrue}
-use Rattle.std.proofs.lemmas.List.Elements.{All-head, All-weaker}
-use Rattle.ntstatus.specs.declared.NtStatus.{NtStatus}
-use Rattle.ntstatus.specs.declared.NtStatus.TheVariants.{Cancelled, NoSuchDevice}
-use Rattle.machine.specs.Rules.{Rules}
-use Rattle.machine.specs.State.{Mark, Untouched, OpenRequest, State}
-use Rattle.machine.specs.Answering.{HasCause, IsGivenUp}
+use Rattle.class_disk.proofs.Common.{All-head, All-weaker, NtStatus, Cancelled, NoSuchDevice, Rules, Mark, Untouched, OpenRequest, State, HasCause, IsGivenUp, Progress, Outcome, IsUntouched, IsCause, IsCauseBy}
 use Rattle.class_disk.specs.declared.parts.Part.{Part}
-use Rattle.class_disk.specs.declared.parts.Progress.{Progress}
 use Rattle.class_disk.specs.declared.parts.Progress.TheVariants.{Ready, Below, Ended as HasEnded}
-use Rattle.class_disk.specs.declared.parts.Outcome.{Outcome}
 use Rattle.class_disk.specs.declared.parts.Outcome.TheVariants.{Good, Failed as IsBad, Busy, Withdrawn}
-use Rattle.class_disk.specs.inside.Invariant.{IsUntouched}
-use Rattle.class_disk.specs.inside.Driver.{IsCause, IsCauseBy}
 
 module _ (c c' r r' : Bool) (n n' : ℕ) (f : IsTrue c → IsTrue c') (g : IsTrue r → IsTrue r') (few : n ≤ n') where
   cause_more : (outcome : Outcome) → IsCause c r n outcome → IsCause c' r' n' outcome

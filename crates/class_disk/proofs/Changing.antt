@@ -1,21 +1,11 @@
 -- One part of an open request changes in the table: what that leaves of all others, and what is owed of it alone.
 use Rattle.std.proofs.Common.{◌≡◌, ◌≢◌, ◌<◌, ◌≤◌, inl, inr, ℕ, ◌+◌, ◌-◌, Bool, List, [], ◌∷◌, ◌++◌, sym, ◌∙◌, ap, subst, arith, map, length, length-append, get_or}
 use Rattle.std.specs.Prelude.{IsPermutation, All}
-use Rattle.std.proofs.lemmas.List.{map-append}
-use Rattle.std.proofs.lemmas.List.Sorted.{IsPermutation-sym, IsPermutation-middle, IsPermutation-map, All-permutation}
-use Rattle.std.proofs.lemmas.List.Elements.{All-nil, All-cons, All-head, All-tail, All-weaker, All-append}
-use Rattle.machine.specs.Rules.{Rules}
-use Rattle.machine.specs.State.{Mark, Untouched, Out, Done, Failed, Back}
+use Rattle.class_disk.proofs.Common.{map-append, IsPermutation-sym, IsPermutation-middle, IsPermutation-map, All-permutation, All-nil, All-cons, All-head, All-tail, All-weaker, All-append, Rules, Mark, Untouched, Out, Done, Failed, Back, Progress, Note, Sent, Kept, Known, HasSome, IsOverMark, IsOverNote, IsOver, noted_busy, goes_whole, note, note_by, known, knowns, packet_above, request_of_part, IsCauseBy, HaveCauses, IsOpen, IsBuffered, IsWritten, PartId}
 use Rattle.class_disk.specs.declared.parts.Part.{Part}
-use Rattle.class_disk.specs.declared.parts.Progress.{Progress}
 use Rattle.class_disk.specs.declared.parts.Progress.TheVariants.{Ready, Below, Ended as HasEnded}
-use Rattle.class_disk.specs.inside.Joint.{Note, Sent, Kept, Known}
-use Rattle.class_disk.specs.inside.Invariant.{HasSome, IsOverMark, IsOverNote, IsOver, noted_busy}
 use Rattle.class_disk.specs.inside.Parts.{WasSent, WasSentBy, restarts_of, unfinished_of, unfinished_by}
 use Rattle.class_disk.specs.inside.TableView.{Opened, TableView, opened, all_open, restarts_left}
-use Rattle.class_disk.specs.inside.Blocks.{goes_whole}
-use Rattle.class_disk.specs.inside.Driver.{note, note_by, known, knowns, packet_above, request_of_part, IsCauseBy, HaveCauses, IsOpen, IsBuffered, IsWritten}
-use Rattle.class_disk.specs.declared.parts.PartId.{PartId}
 use Rattle.class_disk.specs.inside.Owners.{slot_at, place_at, IsOwnedBy, AreOwnedFrom}
 use Rattle.class_disk.proofs.Retaking.{known_at}
 use Rattle.class_disk.proofs.Causes.{causes_more}

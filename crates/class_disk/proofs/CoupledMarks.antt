@@ -1,20 +1,8 @@
 -- The marks of a part among the marks of its request.
 use Rattle.std.proofs.Common.{◌≡◌, ◌<◌, ◌≤◌, ◌⊎◌, inl, inr, ℕ, zero, suc, ◌+◌, ◌-◌, Bool, true, false, not, List, [], ◌∷◌, ◌++◌, refl, sym, ◌∙◌, ap, subst, arith, map, length, take, drop, get_or, length-drop, append_assoc}
 use Rattle.std.specs.Prelude.{All, Any, Contains, slice_range, IsTrue}
-use Rattle.std.specs.List.{list_all}
-use Rattle.std.proofs.lemmas.List.{length-map, map-append, take-map, drop-map, get_or-map, take-append-le, drop-append-le}
-use Rattle.std.proofs.lemmas.List.Elements.{All-map}
-use Rattle.std.proofs.Math.Seq.{drop-append-add}
-use Rattle.sector.specs.Splice.{splice}
-use Rattle.sector.specs.declared.Extent.{Extent}
-use Rattle.srb.specs.declared.Kind.{Kind}
-use Rattle.srb.specs.declared.Kind.TheVariants.{Read, Write, Flush}
-use Rattle.machine.specs.declared.ClientRequest.{ClientRequest}
-use Rattle.machine.specs.Rules.{Rules, first_sector}
-use Rattle.machine.specs.State.{Mark, Untouched, Out, Done, Failed, Back, OpenRequest, Piece}
-use Rattle.machine.specs.Sending.{HasTag, IsLowestFreeTag, command_for, is_untouched, IsUnsent, is_started}
+use Rattle.class_disk.proofs.Common.{list_all, length-map, map-append, take-map, drop-map, get_or-map, take-append-le, drop-append-le, All-map, drop-append-add, splice, Extent, Kind, Read, Write, Flush, ClientRequest, Rules, first_sector, Mark, Untouched, Out, Done, Failed, Back, OpenRequest, Piece, HasTag, IsLowestFreeTag, command_for, is_untouched, IsUnsent, is_started, below_rules}
 use Rattle.class_disk.specs.inside.Joint.{Part, Below, Here, Divided, shown_mark, lifted, parts_requests, parts_pieces, parts_marks, parts_lifted, shown, pieces_below, pieces_above, IsPartOf}
-use Rattle.class_disk.specs.inside.PortRules.{below_rules}
 
 take-append-add : {X : Type 0} (xs ys : List X) (n : ℕ) → take (length xs + n) (xs ++ ys) ≡ xs ++ take n ys
 take-append-add [] ys n = ap (λ k. take k ys) (omega arith)
@@ -119,26 +107,31 @@ same_command rules q first o places h = ap (λ kind. command_for (below_rules ru
 abbrev pub tag_of : Piece → ℕ
 tag_of piece = piece.tag
 
-tags_lifted : (owner first : ℕ) (parts : List Part) → map tag_of (parts_lifted owner first parts) ≡ map tag_of (parts_pieces parts)
-tags_lifted owner first [] = refl
-tags_lifted owner first (Below o again pieces ∷ parts) =
-    map-append tag_of (map (lifted owner first) pieces) (parts_lifted owner (first + length o.marks) parts)
-    ∙ ap (λ zs. zs ++ map tag_of (parts_lifted owner (first + length o.marks) parts)) (mine pieces)
-    ∙ ap (λ zs. map tag_of pieces ++ zs) (tags_lifted owner (first + length o.marks) parts)
-    ∙ sym (map-append tag_of pieces (parts_pieces parts))
-  where
-    mine : (ps : List Piece) → map tag_of (map (lifted owner first) ps) ≡ map tag_of ps
-    mine [] = refl
-    mine (p ∷ ps) = ap (λ zs. p.tag ∷ zs) (mine ps)
-tags_lifted owner first (Here marks busy ∷ parts) = tags_lifted owner (first + length marks) parts
+-- what a lift leaves of each piece it leaves of all
+module _ {X : Type 0} (f : Piece → X) (stays : (owner first : ℕ) (p : Piece) → f (lifted owner first p) ≡ f p) where
+  of_parts : (owner first : ℕ) (parts : List Part) → map f (parts_lifted owner first parts) ≡ map f (parts_pieces parts)
+  of_parts owner first [] = refl
+  of_parts owner first (Below o again pieces ∷ parts) =
+      map-append f (map (lifted owner first) pieces) (parts_lifted owner (first + length o.marks) parts)
+      ∙ ap (λ zs. zs ++ map f (parts_lifted owner (first + length o.marks) parts)) (mine pieces)
+      ∙ ap (λ zs. map f pieces ++ zs) (of_parts owner (first + length o.marks) parts)
+      ∙ sym (map-append f pieces (parts_pieces parts))
+    where
+      mine : (ps : List Piece) → map f (map (lifted owner first) ps) ≡ map f ps
+      mine [] = refl
+      mine (p ∷ ps) = ap (λ x. x ∷ map f (map (lifted owner first) ps)) (stays owner first p) ∙ ap (λ zs. f p ∷ zs) (mine ps)
+  of_parts owner first (Here marks busy ∷ parts) = of_parts owner (first + length marks) parts
+
+  pub of_pieces : (es : List Divided) → map f (pieces_above es) ≡ map f (pieces_below es)
+  of_pieces [] = refl
+  of_pieces (e ∷ es) =
+      map-append f (parts_lifted e.number 0 e.parts) (pieces_above es)
+      ∙ ap (λ zs. zs ++ map f (pieces_above es)) (of_parts e.number 0 e.parts)
+      ∙ ap (λ zs. map f (parts_pieces e.parts) ++ zs) (of_pieces es)
+      ∙ sym (map-append f (parts_pieces e.parts) (pieces_below es))
 
 pub same_tags : (es : List Divided) → map tag_of (pieces_above es) ≡ map tag_of (pieces_below es)
-same_tags [] = refl
-same_tags (e ∷ es) =
-    map-append tag_of (parts_lifted e.number 0 e.parts) (pieces_above es)
-    ∙ ap (λ zs. zs ++ map tag_of (pieces_above es)) (tags_lifted e.number 0 e.parts)
-    ∙ ap (λ zs. map tag_of (parts_pieces e.parts) ++ zs) (same_tags es)
-    ∙ sym (map-append tag_of (parts_pieces e.parts) (pieces_below es))
+same_tags = of_pieces tag_of (λ owner first p. refl)
 
 module _ (xs ys : List Piece) (same : map tag_of xs ≡ map tag_of ys) where
   long : length xs ≡ length ys

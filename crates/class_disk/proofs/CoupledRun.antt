@@ -1,36 +1,10 @@
 -- Each step of the layer below is the same step of the layer above: both machines move by the same labels.
 use Rattle.std.proofs.Common.{◌≡◌, ◌<◌, ◌≤◌, inl, inr, ℕ, zero, suc, ◌+◌, false, List, [], ◌∷◌, ◌++◌, refl, sym, ◌∙◌, ap, subst, arith, map, length, replicate}
 use Rattle.std.specs.Prelude.{IsPermutation, All, Contains, IsTrue}
-use Rattle.std.specs.List.{remove}
-use Rattle.std.proofs.lemmas.List.{length-map, length-replicate, get_or-map}
-use Rattle.std.proofs.lemmas.List.Sorted.{IsPermutation-refl, IsPermutation-sym, IsPermutation-trans, IsPermutation-cons, IsPermutation-middle, IsPermutation-append_left, IsPermutation-append_right, IsPermutation-map, IsPermutation-remove, All-permutation, Contains-permutation}
-use Rattle.std.proofs.lemmas.List.Elements.{Contains-append_left, Contains-append_right, All-cons, All-head, All-tail, All-weaker, All-contains}
-use Rattle.sector.proofs.Splicing.{length-splice}
-use Rattle.sector.specs.declared.Extent.{Extent}
-use Rattle.srb.specs.declared.Class.{Class}
+use Rattle.class_disk.proofs.Common.{remove, length-map, length-replicate, get_or-map, IsPermutation-refl, IsPermutation-sym, IsPermutation-trans, IsPermutation-cons, IsPermutation-middle, IsPermutation-append_left, IsPermutation-append_right, IsPermutation-map, IsPermutation-remove, All-permutation, Contains-permutation, Contains-append_left, Contains-append_right, All-cons, All-head, All-tail, All-weaker, All-contains, length-splice, Extent, Class, DeviceLabel, Start, Act, Fault, Return, Fate, Acted, Faulted, Kind, Read, Write, Flush, ClientRequest, Rules, Mark, Out, Done, Failed, Back, OpenRequest, Piece, State, IsSame, with_marks, AreDistinct, request_number, HasEarned, HasAlike, IsAllOf, IsAll, IsPlaced, DeviceStep, Run, as_label, AreDistinct-DeviceStep, AreDistinct-same, HaveEarned-DeviceStep, AreOnePiece-DeviceStep, IsSame-refl, IsSame-sym, IsSame-trans, DeviceStep-same, Any-permutation, IsPermutation-uncons, first_unique, leaves, ArePlaced-DeviceStep, ArePlaced-same, Owns, owns, below_rules}
 use Rattle.srb.specs.declared.Class.TheVariants.{Good, Busy, Bad}
-use Rattle.srb.specs.declared.DeviceLabel.{DeviceLabel}
-use Rattle.srb.specs.declared.DeviceLabel.TheVariants.{Start, Act, Fault, Return}
-use Rattle.srb.specs.Fate.{Fate, Acted, Faulted}
-use Rattle.srb.specs.declared.Kind.{Kind}
-use Rattle.srb.specs.declared.Kind.TheVariants.{Read, Write, Flush}
-use Rattle.machine.specs.declared.ClientRequest.{ClientRequest}
-use Rattle.machine.specs.Rules.{Rules}
-use Rattle.machine.specs.State.{Mark, Out, Done, Failed, Back, OpenRequest, Piece, State, IsSame, with_marks}
-use Rattle.machine.specs.Numbers.{AreDistinct, request_number}
-use Rattle.machine.specs.Marks.{HasEarned, HasAlike, IsAllOf, IsAll}
-use Rattle.machine.specs.Pieces.{IsPlaced}
 use Rattle.machine.specs.Sending.{Starts, Acts, Faults, Returns, MayStart, IsInTurn as IsInTurnFor, IsLowestFreeTag, HasOtherTag, HasTag, LeavesMarks, Transfers, sent, new_piece, with_fate, given_back, is_started, is_untouched, status_of_completion}
-use Rattle.machine.specs.Step.{DeviceStep, Run, as_label}
-use Rattle.machine.proofs.Numbers.{AreDistinct-DeviceStep, AreDistinct-same}
-use Rattle.machine.proofs.Earned.{HaveEarned-DeviceStep}
-use Rattle.machine.proofs.OnePiece.{AreOnePiece-DeviceStep}
-use Rattle.machine.proofs.Same.{IsSame-refl, IsSame-sym, IsSame-trans, DeviceStep-same, Any-permutation}
-use Rattle.machine.proofs.Permuting.{IsPermutation-uncons, first_unique}
-use Rattle.machine.proofs.Placed.{leaves, ArePlaced-DeviceStep, ArePlaced-same}
-use Rattle.machine.proofs.Owners.{Owns, owns}
 use Rattle.class_disk.specs.inside.Joint.{Part, Below, Divided, Joint, note_of, known_of, lifted, parts_requests, parts_pieces, parts_marks, parts_lifted, requests_below, pieces_below, pieces_above, shown, below, above, IsPartOf}
-use Rattle.class_disk.specs.inside.PortRules.{below_rules}
 use Rattle.class_disk.specs.inside.Invariant.{IsSound, IsOwnedBy, IsMadeUp, AgreesOnCancel, AreBehind, IsAhead, IsInTurn, IsInPieces, Keeps}
 use Rattle.class_disk.proofs.Coupled.{requests-append, pieces-append, lifted-append}
 use Rattle.class_disk.proofs.CoupledSteps.{divided_with, Starts-above, Acts-above, Faults-above, Returns-above, changed_below, below_first, shown_pieces}

@@ -1,29 +1,10 @@
 -- Steps of the layer below at one part, as steps of the layer above.
 use Rattle.std.proofs.Common.{◌≡◌, ◌≤◌, inl, inr, ℕ, zero, suc, ◌+◌, ◌-◌, true, false, List, [], ◌∷◌, ◌++◌, refl, sym, ◌∙◌, ap, subst, arith, map, length, take, drop, replicate, get_or, length-append}
 use Rattle.std.specs.Prelude.{IsPermutation, All, Contains, IsFalse, slice_range}
-use Rattle.std.specs.List.{concat}
-use Rattle.std.proofs.lemmas.List.{length-map, length-replicate, take-map, drop-map}
-use Rattle.std.proofs.lemmas.List.Sorted.{IsPermutation-refl, IsPermutation-sym, IsPermutation-trans, IsPermutation-cons, IsPermutation-middle, IsPermutation-append_left}
-use Rattle.std.proofs.lemmas.List.Elements.{All-cons, All-contains, All-map, Contains-append_left, Contains-append_right, Contains-get_or}
-use Rattle.sector.specs.Splice.{splice}
-use Rattle.sector.specs.declared.Extent.{Extent}
-use Rattle.cdb.specs.Meaning.{IsPlain, Means}
-use Rattle.srb.specs.declared.Class.{Class}
+use Rattle.class_disk.proofs.Common.{concat, length-map, length-replicate, take-map, drop-map, IsPermutation-refl, IsPermutation-sym, IsPermutation-trans, IsPermutation-cons, IsPermutation-middle, IsPermutation-append_left, All-cons, All-contains, All-map, Contains-append_left, Contains-append_right, Contains-get_or, splice, Extent, IsPlain, Means, Class, Fresh, Acted, Faulted, Kind, Read, Write, Flush, ClientRequest, Rules, first_sector, Cancels, Mark, Untouched, Out, Done, Failed, Back, OpenRequest, Piece, State, IsSame, with_marks, below_rules, IsAhead, IsInPieces, IsSame-refl, IsPermutation-uncons, length-splice}
 use Rattle.srb.specs.declared.Class.TheVariants.{Good, Busy, Bad}
-use Rattle.srb.specs.Fate.{Fresh, Acted, Faulted}
-use Rattle.srb.specs.declared.Kind.{Kind}
-use Rattle.srb.specs.declared.Kind.TheVariants.{Read, Write, Flush}
-use Rattle.machine.specs.declared.ClientRequest.{ClientRequest}
-use Rattle.machine.specs.Rules.{Rules, first_sector}
-use Rattle.machine.specs.Holding.{Cancels}
-use Rattle.machine.specs.State.{Mark, Untouched, Out, Done, Failed, Back, OpenRequest, Piece, State, IsSame, with_marks}
 use Rattle.machine.specs.Sending.{Starts, Acts, Faults, Returns, MayStart, IsInTurn, IsSendable, IsLowestFreeTag, IsUnsent, LeavesMarks, Transfers, command_for, sent, new_piece, with_fate, given_back, one_if_busy}
 use Rattle.class_disk.specs.inside.Joint.{Part, Below, Here, Divided, Joint, shown_mark, lifted, parts_requests, parts_pieces, parts_marks, parts_busy, parts_lifted, shown, requests_below, pieces_below, pieces_above, below, above, IsPartOf}
-use Rattle.class_disk.specs.inside.PortRules.{below_rules}
-use Rattle.class_disk.specs.inside.Invariant.{IsAhead, IsInPieces}
-use Rattle.machine.proofs.Same.{IsSame-refl}
-use Rattle.machine.proofs.Permuting.{IsPermutation-uncons}
-use Rattle.sector.proofs.Splicing.{length-splice}
 use Rattle.class_disk.proofs.Coupled.{requests-append, pieces-append, marks-append, busy-append, lifted-append}
 use Rattle.class_disk.proofs.InPieces.{BeginsWhole, begins_whole, piece_begins, restart_left}
 use Rattle.class_disk.proofs.CoupledMarks.{splice_middle, range_middle, map-splice, all_unsent, started_part, same_command, same_tags, IsLowestFreeTag-tags}

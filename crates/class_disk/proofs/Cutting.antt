@@ -1,17 +1,7 @@
 -- A request that the class driver takes can be cut, and the layer below takes each part.
 use Rattle.std.proofs.Common.{◌≡◌, ◌<◌, ◌≤◌, ◌⊎◌, inl, inr, ℕ, zero, suc, ◌+◌, ◌*◌, ◌/◌, ◌%◌, ◌^◌, ◌==◌, Bool, true, false, List, [], ◌∷◌, Some, rules, tests, refl, sym, ap, subst, arith, length, if◌then◌else◌}
-use Rattle.std.proofs.Math.Nat.{mul-le-mul_right, mul-le-mul_left, mod-add-div', mod-lt}
-use Rattle.sector.specs.declared.Extent.{Extent}
+use Rattle.class_disk.proofs.Common.{mul-le-mul_right, mul-le-mul_left, mod-add-div', mod-lt, Extent, Kind, Read, Write, Flush, Request, Rules, is_transfer, sectors_of, DeviceView, IsBounded, IsOrderly, Sizes, part_count_of, part_request_of, AreSizes, class_rules, IsPort, CanCut}
 use Rattle.split.specs.Pieces.{piece_count, piece_of}
-use Rattle.srb.specs.declared.Kind.{Kind}
-use Rattle.srb.specs.declared.Kind.TheVariants.{Read, Write, Flush}
-use Rattle.machine.specs.declared.Request.{Request}
-use Rattle.machine.specs.Rules.{Rules, is_transfer, sectors_of}
-use Rattle.device.specs.View.{DeviceView, IsBounded, IsOrderly}
-use Rattle.class_disk.specs.declared.Sizes.{Sizes}
-use Rattle.class_disk.specs.inside.Blocks.{part_count_of, part_request_of, AreSizes}
-use Rattle.class_disk.specs.Shown.{class_rules, IsPort}
-use Rattle.class_disk.specs.inside.DuringACall.{CanCut}
 
 -- the pieces are all whole, or one more
 pub whole_or_more : (whole left : ℕ)

@@ -1,31 +1,13 @@
 -- A removal: the class driver's own flag, and the removal of the layer below.
-use Rattle.std.proofs.Common.{◌≡◌, ◌≤◌, true, false, [], refl, sym, ◌∙◌, ap, subst, arith, map}
+use Rattle.class_disk.proofs.Common.{◌≡◌, ◌≤◌, true, false, [], refl, sym, ◌∙◌, ap, subst, arith, map, IsPermutation-refl, IsPermutation-sym, All-permutation, All-weaker, Rules, State, IsSame, AreCounted, IsCounted, held_back, IsSame-refl, IsSame-sym, IsSame-trans, AreDistinct-same, DeviceView, IsOrderly, IsTopmost, room_at, DrainsAll, Unsent, Joint, above, below, IsSound, Keeps, NeverSent, EndedAre, IsOver, noted_busy, class_rules, TableView, all_open, knowns, view_of, packet_above, AreAsked, AreSpotted, AreBelow, IsInHand, HaveCauses, note, tickets, most_over, AllOut, IsTaking, IsMidway, TakesAll}
 use Rattle.std.specs.Prelude.{IsPermutation, if◌then◌else◌}
-use Rattle.std.proofs.lemmas.List.Sorted.{IsPermutation-refl, IsPermutation-sym, All-permutation}
-use Rattle.std.proofs.lemmas.List.Elements.{All-weaker}
-use Rattle.machine.specs.Rules.{Rules}
-use Rattle.machine.specs.State.{State, IsSame}
-use Rattle.machine.specs.Marks.{AreCounted, IsCounted}
-use Rattle.machine.specs.Holding.{held_back}
-use Rattle.machine.proofs.Same.{IsSame-refl, IsSame-sym, IsSame-trans}
-use Rattle.machine.proofs.Numbers.{AreDistinct-same}
-use Rattle.device.specs.View.{DeviceView, IsOrderly, IsTopmost, room_at}
-use Rattle.device.specs.Served.{DrainsAll}
-use Rattle.class_disk.specs.inside.Joint.{Joint, above, below}
-use Rattle.class_disk.specs.inside.Invariant.{IsSound, Keeps, NeverSent, EndedAre, IsOver, noted_busy}
-use Rattle.class_disk.specs.Shown.{class_rules}
-use Rattle.class_disk.specs.inside.TableView.{TableView, all_open}
-use Rattle.class_disk.specs.inside.Driver.{knowns, view_of, packet_above, AreAsked, AreSpotted, AreBelow, IsInHand, HaveCauses, note, tickets}
-use Rattle.class_disk.specs.Opening.{most_over}
-use Rattle.class_disk.specs.inside.Rooms.{AllOut}
 use Rattle.class_disk.proofs.Rooms.{out_same}
 use Rattle.class_disk.proofs.Standing.{IsApart}
-use Rattle.class_disk.specs.inside.DuringACall.{IsTaking, IsMidway, WithdrawsAll}
 use Rattle.class_disk.proofs.CoupledRun.{sound_same}
 use Rattle.class_disk.proofs.Acting.{asked_still, spotted_still, shows}
 use Rattle.class_disk.proofs.Ending.{ends_unsent, unsent_drains, never_sent}
 use Rattle.class_disk.proofs.Causes.{causes_more}
-use Rattle.class_disk.proofs.Withdrawn.{StandsAgain, stands_again, over_more}
+use Rattle.class_disk.proofs.Withdrawn.{StandsAgain, stands_again, same_adapter, over_more}
 use Rattle.class_disk.proofs.PortRules.{port_rules}
 
 -- a removal leaves no turns
@@ -137,7 +119,7 @@ module _ (v : DeviceView) (b : TableView) (h : IsInHand v b) (v1 : DeviceView) (
       })
 
   -- ALL IS TAKEN
-  module _ (v2 : DeviceView) (b2 : TableView) (w : WithdrawsAll v1 books_drained v2 b2) (apart : IsApart b2) where
+  module _ (v2 : DeviceView) (b2 : TableView) (w : TakesAll Unsent v1 books_drained v2 b2) (apart : IsApart b2) where
     stands : StandsAgain (above joint_drained) v2 b2
     stands =
         stands_again (above joint_drained) v1 books_drained v2 b2 midway_drained w apart
@@ -158,11 +140,11 @@ module _ (v : DeviceView) (b : TableView) (h : IsInHand v b) (v1 : DeviceView) (
           drains = IsSame-trans _ _ _ (IsSame-sym _ _ stands.shows)
               (subst (λ os. IsSame (above joint_drained) (record (view_of v b).state { paused = false; removing = true; requests = os })) (sym none) drained);
           beside = record {
-            same_rules = ap class_rules (w.same_rules ∙ d.beside.same_rules);
-            same_packets = subst (λ ps. IsPermutation ps (map packet_above b.opens)) (sym w.same_packets) (IsPermutation-refl _);
-            same_rooms = λ spot. ap (λ rooms. room_at rooms spot) w.same_rooms;
-            same_submitted = w.same_submitted;
-            same_most = ap most_over (w.same_most ∙ d.beside.same_most);
-            same_adapter = w.same_adapter ∙ d.beside.same_adapter;
+            same_rules = ap class_rules (w.goes_on.same_rules ∙ d.beside.same_rules);
+            same_packets = subst (λ ps. IsPermutation ps (map packet_above b.opens)) (sym w.goes_on.same_packets) (IsPermutation-refl _);
+            same_rooms = λ spot. ap (λ rooms. room_at rooms spot) w.goes_on.same_rooms;
+            same_submitted = w.goes_on.same_submitted;
+            same_most = ap most_over (w.goes_on.same_most ∙ d.beside.same_most);
+            same_adapter = same_adapter v1 books_drained v2 b2 w ∙ d.beside.same_adapter;
           };
         }

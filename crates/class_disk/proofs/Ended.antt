@@ -1,26 +1,9 @@
 -- The request that ended first, taken out of the table.
 use Rattle.std.proofs.Common.{◌≡◌, ◌<◌, ◌≤◌, inl, inr, ℕ, zero, suc, ◌+◌, ◌*◌, ◌==◌, ◌^◌, Bool, true, false, List, [], ◌∷◌, Some, None, refl, sym, ◌∙◌, ap, subst, arith, length, IsSome}
 use Rattle.std.specs.Prelude.{Contains, if◌then◌else◌}
-use Rattle.std.proofs.Math.Nat.{mul-le-mul_left}
-use Rattle.std.proofs.lemmas.Bool.{ne_eqb, eqb-true, eqb-false, cases_Bool}
-use Rattle.std.proofs.lemmas.List.Sorted.{Contains-permutation}
-use Rattle.device.specs.declared.climbing.Climb.{Climb}
-use Rattle.irp.specs.declared.Payload.TheVariants.{Buffer}
-use Rattle.srb.specs.declared.Kind.TheVariants.{Read}
-use Rattle.ntstatus.specs.declared.NtStatus.TheVariants.{Success}
-use Rattle.machine.specs.Rules.{Rules, is_transfer}
-use Rattle.device.specs.View.{DeviceView, IsOrderly, Carries}
-use Rattle.device.specs.Served.{HandsUp, SetsRoom}
-use Rattle.class_disk.specs.declared.Sizes.{Sizes}
-use Rattle.class_disk.specs.declared.requests.Places.{Places}
+use Rattle.class_disk.proofs.Common.{mul-le-mul_left, ne_eqb, eqb-true, eqb-false, cases_Bool, Contains-permutation, Climb, Buffer, Read, Success, Rules, is_transfer, DeviceView, IsOrderly, Carries, HandsUp, SetsRoom, Sizes, Places, lowest_status, joined_of, Opened, TableView, opened_of, left_as, open_from, open_at, ended_in, AddsSlot, TakesEnded, Completes, class_rules, view_of, AreKept, IsInHand, part_count_of, part_request_of}
 use Rattle.class_disk.specs.declared.requests.Slot.TheVariants.{Reserved, Open, Left}
 use Rattle.class_disk.proofs.Slots.{Slots}
-use Rattle.class_disk.specs.inside.Parts.{lowest_status, joined_of}
-use Rattle.class_disk.specs.inside.TableView.{Opened, TableView, opened_of, left_as, open_from, open_at, ended_in}
-use Rattle.class_disk.specs.inside.TableCalls.{AddsSlot, TakesEnded, Completes}
-use Rattle.class_disk.specs.Shown.{class_rules}
-use Rattle.class_disk.specs.inside.Driver.{view_of, AreKept, IsInHand}
-use Rattle.class_disk.specs.inside.Blocks.{part_count_of, part_request_of}
 use Rattle.class_disk.proofs.PiecePlaces.{as_many}
 use Rattle.class_disk.proofs.HandingUp.{is_open}
 use Rattle.class_disk.proofs.HandedUp.{handed_up, fits}

@@ -1,25 +1,9 @@
 -- A request all of whose parts succeeded: the sectors that it moved.
 use Rattle.std.proofs.Common.{Bool, ◌≡◌, ◌<◌, ◌≤◌, ℕ, zero, suc, ◌+◌, ◌-◌, ◌*◌, ◌/◌, min, true, List, [], ◌∷◌, ◌++◌, refl, sym, ◌∙◌, ap, subst, arith, map, length, take, drop, length-append}
 use Rattle.std.specs.Prelude.{All, if◌then◌else◌}
-use Rattle.std.specs.List.{list_all, concat, range_with_len}
-use Rattle.std.proofs.Math.Nat.{mul-div_cancel}
-use Rattle.std.proofs.lemmas.List.{length-map, map-append}
-use Rattle.std.proofs.lemmas.List.Elements.{All-head, All-tail}
-use Rattle.srb.specs.declared.Kind.{Kind}
-use Rattle.srb.specs.declared.Kind.TheVariants.{Read, Write, Flush}
-use Rattle.machine.specs.declared.Request.{Request}
-use Rattle.machine.specs.Rules.{Rules, place_count, as_client, is_transfer}
-use Rattle.machine.specs.State.{Done}
-use Rattle.machine.specs.Answering.{is_done, bytes_of_mark}
-use Rattle.device.specs.View.{payload_bytes, transfer_length}
-use Rattle.device.specs.Served.{cut}
-use Rattle.split.specs.Pieces.{piece_of}
+use Rattle.class_disk.proofs.Common.{list_all, concat, range_with_len, mul-div_cancel, length-map, map-append, All-head, All-tail, Kind, Read, Write, Flush, Request, Rules, place_count, as_client, is_transfer, Done, is_done, bytes_of_mark, payload_bytes, transfer_length, cut, piece_of, part_request_of, payload_in, joined_of, bytes_by, bytes_from, places_of, note, note_by, request_of_part, IsBuffered, IsBufferedBy, IsWrittenBy}
 use Rattle.class_disk.specs.declared.parts.Part.{Part}
 use Rattle.class_disk.specs.declared.parts.Progress.TheVariants.{Ended as PartEnded}
-use Rattle.class_disk.specs.inside.Blocks.{part_request_of}
-use Rattle.class_disk.specs.inside.Parts.{payload_in, joined_of, bytes_by}
-use Rattle.class_disk.specs.inside.TableCalls.{bytes_from}
-use Rattle.class_disk.specs.inside.Driver.{places_of, note, note_by, request_of_part, IsBuffered, IsBufferedBy, IsWrittenBy}
 use Rattle.class_disk.proofs.EndedParts.{marks_noted, IsGoodPart}
 
 -- BYTES CUT INTO SECTORS

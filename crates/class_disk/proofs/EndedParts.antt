@@ -1,24 +1,12 @@
 -- A request all of whose parts have ended: its marks, and the status that they give it.
 use Rattle.std.proofs.Common.{◌≡◌, ◌≢◌, ◌<◌, inl, inr, ℕ, zero, suc, ◌+◌, Bool, false, List, [], ◌∷◌, ◌++◌, refl, sym, ◌∙◌, ap, subst, arith, map, length, replicate}
 use Rattle.std.specs.Prelude.{All, IsTrue, ◌↔◌}
-use Rattle.std.specs.List.{list_all}
-use Rattle.std.proofs.lemmas.List.Elements.{All-nil, All-cons, All-head, All-tail, All-append}
-use Rattle.ntstatus.specs.declared.NtStatus.{NtStatus}
-use Rattle.ntstatus.specs.declared.NtStatus.TheVariants.{Success, Cancelled, NoSuchDevice}
-use Rattle.machine.specs.Rules.{Rules}
-use Rattle.machine.specs.State.{Mark, Untouched, Out, Done, Failed, Back, OpenRequest, State}
-use Rattle.machine.specs.Answering.{Cause, IsGivenUp, HasEnded, HasCause, is_done}
-use Rattle.device.specs.Served.{sectors_moved}
+use Rattle.class_disk.proofs.Common.{list_all, All-nil, All-cons, All-head, All-tail, All-append, NtStatus, Success, Cancelled, NoSuchDevice, Rules, Mark, Untouched, Out, Done, Failed, Back, OpenRequest, State, Cause, IsGivenUp, HasEnded, HasCause, is_done, sectors_moved, Progress, Outcome, payload_in, lowest_status, status_or, failure_by, failure_of, unfinished_by, unfinished_of, IsHere, IsHereBy, noted_busy, IsCause, IsCauseBy, places_of, marks_left, note, note_by}
 use Rattle.class_disk.specs.declared.parts.Part.{Part}
 use Rattle.class_disk.specs.declared.parts.Ended.{Ended}
-use Rattle.class_disk.specs.declared.parts.Progress.{Progress}
 use Rattle.class_disk.specs.declared.parts.Progress.TheVariants.{Ready, Below as SentBelow, Ended as PartEnded}
-use Rattle.class_disk.specs.declared.parts.Outcome.{Outcome}
 use Rattle.class_disk.specs.declared.parts.Outcome.TheVariants.{Good, Failed as IsBad, Busy, Withdrawn}
-use Rattle.class_disk.specs.inside.Parts.{payload_in, lowest_status, status_or, failure_by, failure_of, unfinished_by, unfinished_of, IsHere, IsHereBy}
 use Rattle.class_disk.specs.inside.Joint.{Part as JointPart, Below, Here, Note, Sent, Kept, shown_mark, note_of, parts_requests, parts_pieces, parts_marks, parts_busy, parts_lifted}
-use Rattle.class_disk.specs.inside.Invariant.{noted_busy}
-use Rattle.class_disk.specs.inside.Driver.{IsCause, IsCauseBy, places_of, marks_left, note, note_by}
 use Rattle.class_disk.proofs.Resting.{HasEndedHere}
 
 -- PARTS OF THE MACHINE THAT ARE ALL HERE

@@ -1,12 +1,6 @@
 -- The slot of the request that ended first.
 use Rattle.std.proofs.Common.{◌≡◌, ℕ, zero, List, ◌∷◌, Option, Some, None, refl, sym, ◌∙◌, ap, subst, arith, Contains, IsSome}
-use Rattle.std.specs.VecDeque.{deque_capacity}
-use Rattle.slab.specs.Slab.{Updates, get}
-use Rattle.class_disk.specs.declared.requests.Slot.TheVariants.{Open}
-use Rattle.class_disk.specs.declared.requests.Transfer.{Transfer}
-use Rattle.class_disk.specs.declared.table.Table.{Table}
-use Rattle.class_disk.specs.inside.TableView.{books_of, opened_of, open_from, rooms_from, open_at, TakesOut}
-use Rattle.class_disk.specs.inside.TableCalls.{TakesEnded}
+use Rattle.class_disk.proofs.Common.{deque_capacity, Updates, get, Open, Transfer, Table, books_of, opened_of, open_from, rooms_from, open_at, TakesOut, TakesEnded}
 use Rattle.class_disk.proofs.SlotChanges.{keeps_rooms, takes_off}
 use Rattle.class_disk.proofs.Replacing.{stands_there}
 

@@ -1,50 +1,13 @@
 -- A packet below that has ended is taken: what the class driver notes of its part are the marks that it had there.
 use Rattle.std.proofs.Common.{◌≡◌, ◌≢◌, ◌<◌, ◌≤◌, ◌⊎◌, inl, inr, ℕ, zero, suc, ◌+◌, ◌-◌, not, Bool, true, false, List, [], ◌∷◌, None, refl, sym, ◌∙◌, ap, subst, arith, map, length, get_or, replicate}
 use Rattle.std.specs.Prelude.{All, Contains, IsTrue, if◌then◌else◌}
-use Rattle.std.specs.List.{list_all}
-use Rattle.std.proofs.lemmas.List.{length-replicate, get_or-replicate}
-use Rattle.std.proofs.lemmas.List.Sorted.{IsPermutation-sym, All-permutation, Contains-permutation}
-use Rattle.std.proofs.lemmas.List.Elements.{All-cons, All-head, All-tail, All-weaker, All-map, All-replicate, All-contains}
-use Rattle.ntstatus.specs.declared.NtStatus.{NtStatus}
-use Rattle.ntstatus.specs.declared.NtStatus.TheVariants.{Success, DeviceBusy}
-use Rattle.sector.specs.declared.Extent.{Extent}
-use Rattle.sector.specs.Splice.{splice}
-use Rattle.sector.proofs.Splicing.{length-splice}
-use Rattle.srb.specs.declared.DeviceLabel.{DeviceLabel}
-use Rattle.srb.specs.declared.DeviceLabel.TheVariants.{Start, Act, Fault, Return}
-use Rattle.srb.specs.declared.Class.{Class}
+use Rattle.class_disk.proofs.Common.{list_all, length-replicate, get_or-replicate, IsPermutation-sym, All-permutation, Contains-permutation, All-cons, All-head, All-tail, All-weaker, All-map, All-replicate, All-contains, NtStatus, Success, DeviceBusy, Extent, splice, length-splice, DeviceLabel, Start, Act, Fault, Return, Class, Climb, Payload, ClientRequest, Request, Rules, place_count, as_client, Mark, Untouched, Out, Done, Failed, Back, OpenRequest, Piece, State, IsSame, HasPlaces, HavePlaces, IsEarned, IsLike, HasAlike, IsBusyBy, IsCounted, AreCounted, Opens, new_request, Starts, Returns, LeavesMarks, is_untouched, sent, given_back, new_piece, status_of_completion, IsStart, HasEnded, HasCause, Answers, is_done, Cancels, as_cancelled, held_back, Run, as_label, DeviceView, Packet, payload_bytes, HandsUp, Submits, Finishes, CancelsIfOpen, DrainsAll, IsBeside, NoneToCancel, AwaitsRestartIfEnded, sectors_moved, cut, out_ends_not, untouched_ends_not, IsSame-sym, All-changed, ComesBackWhole, comes_back_whole, get_or-splice_inside, taken_in, Outcome, Way, Returned, Unsent, Kept, shown_mark, class_rules, IsPort, busy_left, places_of, marks_left, note_by, note, payload_in, EndsAs, EndsBack}
 use Rattle.srb.specs.declared.Class.TheVariants.{Good, Busy, Bad}
-use Rattle.device.specs.declared.climbing.Climb.{Climb}
-use Rattle.irp.specs.declared.Payload.{Payload}
-use Rattle.machine.specs.declared.ClientRequest.{ClientRequest}
-use Rattle.machine.specs.declared.Request.{Request}
-use Rattle.machine.specs.Rules.{Rules, place_count, as_client}
-use Rattle.machine.specs.State.{Mark, Untouched, Out, Done, Failed, Back, OpenRequest, Piece, State, IsSame}
-use Rattle.machine.specs.Numbers.{HasPlaces, HavePlaces}
-use Rattle.machine.specs.Marks.{IsEarned, IsLike, HasAlike, IsBusyBy, IsCounted, AreCounted}
-use Rattle.machine.specs.Calling.{Opens, new_request}
-use Rattle.machine.specs.Sending.{Starts, Returns, LeavesMarks, is_untouched, sent, given_back, new_piece, status_of_completion, IsStart}
-use Rattle.machine.specs.Answering.{HasEnded, HasCause, Answers, is_done}
-use Rattle.machine.specs.Holding.{Cancels, as_cancelled, held_back}
-use Rattle.machine.specs.Step.{Run, as_label}
-use Rattle.device.specs.View.{DeviceView, Packet, payload_bytes}
-use Rattle.device.specs.Served.{HandsUp, Submits, Finishes, CancelsIfOpen, DrainsAll, IsBeside, NoneToCancel, AwaitsRestartIfEnded, sectors_moved, cut}
-use Rattle.machine.proofs.Commuting.{out_ends_not, untouched_ends_not}
-use Rattle.machine.proofs.Same.{IsSame-sym}
-use Rattle.machine.proofs.Permuting.{All-changed}
-use Rattle.machine.proofs.Counted.{ComesBackWhole, comes_back_whole}
-use Rattle.machine.proofs.Placed.{get_or-splice_inside}
-use Rattle.machine.proofs.Places.{taken_in}
 use Rattle.class_disk.specs.declared.parts.Part.{Part}
 use Rattle.class_disk.specs.declared.parts.Ended.{Ended}
 use Rattle.class_disk.specs.declared.parts.Progress.TheVariants.{Ended as PartEnded}
-use Rattle.class_disk.specs.declared.parts.Outcome.{Outcome}
 use Rattle.class_disk.specs.declared.parts.Outcome.TheVariants.{Good as IsGood, Failed as IsBad, Busy as IsBusy, Withdrawn}
-use Rattle.class_disk.specs.inside.Joint.{Kept, shown_mark}
-use Rattle.class_disk.specs.inside.Invariant.{IsSound, WasSent, NeverSent, IsUntouched, IsIfEnded, EndedAre, EndsUnsent}
-use Rattle.class_disk.specs.Shown.{class_rules, IsPort}
-use Rattle.class_disk.specs.inside.Driver.{busy_left, places_of, marks_left, note_by, note}
-use Rattle.class_disk.specs.inside.Parts.{payload_in, EndsBack}
+use Rattle.class_disk.specs.inside.Invariant.{IsSound, WasSent, NeverSent, EndedBy, IsUntouched, IsIfEnded, EndedAre, EndsUnsent}
 use Rattle.class_disk.proofs.Resting.{Is, WaitsBelow, at_rest, untouched_all}
 use Rattle.class_disk.proofs.Acting.{ended_still}
 
@@ -184,14 +147,14 @@ module _ (takes : Bool) (v : DeviceView) (climb : Climb) (spot : ℕ) (v' : Devi
     left_by (EndsBusy all busy one) (IsBusy told) is = (back_by told all, one)
     left_by (EndsBusy all busy one) (Withdrawn told) is = absurd is
 
-    pub marks_returned : EndedAre WasSent v.rules v.state → (outcome : Outcome) → EndsBack h.status outcome
+    -- the marks of a part that was taken, and its busy returns: one that never went, or not again, has no other
+    pub marks_taken : (way : Way) → EndedAre (EndedBy way) v.rules v.state → again ≡ part.restarts → (outcome : Outcome) → EndsAs way h.status outcome
         → (map (shown_mark again) ended_one.marks ≡ marks_left (class_rules v.rules) part h.payload outcome) × (ended_one.busy_returns ≡ busy_left outcome)
-    marks_returned sent outcome is = left_by (ends sent) outcome is
-
-    -- THE MARKS OF A PART THAT NEVER WENT, OR NOT AGAIN, and its busy returns
-    pub marks_withdrawn : EndedAre NeverSent v.rules v.state → again ≡ part.restarts → (told : NtStatus)
-        → (map (shown_mark again) ended_one.marks ≡ marks_left (class_rules v.rules) part h.payload (Withdrawn told)) × (ended_one.busy_returns ≡ busy_left (Withdrawn told))
-    marks_withdrawn never same told =
+    marks_taken Returned sent same outcome is = left_by (ends sent) outcome is
+    marks_taken Unsent never same IsGood is = absurd is
+    marks_taken Unsent never same (IsBad failure) is = absurd is
+    marks_taken Unsent never same (IsBusy told) is = absurd is
+    marks_taken Unsent never same (Withdrawn told) is =
         let all : All (Is Untouched) ended_one.marks = All-contains (IsIfEnded NeverSent v.rules v.state) v.state.requests ended_one never open_there h.answers.ended in (
           ap (map (shown_mark again)) (so_many Untouched ended_one.marks _ (long part asks) all) ∙ ap (λ n. map (shown_mark n) (replicate (places_of (class_rules v.rules) part) Untouched)) same,
           subst (IsBusyBy ended_one.busy_returns) (all 0 Untouched some_mark) first_busy,
@@ -207,14 +170,9 @@ module _ (takes : Bool) (v : DeviceView) (climb : Climb) (spot : ℕ) (v' : Devi
         ∙ ap (λ (x : Payload). Kept (marks_left (class_rules v.rules) part x ended.outcome) (part.restarts + busy_left ended.outcome)) (sym payload)
         ∙ sym (ap (note_by (class_rules v.rules) part) is_ended)
 
-    pub noted_returned : EndedAre WasSent v.rules v.state → EndsBack h.status ended.outcome
+    pub noted_taken : (way : Way) → EndedAre (EndedBy way) v.rules v.state → EndsAs way h.status ended.outcome
         → Kept (map (shown_mark part.restarts) ended_one.marks) (part.restarts + ended_one.busy_returns) ≡ note (class_rules v.rules) part
-    noted_returned sent is = note_is (marks_returned part asks part.restarts sent ended.outcome is)
-
-    pub noted_withdrawn : EndedAre NeverSent v.rules v.state → (told : NtStatus) → ended.outcome ≡ Withdrawn told
-        → Kept (map (shown_mark part.restarts) ended_one.marks) (part.restarts + ended_one.busy_returns) ≡ note (class_rules v.rules) part
-    noted_withdrawn never told is =
-        note_is (subst (λ x. (map (shown_mark part.restarts) ended_one.marks ≡ marks_left (class_rules v.rules) part h.payload x) × (ended_one.busy_returns ≡ busy_left x)) (sym is) (marks_withdrawn part asks part.restarts never refl told))
+    noted_taken way were is = note_is (marks_taken part asks part.restarts way were refl ended.outcome is)
 
   -- one that came back busy shows as one that waits to be sent again
   busy_by : (again : ℕ) → h.status ≡ DeviceBusy → Ends

@@ -1,43 +1,18 @@
--- A part that came back and is not sent again ends in the table: one packet is taken.
+-- A part that is not sent again ends in the table: one packet is taken.
 use Rattle.std.proofs.Common.{◌≡◌, ◌<◌, ◌≤◌, inl, inr, ℕ, ◌+◌, ◌-◌, ◌==◌, Bool, true, false, List, [], ◌∷◌, ◌++◌, refl, sym, ◌∙◌, ap, subst, arith, map}
 use Rattle.std.specs.Prelude.{IsPermutation, All, if◌then◌else◌}
-use Rattle.std.proofs.lemmas.Bool.{cases_Bool, eqb-true}
-use Rattle.std.proofs.lemmas.List.Sorted.{IsPermutation-sym, IsPermutation-trans, IsPermutation-cons, IsPermutation-middle, IsPermutation-append_right, IsPermutation-append_comm, All-permutation}
-use Rattle.std.proofs.lemmas.List.Elements.{All-tail}
-use Rattle.machine.specs.Rules.{Rules}
-use Rattle.machine.specs.State.{State}
-use Rattle.device.specs.declared.climbing.Climb.{Climb}
-use Rattle.srb.specs.declared.DeviceLabel.{DeviceLabel}
-use Rattle.device.specs.View.{DeviceView, IsOrderly, IsTopmost}
-use Rattle.device.specs.Served.{HandsUp}
+use Rattle.class_disk.proofs.Common.{cases_Bool, eqb-true, IsPermutation-sym, IsPermutation-trans, IsPermutation-cons, IsPermutation-middle, IsPermutation-append_right, IsPermutation-append_comm, All-permutation, All-tail, Rules, State, Climb, DeviceLabel, DeviceView, IsOrderly, IsTopmost, HandsUp, Outcome, Way, goes_whole, Note, Sent, EndedBy, EndedAre, IsOver, noted_busy, class_rules, IsPort, EndsAs, HasReason, unfinished_by, Opened, TableView, all_open, ended_in, ended_part, ended_at, ended_books, busy_left, note, note_by, known, knowns, tickets_held, tickets_open, IsCause, IsAsked, IsSpotted, IsOpen, AreKept, AreBelow, tickets, most_over, slot_at, place_at, payload_in, ticket_for, Ticket, AllOut, TransferPacket, IsTaking, IsMidway, TakesOne}
 use Rattle.class_disk.specs.declared.parts.Part.{Part}
 use Rattle.class_disk.specs.declared.parts.Ended.{Ended}
-use Rattle.class_disk.specs.declared.parts.Outcome.{Outcome}
-use Rattle.class_disk.specs.inside.Blocks.{goes_whole}
-use Rattle.class_disk.specs.inside.Joint.{Note, Sent}
-use Rattle.class_disk.specs.inside.Invariant.{WasSent, EndedAre, IsOver, noted_busy}
-use Rattle.class_disk.specs.Shown.{class_rules}
-use Rattle.class_disk.specs.inside.Parts.{EndsBack, HasReason, unfinished_by}
-use Rattle.class_disk.specs.inside.TableView.{Opened, TableView, all_open, ended_in}
-use Rattle.class_disk.specs.inside.TableCalls.{ended_part, ended_at, ended_books}
-use Rattle.class_disk.specs.inside.Driver.{busy_left, note, note_by, known, knowns, tickets_held, tickets_open, IsCause, IsAsked, IsSpotted, IsOpen, AreKept, AreBelow, tickets}
-use Rattle.class_disk.specs.Opening.{most_over}
-use Rattle.class_disk.specs.inside.Owners.{slot_at, place_at}
-use Rattle.class_disk.specs.inside.Parts.{payload_in, ticket_for}
-use Rattle.device.specs.inside.Out.{Ticket}
-use Rattle.class_disk.specs.inside.Rooms.{AllOut}
 use Rattle.class_disk.proofs.Rooms.{out_any_order}
-use Rattle.class_disk.specs.declared.parts.TransferPacket.{TransferPacket}
-use Rattle.class_disk.specs.inside.DuringACall.{IsTaking, IsMidway, TakesOne}
 use Rattle.class_disk.proofs.Retaking.{known_at}
-use Rattle.class_disk.proofs.Finishing.{notes_returned}
+use Rattle.class_disk.proofs.Finishing.{notes_taken}
 use Rattle.class_disk.proofs.Standing.{is_put}
 use Rattle.class_disk.proofs.Noting.{PartStands, ended-append, parts_now, rooms_now}
 use Rattle.class_disk.proofs.Handed.{Handed}
-use Rattle.class_disk.proofs.Withdrawing.{fewer_packets}
 use Rattle.class_disk.proofs.Changing.{o_now, b_now, each_entry, all_parts, packets_stay, left_now, long_now, known_new, some_now, busy_now, busy_is, over_now, causes_now, open_now, noted_restarts}
-use Rattle.class_disk.proofs.Returning.{cause_of, over_outcome, packets_taken, part_spotted, part_asked}
-use Rattle.class_disk.proofs.HandedPart.{same_request, taking_here, entry_open, was_sent_as, as_many_places, next_stays, removing_stays, is_buffered, is_written}
+use Rattle.class_disk.proofs.Returning.{cause_of, over_outcome, packets_taken, fewer_packets, part_spotted, part_asked}
+use Rattle.class_disk.proofs.HandedPart.{same_request, taking_here, entry_open, was_sent_as, as_many_places, next_stays, removing_stays, is_buffered, is_written, unsent_as}
 
 -- THE LIST OF THE ENDED
 
@@ -67,7 +42,7 @@ ended_middle before slot o o' after ended some h =
 module _ {takes : Bool} (v : DeviceView) (b : TableView) (climb : Climb) (spot : ℕ) (v' : DeviceView)
     (h : HandsUp takes v climb spot v') (ordered : IsOrderly v) (packet : TransferPacket) (payload_is : payload_in packet ≡ h.payload)
     (rooms_step : (others : List Ticket) → AllOut v others → AllOut v' (ticket_for h.request packet ∷ others))
-    (d : Handed b h.packet.number h.packet.spot) (some : 0 < d.o.unfinished) (outcome : Outcome) (ends : EndsBack h.status outcome)
+    (d : Handed b h.packet.number h.packet.spot) (some : 0 < d.o.unfinished) (way : Way) (outcome : Outcome) (ends : EndsAs way h.status outcome)
     (reason : HasReason d.o.irp.cancelled b.removing d.o.restarts outcome) where
   abbrev slot : ℕ
   slot = slot_at b.owners h.packet.spot
@@ -103,7 +78,7 @@ module _ {takes : Bool} (v : DeviceView) (b : TableView) (climb : Climb) (spot :
   pub books_are : ended_books slot (ended_at place ended d.part d.o) b ≡ b'
   books_are =
       ap (λ ps. ended_books slot (record d.o { parts = ps; unfinished = left }) b)
-      (parts_now rules b slot place d.o d.part h.packet.number h.packet.spot s ended)
+      (parts_now b slot place d.o d.part h.packet.number h.packet.spot s ended)
       ∙ ap (λ es. record b { opens = es; ended = ended_slots }) (is_put b.opens slot d.o s.stands o')
 
   busy_stays : noted_busy (note rules d.part ∷ []) ≤ noted_busy (note rules gone ∷ [])
@@ -113,19 +88,19 @@ module _ {takes : Bool} (v : DeviceView) (b : TableView) (climb : Climb) (spot :
       is_note = ap (note_by rules d.part) s.is_below
 
   module _ (first : State) (labels : List DeviceLabel)
-      (m : IsMidway WasSent first labels v b) where
+      (m : IsMidway (EndedBy way) first labels v b) where
     w : IsOpen rules b.owners (slot, d.o)
     w = entry_open h ordered d m
 
     taken : IsTaking rules first (labels ++ h.starts) v'.state
         (known_at (known rules d.o) (map (note rules) s.front) (note rules gone) (map (note rules) s.back) ∷ map (known rules)
         (map (λ (e : ℕ × Opened). e.1) (s.stands.before ++ s.stands.after)))
-        × EndedAre WasSent v.rules v'.state
+        × EndedAre (EndedBy way) v.rules v'.state
     taken =
-        notes_returned takes v climb spot v' h m.port ordered first labels (known rules d.o) (map (note rules) s.front)
+        notes_taken takes v climb spot v' h m.port ordered first labels (known rules d.o) (map (note rules) s.front)
         (map (note rules) s.back) d.part.restarts _
         (taking_here h ordered d m) gone ended refl payload_is
-        (as_many_places h ordered d m) refl m.ended ends
+        (as_many_places h ordered d m) refl way m.ended ends
 
     taking_then : IsTaking rules first (labels ++ h.starts) v'.state (knowns rules b')
     taking_then =
@@ -152,13 +127,14 @@ module _ {takes : Bool} (v : DeviceView) (b : TableView) (climb : Climb) (spot :
         omega arith
 
     cause : IsCause d.o.irp.cancelled b.removing (busy_now rules s gone d.o.restarts left b.next_packet ended_slots) outcome
-    cause = cause_of d.o.irp.cancelled b.removing d.o.restarts _ h.status outcome many ends reason
+    cause = cause_of way d.o.irp.cancelled b.removing d.o.restarts _ h.status outcome many ends reason
+        (λ is. unsent_as h ordered d m (subst (λ w. EndedAre (EndedBy w) v.rules v.state) is m.ended))
 
     -- WHAT IS KEPT
     kept_then : AreKept rules b'
     kept_then =
         let k = m.kept in
-        let buffered = is_buffered h ordered d m (goes_whole rules.max_transfer d.o.request) packet payload_is outcome ends in
+        let buffered = is_buffered h ordered d m (goes_whole rules.max_transfer d.o.request) packet payload_is way outcome ends in
         let written = is_written h ordered d m packet payload_is outcome in
         let one : unfinished_by d.part.progress ≡ 1 = ap unfinished_by s.is_below in
         let long = long_now rules s gone d.o.restarts left b.next_packet ended_slots in
@@ -196,15 +172,15 @@ module _ {takes : Bool} (v : DeviceView) (b : TableView) (climb : Climb) (spot :
           topmost = All-tail IsTopmost h.packet v'.packets (All-permutation IsTopmost _ _ (packets_taken h) m.below.topmost);
           some = some_now rules s gone d.o.restarts left b.next_packet ended_slots m.below.some;
           over = over_now rules s gone d.o.restarts left b.next_packet ended_slots busy_stays v'.state.removing
-              (over_outcome rules gone (payload_in packet) d.o.irp.cancelled v'.state.removing _ h.status outcome ends
+              (over_outcome rules gone (payload_in packet) d.o.irp.cancelled v'.state.removing _ outcome
               (subst (λ t. IsCause d.o.irp.cancelled t (busy_now rules s gone d.o.restarts left b.next_packet ended_slots) outcome)
               (m.below.removing ∙ sym removing) cause))
               (subst (λ t. All (IsOver 17 t) (knowns rules b)) (sym removing) m.below.over);
         }
 
-    midway_then : IsMidway WasSent first (labels ++ h.starts) v' b'
+    midway_then : IsMidway (EndedBy way) first (labels ++ h.starts) v' b'
     midway_then =
-        subst (λ (r : Rules). IsMidway WasSent first (labels ++ h.starts) (record v' { rules = r }) b')
+        subst (λ (r : Rules). IsMidway (EndedBy way) first (labels ++ h.starts) (record v' { rules = r }) b')
         (sym h.moves.same_rules) (record {
           port = m.port;
           taking = taking_then;
@@ -212,7 +188,7 @@ module _ {takes : Bool} (v : DeviceView) (b : TableView) (climb : Climb) (spot :
               (IsPermutation-middle (tickets_held b.held) (ticket_for d.part.request packet) (tickets_open (all_open b))))
               (IsPermutation-append_right (tickets_held b.held) _ _
               (subst (λ (x : TableView). IsPermutation (ticket_for d.part.request packet ∷ tickets_open (all_open b)) (tickets_open (all_open x))) books_are
-              (rooms_now rules b slot place d.o d.part h.packet.number h.packet.spot s ended))))
+              (rooms_now b slot place d.o d.part h.packet.number h.packet.spot s ended))))
               (subst (λ q. AllOut v' (ticket_for q packet ∷ tickets b)) (sym (same_request h ordered d m)) (rooms_step _ m.rooms_out)));
           kept = kept_then;
           below = below_then;
@@ -220,9 +196,10 @@ module _ {takes : Bool} (v : DeviceView) (b : TableView) (climb : Climb) (spot :
         })
 
   -- ONE PACKET IS TAKEN
-  pub takes_ended : TakesOne WasSent v b v' (ended_books slot (ended_at place ended d.part d.o) b)
-  takes_ended = subst (TakesOne WasSent v b v') (sym books_are) (record {
+  pub takes_ended : IsPort v.rules → TakesOne way v b v' (ended_books slot (ended_at place ended d.part d.o) b)
+  takes_ended port = subst (TakesOne way v b v') (sym books_are) (record {
     starts = h.starts;
+    still = λ is. (h.still port.no_window).0;
     goes_on = record {
       only_starts = h.only_starts;
       adapter = h.moves.adapter;
@@ -234,7 +211,7 @@ module _ {takes : Bool} (v : DeviceView) (b : TableView) (climb : Climb) (spot :
       same_packets = packets_stay rules s gone d.o.restarts left b.next_packet ended_slots;
     };
     fewer =
-        let a = fewer_packets v climb spot v' h in
+        let a = fewer_packets h in
         let c = left_now rules s gone d.o.restarts left b.next_packet ended_slots in
         omega arith;
     stays = midway_then;

@@ -1,28 +1,11 @@
 -- A finish from one call to the next: midway once the piece is back, and in hand again once all that has ended is taken.
-use Rattle.std.proofs.Common.{◌≡◌, ◌≢◌, ℕ, List, ◌∷◌, ◌++◌, sym, ◌∙◌, ap, subst, map}
+use Rattle.class_disk.proofs.Common.{◌≡◌, ◌≢◌, ℕ, List, ◌∷◌, ◌++◌, sym, ◌∙◌, ap, subst, map, IsPermutation-refl, All-permutation, All-append, All-map, All-weaker, moves_joined, DeviceLabel, Return, Rules, State, IsStart, Run, as_label, DeviceView, OnTag, piece_on_tag, IsOrderly, Finishes, FinishesNot, Opened, TableView, all_open, Progress, Returned, above, class_rules, IsPort, knowns, tickets, view_of, packet_above, IsAskedBy, IsAsked, AreAsked, AreKept, IsInHand, IsTaking, IsMidway, TakesAll}
 use Rattle.std.specs.Prelude.{IsPermutation, All}
-use Rattle.std.proofs.lemmas.List.Sorted.{IsPermutation-refl, All-permutation}
-use Rattle.std.proofs.lemmas.List.Elements.{All-append, All-map, All-weaker}
-use Rattle.adapter.proofs.Joining.{moves_joined}
-use Rattle.srb.specs.declared.DeviceLabel.{DeviceLabel}
-use Rattle.srb.specs.declared.DeviceLabel.TheVariants.{Return}
-use Rattle.machine.specs.Rules.{Rules}
-use Rattle.machine.specs.State.{State}
-use Rattle.machine.specs.Sending.{IsStart}
-use Rattle.machine.specs.Step.{Run, as_label}
-use Rattle.device.specs.View.{DeviceView, OnTag, piece_on_tag, IsOrderly}
-use Rattle.device.specs.Served.{Finishes, FinishesNot}
-use Rattle.class_disk.specs.inside.TableView.{Opened, TableView, all_open}
 use Rattle.class_disk.proofs.Rooms.{out_same}
 use Rattle.class_disk.proofs.Standing.{IsApart}
 use Rattle.class_disk.specs.declared.parts.Part.{Part}
-use Rattle.class_disk.specs.declared.parts.Progress.{Progress}
 use Rattle.class_disk.specs.declared.parts.Progress.TheVariants.{Ready, Below, Ended}
-use Rattle.class_disk.specs.inside.Joint.{above}
 use Rattle.class_disk.specs.inside.Invariant.{WasSent, EndedAre}
-use Rattle.class_disk.specs.Shown.{class_rules, IsPort}
-use Rattle.class_disk.specs.inside.Driver.{knowns, tickets, view_of, packet_above, IsAskedBy, IsAsked, AreAsked, AreKept, IsInHand}
-use Rattle.class_disk.specs.inside.DuringACall.{IsTaking, IsMidway, TakesAll}
 use Rattle.class_disk.proofs.Acting.{moves_above, below_moved, same_tags}
 use Rattle.class_disk.proofs.Asking.{asks_run}
 use Rattle.class_disk.proofs.Orderly.{All-from_map}
@@ -71,7 +54,7 @@ module _ (v : DeviceView) (books : TableView)
         }
 
     pub finish_ends : (v'' : DeviceView) (books' : TableView)
-        → TakesAll WasSent v' books v'' books' → IsApart books'
+        → TakesAll Returned v' books v'' books' → IsApart books'
         → Finishes (view_of v books) tag (view_of v'' books') × IsInHand v'' books'
     finish_ends v'' books' t apart =
         let m : IsMidway WasSent (above h.coupled.j) (return_labels ++ t.starts) v'' books' = t.stays

@@ -2,51 +2,20 @@
 -- the return, and then by starts.
 use Rattle.std.proofs.Common.{◌≡◌, ◌<◌, ℕ, suc, ◌+◌, Bool, List, [], ◌∷◌, ◌++◌, refl, sym, ◌∙◌, ap, subst, map, replicate}
 use Rattle.std.specs.Prelude.{IsPermutation, All, IsFalse}
-use Rattle.std.proofs.lemmas.List.Sorted.{IsPermutation-refl, IsPermutation-sym, All-permutation, Contains-permutation}
-use Rattle.ntstatus.specs.declared.NtStatus.{NtStatus}
-use Rattle.ntstatus.specs.declared.NtStatus.TheVariants.{DeviceBusy}
-use Rattle.adapter.specs.View.{MovesByAll}
-use Rattle.srb.specs.declared.DeviceLabel.{DeviceLabel}
-use Rattle.srb.specs.declared.DeviceLabel.TheVariants.{Return}
-use Rattle.device.specs.declared.climbing.Climb.{Climb}
-use Rattle.machine.specs.Rules.{Rules, place_count, as_client}
-use Rattle.machine.specs.State.{State, IsSame, Untouched}
-use Rattle.machine.specs.Numbers.{AreDistinct, request_number}
-use Rattle.machine.specs.Marks.{AreCounted}
-use Rattle.machine.specs.Calling.{Opens}
-use Rattle.machine.specs.Answering.{Answers}
-use Rattle.machine.specs.Sending.{IsStart}
-use Rattle.machine.specs.Cutting.{restarts}
-use Rattle.machine.specs.Step.{Run, as_label}
-use Rattle.device.specs.View.{DeviceView, Packet, OnTag, piece_on_tag, packet_number, IsOrderly, sent_bytes, room_at}
-use Rattle.device.specs.Served.{HandsUp, HandsUpNone, Submits, Finishes, AwaitsRestartIfEnded}
-use Rattle.machine.proofs.Same.{Run-same}
-use Rattle.machine.proofs.Numbers.{AreDistinct-Run, AreDistinct-same}
-use Rattle.class_disk.specs.inside.TableView.{Opened, TableView, opened}
+use Rattle.class_disk.proofs.Common.{IsPermutation-refl, IsPermutation-sym, All-permutation, Contains-permutation, DeviceBusy, MovesByAll, DeviceLabel, Return, Climb, Rules, place_count, as_client, State, IsSame, Untouched, AreDistinct, request_number, AreCounted, Opens, Answers, IsStart, restarts, Run, as_label, DeviceView, Packet, OnTag, piece_on_tag, packet_number, IsOrderly, sent_bytes, room_at, HandsUp, HandsUpNone, Submits, Finishes, AwaitsRestartIfEnded, Run-same, AreDistinct-Run, AreDistinct-same, Opened, TableView, opened, Way, Note, Sent, Kept, Known, known_of, shown_mark, above, class_rules, IsPort, shown_state, places_of, note, known, knowns, tickets, view_of, packet_above, AreKept, AreBelow, IsCoupled, IsInHand, most_over, AllOut, EndsAs, payload_in, IsTaking}
 use Rattle.class_disk.specs.declared.parts.Part.{Part}
 use Rattle.class_disk.specs.declared.parts.Ended.{Ended}
 use Rattle.class_disk.specs.declared.parts.Progress.TheVariants.{Ended as PartEnded}
-use Rattle.class_disk.specs.declared.parts.Outcome.TheVariants.{Withdrawn}
-use Rattle.class_disk.specs.inside.Joint.{Note, Sent, Kept, Known, known_of, shown_mark, above}
-use Rattle.class_disk.specs.inside.Invariant.{IsSound, Keeps, WasSent, NeverSent, EndedAre, IsOver, HasSome, noted_busy}
+use Rattle.class_disk.specs.inside.Invariant.{IsSound, Keeps, WasSent, EndedBy, EndedAre, IsOver, HasSome, noted_busy}
 use Rattle.class_disk.proofs.Restarting.{noted_back}
-use Rattle.class_disk.specs.Shown.{class_rules, IsPort}
-use Rattle.class_disk.specs.inside.Machine.{shown_state}
-use Rattle.class_disk.specs.inside.Driver.{places_of, note, known, knowns, tickets, view_of, packet_above, AreKept, AreBelow, IsCoupled, IsInHand}
-use Rattle.class_disk.specs.Opening.{most_over}
-use Rattle.class_disk.specs.inside.Rooms.{AllOut}
 use Rattle.class_disk.proofs.Standing.{IsApart}
-use Rattle.class_disk.specs.inside.Parts.{EndsBack, payload_in}
-use Rattle.class_disk.specs.inside.DuringACall.{IsTaking}
 use Rattle.class_disk.proofs.CoupledRun.{Contains-map}
 use Rattle.class_disk.proofs.Showing.{shown_is}
 use Rattle.class_disk.proofs.Acting.{map_there, same_tags, shows, numbers_known, have_places}
 use Rattle.class_disk.proofs.Orderly.{orderly_above}
-use Rattle.class_disk.proofs.Ending.{noted_returned, noted_withdrawn, waits_again, ended_finish, ended_handed, ended_submitted}
+use Rattle.class_disk.proofs.Ending.{noted_taken, waits_again, ended_finish, ended_handed, ended_submitted}
 use Rattle.class_disk.proofs.Retaking.{known_at, kept_taken, sent_again, taking_begins}
 use Rattle.class_disk.proofs.PortRules.{port_rules}
-use Rattle.machine.specs.Sending.{IsStart}
-use Rattle.machine.specs.Cutting.{restarts}
 
 -- THE PIECE COMES BACK
 pub finish_begins : (v : DeviceView) (books : TableView) (tag : ℕ) (v' : DeviceView) → IsPort v.rules → (c : IsCoupled v books) → IsSound v.state → AreCounted v.rules v.state → All (AwaitsRestartIfEnded v.rules v.state) v.state.requests → (h : Finishes v tag v')
@@ -80,20 +49,12 @@ module _ (takes : Bool) (v : DeviceView) (climb : Climb) (spot : ℕ) (v' : Devi
         subst (λ n. IsTaking (class_rules v.rules) first (labels ++ h.starts) v'.state (known_at k front n back ∷ others))
         (ap (λ n. Kept (map (shown_mark n) h.answers.request.marks) (n + h.answers.request.busy_returns)) (sym same) ∙ is) kept
 
-    -- A PART THAT CAME BACK IS NOTED
-    pub notes_returned : EndedAre WasSent v.rules v.state → EndsBack h.status ended.outcome
-        → IsTaking (class_rules v.rules) first (labels ++ h.starts) v'.state (known_at k front (note (class_rules v.rules) part) back ∷ others) × EndedAre WasSent v.rules v'.state
-    notes_returned sent is = (
-      by_note_is (noted_returned takes v climb spot v' h port t.sound counted ordered.places part ended is_ended payload asks sent is),
-      ended_handed WasSent takes v climb spot v' sent h,
-    )
-
-    -- A PART THAT NEVER WENT, OR NOT AGAIN, IS NOTED
-    pub notes_withdrawn : EndedAre NeverSent v.rules v.state → (told : NtStatus) → ended.outcome ≡ Withdrawn told
-        → IsTaking (class_rules v.rules) first (labels ++ h.starts) v'.state (known_at k front (note (class_rules v.rules) part) back ∷ others) × EndedAre NeverSent v.rules v'.state
-    notes_withdrawn never told is = (
-      by_note_is (noted_withdrawn takes v climb spot v' h port t.sound counted ordered.places part ended is_ended payload asks never told is),
-      ended_handed NeverSent takes v climb spot v' never h,
+    -- A PART IS NOTED
+    pub notes_taken : (way : Way) → EndedAre (EndedBy way) v.rules v.state → EndsAs way h.status ended.outcome
+        → IsTaking (class_rules v.rules) first (labels ++ h.starts) v'.state (known_at k front (note (class_rules v.rules) part) back ∷ others) × EndedAre (EndedBy way) v.rules v'.state
+    notes_taken way were is = (
+      by_note_is (noted_taken takes v climb spot v' h port t.sound counted ordered.places part ended is_ended payload asks way were is),
+      ended_handed (EndedBy way) takes v climb spot v' were h,
     )
 
   -- A PART THAT CAME BACK BUSY GOES DOWN AGAIN

@@ -1,24 +1,9 @@
 -- A part that is here goes down for the first time: wherever the machine above was, it is so after some starts more.
 use Rattle.std.proofs.Common.{◌≡◌, ◌<◌, ℕ, suc, ◌+◌, false, List, [], ◌∷◌, ◌++◌, refl, sym, ◌∙◌, ap, subst, arith, map, length, get_or, replicate, length-append}
 use Rattle.std.specs.Prelude.{IsPermutation, All, Contains, IsFalse}
-use Rattle.std.proofs.lemmas.List.{length-map, length-replicate}
-use Rattle.std.proofs.lemmas.List.Sorted.{IsPermutation-sym, IsPermutation-trans, IsPermutation-cons, IsPermutation-middle, IsPermutation-map, All-permutation, Contains-permutation}
-use Rattle.std.proofs.lemmas.List.Elements.{All-head, All-tail, All-contains, Contains-get_or}
-use Rattle.srb.specs.declared.DeviceLabel.{DeviceLabel}
-use Rattle.machine.specs.declared.ClientRequest.{ClientRequest}
-use Rattle.machine.specs.Rules.{Rules, place_count}
-use Rattle.machine.specs.State.{Mark, Untouched, OpenRequest, State, IsSame}
-use Rattle.machine.specs.Numbers.{IsGiven}
-use Rattle.machine.specs.Calling.{Opens, new_request}
-use Rattle.machine.specs.Step.{Run, as_label}
-use Rattle.machine.proofs.Same.{IsSame-trans}
-use Rattle.machine.proofs.Permuting.{IsPermutation-uncons}
-use Rattle.machine.proofs.Counted.{AreCounted-Opens, AreCounted-Run}
+use Rattle.class_disk.proofs.Common.{length-map, length-replicate, IsPermutation-sym, IsPermutation-trans, IsPermutation-cons, IsPermutation-middle, IsPermutation-map, All-permutation, Contains-permutation, All-head, All-tail, All-contains, Contains-get_or, DeviceLabel, ClientRequest, Rules, place_count, Mark, Untouched, OpenRequest, State, IsSame, IsGiven, Opens, new_request, Run, as_label, IsSame-trans, IsPermutation-uncons, AreCounted-Opens, AreCounted-Run, below_rules, IsSound, IsMadeUp, AgreesOnCancel, IsAhead, begins_back, IsInPieces, Keeps, IsOver, HasSome, IsTaking}
 use Rattle.class_disk.specs.inside.Joint.{Part, Below, Here, Note, Sent, Kept, Known, note_of, known_of, Divided, Joint, IsPartOf, shown_mark, parts_requests, parts_marks, requests_of, pieces_of, lifted_pieces, shown, below, above}
-use Rattle.class_disk.specs.inside.PortRules.{below_rules}
-use Rattle.class_disk.specs.inside.Invariant.{IsSound, IsMadeUp, AgreesOnCancel, IsAhead, begins_back, IsInPieces, Keeps, IsOver, HasSome}
 use Rattle.class_disk.proofs.InPieces.{in_pieces_with}
-use Rattle.class_disk.specs.inside.DuringACall.{IsTaking}
 use Rattle.class_disk.proofs.CoupledSteps.{in_requests, map_same}
 use Rattle.class_disk.proofs.CoupledRun.{keeps_permuted, Ran, run_coupled}
 use Rattle.class_disk.proofs.Showing.{gathered-permutation}

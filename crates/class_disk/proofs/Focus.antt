@@ -1,9 +1,7 @@
 -- A part below, taken out of all others.
 use Rattle.std.proofs.Common.{◌≡◌, ◌⊎◌, inl, inr, ℕ, zero, suc, List, [], ◌∷◌, ◌++◌, refl, sym, ◌∙◌, ap, subst, arith, append_assoc}
 use Rattle.std.specs.Prelude.{IsPermutation, Contains}
-use Rattle.std.proofs.lemmas.List.Sorted.{IsPermutation-middle, IsPermutation-append_left, IsPermutation-append_comm, IsPermutation-map}
-use Rattle.std.proofs.lemmas.List.Elements.{Contains-append_cases}
-use Rattle.machine.specs.State.{OpenRequest, Piece, IsSame}
+use Rattle.class_disk.proofs.Common.{IsPermutation-middle, IsPermutation-append_left, IsPermutation-append_comm, IsPermutation-map, Contains-append_cases, OpenRequest, Piece, IsSame}
 use Rattle.class_disk.specs.inside.Joint.{Part, Below, Here, Divided, Joint, gathered, requests_of, pieces_of, lifted_pieces, parts_requests, parts_pieces, requests_below, pieces_below, shown, below, above}
 use Rattle.class_disk.proofs.CoupledSteps.{divided_with}
 

@@ -1,30 +1,10 @@
 -- A class driver of which nothing was asked yet.
 use Rattle.std.proofs.Common.{◌≡◌, ◌<◌, inl, inr, ℕ, false, List, [], ◌∷◌, Some, refl, sym, subst, ap, ◌∙◌, arith}
-use Rattle.std.proofs.lemmas.List.Elements.{All-nil}
-use Rattle.std.proofs.lemmas.List.Sorted.{IsPermutation-refl}
-use Rattle.sector.specs.declared.Extent.{Extent}
-use Rattle.machine.specs.Rules.{Rules, sectors_of}
-use Rattle.machine.specs.State.{State, opening}
+use Rattle.class_disk.proofs.Common.{All-nil, IsPermutation-refl, Extent, Rules, sectors_of, State, opening, AreCounted-opening, HaveEarned-opening, AreDistinct-opening, AreOnePiece-opening, ArePlaced-opening, IsSame-refl, HasPlaces, DeviceView, Packet, IsOffRooms, IsOrderly, WaitsForTag, IsTopmost, IsPermutation, AwaitsRestartIfEnded, Sizes, class_rules, IsPort, joint_of, TableView, empty_books, IsFreshPort}
 use Rattle.machine.specs.Settled.{IsHeld as IsPausedThere, WaitsIfCancelled, Waits, IsAllSent, IsHeldBack, HasMore, IsAtWork}
-use Rattle.machine.proofs.Counted.{AreCounted-opening}
-use Rattle.machine.proofs.Earned.{HaveEarned-opening}
-use Rattle.machine.proofs.Numbers.{AreDistinct-opening}
-use Rattle.machine.proofs.OnePiece.{AreOnePiece-opening}
-use Rattle.machine.proofs.Placed.{ArePlaced-opening}
-use Rattle.machine.proofs.Same.{IsSame-refl}
-use Rattle.machine.specs.Numbers.{HasPlaces}
-use Rattle.device.specs.View.{DeviceView, Packet, IsOffRooms, IsOrderly, WaitsForTag, IsTopmost}
-use Rattle.std.specs.Prelude.{IsPermutation}
 use Rattle.device.specs.inside.Out.{IsGood, tickets_of}
-use Rattle.device.specs.Served.{AwaitsRestartIfEnded}
-use Rattle.class_disk.specs.declared.Sizes.{Sizes}
 use Rattle.class_disk.specs.inside.Invariant.{IsMadeUp, AgreesOnCancel, IsInTurn, IsInPieces, IsOver, HasSome}
-use Rattle.class_disk.specs.Shown.{class_rules, IsPort}
-use Rattle.class_disk.specs.inside.Machine.{joint_of}
-use Rattle.class_disk.specs.inside.TableView.{TableView}
-use Rattle.class_disk.specs.inside.TableCalls.{empty_books}
 use Rattle.class_disk.specs.inside.Driver.{IsInHand, IsHeld, IsOpen, HaveCauses, AreAsked, AreSpotted}
-use Rattle.class_disk.specs.Opening.{IsFreshPort}
 use Rattle.class_disk.proofs.Owned.{apart_none}
 
 -- a fresh port, written out

@@ -1,33 +1,11 @@
 -- The part whose packet the layer below hands up, in the table.
 use Rattle.std.proofs.Common.{◌≡◌, ◌<◌, ◌≤◌, ℕ, suc, ◌+◌, ◌==◌, Bool, true, false, List, [], ◌∷◌, ◌++◌, refl, sym, ◌∙◌, ap, subst, arith, map, length, rules, tests}
 use Rattle.std.specs.Prelude.{slice_get, All, Any, Contains, IsPermutation, Some, eqb, if◌then◌else◌}
-use Rattle.std.proofs.lemmas.Bool.{eqb-true}
-use Rattle.std.proofs.lemmas.List.Sorted.{IsPermutation-sym, IsPermutation-middle, Contains-permutation, All-permutation, length_permutation}
-use Rattle.std.proofs.lemmas.List.Elements.{All-head, All-contains, Contains-append_right}
-use Rattle.std.specs.Global.{Box}
-use Rattle.std.specs.List.{IsDistinct}
-use Rattle.std.proofs.lemmas.Map.Keys.{IsDistinct-IsPermutation}
-use Rattle.irp.specs.declared.Irp.{Irp}
-use Rattle.machine.proofs.Permuting.{first_unique}
-use Rattle.machine.specs.Rules.{Rules}
-use Rattle.machine.specs.State.{OpenRequest, State}
-use Rattle.device.specs.declared.climbing.Climb.{Climb}
-use Rattle.device.specs.declared.climbing.Climb.TheVariants.{Routine, Finished}
-use Rattle.device.specs.Climbing.{Climbs}
-use Rattle.machine.specs.Answering.{information}
-use Rattle.srb.specs.declared.DeviceLabel.{DeviceLabel}
-use Rattle.device.specs.View.{DeviceView, Packet, IsOrderly, IsTopmost, packet_number}
-use Rattle.device.specs.Served.{HandsUp, IsAt}
+use Rattle.class_disk.proofs.Common.{eqb-true, IsPermutation-sym, IsPermutation-middle, Contains-permutation, All-permutation, length_permutation, All-head, All-contains, Contains-append_right, Box, IsDistinct, IsDistinct-IsPermutation, Irp, first_unique, Rules, OpenRequest, State, Climb, Routine, Finished, Climbs, information, DeviceLabel, DeviceView, Packet, IsOrderly, IsTopmost, packet_number, HandsUp, IsAt, Progress, class_rules, unfinished_of, unfinished_by, Opened, TableView, opened, all_open, ended_in, open_at, note_by, note, known, knowns, IsOpen, AreSpotted, IsSpotted, IsSpottedBy, IsMidway}
 use Rattle.class_disk.specs.declared.parts.Part.{Part}
-use Rattle.class_disk.specs.declared.parts.Progress.{Progress}
 use Rattle.class_disk.specs.declared.parts.Progress.TheVariants.{Ready, Below, Ended as HasEnded}
 use Rattle.class_disk.specs.inside.Joint.{Sent, Known, note_of, known_of, Divided, Joint, Below as IsBelow}
-use Rattle.class_disk.specs.Shown.{class_rules}
-use Rattle.class_disk.specs.inside.Parts.{unfinished_of, unfinished_by}
-use Rattle.class_disk.specs.inside.TableView.{Opened, TableView, opened, all_open, ended_in, open_at}
-use Rattle.class_disk.specs.inside.Driver.{note_by, note, known, knowns, IsOpen, AreSpotted, IsSpotted, IsSpottedBy}
 use Rattle.class_disk.specs.inside.Owners.{IsOwnedBy, AreOwnedFrom, slot_at, place_at}
-use Rattle.class_disk.specs.inside.DuringACall.{IsMidway}
 use Rattle.class_disk.proofs.CoupledRun.{Contains-map}
 use Rattle.class_disk.proofs.CoupledSteps.{divided_with}
 use Rattle.class_disk.proofs.Focus.{Found, find}

@@ -1,39 +1,13 @@
 -- What the part was whose packet is handed up, and what its packet brings back.
-use Rattle.std.proofs.Common.{◌≡◌, ◌<◌, ◌≤◌, ℕ, suc, ◌+◌, ◌-◌, ◌*◌, ◌/◌, Bool, true, false, List, [], ◌∷◌, ◌++◌, refl, sym, ◌∙◌, ap, subst, arith, map, length, take}
-use Rattle.std.proofs.Math.Nat.{mul-div_cancel}
-use Rattle.std.specs.Prelude.{IsPermutation, All, Contains, slice_range}
-use Rattle.std.proofs.lemmas.List.Sorted.{IsPermutation-sym, IsPermutation-trans, Contains-permutation}
-use Rattle.std.proofs.lemmas.List.Elements.{All-contains}
-use Rattle.ntstatus.specs.declared.NtStatus.{NtStatus}
-use Rattle.ntstatus.specs.declared.NtStatus.TheVariants.{Success, DeviceBusy}
-use Rattle.machine.specs.declared.ClientRequest.{ClientRequest}
-use Rattle.srb.specs.declared.Kind.TheVariants.{Read, Write, Flush}
-use Rattle.machine.specs.declared.Request.{Request}
-use Rattle.machine.specs.Rules.{Rules, place_count, as_client}
-use Rattle.machine.specs.State.{OpenRequest, State, IsSame}
-use Rattle.machine.specs.Marks.{AreCounted, IsCounted}
-use Rattle.machine.specs.Step.{Run, as_label}
-use Rattle.device.specs.declared.climbing.Climb.{Climb}
-use Rattle.irp.specs.declared.Payload.{Payload}
+use Rattle.std.proofs.Common.{◌≡◌, ◌<◌, ◌≤◌, ◌⊎◌, inl, inr, ℕ, suc, ◌+◌, ◌-◌, ◌*◌, ◌/◌, Bool, true, false, List, [], ◌∷◌, ◌++◌, refl, sym, ◌∙◌, ap, subst, arith, map, length, take}
+use Rattle.class_disk.proofs.Common.{mul-div_cancel, IsPermutation-sym, IsPermutation-trans, Contains-permutation, All-contains, NtStatus, Success, DeviceBusy, Cancelled, NoSuchDevice, ClientRequest, Read, Write, Flush, Request, Rules, place_count, as_client, OpenRequest, State, IsSame, AreCounted, IsCounted, Run, as_label, Climb, Payload, DeviceLabel, DeviceView, IsOrderly, Carries, payload_bytes, sent_bytes, transfer_length, HandsUp, Outcome, Way, Returned, Unsent, HasPlaces, Note, Sent, Known, known_of, Divided, IsPartOf, parts_marks, parts_requests, IsMadeUp, AgreesOnCancel, IsCancelledAs, NeverSent, IsIfEnded, EndedAre, class_rules, EndsAs, HoldsData, payload_in, status_by, Opened, TableView, opened, all_open, TransferPacket, slot_at, ended_part, bytes_from, places_of, note, note_by, known, knowns, IsAsked, AreAsked, IsOpen, IsBuffered, IsWritten, IsTaking, IsMidway}
+use Rattle.std.specs.Prelude.{IsPermutation, All, Contains, IsTrue, slice_range}
 use Rattle.irp.specs.declared.Payload.TheVariants.{Buffer, Srb as Packed, Sent as AtAdapter}
-use Rattle.srb.specs.declared.DeviceLabel.{DeviceLabel}
-use Rattle.device.specs.View.{DeviceView, IsOrderly, Carries, payload_bytes, sent_bytes, transfer_length}
-use Rattle.device.specs.Served.{HandsUp}
 use Rattle.class_disk.specs.declared.parts.Part.{Part}
-use Rattle.class_disk.specs.declared.parts.Outcome.{Outcome}
 use Rattle.class_disk.specs.declared.parts.Outcome.TheVariants.{Good, Failed as IsBad, Busy, Withdrawn}
-use Rattle.class_disk.specs.inside.Joint.{Note, Sent, Known, known_of, Divided, IsPartOf, parts_marks}
-use Rattle.class_disk.specs.inside.Invariant.{IsMadeUp}
-use Rattle.class_disk.specs.Shown.{class_rules}
-use Rattle.class_disk.specs.inside.Parts.{EndsBack, HoldsData, payload_in, status_by}
-use Rattle.class_disk.specs.inside.TableView.{Opened, TableView, opened, all_open}
-use Rattle.class_disk.specs.declared.parts.TransferPacket.{TransferPacket}
-use Rattle.class_disk.specs.inside.Owners.{slot_at}
-use Rattle.class_disk.specs.inside.TableCalls.{ended_part, bytes_from}
-use Rattle.class_disk.specs.inside.Driver.{places_of, note, note_by, known, knowns, IsAsked, AreAsked, IsOpen, IsBuffered, IsWritten}
-use Rattle.class_disk.specs.inside.DuringACall.{IsTaking, IsMidway}
 use Rattle.class_disk.proofs.Retaking.{known_at, FoundBy, found_by}
-use Rattle.class_disk.proofs.Keeping.{part_in as part_of_divided}
+use Rattle.class_disk.proofs.Keeping.{part_in as part_of_divided, there}
+use Rattle.class_disk.proofs.Causes.{unsent_cause}
 use Rattle.class_disk.proofs.CoupledSteps.{divided_with}
 use Rattle.class_disk.proofs.Asking.{asks_of_handed, places_of_handed, request_of_handed}
 use Rattle.class_disk.proofs.Standing.{All-at}
@@ -77,11 +51,19 @@ holds_data false rules r (Buffer bytes) h = h
 holds_data false rules r AtAdapter h = absurd h
 
 -- what is not sent again, and tells of a busy return, came back busy
-busy_back : (status : NtStatus) (outcome : Outcome) → EndsBack status outcome → status_by outcome ≡ DeviceBusy → status ≡ DeviceBusy
-busy_back status Good ends is = absurd (cc (is))
-busy_back status (IsBad failure) ends is = sym ends.0 ∙ is
-busy_back status (Busy told) ends is = ends
-busy_back status (Withdrawn told) ends is = absurd ends
+busy_back : (way : Way) (status : NtStatus) (outcome : Outcome) → EndsAs way status outcome → status_by outcome ≡ DeviceBusy → status ≡ DeviceBusy
+busy_back way status Good ends is = absurd (cc (is))
+busy_back Returned status (IsBad failure) ends is = sym ends.0 ∙ is
+busy_back Returned status (Busy told) ends is = ends
+busy_back Returned status (Withdrawn told) ends is = absurd ends
+busy_back Unsent status (IsBad failure) ends is = absurd ends
+busy_back Unsent status (Busy told) ends is = absurd ends
+busy_back Unsent status (Withdrawn told) ends is = sym ends ∙ is
+
+-- and what succeeded came back so
+good_back : (way : Way) (status : NtStatus) → EndsAs way status Good → status ≡ Success
+good_back Returned status ends = ends
+good_back Unsent status ends = absurd ends
 
 -- WHAT THE PART THAT IS HANDED UP WAS
 
@@ -197,9 +179,13 @@ module _ {takes : Bool} {v : DeviceView} {b : TableView} {climb : Climb} {spot :
           )
 
   -- a read that succeeded brought all that it asked for, a flush no bytes, and what came back busy its buffer
-  pub is_buffered_by : (only : Bool) (packet : TransferPacket) → payload_in packet ≡ h.payload → (outcome : Outcome) → (outcome ≡ Good → h.status ≡ Success)
-      → (status_by outcome ≡ DeviceBusy → h.status ≡ DeviceBusy) → IsBuffered rules_here only (ended_part (record { packet = packet; outcome = outcome }) d.part)
-  is_buffered_by only packet payload_is outcome succeeds busy = (λ good reads. filled (succeeds good) reads, none, λ is. held (busy is))
+  pub is_buffered : (only : Bool) (packet : TransferPacket) → payload_in packet ≡ h.payload → (way : Way) (outcome : Outcome) → EndsAs way h.status outcome
+      → IsBuffered rules_here only (ended_part (record { packet = packet; outcome = outcome }) d.part)
+  is_buffered only packet payload_is way outcome ends = (
+    λ good reads. filled (good_back way h.status (subst (EndsAs way h.status) good ends)) reads,
+    none,
+    λ is. held (busy_back way h.status outcome ends is),
+  )
     where
       held : h.status ≡ DeviceBusy → HoldsData (transfer_length rules_here d.part.request) (payload_in packet)
       held is =
@@ -218,10 +204,25 @@ module _ {takes : Bool} {v : DeviceView} {b : TableView} {climb : Climb} {spot :
       none : d.part.request.kind ≡ Flush → payload_bytes (payload_in packet) ≡ []
       none flushes = ap payload_bytes payload_is ∙ h.empty (sym (ap (λ (r : Request). r.kind) same_request) ∙ flushes)
 
-  pub is_buffered : (only : Bool) (packet : TransferPacket) → payload_in packet ≡ h.payload → (outcome : Outcome) → EndsBack h.status outcome
-      → IsBuffered rules_here only (ended_part (record { packet = packet; outcome = outcome }) d.part)
-  is_buffered only packet payload_is outcome ends =
-      is_buffered_by only packet payload_is outcome (λ good. subst (EndsBack h.status) good ends) (busy_back h.status outcome ends)
+  -- what never went was cancelled, or the device was removed, and its status tells which
+  agrees : h.answers.request.cancelled ≡ d.o.irp.cancelled
+  agrees =
+      let o : OpenRequest = h.answers.request in
+      let f = by_its_note in
+      let e : Divided = divided_with f.found.whole f.found.front f.found.back o f.found.again f.found.pieces in
+      let all : AgreesOnCancel e = All-at AgreesOnCancel f.found.before e f.found.after (subst (All AgreesOnCancel) f.found.is_there taking_here.keeps.agree) in
+      All-contains (IsCancelledAs e.cancelled) (parts_requests e.parts) o all (there o f.found.again f.found.pieces f.found.front f.found.back) ∙ f.cancelled_is
+
+  pub unsent_as : EndedAre NeverSent v.rules v.state → (IsTrue d.o.irp.cancelled × (h.status ≡ Cancelled)) ⊎ (IsTrue b.removing × (h.status ≡ NoSuchDevice))
+  unsent_as never = by (unsent_cause v.rules v.state x h.status x.marks (All-contains HasPlaces v.state.requests x ordered.places open_below)
+      (All-contains (IsIfEnded NeverSent v.rules v.state) v.state.requests x never open_below h.answers.ended) in_divided.1.timely h.answers.cause)
+    where
+      x : OpenRequest
+      x = h.answers.request
+
+      by : (IsTrue x.cancelled × (h.status ≡ Cancelled)) ⊎ (IsTrue v.state.removing × (h.status ≡ NoSuchDevice)) → (IsTrue d.o.irp.cancelled × (h.status ≡ Cancelled)) ⊎ (IsTrue b.removing × (h.status ≡ NoSuchDevice))
+      by (inl (cancelled, is)) = inl (sym agrees ∙ cancelled, is)
+      by (inr (removing, is)) = inr (m.below.removing ∙ removing, is)
 
   -- a write took its own bytes along, and brings them back
   pub is_written : (packet : TransferPacket) → payload_in packet ≡ h.payload → (outcome : Outcome)

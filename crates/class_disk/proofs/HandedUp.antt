@@ -1,39 +1,11 @@
 -- What goes up with a request that has ended: its bytes, its status and its packet.
-use Rattle.class_disk.specs.declared.requests.Places.{Places}
+use Rattle.class_disk.proofs.Common.{Places, concat, cases_Bool, eqb-true, IsPermutation-refl, IsPermutation-map, All-nil, All-head, Contains-get_or, All-permutation, NtStatus, Success, DeviceBusy, Climb, Payload, Climbs, moves_none, Kind, Read, Write, Flush, ClientRequest, Request, Rules, place_count, as_client, is_transfer, Mark, Done, IsStart, answer_bytes, bytes_of_mark, information, IsSame-refl, SetsRoom, HandsUp, cut, sectors_moved, part_count_of, part_request_of, goes_whole, lowest_status, joined_of, Opened, TableView, ClosedSlot, given_up, joined_up, payload_up, Completes, Known, parts_marks, IsMadeUp, noted_busy, view_of, note, packet_above, IsBuffered, IsWritten, IsWrittenBy, IsInHand, IsOpen}
 use Rattle.std.proofs.Common.{◌≡◌, ◌≢◌, ◌<◌, inl, inr, ℕ, ◌+◌, ◌*◌, Bool, true, false, List, [], ◌∷◌, Option, Some, None, refl, sym, ◌∙◌, ap, subst, arith, map, length, drop}
 use Rattle.std.specs.Prelude.{IsPermutation, All, slice_get, if◌then◌else◌}
-use Rattle.std.specs.List.{concat}
-use Rattle.std.proofs.lemmas.Bool.{cases_Bool, eqb-true}
-use Rattle.std.proofs.lemmas.List.Sorted.{IsPermutation-refl, IsPermutation-map}
-use Rattle.std.proofs.lemmas.List.Elements.{All-nil, All-head, Contains-get_or}
-use Rattle.std.proofs.lemmas.List.Sorted.{All-permutation}
-use Rattle.ntstatus.specs.declared.NtStatus.{NtStatus}
-use Rattle.ntstatus.specs.declared.NtStatus.TheVariants.{Success, DeviceBusy}
-use Rattle.device.specs.declared.climbing.Climb.{Climb}
-use Rattle.irp.specs.declared.Payload.{Payload}
 use Rattle.irp.specs.declared.Payload.TheVariants.{Buffer, Srb as Packed, Sent as AtAdapter}
-use Rattle.device.specs.Climbing.{Climbs}
 use Rattle.irp.specs.Climb.{above as locations_above}
-use Rattle.adapter.proofs.Joining.{moves_none}
-use Rattle.srb.specs.declared.Kind.{Kind}
-use Rattle.srb.specs.declared.Kind.TheVariants.{Read, Write, Flush}
-use Rattle.machine.specs.declared.ClientRequest.{ClientRequest}
-use Rattle.machine.specs.declared.Request.{Request}
-use Rattle.machine.specs.Rules.{Rules, place_count, as_client, is_transfer}
-use Rattle.machine.specs.State.{Mark, Done}
-use Rattle.machine.specs.Sending.{IsStart}
-use Rattle.machine.specs.Answering.{answer_bytes, bytes_of_mark, information}
-use Rattle.machine.proofs.Same.{IsSame-refl}
 use Rattle.device.specs.View.{DeviceView, Reserved, Carries, IsOrderly, payload_bytes, sent_bytes}
-use Rattle.device.specs.Served.{SetsRoom, HandsUp, cut, sectors_moved}
 use Rattle.class_disk.specs.declared.parts.Part.{Part}
-use Rattle.class_disk.specs.inside.Blocks.{part_count_of, part_request_of, goes_whole}
-use Rattle.class_disk.specs.inside.Parts.{lowest_status, joined_of}
-use Rattle.class_disk.specs.inside.TableView.{Opened, TableView, ClosedSlot}
-use Rattle.class_disk.specs.inside.TableCalls.{given_up, joined_up, payload_up, Completes}
-use Rattle.class_disk.specs.inside.Joint.{Known, parts_marks}
-use Rattle.class_disk.specs.inside.Invariant.{IsMadeUp, noted_busy}
-use Rattle.class_disk.specs.inside.Driver.{view_of, note, packet_above, IsBuffered, IsWritten, IsWrittenBy, IsInHand, IsOpen}
 use Rattle.class_disk.proofs.Acting.{parts_long}
 use Rattle.class_disk.proofs.EndedParts.{marks_noted, IsEndedPart, IsGoodPart, all_good}
 use Rattle.class_disk.proofs.LentUp.{joined_alone, write_alone, flush_alone, carries_alone}

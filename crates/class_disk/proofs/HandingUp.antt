@@ -1,28 +1,9 @@
 -- A request that has ended goes up: the machine that the class driver shows answers it.
 use Rattle.std.proofs.Common.{◌≡◌, ◌<◌, inl, inr, ℕ, zero, suc, ◌+◌, ◌*◌, ◌/◌, Bool, List, [], ◌∷◌, ◌++◌, refl, sym, ◌∙◌, ap, subst, arith, map}
 use Rattle.std.specs.Prelude.{IsPermutation, All, Contains, IsTrue, if◌then◌else◌, ◌↔◌}
-use Rattle.std.specs.List.{list_all, range_with_len}
-use Rattle.std.proofs.lemmas.Bool.{cases_Bool}
-use Rattle.std.proofs.lemmas.List.Sorted.{IsPermutation-sym, IsPermutation-trans, IsPermutation-middle, IsPermutation-map, All-permutation, Contains-permutation}
-use Rattle.std.proofs.lemmas.List.Elements.{All-nil, All-cons, All-head, All-tail, All-weaker}
-use Rattle.ntstatus.specs.declared.NtStatus.{NtStatus}
-use Rattle.ntstatus.specs.declared.NtStatus.TheVariants.{Success}
-use Rattle.machine.specs.declared.Request.{Request}
-use Rattle.machine.specs.Rules.{Rules, place_count, as_client, is_transfer}
-use Rattle.machine.specs.State.{IsSame}
-use Rattle.machine.specs.Answering.{HasEnded, HasCause, Answers, answer_bytes, is_done}
-use Rattle.machine.proofs.Same.{IsSame-sym, IsSame-trans}
-use Rattle.machine.proofs.Permuting.{IsPermutation-uncons}
-use Rattle.device.specs.View.{DeviceView, IsBounded, IsOrderly}
+use Rattle.class_disk.proofs.Common.{list_all, range_with_len, cases_Bool, IsPermutation-sym, IsPermutation-trans, IsPermutation-middle, IsPermutation-map, All-permutation, Contains-permutation, All-nil, All-cons, All-head, All-tail, All-weaker, NtStatus, Success, Request, Rules, place_count, as_client, is_transfer, IsSame, HasEnded, HasCause, Answers, answer_bytes, is_done, IsSame-sym, IsSame-trans, IsPermutation-uncons, DeviceView, IsBounded, IsOrderly, part_count_of, part_request_of, requests_for, lowest_status, Opened, TableView, opened, note_of, Known, known_of, Divided, Joint, parts_marks, parts_busy, lifted_pieces, requests_below, pieces_below, pieces_above, shown, below, above, class_rules, shown_state, known, knowns, view_of, note, request_of_part, IsOpen, HaveCauses, IsInHand}
 use Rattle.class_disk.specs.declared.parts.Part.{Part}
-use Rattle.class_disk.specs.inside.Blocks.{part_count_of, part_request_of, requests_for}
-use Rattle.class_disk.specs.inside.Parts.{lowest_status}
-use Rattle.class_disk.specs.inside.TableView.{Opened, TableView, opened}
-use Rattle.class_disk.specs.inside.Joint.{note_of, Known, known_of, Divided, Joint, parts_marks, parts_busy, lifted_pieces, requests_below, pieces_below, pieces_above, shown, below, above}
 use Rattle.class_disk.specs.inside.Invariant.{IsMadeUp, AgreesOnCancel, IsAhead, AreBehind, IsInTurn, IsInPieces, Keeps, IsOver, noted_busy}
-use Rattle.class_disk.specs.Shown.{class_rules}
-use Rattle.class_disk.specs.inside.Machine.{shown_state}
-use Rattle.class_disk.specs.inside.Driver.{known, knowns, view_of, note, request_of_part, IsOpen, HaveCauses, IsInHand}
 use Rattle.class_disk.proofs.Focus.{below_first}
 use Rattle.class_disk.proofs.Showing.{shown_is, gathered-permutation}
 use Rattle.class_disk.proofs.Orderly.{over_here}

@@ -1,19 +1,10 @@
 -- The parts of a request are its pieces: where each begins, and how many of them came back busy.
 use Rattle.std.proofs.Common.{◌≡◌, ◌<◌, ◌≤◌, ◌⊎◌, inl, inr, ℕ, zero, suc, ◌+◌, ◌*◌, ◌/◌, ◌%◌, ◌==◌, Bool, true, false, not, List, [], ◌∷◌, ◌++◌, rules, tests, refl, sym, ◌∙◌, ap, subst, arith, map, length, replicate, get_or, if◌then◌else◌, length-append}
 use Rattle.std.specs.Prelude.{IsTrue}
-use Rattle.std.specs.List.{list_all}
-use Rattle.std.proofs.Math.Nat.{mod_self, add-mod_left, add-div_left, mul-mod_left, div-eq_of_lt, mod-eq_of_lt, div-eq_of_eq-mul_left}
-use Rattle.std.proofs.lemmas.List.{length-map, map-append, get_or-append-add, get_or_append_left, get_or-map}
-use Rattle.sector.specs.Splice.{splice}
-use Rattle.sector.specs.declared.Extent.{Extent}
-use Rattle.srb.specs.declared.Class.{Class}
+use Rattle.class_disk.proofs.Common.{list_all, mod_self, add-mod_left, add-div_left, mul-mod_left, div-eq_of_lt, mod-eq_of_lt, div-eq_of_eq-mul_left, length-map, map-append, get_or-append-add, get_or_append_left, get_or-map, splice, Extent, Class, Rules, Mark, Untouched, Out, Done, Failed, Back, OpenRequest, Piece, IsSendable, IsWholeRequest, LeavesMarks, is_untouched, sent, given_back, one_if_busy, places_in, AreCut, one_if_back, begins_back, parts_back, IsInPieces}
 use Rattle.srb.specs.declared.Class.TheVariants.{Good, Busy, Bad}
-use Rattle.machine.specs.Rules.{Rules}
-use Rattle.machine.specs.State.{Mark, Untouched, Out, Done, Failed, Back, OpenRequest, Piece}
 use Rattle.machine.specs.Cutting.{mark_at, piece_count, count_below, pieces_with, is_back, restarts_left}
-use Rattle.machine.specs.Sending.{IsSendable, IsWholeRequest, LeavesMarks, is_untouched, sent, given_back, one_if_busy}
 use Rattle.class_disk.specs.inside.Joint.{Part, Below, Here, Divided, shown_mark, parts_marks, parts_busy, shown}
-use Rattle.class_disk.specs.inside.Invariant.{places_in, AreCut, one_if_back, begins_back, parts_back, IsInPieces}
 use Rattle.class_disk.proofs.Coupled.{marks-append, busy-append}
 
 -- THE MARKS OF ONE PART

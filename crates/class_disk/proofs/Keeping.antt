@@ -1,16 +1,7 @@
 -- What a step at one part leaves of the coupling.
 use Rattle.std.proofs.Common.{◌≡◌, ◌≤◌, ◌⊎◌, inl, inr, ℕ, ◌+◌, ◌*◌, not, Bool, true, false, List, [], ◌∷◌, ◌++◌, refl, sym, ◌∙◌, ap, subst, arith, map, length, take, drop, length-append}
 use Rattle.std.specs.Prelude.{All, Contains, IsTrue, IsFalse, slice_range}
-use Rattle.std.specs.List.{list_all}
-use Rattle.std.proofs.lemmas.List.{length-map, map-append}
-use Rattle.std.proofs.lemmas.List.Sorted.{IsPermutation-sym, IsPermutation-middle, All-permutation}
-use Rattle.std.proofs.lemmas.List.Elements.{All-cons, All-head, All-tail, All-weaker, Contains-append_right}
-use Rattle.sector.specs.Splice.{splice}
-use Rattle.machine.specs.declared.ClientRequest.{ClientRequest}
-use Rattle.machine.specs.Rules.{Rules, first_sector}
-use Rattle.machine.specs.State.{Mark, Untouched, Out, Done, Failed, Back, OpenRequest, Piece, with_marks}
-use Rattle.machine.specs.Numbers.{request_number}
-use Rattle.machine.specs.Sending.{is_started, is_untouched}
+use Rattle.class_disk.proofs.Common.{list_all, length-map, map-append, IsPermutation-sym, IsPermutation-middle, All-permutation, All-cons, All-head, All-tail, All-weaker, Contains-append_right, splice, ClientRequest, Rules, first_sector, Mark, Untouched, Out, Done, Failed, Back, OpenRequest, Piece, with_marks, request_number, is_started, is_untouched}
 use Rattle.class_disk.specs.inside.Joint.{Part, Below, Here, Divided, Joint, IsPartOf, parts_requests, parts_marks, shown}
 use Rattle.class_disk.specs.inside.Invariant.{IsOwnedBy, AreParts, IsMadeUp, IsCancelledAs, AgreesOnCancel, HasPartBefore, IsAhead, AreBehind, IsInTurn, begins_back, IsInPieces, Keeps}
 use Rattle.class_disk.proofs.Coupled.{requests-append, marks-append}

@@ -1,27 +1,11 @@
 -- A request that has gone up leaves its room, and the class driver is in order again.
 use Rattle.std.proofs.Common.{◌≡◌, inl, ℕ, ◌+◌, ◌==◌, List, [], ◌∷◌, ◌++◌, refl, sym, ◌∙◌, ap, subst, arith, append_assoc}
 use Rattle.std.specs.Prelude.{IsPermutation, All, if◌then◌else◌}
-use Rattle.std.proofs.lemmas.List.Sorted.{IsPermutation-refl, IsPermutation-sym, IsPermutation-trans, IsPermutation-append_left, IsPermutation-append_right, IsPermutation-map, All-permutation, length_permutation}
-use Rattle.std.proofs.lemmas.List.Elements.{All-cons, All-head, All-tail}
-use Rattle.machine.specs.declared.Label.TheVariants.{Answer}
-use Rattle.machine.specs.Rules.{Rules}
-use Rattle.machine.specs.Numbers.{AreDistinct}
-use Rattle.machine.specs.Answering.{information}
-use Rattle.machine.proofs.Same.{IsSame-refl}
-use Rattle.machine.proofs.Numbers.{AreDistinct-Run}
-use Rattle.machine.proofs.Permuting.{IsPermutation-uncons}
-use Rattle.device.specs.View.{DeviceView, IsOrderly}
-use Rattle.device.specs.declared.climbing.Climb.{Climb}
-use Rattle.class_disk.specs.inside.Rooms.{AllOut}
+use Rattle.class_disk.proofs.Common.{IsPermutation-refl, IsPermutation-sym, IsPermutation-trans, IsPermutation-append_left, IsPermutation-append_right, IsPermutation-map, All-permutation, length_permutation, All-cons, All-head, All-tail, Answer, Rules, AreDistinct, information, IsSame-refl, AreDistinct-Run, IsPermutation-uncons, DeviceView, IsOrderly, Climb, AllOut, Places, Opened, TableView, opened, left_as, all_open, ended_in, open_from, AddsSlot, TakesEnded, Completes, HasSome, IsOver, class_rules}
 use Rattle.class_disk.proofs.Rooms.{out_any_order}
 use Rattle.class_disk.specs.inside.Owners.{IsOwnedBy, AreOwnedFrom}
 use Rattle.class_disk.specs.declared.parts.Part.{Part}
-use Rattle.class_disk.specs.declared.requests.Places.{Places}
 use Rattle.class_disk.specs.inside.Parts.{tickets_of}
-use Rattle.class_disk.specs.inside.TableView.{Opened, TableView, opened, left_as, all_open, ended_in, open_from}
-use Rattle.class_disk.specs.inside.TableCalls.{AddsSlot, TakesEnded, Completes}
-use Rattle.class_disk.specs.inside.Invariant.{HasSome, IsOver}
-use Rattle.class_disk.specs.Shown.{class_rules}
 use Rattle.class_disk.specs.inside.Driver.{known, knowns, view_of, tickets, tickets_held, tickets_open, IsCut, IsHeld, IsOpen, HaveCauses, AreAsked, AreSpotted, AreKept, AreBelow, IsCoupled, IsInHand}
 use Rattle.class_disk.proofs.AnyOrder.{second_first, rooms_same, held_same, ended_same, left_same}
 use Rattle.class_disk.proofs.Finishing.{in_hand_again}

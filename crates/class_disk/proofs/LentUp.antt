@@ -1,21 +1,10 @@
 -- The buffer that was lent to the only part of a request, as it goes up.
-use Rattle.std.proofs.Common.{◌≡◌, ℕ, ◌+◌, ◌-◌, ◌*◌, true, false, List, [], ◌∷◌, refl, sym, ◌∙◌, ap, subst, arith, length, take}
-use Rattle.std.specs.Prelude.{slice_range}
+use Rattle.class_disk.proofs.Common.{◌≡◌, ℕ, ◌+◌, ◌-◌, ◌*◌, true, false, List, [], ◌∷◌, refl, sym, ◌∙◌, ap, subst, arith, length, take, slice_range, Success, DeviceBusy, Payload, Write, Flush, Request, Rules, Carries, payload_bytes, transfer_length, Outcome, payload_in, given_of, given_by, HoldsData, bytes_by, joined_of, status_by, status_or, failure_of, failure_by, lowest_status, bytes_from, given_up, IsBuffered, IsBufferedBy, IsWrittenBy}
 use Rattle.std.proofs.lemmas.List.{append-nil}
-use Rattle.ntstatus.specs.declared.NtStatus.TheVariants.{Success, DeviceBusy}
-use Rattle.irp.specs.declared.Payload.{Payload}
 use Rattle.irp.specs.declared.Payload.TheVariants.{Buffer, Srb as Packed, Sent as AtAdapter}
-use Rattle.srb.specs.declared.Kind.TheVariants.{Write, Flush}
-use Rattle.machine.specs.declared.Request.{Request}
-use Rattle.machine.specs.Rules.{Rules}
-use Rattle.device.specs.View.{Carries, payload_bytes, transfer_length}
 use Rattle.class_disk.specs.declared.parts.Part.{Part}
-use Rattle.class_disk.specs.declared.parts.Outcome.{Outcome}
 use Rattle.class_disk.specs.declared.parts.Outcome.TheVariants.{Good, Failed as IsBad, Busy, Withdrawn}
 use Rattle.class_disk.specs.declared.parts.Progress.TheVariants.{Ended as PartEnded}
-use Rattle.class_disk.specs.inside.Parts.{payload_in, given_of, given_by, HoldsData, bytes_by, joined_of, status_by, status_or, failure_of, failure_by, lowest_status}
-use Rattle.class_disk.specs.inside.TableCalls.{bytes_from, given_up}
-use Rattle.class_disk.specs.inside.Driver.{IsBuffered, IsBufferedBy, IsWrittenBy}
 use Rattle.class_disk.proofs.EndedParts.{IsEndedPart}
 
 -- its bytes are those that came back

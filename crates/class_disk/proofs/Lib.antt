@@ -79,6 +79,5 @@ pub mod Submitting
 pub mod Taking
 pub mod TakingAll
 pub mod TakingOne
-pub mod TakingReturned
-pub mod Withdrawing
 pub mod Withdrawn
+mod Common

@@ -1,23 +1,12 @@
 -- Rooms are made below, for one part after the other.
 use Rattle.std.proofs.Common.{◌≡◌, ◌≢◌, ◌≤◌, ℕ, ◌+◌, List, [], ◌∷◌, ◌++◌, Option, Some, None, refl, sym, ◌∙◌, ap, subst, arith, map, length}
 use Rattle.std.specs.Prelude.{All}
-use Rattle.std.proofs.lemmas.List.{map-append}
-use Rattle.std.proofs.lemmas.List.Elements.{All-nil, All-cons, All-head, All-tail, All-weaker}
-use Rattle.machine.specs.declared.Request.{Request}
+use Rattle.class_disk.proofs.Common.{map-append, All-nil, All-cons, All-head, All-tail, All-weaker, Request, Ticket, IsGood, ticket_spot, AllOut, ReservesSpot, ReservesNone, Frees, PartId, Place, TransferPacket, Ready, IsSpotted, StaysOwned, StaysTaken, MakesNone, MakesRoom, MakesParts}
 use Rattle.device.specs.View.{DeviceView, Packet, Reserved, room_at, whole_for, packet_spot, IsOffRooms, IsOrderly}
-use Rattle.device.specs.inside.Out.{Ticket, IsGood, ticket_spot}
-use Rattle.class_disk.specs.inside.Rooms.{AllOut}
-use Rattle.device.specs.Served.{ReservesSpot, ReservesNone, Frees}
 use Rattle.class_disk.proofs.Rooms.{out_more, out_less, out_same}
 use Rattle.class_disk.specs.declared.parts.Part.{Part}
-use Rattle.class_disk.specs.declared.parts.PartId.{PartId}
 use Rattle.class_disk.specs.inside.Parts.{IsHere, ticket_for, ticket_by, tickets_of}
-use Rattle.class_disk.specs.declared.parts.Place.{Place}
-use Rattle.class_disk.specs.declared.parts.TransferPacket.{TransferPacket}
-use Rattle.class_disk.specs.declared.parts.Progress.TheVariants.{Ready}
 use Rattle.class_disk.specs.inside.Owners.{IsOwner, IsOwnedBy, AreOwnedFrom, KeepsOwners, OwnsSpot}
-use Rattle.class_disk.specs.inside.Driver.{IsSpotted}
-use Rattle.class_disk.specs.inside.DuringACall.{StaysOwned, StaysTaken, MakesNone, MakesRoom, MakesParts}
 use Rattle.class_disk.proofs.Owned.{owned_joined}
 use Rattle.class_disk.proofs.PartRooms.{put_behind}
 use Rattle.class_disk.proofs.Reserving.{reserves_same, reserves_joined, reserves_freed, owned_stays, here_spotted, all_both}

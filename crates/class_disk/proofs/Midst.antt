@@ -1,33 +1,10 @@
 -- In the midst of a cancellation: its parts below are cancelled one by one.
 use Rattle.std.proofs.Common.{◌≡◌, ◌⊎◌, inl, inr, ℕ, true, false, List, [], ◌∷◌, ◌++◌, Option, None, refl, sym, ◌∙◌, ap, subst, map, append_assoc}
 use Rattle.std.specs.Prelude.{IsPermutation, All, Any, IsTrue, IsFalse}
-use Rattle.std.proofs.lemmas.List.Sorted.{IsPermutation-sym, IsPermutation-trans, IsPermutation-cons, All-permutation, Contains-permutation}
-use Rattle.std.proofs.lemmas.List.Elements.{All-head, All-tail}
-use Rattle.machine.specs.declared.Label.TheVariants.{Cancel}
-use Rattle.machine.specs.declared.Request.{Request}
-use Rattle.machine.specs.Rules.{Rules}
-use Rattle.machine.specs.State.{Mark, OpenRequest, Piece, State, IsSame}
-use Rattle.machine.specs.Numbers.{AreDistinct, request_number}
-use Rattle.machine.specs.Marks.{AreCounted}
-use Rattle.machine.specs.Holding.{Cancels, as_cancelled}
-use Rattle.machine.specs.Step.{Step}
-use Rattle.machine.proofs.Same.{IsSame-refl}
-use Rattle.machine.proofs.Permuting.{All-changed, first_unique}
-use Rattle.machine.proofs.Numbers.{AreDistinct-Step}
-use Rattle.machine.proofs.Placed.{ArePlaced-Step}
-use Rattle.machine.proofs.Earned.{HaveEarned-Step}
-use Rattle.machine.proofs.OnePiece.{AreOnePiece-Step}
-use Rattle.machine.proofs.Counted.{AreCounted-Cancels}
-use Rattle.device.specs.View.{DeviceView}
-use Rattle.device.specs.Served.{CancelsIfOpen, CancelsAt, NoneToCancel, IsBeside, IsAt}
+use Rattle.class_disk.proofs.Common.{IsPermutation-sym, IsPermutation-trans, IsPermutation-cons, All-permutation, Contains-permutation, All-head, All-tail, Cancel, Request, Rules, Mark, OpenRequest, Piece, State, IsSame, AreDistinct, request_number, AreCounted, Cancels, as_cancelled, Step, IsSame-refl, All-changed, first_unique, AreDistinct-Step, ArePlaced-Step, HaveEarned-Step, AreOnePiece-Step, AreCounted-Cancels, DeviceView, CancelsIfOpen, CancelsAt, NoneToCancel, IsBeside, IsAt, Progress, IsSound, IsCancelledAs, EndsUnsent, below_by, note, note_by, AsksUnder, IsSpotted, IsSpottedBy, CancelsBelow, CancelsAll, packet_of_part}
 use Rattle.class_disk.specs.declared.parts.Part.{Part as DriverPart}
-use Rattle.class_disk.specs.declared.parts.Progress.{Progress}
 use Rattle.class_disk.specs.declared.parts.Progress.TheVariants.{Ready, Below as SentBelow, Ended as HasEnded}
 use Rattle.class_disk.specs.inside.Joint.{Part, Below, Here, Sent, Kept, note_of, Divided, Joint, parts_requests, requests_below, pieces_below, below}
-use Rattle.class_disk.specs.inside.Invariant.{IsSound, IsCancelledAs, EndsUnsent}
-use Rattle.class_disk.specs.inside.Parts.{below_by}
-use Rattle.class_disk.specs.inside.Driver.{note, note_by, AsksUnder, IsSpotted, IsSpottedBy}
-use Rattle.class_disk.specs.inside.DuringACall.{CancelsBelow, CancelsAll, packet_of_part}
 use Rattle.class_disk.proofs.Coupled.{pieces-append}
 use Rattle.class_disk.proofs.CoupledSteps.{divided_with, changed_below, request_first}
 use Rattle.class_disk.proofs.Ending.{unsent_cancels}

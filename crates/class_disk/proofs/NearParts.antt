@@ -1,15 +1,6 @@
 -- What the adapter reserves for the parts of a request.
 use Rattle.std.proofs.Common.{◌≡◌, ℕ, ◌+◌, ◌*◌, Bool, true, false, if◌then◌else◌, Some, subst, arith}
-use Rattle.sector.specs.Extents.{IsIn}
-use Rattle.split.specs.Pieces.{piece_of}
-use Rattle.machine.specs.declared.Request.{Request}
-use Rattle.machine.specs.Rules.{Rules, home, is_transfer}
-use Rattle.device.specs.View.{DeviceView, sectors_asked}
-use Rattle.device.specs.Served.{Reserves, ReservesNear}
-use Rattle.device.proofs.Reserving.{home_further, near_part}
-use Rattle.class_disk.specs.inside.Blocks.{part_request_of}
-use Rattle.class_disk.specs.inside.TableView.{TableView}
-use Rattle.class_disk.specs.inside.Driver.{view_of}
+use Rattle.class_disk.proofs.Common.{IsIn, piece_of, Request, Rules, home, is_transfer, DeviceView, sectors_asked, Reserves, ReservesNear, home_further, near_part, part_request_of, TableView, view_of}
 
 -- the sectors that a part asks for are some of its request's
 part_inside : (rules : Rules) (limit : ℕ) (r : Request) (k sector : ℕ) → IsIn sector (sectors_asked rules (part_request_of limit r k)) → IsIn sector (sectors_asked rules r)

@@ -1,22 +1,9 @@
 -- Parts that were made for a request, one by one, and what a list of them all is.
 use Rattle.std.proofs.Common.{◌≡◌, ◌⊎◌, inl, inr, ℕ, zero, suc, ◌+◌, List, [], ◌∷◌, ◌++◌, Some, Bool, true, false, if◌then◌else◌, refl, sym, ◌∙◌, ap, subst, arith, map, length}
 use Rattle.std.specs.Prelude.{All, slice_get}
-use Rattle.std.specs.List.{range_with_len}
-use Rattle.std.proofs.lemmas.List.{length_push}
-use Rattle.std.proofs.lemmas.List.Elements.{All-nil, All-cons}
-use Rattle.machine.specs.declared.Request.{Request}
-use Rattle.split.specs.Pieces.{piece_of}
-use Rattle.machine.specs.Rules.{Rules, is_transfer}
-use Rattle.class_disk.specs.declared.Sizes.{Sizes}
+use Rattle.class_disk.proofs.Common.{range_with_len, length_push, All-nil, All-cons, Request, piece_of, Rules, is_transfer, Sizes, goes_whole, AreSizes, part_count_of, part_request_of, requests_for, HasBuffers, IsHere, IsHereBy, PartId, AreOwnedFrom, ClosedSlot, IsBounded, IsNewPart, AreNewParts}
 use Rattle.class_disk.specs.declared.parts.Part.{Part}
-use Rattle.class_disk.specs.inside.Blocks.{goes_whole, AreSizes, part_count_of, part_request_of, requests_for}
-use Rattle.class_disk.specs.inside.Parts.{HasBuffers, IsHere, IsHereBy}
-use Rattle.class_disk.specs.declared.parts.PartId.{PartId}
-use Rattle.class_disk.specs.inside.Owners.{AreOwnedFrom}
-use Rattle.class_disk.specs.inside.TableView.{ClosedSlot}
-use Rattle.device.specs.View.{IsBounded}
 use Rattle.class_disk.specs.inside.Driver.{IsCut, IsHeld, request_of_part, IsReadyPart, IsReadyBy, IsBuffered, IsBufferedBy}
-use Rattle.class_disk.specs.inside.DuringACall.{IsNewPart, AreNewParts}
 
 -- the item behind a list is the last one
 get_behind : {X : Type 0} (xs : List X) (x y : X) (k : ℕ) → slice_get (xs ++ x ∷ []) k ≡ Some y

@@ -1,36 +1,13 @@
 -- A new request, with all of its parts here: the machine above opens it, and runs from there on.
 use Rattle.std.proofs.Common.{◌≡◌, ◌<◌, ◌≤◌, ◌⊎◌, ℕ, zero, suc, ◌+◌, ◌-◌, ◌*◌, ◌/◌, ◌%◌, inl, inr, Bool, false, List, [], ◌∷◌, refl, sym, ◌∙◌, ap, subst, arith, map}
-use Rattle.std.proofs.Math.Nat.{mod-add-div', mod-lt}
+use Rattle.class_disk.proofs.Common.{mod-add-div', mod-lt, range_with_len, IsPermutation-sym, IsPermutation-trans, IsPermutation-map, All-permutation, All-head, All-tail, Extent, Irp, ClientRequest, Kind, Read, Write, Flush, Request, Rules, place_count, as_client, State, OpenRequest, AreCounted, Opens, DeviceView, Carries, sent_bytes, Progress, part_count_of, part_request_of, TableView, opened, OpensAt, new_opened, Known, shown, above, AreCut, class_rules, IsTaking, not_refused, carries_bytes, sectors_are}
 use Rattle.std.specs.Prelude.{IsPermutation, All, IsFalse}
-use Rattle.std.specs.List.{range_with_len}
-use Rattle.std.proofs.lemmas.List.Sorted.{IsPermutation-sym, IsPermutation-trans, IsPermutation-map, All-permutation}
-use Rattle.std.proofs.lemmas.List.Elements.{All-head, All-tail}
-use Rattle.sector.specs.declared.Extent.{Extent}
 use Rattle.split.specs.Pieces.{piece_of, piece_count}
-use Rattle.irp.specs.declared.Irp.{Irp}
-use Rattle.machine.specs.declared.ClientRequest.{ClientRequest}
-use Rattle.srb.specs.declared.Kind.{Kind}
-use Rattle.srb.specs.declared.Kind.TheVariants.{Read, Write, Flush}
-use Rattle.machine.specs.declared.Request.{Request}
-use Rattle.machine.specs.Rules.{Rules, place_count, as_client}
-use Rattle.machine.specs.State.{State, OpenRequest}
-use Rattle.machine.specs.Marks.{AreCounted}
-use Rattle.machine.specs.Calling.{Opens}
-use Rattle.device.specs.View.{DeviceView, Carries, sent_bytes}
 use Rattle.class_disk.specs.declared.parts.Part.{Part}
-use Rattle.class_disk.specs.declared.parts.Progress.{Progress}
 use Rattle.class_disk.specs.declared.parts.Progress.TheVariants.{Ready, Below, Ended}
-use Rattle.class_disk.specs.inside.Blocks.{part_count_of, part_request_of}
-use Rattle.class_disk.specs.inside.TableView.{TableView, opened}
-use Rattle.class_disk.specs.inside.TableCalls.{OpensAt, new_opened}
-use Rattle.class_disk.specs.inside.Joint.{Known, shown, above}
-use Rattle.class_disk.specs.inside.Invariant.{AreCut}
-use Rattle.class_disk.specs.Shown.{class_rules}
 use Rattle.class_disk.specs.inside.Driver.{view_of, known, knowns, note, note_by, places_of, IsReadyPart, IsReadyBy, IsInHand, AreKept, IsHeld, IsCut, request_of_part}
-use Rattle.class_disk.specs.inside.DuringACall.{IsTaking}
 use Rattle.class_disk.proofs.Acting.{shows}
 use Rattle.class_disk.proofs.Orderly.{All-from_map}
-use Rattle.device.proofs.Bounded.{not_refused, carries_bytes, sectors_are}
 use Rattle.class_disk.proofs.Cutting.{whole_or_more, begins_within}
 use Rattle.class_disk.proofs.Submitting.{total, new_note, IsBefore, with_new, opens_new, taking_new}
 use Rattle.class_disk.proofs.PortRules.{port_rules}

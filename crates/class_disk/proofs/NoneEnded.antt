@@ -1,27 +1,11 @@
 -- Where no open request has ended, each has a part below, and what the class driver shows is settled.
 use Rattle.std.proofs.Common.{◌≡◌, ◌≢◌, ◌<◌, ℕ, zero, suc, ◌==◌, Bool, true, false, List, [], ◌∷◌, refl, sym, ap, subst, arith, map}
 use Rattle.std.specs.Prelude.{All, Contains, if◌then◌else◌}
-use Rattle.std.proofs.lemmas.Bool.{eqb-false}
-use Rattle.std.proofs.lemmas.List.Sorted.{IsPermutation-sym, All-permutation, length_permutation}
-use Rattle.std.proofs.lemmas.List.Elements.{All-nil, All-cons, All-head, All-tail, All-weaker}
-use Rattle.machine.specs.Rules.{Rules}
-use Rattle.machine.specs.State.{OpenRequest}
-use Rattle.machine.specs.Settled.{Settled}
-use Rattle.machine.proofs.Same.{none_there}
-use Rattle.device.specs.View.{DeviceView, IsOrderly}
-use Rattle.device.specs.Served.{AwaitsRestartIfEnded, HandsUpNone}
-use Rattle.class_disk.specs.inside.TableCalls.{TakesNone}
+use Rattle.class_disk.proofs.Common.{eqb-false, IsPermutation-sym, All-permutation, length_permutation, All-nil, All-cons, All-head, All-tail, All-weaker, Rules, OpenRequest, Settled, none_there, DeviceView, IsOrderly, AwaitsRestartIfEnded, HandsUpNone, TakesNone, PartId, Progress, Opened, TableView, opened, ended_in, below_rules, IsOver, class_rules, known, view_of, note, note_by, IsOpen, IsInHand}
 use Rattle.class_disk.specs.declared.parts.Part.{Part}
-use Rattle.class_disk.specs.declared.parts.PartId.{PartId}
-use Rattle.class_disk.specs.declared.parts.Progress.{Progress}
 use Rattle.class_disk.specs.declared.parts.Progress.TheVariants.{Ready, Below as SentBelow, Ended as PartEnded}
 use Rattle.class_disk.specs.inside.Parts.{WasSent, WasSentBy, unfinished_by, unfinished_of}
-use Rattle.class_disk.specs.inside.TableView.{Opened, TableView, opened, ended_in}
 use Rattle.class_disk.specs.inside.Joint.{Part as JointPart, Below, Here, Sent, note_of, Known, known_of, Divided, parts_requests, above}
-use Rattle.class_disk.specs.inside.PortRules.{below_rules}
-use Rattle.class_disk.specs.inside.Invariant.{IsOver}
-use Rattle.class_disk.specs.Shown.{class_rules}
-use Rattle.class_disk.specs.inside.Driver.{known, view_of, note, note_by, IsOpen, IsInHand}
 use Rattle.class_disk.proofs.Resting.{AreEndedHere, HasBelow, settled_above, unfinished_above}
 use Rattle.class_disk.proofs.Orderly.{All-from_map, over_here}
 use Rattle.class_disk.proofs.Acting.{IsStill, shows, settled_still, unfinished_still}

@@ -1,18 +1,10 @@
 -- Of a request, no more busy returns are noted than its parts were sent again, and one for each part that came back and was not.
 use Rattle.std.proofs.Common.{◌≡◌, ◌<◌, ◌≤◌, ℕ, zero, suc, ◌+◌, List, [], ◌∷◌, refl, arith, map, replicate}
-use Rattle.machine.specs.Rules.{Rules}
-use Rattle.machine.specs.State.{Back}
+use Rattle.class_disk.proofs.Common.{Rules, Back, Progress, Outcome, Note, AreCut, begins_back, noted_busy, payload_in, restarts_of, places_of, marks_left, busy_left, note, note_by, Payload}
 use Rattle.class_disk.specs.declared.parts.Part.{Part}
-use Rattle.class_disk.specs.declared.parts.Progress.{Progress}
 use Rattle.class_disk.specs.declared.parts.Progress.TheVariants.{Ready, Below, Ended as HasEnded}
-use Rattle.class_disk.specs.declared.parts.Outcome.{Outcome}
 use Rattle.class_disk.specs.declared.parts.Outcome.TheVariants.{Good, Failed as IsBad, Busy, Withdrawn}
-use Rattle.class_disk.specs.inside.Joint.{Note}
-use Rattle.class_disk.specs.inside.Invariant.{AreCut, begins_back, noted_busy}
-use Rattle.class_disk.specs.inside.Parts.{payload_in, restarts_of}
-use Rattle.class_disk.specs.inside.Driver.{places_of, marks_left, busy_left, note, note_by}
 use Rattle.class_disk.proofs.Restarting.{noted_back}
-use Rattle.irp.specs.declared.Payload.{Payload}
 
 begins_so : (n : ℕ) → 0 < n → begins_back (replicate n Back) ≡ 1
 begins_so zero some = absurd (omega arith)

@@ -1,12 +1,8 @@
 -- The only part of a request is all of it.
 use Rattle.std.proofs.Common.{◌≡◌, ◌<◌, ◌≤◌, ℕ, ◌+◌, ◌-◌, ◌*◌, ◌==◌, Bool, true, false, refl, sym, ◌∙◌, ap, subst, arith, inl, inr}
 use Rattle.std.specs.Prelude.{min, if◌then◌else◌}
-use Rattle.std.proofs.lemmas.Bool.{cases_Bool, eqb-true, eqb-false, ne_eqb}
-use Rattle.sector.specs.declared.Extent.{Extent}
+use Rattle.class_disk.proofs.Common.{cases_Bool, eqb-true, eqb-false, ne_eqb, Extent, Request, is_transfer, part_count_of, part_request_of, goes_whole}
 use Rattle.split.specs.Pieces.{piece_of, piece_count}
-use Rattle.machine.specs.declared.Request.{Request}
-use Rattle.machine.specs.Rules.{is_transfer}
-use Rattle.class_disk.specs.inside.Blocks.{part_count_of, part_request_of, goes_whole}
 use Rattle.class_disk.proofs.NewRequest.{covered}
 
 -- the only piece of an extent is the extent

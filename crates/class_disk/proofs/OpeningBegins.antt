@@ -1,29 +1,13 @@
 -- The request is in the table, and all of its parts are ready to be sent.
-use Rattle.std.proofs.Common.{◌≡◌, ◌<◌, ◌≤◌, ℕ, ◌+◌, ◌^◌, ◌==◌, Bool, true, false, List, [], ◌∷◌, refl, sym, ◌∙◌, ap, subst, arith, length, append_assoc}
-use Rattle.std.proofs.lemmas.Bool.{eqb-true}
+use Rattle.std.proofs.Common.{◌≡◌, ◌<◌, ◌≤◌, ℕ, ◌+◌, ◌^◌, ◌==◌, Bool, true, false, List, [], ◌∷◌, refl, sym, ◌∙◌, subst, arith, length, append_assoc}
+use Rattle.class_disk.proofs.Common.{eqb-true, IsPermutation-refl, IsPermutation-sym, IsPermutation-trans, IsPermutation-append_left, IsPermutation-append_right, IsPermutation-append_comm, IsPermutation-map, All-permutation, length_permutation, All-nil, All-cons, All-head, All-tail, All-weaker, Irp, Rules, State, DeviceView, Carries, payload_bytes, AwaitsRestartIfEnded, Progress, AllOut, AreOwnedFrom, part_count_of, part_request_of, Opened, TableView, opened, all_open, ended_in, IsNothing, IsIfEnded, EndedAre, HasSome, IsOpening, class_rules, IsPort, OpensAt, new_opened}
 use Rattle.std.specs.Prelude.{IsPermutation, All, IsFalse, if◌then◌else◌}
-use Rattle.std.proofs.lemmas.List.Sorted.{IsPermutation-refl, IsPermutation-sym, IsPermutation-trans, IsPermutation-append_left, IsPermutation-append_right, IsPermutation-append_comm, IsPermutation-map, All-permutation, length_permutation}
-use Rattle.std.proofs.lemmas.List.Elements.{All-nil, All-cons, All-head, All-tail, All-weaker}
-use Rattle.irp.specs.declared.Irp.{Irp}
-use Rattle.machine.specs.Rules.{Rules}
-use Rattle.machine.specs.State.{State}
-use Rattle.device.specs.View.{DeviceView, Carries, payload_bytes}
-use Rattle.device.specs.Served.{AwaitsRestartIfEnded}
 use Rattle.class_disk.specs.declared.parts.Part.{Part}
-use Rattle.class_disk.specs.declared.parts.Progress.{Progress}
 use Rattle.class_disk.specs.declared.parts.Progress.TheVariants.{Ready, Below, Ended as HasEnded}
-use Rattle.class_disk.specs.inside.Rooms.{AllOut}
 use Rattle.class_disk.proofs.Rooms.{out_any_order}
-use Rattle.class_disk.specs.inside.Owners.{AreOwnedFrom}
 use Rattle.class_disk.proofs.NewRequest.{held_there}
-use Rattle.class_disk.specs.inside.Blocks.{part_count_of, part_request_of}
-use Rattle.class_disk.specs.inside.TableView.{Opened, TableView, opened, all_open, ended_in}
 use Rattle.class_disk.specs.inside.Driver.{view_of, known, knowns, tickets, tickets_held, tickets_open, IsInHand, IsReadyBy, IsReadyPart, IsHeld, IsWrittenBy, IsAskedBy, IsSpottedBy, AreAsked, AreSpotted}
-use Rattle.class_disk.specs.inside.Invariant.{IsNothing, IsIfEnded, EndedAre, HasSome}
-use Rattle.class_disk.specs.inside.DuringACall.{IsOpening}
 use Rattle.class_disk.specs.inside.Parts.{IsDown, restarts_of, tickets_of}
-use Rattle.class_disk.specs.Shown.{class_rules, IsPort}
-use Rattle.class_disk.specs.inside.TableCalls.{OpensAt, new_opened}
 use Rattle.class_disk.proofs.AnyOrder.{rooms_same, held_same, ended_same, left_same}
 use Rattle.class_disk.proofs.Cutting.{can_cut}
 use Rattle.class_disk.proofs.PiecePlaces.{as_many, parts_some, places_some}

@@ -1,26 +1,12 @@
 -- The class driver is in order between calls, since the layer below is.
-use Rattle.std.proofs.Common.{◌≡◌, ◌<◌, ◌≤◌, inl, inr, ℕ, ◌+◌, not, Bool, true, false, List, [], ◌∷◌, ◌++◌, refl, sym, ◌∙◌, ap, subst, arith, map, length, get_or}
+use Rattle.std.proofs.Common.{◌≡◌, ◌<◌, ◌≤◌, inl, inr, ℕ, not, Bool, true, false, List, [], ◌∷◌, refl, sym, ◌∙◌, ap, subst, arith, map, length, get_or}
 use Rattle.std.specs.Prelude.{IsPermutation, All, Contains, IsTrue, IsFalse, Option, eqb, is_some}
-use Rattle.std.specs.List.{IsDistinct, list_all}
-use Rattle.std.proofs.lemmas.List.{map-append}
-use Rattle.std.proofs.lemmas.List.Sorted.{IsPermutation-sym, IsPermutation-trans, IsPermutation-map, All-permutation, length_permutation}
-use Rattle.std.proofs.lemmas.List.Elements.{All-nil, All-cons, All-head, All-tail, All-weaker, All-map, All-contains, Contains-get_or}
-use Rattle.machine.specs.Rules.{Rules}
-use Rattle.machine.specs.State.{Mark, Untouched, Out, Done, Failed, Back, OpenRequest, Piece, State, IsSame}
-use Rattle.machine.specs.Numbers.{AreDistinct, HasPlaces, HavePlaces, request_number}
-use Rattle.machine.specs.Sending.{is_started, is_untouched}
-use Rattle.machine.specs.Answering.{HasEnded}
-use Rattle.machine.specs.Settled.{Settled, HasGone, IsAllSent, IsWithin, started_count}
+use Rattle.class_disk.proofs.Common.{IsDistinct, list_all, IsPermutation-sym, IsPermutation-trans, IsPermutation-map, All-permutation, length_permutation, All-nil, All-cons, All-head, All-tail, All-weaker, All-map, All-contains, Contains-get_or, Rules, Mark, Untouched, Out, Done, Failed, Back, OpenRequest, State, IsSame, AreDistinct, HasPlaces, HavePlaces, request_number, is_started, is_untouched, HasEnded, Settled, HasGone, IsAllSent, IsWithin, started_count, AwaitsRestartIfEnded, IsSame-sym, AreDistinct-same, below_rules, IsSound, Keeps, noted_busy, IsOverMark, IsOverNote, IsOver, class_rules, IsPort}
 use Rattle.device.specs.View.{DeviceView, Packet, Reserved, packet_number, packet_spot, piece_on_tag, use_on_tag, IsOffRooms, WaitsForTag, IsOrderly}
-use Rattle.device.specs.Served.{AwaitsRestartIfEnded}
-use Rattle.machine.proofs.Same.{IsSame-sym}
-use Rattle.machine.proofs.Numbers.{AreDistinct-same}
-use Rattle.class_disk.specs.inside.Joint.{Part, Below, Here, Sent, Kept, note_of, known_of, Divided, Joint, lifted, parts_pieces, parts_busy, parts_lifted, pieces_below, pieces_above, shown, below, above}
-use Rattle.class_disk.specs.inside.PortRules.{below_rules}
-use Rattle.class_disk.specs.inside.Invariant.{IsSound, Keeps, noted_busy, IsOverMark, IsOverNote, IsOver}
-use Rattle.class_disk.specs.Shown.{class_rules, IsPort}
+use Rattle.class_disk.specs.inside.Joint.{Part, Below, Here, Sent, Kept, note_of, known_of, Divided, Joint, parts_busy, pieces_below, pieces_above, shown, below, above}
 use Rattle.class_disk.proofs.Resting.{HasEndedHere, AreEndedHere, gone, all_sent, same_count}
 use Rattle.class_disk.proofs.PortRules.{port_rules}
+use Rattle.class_disk.proofs.CoupledMarks.{of_pieces}
 
 pub All-from_map : {X Y : Type 0} (P : Y → Type 0) (f : X → Y) (xs : List X) → All P (map f xs) → All (λ x. P (f x)) xs
 All-from_map P f [] h = All-nil (λ x. P (f x))
@@ -28,26 +14,8 @@ All-from_map P f (x ∷ xs) h = All-cons (λ x. P (f x)) x xs (All-head P (f x) 
 
 -- WHAT THE ADAPTER KNOWS OF THE PIECES
 
-on_tags_lifted : (owner first : ℕ) (parts : List Part) → map piece_on_tag (parts_lifted owner first parts) ≡ map piece_on_tag (parts_pieces parts)
-on_tags_lifted owner first [] = refl
-on_tags_lifted owner first (Below o again pieces ∷ parts) =
-    map-append piece_on_tag (map (lifted owner first) pieces) (parts_lifted owner (first + length o.marks) parts)
-    ∙ ap (λ zs. zs ++ map piece_on_tag (parts_lifted owner (first + length o.marks) parts)) (mine pieces)
-    ∙ ap (λ zs. map piece_on_tag pieces ++ zs) (on_tags_lifted owner (first + length o.marks) parts)
-    ∙ sym (map-append piece_on_tag pieces (parts_pieces parts))
-  where
-    mine : (ps : List Piece) → map piece_on_tag (map (lifted owner first) ps) ≡ map piece_on_tag ps
-    mine [] = refl
-    mine (p ∷ ps) = ap (λ zs. piece_on_tag p ∷ zs) (mine ps)
-on_tags_lifted owner first (Here marks busy ∷ parts) = on_tags_lifted owner (first + length marks) parts
-
 pub on_tags : (es : List Divided) → map piece_on_tag (pieces_above es) ≡ map piece_on_tag (pieces_below es)
-on_tags [] = refl
-on_tags (e ∷ es) =
-    map-append piece_on_tag (parts_lifted e.number 0 e.parts) (pieces_above es)
-    ∙ ap (λ zs. zs ++ map piece_on_tag (pieces_above es)) (on_tags_lifted e.number 0 e.parts)
-    ∙ ap (λ zs. map piece_on_tag (parts_pieces e.parts) ++ zs) (on_tags es)
-    ∙ sym (map-append piece_on_tag (parts_pieces e.parts) (pieces_below es))
+on_tags = of_pieces piece_on_tag (λ owner first p. refl)
 
 -- WHAT IS HERE HAS ENDED
 

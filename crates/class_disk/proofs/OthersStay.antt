@@ -1,19 +1,8 @@
 -- What the layer below leaves as it is, and the table too, is shown as it was.
 use Rattle.std.proofs.Common.{◌≡◌, ℕ, suc, ◌+◌, List, [], ◌∷◌, ◌++◌, Some, refl, sym, ◌∙◌, ap, subst, arith, map, get_or}
 use Rattle.std.specs.Prelude.{IsPermutation, All, Contains}
-use Rattle.std.proofs.lemmas.List.Sorted.{IsPermutation-sym, IsPermutation-trans, IsPermutation-middle, All-permutation, Contains-permutation}
-use Rattle.std.proofs.lemmas.List.Elements.{All-map, All-contains, Contains-get_or}
-use Rattle.machine.specs.Numbers.{AreDistinct}
-use Rattle.machine.specs.Rules.{Rules}
-use Rattle.machine.specs.State.{OpenRequest, State}
-use Rattle.machine.proofs.Permuting.{IsPermutation-uncons}
-use Rattle.device.specs.View.{DeviceView}
-use Rattle.device.specs.Served.{StaysOpen}
-use Rattle.class_disk.specs.inside.TableView.{Opened, TableView, opened, open_at}
-use Rattle.class_disk.specs.inside.Driver.{known, knowns, view_of, IsCoupled}
+use Rattle.class_disk.proofs.Common.{IsPermutation-sym, IsPermutation-trans, IsPermutation-middle, All-permutation, Contains-permutation, All-map, All-contains, Contains-get_or, AreDistinct, Rules, OpenRequest, State, IsPermutation-uncons, DeviceView, StaysOpen, Opened, TableView, opened, open_at, known, knowns, view_of, IsCoupled, class_rules, open_under, part_of, divided_of}
 use Rattle.class_disk.specs.inside.Joint.{Part, Below, Here, Known, note_of, known_of, Divided, parts_requests, parts_marks, parts_busy, shown, shown_mark}
-use Rattle.class_disk.specs.Shown.{class_rules}
-use Rattle.class_disk.specs.inside.Machine.{open_under, part_of, divided_of}
 use Rattle.class_disk.proofs.Acting.{map_there}
 use Rattle.class_disk.proofs.CoupledRun.{Contains-map}
 use Rattle.class_disk.proofs.CoupledSteps.{in_requests}

@@ -1,10 +1,8 @@
 -- Whose parts they are, by their places.
 use Rattle.std.specs.Prelude.{eqb}
+use Rattle.class_disk.proofs.Common.{ℕ, ◌+◌, List, [], ◌∷◌, ◌++◌, subst, arith, length, PartId, AreOwnedFrom}
 use Rattle.std.specs.List.{IsDistinct}
-use Rattle.std.proofs.Common.{ℕ, ◌+◌, List, [], ◌∷◌, ◌++◌, subst, arith, length}
-use Rattle.class_disk.specs.declared.parts.PartId.{PartId}
 use Rattle.class_disk.specs.declared.parts.Part.{Part}
-use Rattle.class_disk.specs.inside.Owners.{AreOwnedFrom}
 
 pub owned_split : (owners : List PartId) (slot first : ℕ) (xs ys : List Part) → AreOwnedFrom owners slot first (xs ++ ys)
     → AreOwnedFrom owners slot first xs × AreOwnedFrom owners slot (first + length xs) ys

@@ -2,10 +2,8 @@
 use Rattle.std.specs.Prelude.{if◌then◌else◌}
 use Rattle.std.proofs.Common.{◌≡◌, ◌<◌, ◌≤◌, ℕ, ◌+◌, Bool, true, List, ◌++◌, Some, None, sym, ◌∙◌, ap, arith, length, get_or, drop}
 use Rattle.std.proofs.lemmas.List.{at_drop_more, drop_all, append_assoc, append-nil, length-append}
-use Rattle.ntstatus.specs.declared.NtStatus.{NtStatus}
-use Rattle.ntstatus.specs.declared.NtStatus.TheVariants.{Success}
+use Rattle.class_disk.proofs.Common.{NtStatus, Success, lowest_status, status_or, failure_by, joined_of, bytes_by}
 use Rattle.class_disk.specs.declared.parts.Part.{Part}
-use Rattle.class_disk.specs.inside.Parts.{lowest_status, status_or, failure_by, joined_of, bytes_by}
 
 status_step : (parts : List Part) (i : ℕ) (part : Part) → i < length parts → part ≡ get_or parts i part
     → lowest_status (drop i parts) ≡ status_or (failure_by part.progress) (lowest_status (drop (i + 1) parts))

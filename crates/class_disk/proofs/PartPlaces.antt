@@ -1,25 +1,9 @@
 -- A part that goes down is the part of its request that begins at its place: all parts behind it are here.
 use Rattle.std.proofs.Common.{◌≡◌, ◌<◌, ◌≤◌, ℕ, ◌+◌, ◌-◌, ◌*◌, ◌/◌, Bool, false, List, [], ◌∷◌, refl, sym, ◌∙◌, ap, subst, arith, map, length}
 use Rattle.std.specs.Prelude.{All, slice_range}
-use Rattle.std.specs.List.{range_with_len}
-use Rattle.std.proofs.lemmas.List.{length-replicate}
-use Rattle.sector.specs.declared.Extent.{Extent}
+use Rattle.class_disk.proofs.Common.{range_with_len, length-replicate, Extent, Payload, Kind, Read, Write, Flush, Request, Rules, as_client, State, Untouched, new_request, payload_bytes, sent_bytes, data_length, part_count_of, part_request_of, bytes_from, IsPartOf, below_rules, note, places_of, request_of_part, IsReadyPart, sectors_are}
 use Rattle.split.specs.Pieces.{piece_of, piece_count}
-use Rattle.irp.specs.declared.Payload.{Payload}
-use Rattle.srb.specs.declared.Kind.{Kind}
-use Rattle.srb.specs.declared.Kind.TheVariants.{Read, Write, Flush}
-use Rattle.machine.specs.declared.Request.{Request}
-use Rattle.machine.specs.Rules.{Rules, as_client}
-use Rattle.machine.specs.State.{State, Untouched}
-use Rattle.machine.specs.Calling.{new_request}
-use Rattle.device.specs.View.{payload_bytes, sent_bytes}
 use Rattle.class_disk.specs.declared.parts.Part.{Part}
-use Rattle.class_disk.specs.inside.Blocks.{data_length, part_count_of, part_request_of}
-use Rattle.class_disk.specs.inside.TableCalls.{bytes_from}
-use Rattle.class_disk.specs.inside.Joint.{IsPartOf}
-use Rattle.class_disk.specs.inside.PortRules.{below_rules}
-use Rattle.class_disk.specs.inside.Driver.{note, places_of, request_of_part, IsReadyPart}
-use Rattle.device.proofs.Bounded.{sectors_are}
 use Rattle.class_disk.proofs.Cutting.{piece_within}
 use Rattle.class_disk.proofs.FirstSending.{noted_places, AreHere}
 use Rattle.class_disk.proofs.NewRequest.{left_from, map_map, same_total, covered, places_by_request, places_for, notes_ready}

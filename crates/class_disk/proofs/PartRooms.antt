@@ -1,15 +1,9 @@
 -- The rooms below of a list of parts, as parts are put behind it and taken off its end.
 use Rattle.std.proofs.Common.{◌≡◌, List, [], ◌∷◌, ◌++◌, Some, refl, sym, ◌∙◌, ap, subst, append_assoc}
-use Rattle.std.specs.Prelude.{IsPermutation}
-use Rattle.std.proofs.lemmas.List.Sorted.{IsPermutation-sym, IsPermutation-append_left, IsPermutation-append_comm}
-use Rattle.device.specs.View.{DeviceView}
-use Rattle.device.specs.inside.Out.{Ticket}
-use Rattle.class_disk.specs.inside.Rooms.{AllOut}
+use Rattle.class_disk.proofs.Common.{IsPermutation, IsPermutation-sym, IsPermutation-append_left, IsPermutation-append_comm, DeviceView, Ticket, AllOut, Progress, TransferPacket}
 use Rattle.class_disk.proofs.Rooms.{out_any_order}
 use Rattle.class_disk.specs.declared.parts.Part.{Part}
-use Rattle.class_disk.specs.declared.parts.Progress.{Progress}
 use Rattle.class_disk.specs.declared.parts.Progress.TheVariants.{Ready, Below, Ended}
-use Rattle.class_disk.specs.declared.parts.TransferPacket.{TransferPacket}
 use Rattle.class_disk.specs.inside.Parts.{packet_by, ticket_for, ticket_by, tickets_of}
 
 tickets_joined : (xs ys : List Part) → tickets_of (xs ++ ys) ≡ tickets_of xs ++ tickets_of ys

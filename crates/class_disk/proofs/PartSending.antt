@@ -1,21 +1,8 @@
 -- A part is sent: what the layer below asks for.
 use Rattle.std.proofs.Common.{◌≡◌, ◌≤◌, ℕ, ◌+◌, Bool, true, List, Some, sym, ◌∙◌, ap, subst, arith, length}
-use Rattle.std.specs.Prelude.{slice_get}
-use Rattle.machine.specs.declared.Request.{Request}
-use Rattle.device.specs.View.{DeviceView, Carries, IsReady, AsksInLocation, request_at, request_of, room_at, whole_for, packet_of, IsOrderly}
-use Rattle.device.specs.Served.{Submits}
-use Rattle.device.specs.inside.Out.{Ticket}
+use Rattle.class_disk.proofs.Common.{slice_get, Request, DeviceView, Carries, IsReady, AsksInLocation, request_at, request_of, room_at, whole_for, packet_of, IsOrderly, Submits, Ticket, Room, Place, TransferPacket, TakesParts, IsOwnPacket, payload_in, ticket_for, Opened, TableView, open_at, SendsPart, SendsPartAgain, CanSubmit, CanSendPart, CanSendAgain, SendsDown, SendsDownAgain}
 use Rattle.class_disk.proofs.Rooms.{out_first}
-use Rattle.device.specs.declared.layer.Room.{Room}
 use Rattle.class_disk.specs.declared.parts.Part.{Part}
-use Rattle.class_disk.specs.declared.parts.Place.{Place}
-use Rattle.class_disk.specs.declared.parts.TransferPacket.{TransferPacket}
-use Rattle.class_disk.specs.Opening.{TakesParts}
-use Rattle.class_disk.specs.inside.Blocks.{IsOwnPacket}
-use Rattle.class_disk.specs.inside.Parts.{payload_in, ticket_for}
-use Rattle.class_disk.specs.inside.TableView.{Opened, TableView, open_at}
-use Rattle.class_disk.specs.inside.TableCalls.{SendsPart, SendsPartAgain}
-use Rattle.class_disk.specs.inside.DuringACall.{CanSubmit, CanSendPart, CanSendAgain, SendsDown, SendsDownAgain}
 
 some_same : {X : Type 0} {x y : X} → Some x ≡ Some y → x ≡ y
 some_same {X} {x} {y} e = cc (e)

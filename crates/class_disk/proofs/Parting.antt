@@ -1,13 +1,7 @@
 -- The parts of a request one after the other, and the cancellations of their packets below.
 use Rattle.std.proofs.Common.{◌≡◌, ◌<◌, ℕ, zero, suc, ◌+◌, List, [], ◌∷◌, Option, Some, refl, sym, ◌∙◌, ap, subst, arith, map, length, drop}
-use Rattle.std.specs.Prelude.{slice_get}
-use Rattle.std.proofs.lemmas.Option.{slice_get_within}
-use Rattle.device.specs.View.{DeviceView}
+use Rattle.class_disk.proofs.Common.{slice_get, slice_get_within, DeviceView, below_by, Opened, TableView, open_at, IsPartAt, CancelsBelow, CancelsAll, packet_of_part}
 use Rattle.class_disk.specs.declared.parts.Part.{Part}
-use Rattle.class_disk.specs.inside.Parts.{below_by}
-use Rattle.class_disk.specs.inside.TableView.{Opened, TableView, open_at}
-use Rattle.class_disk.specs.inside.TableCalls.{IsPartAt}
-use Rattle.class_disk.specs.inside.DuringACall.{CancelsBelow, CancelsAll, packet_of_part}
 
 -- what stands at a place, and all behind it
 pub at_place : {X : Type 0} (xs : List X) (k : ℕ) → k < length xs → (x : X) × (slice_get xs k ≡ Some x) × (drop k xs ≡ x ∷ drop (k + 1) xs)

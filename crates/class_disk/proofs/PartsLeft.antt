@@ -1,16 +1,10 @@
 -- The parts that a packet leaves behind.
 use Rattle.std.proofs.Common.{◌≡◌, ◌<◌, ℕ, suc, List, [], ◌∷◌, ◌++◌, refl, sym, ◌∙◌, ap, subst, arith, map, length, take, drop, get_or}
 use Rattle.std.specs.Prelude.{All, slice_set}
-use Rattle.std.proofs.Math.Seq.{take-append_seam}
-use Rattle.std.proofs.lemmas.List.Elements.{All-nil, All-cons, All-head, All-tail}
-use Rattle.machine.specs.declared.Request.{Request}
-use Rattle.device.specs.declared.layer.Room.{Room}
-use Rattle.device.specs.View.{whole_for}
+use Rattle.class_disk.proofs.Common.{take-append_seam, All-nil, All-cons, All-head, All-tail, Request, Room, whole_for, Progress, request_of_part}
 use Rattle.class_disk.specs.declared.parts.Part.{Part}
-use Rattle.class_disk.specs.declared.parts.Progress.{Progress}
 use Rattle.class_disk.specs.declared.parts.Progress.TheVariants.{Ready, Below, Ended as HasEnded}
 use Rattle.class_disk.specs.inside.Parts.{ticket_by, tickets_of, IsLeftBy, IsLeft, AreLeft}
-use Rattle.class_disk.specs.inside.Driver.{request_of_part}
 use Rattle.class_disk.proofs.EndedParts.{IsEndedPart}
 
 -- each part as it was

@@ -1,19 +1,6 @@
 -- A piece of a request asks below for what the request has from its place on.
 use Rattle.std.proofs.Common.{◌≡◌, ◌<◌, ◌≤◌, ℕ, ◌+◌, ◌*◌, ◌/◌, Bool, false, List, refl, sym, ◌∙◌, ap, arith, length, replicate}
-use Rattle.std.specs.Prelude.{slice_range}
-use Rattle.std.proofs.lemmas.List.{length-replicate}
-use Rattle.sector.specs.declared.Extent.{Extent}
-use Rattle.split.specs.Pieces.{piece_of}
-use Rattle.srb.specs.declared.Kind.{Kind}
-use Rattle.srb.specs.declared.Kind.TheVariants.{Read, Write}
-use Rattle.machine.specs.declared.Request.{Request}
-use Rattle.machine.specs.Rules.{Rules, as_client}
-use Rattle.machine.specs.State.{State, Untouched}
-use Rattle.machine.specs.Calling.{new_request}
-use Rattle.class_disk.specs.inside.Blocks.{part_request_of}
-use Rattle.class_disk.specs.inside.Joint.{IsPartOf}
-use Rattle.class_disk.specs.inside.PortRules.{below_rules}
-use Rattle.device.proofs.Bounded.{sectors_are}
+use Rattle.class_disk.proofs.Common.{slice_range, length-replicate, Extent, piece_of, Kind, Read, Write, Request, Rules, as_client, State, Untouched, new_request, part_request_of, IsPartOf, below_rules, sectors_are}
 
 -- these bytes are what those have from a place on, for this many places
 abbrev pub AreBytesFrom : (size at count : ℕ) (bytes whole : List ℕ) → Type 0

@@ -1,24 +1,10 @@
 -- A part of a request by its place: what it asks for, where its bytes are, and where its places begin.
 use Rattle.std.proofs.Common.{◌≡◌, ◌<◌, ◌≤◌, ℕ, zero, suc, ◌+◌, ◌-◌, ◌*◌, ◌/◌, ◌^◌, Bool, true, false, List, [], ◌∷◌, Some, refl, sym, ◌∙◌, ap, subst, arith, length, map, take, drop}
-use Rattle.std.proofs.Math.Nat.{mul-le-mul_right}
-use Rattle.std.proofs.Math.Seq.{drop-nil}
+use Rattle.class_disk.proofs.Common.{mul-le-mul_right, drop-nil, range_with_len, drop-take, Extent, Payload, Kind, Read, Write, Flush, Request, Rules, place_count, as_client, is_transfer, Carries, IsBounded, transfer_length, FitsBlock, data_length, part_count_of, part_request_of, bytes_from, request_of_part, sectors_are}
 use Rattle.std.specs.Prelude.{slice_get, slice_range, IsTrue, if◌then◌else◌}
-use Rattle.std.specs.List.{range_with_len}
-use Rattle.std.proofs.lemmas.List.{drop-take}
-use Rattle.sector.specs.declared.Extent.{Extent}
 use Rattle.split.specs.Pieces.{piece_of, piece_count}
-use Rattle.irp.specs.declared.Payload.{Payload}
 use Rattle.irp.specs.declared.Payload.TheVariants.{Buffer, Srb as Packed, Sent as AtAdapter}
-use Rattle.srb.specs.declared.Kind.{Kind}
-use Rattle.srb.specs.declared.Kind.TheVariants.{Read, Write, Flush}
-use Rattle.machine.specs.declared.Request.{Request}
-use Rattle.machine.specs.Rules.{Rules, place_count, as_client, is_transfer}
-use Rattle.device.specs.View.{Carries, IsBounded, transfer_length}
 use Rattle.class_disk.specs.declared.parts.Part.{Part}
-use Rattle.class_disk.specs.inside.Blocks.{FitsBlock, data_length, part_count_of, part_request_of}
-use Rattle.class_disk.specs.inside.TableCalls.{bytes_from}
-use Rattle.class_disk.specs.inside.Driver.{request_of_part}
-use Rattle.device.proofs.Bounded.{sectors_are}
 use Rattle.class_disk.proofs.Cutting.{piece_within, some_piece}
 
 -- WHAT THE PARTS ASK FOR, by their places

@@ -1,8 +1,5 @@
 -- The rules of the layer below, by those of the class driver.
-use Rattle.std.proofs.Common.{◌≡◌, true, ap, ◌∙◌}
-use Rattle.machine.specs.Rules.{Rules}
-use Rattle.class_disk.specs.Shown.{class_rules, IsPort}
-use Rattle.class_disk.specs.inside.PortRules.{below_rules}
+use Rattle.class_disk.proofs.Common.{◌≡◌, true, ap, ◌∙◌, Rules, class_rules, IsPort, below_rules}
 
 pub port_rules : {rules : Rules} → IsPort rules → rules ≡ below_rules (class_rules rules)
 port_rules {rules} h =

@@ -1,28 +1,12 @@
 -- The next part of a request that is being opened can be sent.
 use Rattle.std.proofs.Common.{◌≡◌, ◌<◌, ◌≤◌, ℕ, suc, ◌+◌, ◌*◌, ◌^◌, ◌==◌, Bool, true, false, List, ◌∷◌, ◌++◌, Some, refl, sym, ◌∙◌, ap, subst, arith, length, map, drop}
 use Rattle.std.specs.Prelude.{IsPermutation, All, slice_get, if◌then◌else◌}
-use Rattle.std.proofs.lemmas.List.{map-append}
-use Rattle.std.proofs.lemmas.List.Sorted.{IsPermutation-trans, IsPermutation-middle, IsPermutation-append_left, IsPermutation-append_right}
-use Rattle.std.proofs.lemmas.List.Elements.{All-head, All-tail}
-use Rattle.srb.specs.declared.Kind.TheVariants.{Write}
-use Rattle.machine.specs.declared.Request.{Request}
-use Rattle.machine.specs.Rules.{Rules, is_transfer}
-use Rattle.split.specs.Pieces.{piece_of}
-use Rattle.device.specs.View.{DeviceView, IsBounded, IsOrderly, payload_bytes}
+use Rattle.class_disk.proofs.Common.{map-append, IsPermutation-trans, IsPermutation-middle, IsPermutation-append_left, IsPermutation-append_right, All-head, All-tail, Write, Request, Rules, is_transfer, piece_of, DeviceView, IsBounded, IsOrderly, payload_bytes, Place, Progress, FitsBlock, data_length, part_count_of, part_request_of, goes_whole, IsReadyBy, IsReadyPart, IsBuffered, IsBufferedBy, tickets, tickets_held, tickets_open, Ticket, AllOut, CanCut, CanSendPart, IsOpening, class_rules, CanSend, bytes_from}
 use Rattle.class_disk.specs.declared.parts.Part.{Part}
-use Rattle.class_disk.specs.declared.parts.Place.{Place}
-use Rattle.class_disk.specs.declared.parts.Progress.{Progress}
 use Rattle.class_disk.specs.declared.parts.Progress.TheVariants.{Ready, Below, Ended as HasEnded}
-use Rattle.class_disk.specs.inside.Blocks.{FitsBlock, data_length, part_count_of, part_request_of, goes_whole}
 use Rattle.class_disk.specs.inside.TableView.{Opened, TableView, opened, all_open, restarts_left}
-use Rattle.class_disk.specs.inside.Driver.{IsReadyBy, IsReadyPart, IsBuffered, IsBufferedBy, tickets, tickets_held, tickets_open}
-use Rattle.device.specs.inside.Out.{Ticket}
-use Rattle.class_disk.specs.inside.Rooms.{AllOut}
 use Rattle.class_disk.proofs.Rooms.{out_any_order}
-use Rattle.class_disk.specs.inside.DuringACall.{CanCut, CanSendPart, IsOpening}
 use Rattle.class_disk.specs.inside.Parts.{HasBuffers, ticket_for, tickets_of, ticket_by}
-use Rattle.class_disk.specs.Shown.{class_rules}
-use Rattle.class_disk.specs.inside.TableCalls.{CanSend, bytes_from}
 use Rattle.class_disk.proofs.Cutting.{can_cut}
 use Rattle.class_disk.proofs.NewParts.{part_kind}
 use Rattle.class_disk.proofs.Noting.{tickets_of-append, tickets_open-append}

@@ -1,12 +1,7 @@
 -- An open request is taken out of its slot, changed, and put back.
 use Rattle.std.proofs.Common.{◌≡◌, ◌≢◌, ℕ, zero, suc, ◌+◌, ◌==◌, true, false, if◌then◌else◌, List, [], ◌∷◌, ◌++◌, Option, Some, None, refl, sym, ◌∙◌, ap, subst, arith, get_or}
-use Rattle.slab.specs.Slab.{get}
-use Rattle.class_disk.specs.declared.requests.Slot.{Slot}
+use Rattle.class_disk.proofs.Common.{get, Slot, Transfer, Table, Opened, TableView, ClosedSlot, opened_of, open_from, held_from, rooms_from, open_at, put_at, books_of, TakesOut, PutsBack, ended_books}
 use Rattle.class_disk.specs.declared.requests.Slot.TheVariants.{Reserved, Open, Left}
-use Rattle.class_disk.specs.declared.requests.Transfer.{Transfer}
-use Rattle.class_disk.specs.declared.table.Table.{Table}
-use Rattle.class_disk.specs.inside.TableView.{Opened, TableView, ClosedSlot, opened_of, open_from, held_from, rooms_from, open_at, put_at, books_of, TakesOut, PutsBack}
-use Rattle.class_disk.specs.inside.TableCalls.{ended_books}
 use Rattle.class_disk.proofs.Slots.{Slots, put_here, put_later, is_there, rest_of, rest_is}
 use Rattle.class_disk.proofs.SlotChanges.{open_step, opens_split, same_slots, changes_in, keeps_rooms}
 

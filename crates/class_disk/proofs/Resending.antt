@@ -1,45 +1,15 @@
 -- A part that came back busy goes down again: what its call needs, and that one packet is taken.
 use Rattle.std.proofs.Common.{◌≡◌, ◌<◌, ◌≤◌, inl, inr, ℕ, suc, ◌+◌, ◌-◌, ◌*◌, ◌/◌, ◌^◌, ◌==◌, min, Bool, true, List, [], ◌∷◌, ◌++◌, Some, refl, sym, ◌∙◌, ap, subst, arith, map, length, take}
 use Rattle.std.specs.Prelude.{IsPermutation, All, Any, Contains, slice_get, slice_set, if◌then◌else◌}
-use Rattle.std.proofs.lemmas.List.{map-append}
-use Rattle.std.proofs.lemmas.List.Sorted.{IsPermutation-sym, IsPermutation-trans, Contains-permutation, All-permutation, length_permutation}
-use Rattle.std.proofs.lemmas.List.Elements.{All-cons, All-tail, All-append, All-contains}
-use Rattle.adapter.proofs.Joining.{moves_joined}
-use Rattle.machine.specs.declared.Request.{Request}
-use Rattle.machine.specs.Rules.{Rules, place_count, as_client}
-use Rattle.machine.specs.State.{OpenRequest, State}
-use Rattle.machine.specs.Numbers.{IsGiven, HasPlaces, request_number}
-use Rattle.machine.specs.Marks.{AreCounted, IsCounted}
-use Rattle.machine.specs.Cutting.{restarts}
-use Rattle.machine.specs.Sending.{IsStart}
-use Rattle.machine.specs.Step.{DeviceStep, Run, as_label}
-use Rattle.device.specs.declared.climbing.Climb.{Climb}
-use Rattle.irp.specs.declared.Irp.{Irp}
-use Rattle.irp.specs.declared.StackLocation.{StackLocation}
+use Rattle.class_disk.proofs.Common.{map-append, IsPermutation-sym, IsPermutation-trans, Contains-permutation, All-permutation, length_permutation, All-cons, All-tail, All-append, All-contains, moves_joined, Request, Rules, place_count, as_client, OpenRequest, State, IsGiven, HasPlaces, request_number, AreCounted, IsCounted, restarts, IsStart, DeviceStep, Run, as_label, Climb, Irp, StackLocation, DeviceLabel, Start, Act, Fault, Return, DeviceView, Packet, Carries, IsOrderly, packet_of, packet_number, IsTopmost, whole_for, HandsUp, Submits, IsAt, Sizes, Progress, Returned, Note, Sent, Known, class_rules, AreSizes, again_part, note, note_by, known, knowns, tickets_held, tickets_open, IsAsked, IsAskedBy, IsSpotted, IsSpottedBy, IsOpen, AreKept, AreBelow, tickets, most_over, Ticket, AllOut, TransferPacket, IsTaking, IsMidway, TakesOne, CanSendAgain, SendsDownAgain}
 use Rattle.irp.specs.Climb.{above as locations_above}
-use Rattle.srb.specs.declared.DeviceLabel.{DeviceLabel}
-use Rattle.srb.specs.declared.DeviceLabel.TheVariants.{Start, Act, Fault, Return}
-use Rattle.device.specs.View.{DeviceView, Packet, Carries, IsOrderly, packet_of, packet_number, IsTopmost, whole_for}
-use Rattle.device.specs.Served.{HandsUp, Submits, IsAt}
-use Rattle.class_disk.specs.declared.Sizes.{Sizes}
 use Rattle.class_disk.specs.declared.parts.Part.{Part}
-use Rattle.class_disk.specs.declared.parts.Progress.{Progress}
 use Rattle.class_disk.specs.declared.parts.Progress.TheVariants.{Ready, Below, Ended as HasEnded}
-use Rattle.class_disk.specs.inside.Joint.{Note, Sent, Known}
 use Rattle.class_disk.specs.inside.Invariant.{WasSent, EndedAre, IsOver, HasSome, noted_busy}
-use Rattle.class_disk.specs.Shown.{class_rules}
-use Rattle.class_disk.specs.inside.Blocks.{AreSizes}
 use Rattle.class_disk.specs.inside.Parts.{GoesAgain, payload_in, ticket_for, tickets_of, ticket_by, restarts_of, unfinished_by}
 use Rattle.class_disk.specs.inside.TableView.{Opened, TableView, opened, all_open, ended_in, restarts_left, open_at, put_at}
-use Rattle.class_disk.specs.inside.TableCalls.{again_part}
-use Rattle.class_disk.specs.inside.Driver.{note, note_by, known, knowns, tickets_held, tickets_open, IsAsked, IsAskedBy, IsSpotted, IsSpottedBy, IsOpen, AreKept, AreBelow, tickets}
-use Rattle.class_disk.specs.Opening.{most_over}
 use Rattle.class_disk.specs.inside.Owners.{slot_at, place_at, IsOwnedBy, AreOwnedFrom}
-use Rattle.device.specs.inside.Out.{Ticket}
-use Rattle.class_disk.specs.inside.Rooms.{AllOut}
 use Rattle.class_disk.proofs.Rooms.{out_less}
-use Rattle.class_disk.specs.declared.parts.TransferPacket.{TransferPacket}
-use Rattle.class_disk.specs.inside.DuringACall.{IsTaking, IsMidway, TakesOne, CanSendAgain, SendsDownAgain}
 use Rattle.class_disk.proofs.Restarting.{noted_back}
 use Rattle.class_disk.proofs.NotedBusy.{noted_few}
 use Rattle.class_disk.proofs.NewRequest.{parts_cut}
@@ -51,9 +21,8 @@ use Rattle.class_disk.proofs.Finishing.{goes_again}
 use Rattle.class_disk.proofs.Standing.{is_put, set_there}
 use Rattle.class_disk.proofs.Noting.{PartStands, owned_at, tickets_of-append, tickets_open-append}
 use Rattle.class_disk.proofs.Handed.{Handed}
-use Rattle.class_disk.proofs.Withdrawing.{fewer_packets}
 use Rattle.class_disk.proofs.Changing.{b_now, each_entry, all_parts, packets_stay, left_now, long_now, known_old, known_new, some_now, over_now, causes_now, open_now, restarts-append}
-use Rattle.class_disk.proofs.Returning.{packets_taken, part_spotted, part_asked}
+use Rattle.class_disk.proofs.Returning.{packets_taken, fewer_packets, part_spotted, part_asked}
 use Rattle.class_disk.proofs.HandedPart.{taking_here, entry_open, same_request, was_sent_as, open_below, no_starts, next_stays, removing_stays}
 use Rattle.class_disk.proofs.PortRules.{port_rules}
 
@@ -97,7 +66,7 @@ sizes_below sizes rules h = record {
 module _ {takes : Bool} (v : DeviceView) (b : TableView) (brought : TransferPacket) (climb : Climb) (v' : DeviceView)
     (h : HandsUp takes v climb brought.room.spot v') (ordered : IsOrderly v) (takes_srb : takes ≡ true) (payload_is : payload_in brought ≡ h.payload)
     (rooms_step : (others : List Ticket) → AllOut v others → AllOut v' (ticket_for h.request brought ∷ others))
-    (d : Handed b h.packet.number h.packet.spot) (g : GoesAgain d.o.irp.cancelled b.removing d.o.restarts h.status) where
+    (d : Handed b h.packet.number h.packet.spot) (g : GoesAgain Returned d.o.irp.cancelled b.removing d.o.restarts h.status) where
   abbrev slot : ℕ
   slot = slot_at b.owners h.packet.spot
 
@@ -419,9 +388,10 @@ module _ {takes : Bool} (v : DeviceView) (b : TableView) (brought : TransferPack
             ended = went.1;
           }))
 
-    pub takes_again : TakesOne WasSent v b v'' b''
-    takes_again = subst (TakesOne WasSent v b v'') (sym books_are) (record {
+    pub takes_again : TakesOne Returned v b v'' b''
+    takes_again = subst (TakesOne Returned v b v'') (sym books_are) (record {
       starts = h.starts ++ down.starts;
+      still = λ is. absurd (cc (is));
       goes_on = record {
         only_starts = All-append IsStart h.starts down.starts h.only_starts down.only_starts;
         adapter = moves_joined v.adapter h.starts v'.adapter down.starts v''.adapter h.moves.adapter down.moves.adapter;
@@ -433,7 +403,7 @@ module _ {takes : Bool} (v : DeviceView) (b : TableView) (brought : TransferPack
         same_packets = packets_stay rules s sent_again_part (d.o.restarts + 1) d.o.unfinished (b.next_packet + 1) b.ended;
       };
       fewer =
-          let a = fewer_packets v climb brought.room.spot v' h in
+          let a = fewer_packets h in
           let c : length v''.packets ≡ suc (length v'.packets) = length_permutation _ _ packets_again in
           let e = left_less number brought.room.spot in
           omega arith;

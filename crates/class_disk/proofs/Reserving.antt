@@ -1,33 +1,16 @@
 -- Rooms are made below, and given back: what the class driver shows, and that it stays in order.
 use Rattle.std.proofs.Common.{◌≡◌, ◌≤◌, ℕ, zero, suc, ◌+◌, ◌==◌, Bool, true, false, if◌then◌else◌, List, [], ◌∷◌, ◌++◌, Option, Result, Ok, Err, refl, sym, ◌∙◌, ap, subst, arith, append_assoc, map, length}
 use Rattle.std.specs.Prelude.{IsPermutation, All, Any, OnErr}
-use Rattle.std.proofs.lemmas.List.{map-append}
-use Rattle.std.proofs.lemmas.List.Elements.{All-nil, All-cons, All-head, All-tail, All-weaker}
-use Rattle.std.proofs.lemmas.List.Sorted.{IsPermutation-sym, IsPermutation-append_left, All-permutation, length_permutation}
+use Rattle.class_disk.proofs.Common.{map-append, All-nil, All-cons, All-head, All-tail, All-weaker, IsPermutation-sym, IsPermutation-append_left, All-permutation, length_permutation, Extent, Request, Rules, AdapterView, reserves_none, ticket_spot, AllOut, Reserves, Frees, IsAt, PartId, Progress, Opened, TableView, ClosedSlot, opened, all_open, ended_in, reserved_for, Places, class_rules, RemovesSlot, StaysOwned, StaysTaken}
 use Rattle.class_disk.proofs.Rooms.{out_any_order}
 use Rattle.class_disk.proofs.AnyOrder.{held_same}
 use Rattle.class_disk.proofs.Standing.{IsApart}
-use Rattle.sector.specs.declared.Extent.{Extent}
-use Rattle.machine.specs.declared.Request.{Request}
-use Rattle.machine.specs.Rules.{Rules}
-use Rattle.adapter.specs.View.{AdapterView}
-use Rattle.adapter.proofs.Joining.{reserves_none}
 use Rattle.device.specs.View.{DeviceView, Packet, Reserved, packet_spot}
-use Rattle.device.specs.inside.Out.{ticket_spot}
-use Rattle.class_disk.specs.inside.Rooms.{AllOut}
-use Rattle.device.specs.Served.{Reserves, Frees, IsAt}
 use Rattle.class_disk.specs.declared.parts.Part.{Part}
-use Rattle.class_disk.specs.declared.parts.PartId.{PartId}
-use Rattle.class_disk.specs.declared.parts.Progress.{Progress}
 use Rattle.class_disk.specs.declared.parts.Progress.TheVariants.{Ready, Below, Ended}
 use Rattle.class_disk.specs.inside.Parts.{IsHere, IsHereBy, ticket_by, tickets_of}
 use Rattle.class_disk.specs.inside.Owners.{IsOwner, IsOwnedBy, AreOwnedFrom}
-use Rattle.class_disk.specs.inside.TableView.{Opened, TableView, ClosedSlot, opened, all_open, ended_in, reserved_for}
-use Rattle.class_disk.specs.declared.requests.Places.{Places}
-use Rattle.class_disk.specs.Shown.{class_rules}
-use Rattle.class_disk.specs.inside.TableCalls.{RemovesSlot}
 use Rattle.class_disk.specs.inside.Driver.{view_of, AreKept, IsInHand, IsHeld, IsOpen, IsSpotted, IsSpottedBy, AreSpotted, tickets, tickets_held, tickets_open}
-use Rattle.class_disk.specs.inside.DuringACall.{StaysOwned, StaysTaken}
 
 -- WHOSE PARTS STAY WHERE THEY WERE
 

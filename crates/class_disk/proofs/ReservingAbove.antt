@@ -1,16 +1,8 @@
 -- A room is made for a request, or none: what the class driver shows.
 use Rattle.std.proofs.Common.{◌≡◌, ◌≤◌, ◌+◌, true, List, ◌∷◌, Some, None, refl, sym, ◌∙◌, ap, subst, arith, length, map}
 use Rattle.std.specs.Prelude.{All, IsPermutation}
-use Rattle.adapter.specs.View.{ReservesMore}
-use Rattle.device.proofs.Reserving.{packets_apart}
-use Rattle.device.specs.View.{DeviceView, room_at, whole_for}
-use Rattle.device.specs.Served.{HasOtherSpot, Reserves, ReservesSpot, ReservesNone, SetsRoom}
-use Rattle.class_disk.specs.declared.parts.PartId.{PartId}
-use Rattle.class_disk.specs.inside.TableView.{TableView, ClosedSlot}
-use Rattle.class_disk.specs.Shown.{class_rules}
-use Rattle.class_disk.specs.inside.TableCalls.{AddsSlot, AddsNoSlot}
+use Rattle.class_disk.proofs.Common.{ReservesMore, packets_apart, DeviceView, room_at, whole_for, HasOtherSpot, Reserves, ReservesSpot, ReservesNone, SetsRoom, PartId, TableView, ClosedSlot, class_rules, AddsSlot, AddsNoSlot, StaysTaken, MakesNone, MakesParts}
 use Rattle.class_disk.specs.inside.Driver.{view_of, packet_above, IsInHand, IsHeld, tickets}
-use Rattle.class_disk.specs.inside.DuringACall.{StaysTaken, MakesNone, MakesParts}
 use Rattle.class_disk.proofs.Standing.{IsApart}
 use Rattle.class_disk.proofs.Reserving.{in_hand_refused, in_hand_made}
 

@@ -1,24 +1,6 @@
 -- A reset of the adapter, as the class driver shows it: the pieces that fault are those on the same tags.
-use Rattle.std.proofs.Common.{◌≡◌, Bool, true, false, List, [], ◌∷◌, ◌++◌, refl, sym, ◌∙◌, ap, subst, arith, map, cond}
+use Rattle.class_disk.proofs.Common.{◌≡◌, Bool, true, false, List, [], ◌∷◌, ◌++◌, refl, sym, ◌∙◌, ap, subst, arith, map, cond, IsStrictlyIncreasing, length-map, All-weaker, IsPermutation-refl, IsPermutation-sym, IsPermutation-trans, IsPermutation-cons, IsPermutation-middle, IsPermutation-map, All-permutation, Contains-permutation, length_permutation, DeviceLabel, Fault, is_fresh, Rules, Piece, State, IsSame, IsCounted, Run, as_label, IsPermutation-uncons, IsSame-refl, DeviceView, OnTag, piece_on_tag, IsOrderly, Moves, Resets, is_fresh_piece, fault_of, piece_tag, TableView, all_open, class_rules, view_of, tickets, IsInHand, AreAsked, AreBelow}
 use Rattle.std.specs.Prelude.{IsPermutation, All, Contains, filter}
-use Rattle.std.specs.List.Sorted.{IsStrictlyIncreasing}
-use Rattle.std.proofs.lemmas.List.{length-map}
-use Rattle.std.proofs.lemmas.List.Elements.{All-weaker}
-use Rattle.std.proofs.lemmas.List.Sorted.{IsPermutation-refl, IsPermutation-sym, IsPermutation-trans, IsPermutation-cons, IsPermutation-middle, IsPermutation-map, All-permutation, Contains-permutation, length_permutation}
-use Rattle.srb.specs.declared.DeviceLabel.{DeviceLabel}
-use Rattle.srb.specs.declared.DeviceLabel.TheVariants.{Fault}
-use Rattle.srb.specs.Fate.{is_fresh}
-use Rattle.machine.specs.Rules.{Rules}
-use Rattle.machine.specs.State.{Piece, State, IsSame}
-use Rattle.machine.specs.Marks.{IsCounted}
-use Rattle.machine.specs.Step.{Run, as_label}
-use Rattle.machine.proofs.Permuting.{IsPermutation-uncons}
-use Rattle.machine.proofs.Same.{IsSame-refl}
-use Rattle.device.specs.View.{DeviceView, OnTag, piece_on_tag, IsOrderly}
-use Rattle.device.specs.Served.{Moves, Resets, is_fresh_piece, fault_of, piece_tag}
-use Rattle.class_disk.specs.inside.TableView.{TableView, all_open}
-use Rattle.class_disk.specs.Shown.{class_rules}
-use Rattle.class_disk.specs.inside.Driver.{view_of, tickets, IsInHand, AreAsked, AreBelow}
 use Rattle.class_disk.proofs.Rooms.{out_same}
 use Rattle.class_disk.proofs.Showing.{IsPermutation-filter, split_at}
 use Rattle.class_disk.proofs.Acting.{IsStill, nil_from_length, still_run, unfinished_still, settled_still, asked_still, map_there, MovesAbove, moves_above, below_moved, hand_ran, same_tags}

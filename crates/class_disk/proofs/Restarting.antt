@@ -1,14 +1,8 @@
 -- A part that came back busy goes down again while restarts are left.
 use Rattle.std.proofs.Common.{◌≡◌, ◌<◌, ◌≤◌, ℕ, suc, ◌+◌, List, [], ◌∷◌, ◌++◌, arith, map, get_or}
 use Rattle.std.specs.Prelude.{All}
-use Rattle.std.proofs.lemmas.List.Elements.{All-head, All-tail, All-contains, Contains-append_left, Contains-get_or}
-use Rattle.machine.specs.Rules.{Rules}
-use Rattle.machine.specs.State.{Mark, Untouched, Out, Done, Failed, Back, OpenRequest, Piece, State}
-use Rattle.machine.specs.Numbers.{HavePlaces}
-use Rattle.machine.specs.Marks.{IsBusyBy, AreCounted}
-use Rattle.machine.specs.Cutting.{restarts}
+use Rattle.class_disk.proofs.Common.{All-head, All-tail, All-contains, Contains-append_left, Contains-get_or, Rules, Mark, Untouched, Out, Done, Failed, Back, OpenRequest, Piece, State, HavePlaces, IsBusyBy, AreCounted, restarts, one_if_back, begins_back, parts_back, noted_busy}
 use Rattle.class_disk.specs.inside.Joint.{Part, Below, Here, Note, Sent, Kept, note_of, parts_requests, parts_busy}
-use Rattle.class_disk.specs.inside.Invariant.{one_if_back, begins_back, parts_back, noted_busy}
 use Rattle.class_disk.proofs.Coupled.{busy-append}
 use Rattle.class_disk.proofs.InPieces.{back-append}
 

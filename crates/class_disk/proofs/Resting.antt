@@ -1,26 +1,9 @@
 -- Between calls: where the machine below is settled and nothing that has ended waits there, the one above is settled.
 use Rattle.std.proofs.Common.{◌≡◌, ◌<◌, ◌⊎◌, inl, inr, ℕ, zero, suc, ◌+◌, not, ◌||◌, Bool, true, false, List, [], ◌∷◌, refl, sym, ◌∙◌, ap, subst, arith, map, length, get_or, None}
 use Rattle.std.specs.Prelude.{All, Contains, IsTrue, IsFalse, if◌then◌else◌}
-use Rattle.std.specs.List.{list_all, list_any}
-use Rattle.std.proofs.lemmas.Bool.{cases_Bool}
-use Rattle.std.proofs.lemmas.List.{length-map}
-use Rattle.std.proofs.lemmas.List.Sorted.{IsPermutation-sym, length_permutation, Contains-permutation}
-use Rattle.std.proofs.lemmas.List.Elements.{All-nil, All-cons, All-head, All-tail, All-weaker, All-append, All-map, All-contains, Contains-append_left, Contains-append_right, Contains-get_or}
-use Rattle.ntstatus.specs.declared.NtStatus.TheVariants.{Cancelled, DeviceBusy, NoSuchDevice, DeletePending}
-use Rattle.machine.specs.declared.ClientRequest.{ClientRequest}
-use Rattle.machine.specs.Rules.{Rules}
-use Rattle.machine.specs.State.{Mark, Untouched, Out, Done, Failed, Back, OpenRequest, State, IsSame}
-use Rattle.machine.specs.Marks.{IsEarned, HasEarned, IsLike, HasAlike}
-use Rattle.machine.specs.Sending.{is_started, is_untouched, is_unsent}
-use Rattle.machine.specs.Answering.{HasEnded}
+use Rattle.class_disk.proofs.Common.{list_all, list_any, cases_Bool, length-map, IsPermutation-sym, length_permutation, Contains-permutation, All-nil, All-cons, All-head, All-tail, All-weaker, All-append, All-map, All-contains, Contains-append_left, Contains-append_right, Contains-get_or, Cancelled, DeviceBusy, NoSuchDevice, DeletePending, ClientRequest, Rules, Mark, Untouched, Out, Done, Failed, Back, OpenRequest, State, IsSame, IsEarned, HasEarned, IsLike, HasAlike, is_started, is_untouched, is_unsent, HasEnded, HasPlaces, HavePlaces, AwaitsRestartIfEnded, AwaitsRestart, out_ends_not, untouched_ends_not, none_there, below_rules, IsSound, IsMadeUp, AgreesOnCancel, IsCancelledAs, AreParts, Keeps}
 use Rattle.machine.specs.Settled.{Settled, HasGone, IsHeld, WaitsIfCancelled, Waits, IsAllSent, IsHeldBack, IsFull, HasMore, IsAtWork, IsWithin, started_count, is_out, has_out, has_unsent}
-use Rattle.machine.specs.Numbers.{HasPlaces, HavePlaces}
-use Rattle.device.specs.Served.{AwaitsRestartIfEnded, AwaitsRestart}
-use Rattle.machine.proofs.Commuting.{out_ends_not, untouched_ends_not}
-use Rattle.machine.proofs.Same.{none_there}
 use Rattle.class_disk.specs.inside.Joint.{Part, Below, Here, Divided, Joint, shown_mark, parts_requests, parts_marks, requests_below, pieces_below, pieces_above, shown, below, above}
-use Rattle.class_disk.specs.inside.PortRules.{below_rules}
-use Rattle.class_disk.specs.inside.Invariant.{IsSound, IsMadeUp, AgreesOnCancel, IsCancelledAs, AreParts, Keeps}
 use Rattle.class_disk.proofs.CoupledMarks.{started_part, same_tags, tag_of}
 use Rattle.class_disk.proofs.CoupledSteps.{in_requests}
 use Rattle.class_disk.proofs.CoupledRun.{Contains-map}

@@ -1,34 +1,9 @@
 -- What comes back below, told of the class driver: a part is noted, or goes down again in a new packet.
 use Rattle.std.proofs.Common.{◌*◌, ◌≡◌, ◌<◌, ◌⊎◌, inl, inr, ℕ, zero, suc, ◌+◌, Bool, false, List, [], ◌∷◌, ◌++◌, refl, sym, ◌∙◌, ap, subst, arith, map, length, get_or, None, replicate}
 use Rattle.std.specs.Prelude.{IsPermutation, All, Contains, IsTrue, IsFalse}
-use Rattle.std.proofs.lemmas.List.{map-append, length-replicate}
-use Rattle.std.proofs.lemmas.List.Sorted.{IsPermutation-sym, IsPermutation-trans, IsPermutation-cons, IsPermutation-middle, IsPermutation-map, All-permutation, Contains-permutation}
-use Rattle.std.proofs.lemmas.List.Elements.{All-nil, All-head, All-tail, All-weaker, All-append, All-contains, Contains-get_or}
-use Rattle.ntstatus.specs.declared.NtStatus.{NtStatus}
-use Rattle.srb.specs.declared.DeviceLabel.{DeviceLabel}
-use Rattle.machine.specs.declared.ClientRequest.{ClientRequest}
-use Rattle.machine.specs.declared.Label.TheVariants.{Answer}
-use Rattle.machine.specs.Rules.{Rules, place_count}
-use Rattle.machine.specs.State.{Mark, Untouched, Out, Done, Failed, Back, OpenRequest, Piece, State, IsSame}
-use Rattle.machine.specs.Numbers.{IsGiven, AreDistinct, HavePlaces}
-use Rattle.machine.specs.Marks.{IsCounted, AreCounted}
-use Rattle.machine.specs.Calling.{Opens, new_request}
-use Rattle.machine.specs.Cutting.{restarts}
-use Rattle.machine.specs.Sending.{is_started, is_untouched}
-use Rattle.machine.specs.Answering.{Answers, information}
-use Rattle.machine.specs.Step.{Run, as_label}
-use Rattle.machine.proofs.Same.{IsSame-refl, IsSame-sym, IsSame-trans, Run-same, Run-append}
-use Rattle.machine.proofs.Permuting.{IsPermutation-uncons}
-use Rattle.machine.proofs.Numbers.{AreDistinct-Step, AreDistinct-Admits}
-use Rattle.machine.proofs.Placed.{ArePlaced-Answers, ArePlaced-Opens}
-use Rattle.machine.proofs.Earned.{HaveEarned-Answers, HaveEarned-Opens}
-use Rattle.machine.proofs.OnePiece.{AreOnePiece-Answers, AreOnePiece-Opens}
-use Rattle.machine.proofs.Counted.{AreCounted-Answers, AreCounted-Opens, AreCounted-Run, AreCounted-same}
+use Rattle.class_disk.proofs.Common.{map-append, length-replicate, IsPermutation-sym, IsPermutation-trans, IsPermutation-cons, IsPermutation-middle, IsPermutation-map, All-permutation, Contains-permutation, All-nil, All-head, All-tail, All-weaker, All-append, All-contains, Contains-get_or, NtStatus, DeviceLabel, ClientRequest, Answer, Rules, place_count, Mark, Untouched, Out, Done, Failed, Back, OpenRequest, Piece, State, IsSame, IsGiven, AreDistinct, HavePlaces, IsCounted, AreCounted, Opens, new_request, restarts, is_started, is_untouched, Answers, information, Run, as_label, IsSame-refl, IsSame-sym, IsSame-trans, Run-same, Run-append, IsPermutation-uncons, AreDistinct-Step, AreDistinct-Admits, ArePlaced-Answers, ArePlaced-Opens, HaveEarned-Answers, HaveEarned-Opens, AreOnePiece-Answers, AreOnePiece-Opens, AreCounted-Answers, AreCounted-Opens, AreCounted-Run, AreCounted-same, below_rules, IsSound, IsMadeUp, AgreesOnCancel, IsCancelledAs, HasPartBefore, IsAhead, Keeps, IsOverMark, IsOverNote, IsOver, HasSome, noted_busy, IsTaking}
 use Rattle.class_disk.specs.inside.Joint.{Part, Below, Here, Note, Sent, Kept, Known, note_of, known_of, Divided, Joint, IsPartOf, shown_mark, parts_requests, parts_marks, requests_below, shown, below, above}
-use Rattle.class_disk.specs.inside.PortRules.{below_rules}
-use Rattle.class_disk.specs.inside.Invariant.{IsSound, IsMadeUp, AgreesOnCancel, IsCancelledAs, HasPartBefore, IsAhead, Keeps, IsOverMark, IsOverNote, IsOver, HasSome, noted_busy}
 use Rattle.class_disk.proofs.Restarting.{IsBusyOnce, busy_once, once_of, noted_back, few_again}
-use Rattle.class_disk.specs.inside.DuringACall.{IsTaking}
 use Rattle.class_disk.proofs.CoupledSteps.{in_requests}
 use Rattle.class_disk.proofs.Focus.{Found}
 use Rattle.class_disk.proofs.Keeping.{part_in, there}

@@ -1,13 +1,9 @@
 -- The rooms of the layer below, as they are reserved, spent and given back.
 use Rattle.std.proofs.Common.{ℕ, Option, Some, None, List, ◌∷◌, sym, subst}
-use Rattle.std.specs.Prelude.{IsPermutation}
-use Rattle.std.proofs.lemmas.List.Sorted.{IsPermutation-sym, IsPermutation-trans, IsPermutation-cons}
-use Rattle.machine.proofs.Permuting.{IsPermutation-uncons}
+use Rattle.class_disk.proofs.Common.{IsPermutation, IsPermutation-sym, IsPermutation-trans, IsPermutation-cons, IsPermutation-uncons, SameRooms, SetsRoom, AllOut}
 use Rattle.device.specs.View.{DeviceView, Reserved, IsOrderly}
-use Rattle.device.specs.Served.{SameRooms, SetsRoom}
 use Rattle.device.specs.inside.Out.{Ticket, AreOut, IsGood, tickets_of}
 use Rattle.device.proofs.Out.{out_any_order as any_order_of, out_same as same_of, out_more as more_of, out_less as less_of, out_first as first_of, same_tickets, tickets_more, tickets_less}
-use Rattle.class_disk.specs.inside.Rooms.{AllOut}
 
 are_out : (v : DeviceView) (tickets : List Ticket) → AllOut v tickets → AreOut v tickets
 are_out v tickets h = record { orderly = h.orderly; good = h.good; apart = h.apart }

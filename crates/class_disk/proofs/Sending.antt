@@ -1,17 +1,7 @@
 -- A part goes below in a packet of a new number, and the machine above stays as it was.
 use Rattle.std.proofs.Common.{◌≡◌, ◌≤◌, ◌⊎◌, inl, inr, ℕ, suc, ◌+◌, not, Bool, List, [], ◌∷◌, ◌++◌, refl, sym, ◌∙◌, ap, subst, arith, map, length, length-append}
 use Rattle.std.specs.Prelude.{IsPermutation, All, Contains, IsTrue}
-use Rattle.std.specs.List.{list_all}
-use Rattle.std.proofs.lemmas.List.{length-map}
-use Rattle.std.proofs.lemmas.List.Sorted.{IsPermutation-sym, IsPermutation-trans, IsPermutation-cons, IsPermutation-middle, IsPermutation-append_left, All-permutation}
-use Rattle.std.proofs.lemmas.List.Elements.{All-nil, All-cons, All-head, All-tail, All-weaker, All-map, Contains-append_cases, Contains-append_left, Contains-append_right}
-use Rattle.machine.specs.declared.ClientRequest.{ClientRequest}
-use Rattle.machine.specs.Rules.{Rules}
-use Rattle.machine.specs.State.{OpenRequest, State, IsSame}
-use Rattle.machine.specs.Numbers.{request_number}
-use Rattle.machine.specs.Cutting.{restarts}
-use Rattle.machine.specs.Sending.{is_untouched}
-use Rattle.machine.proofs.Same.{IsSame-sym, IsSame-trans}
+use Rattle.class_disk.proofs.Common.{list_all, length-map, IsPermutation-sym, IsPermutation-trans, IsPermutation-cons, IsPermutation-middle, IsPermutation-append_left, All-permutation, All-nil, All-cons, All-head, All-tail, All-weaker, All-map, Contains-append_cases, Contains-append_left, Contains-append_right, ClientRequest, Rules, OpenRequest, State, IsSame, request_number, restarts, is_untouched, IsSame-sym, IsSame-trans}
 use Rattle.class_disk.specs.inside.Joint.{Part, Below, Here, Divided, Joint, IsPartOf, shown_mark, parts_requests, parts_marks, parts_busy, parts_lifted, requests_below, pieces_below, below, above}
 use Rattle.class_disk.specs.inside.Invariant.{IsOwnedBy, AreParts, IsMadeUp, IsCancelledAs, AgreesOnCancel, IsAhead, AreBehind, IsInTurn, parts_back, IsInPieces, Keeps}
 use Rattle.class_disk.proofs.InPieces.{cut_with}

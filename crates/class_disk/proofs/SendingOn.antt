@@ -1,41 +1,12 @@
 -- One part more of a request that is being opened is sent.
 use Rattle.std.proofs.Common.{◌≡◌, ◌≢◌, ◌<◌, ◌≤◌, ◌⊎◌, inl, inr, ℕ, zero, suc, ◌+◌, ◌==◌, false, List, [], ◌∷◌, ◌++◌, Some, refl, sym, ◌∙◌, ap, subst, arith, length, length-append, map, drop, take, get_or, replicate}
 use Rattle.std.specs.Prelude.{IsPermutation, All, Any, Contains, slice_set, slice_range, if◌then◌else◌}
-use Rattle.std.specs.List.{range_with_len}
-use Rattle.std.proofs.Math.Seq.{take-append_seam, take-append-add, drop-append-add}
-use Rattle.std.proofs.lemmas.List.{map-append}
-use Rattle.std.proofs.lemmas.List.Sorted.{IsPermutation-sym, IsPermutation-trans, IsPermutation-cons, IsPermutation-middle, IsPermutation-map, All-permutation, Contains-permutation}
-use Rattle.std.proofs.lemmas.List.Elements.{All-nil, All-cons, All-head, All-tail, All-append, All-contains, Contains-append_cases, Contains-append_left, Contains-append_right}
-use Rattle.srb.specs.declared.DeviceLabel.{DeviceLabel}
-use Rattle.irp.specs.declared.Payload.{Payload}
-use Rattle.machine.specs.declared.ClientRequest.{ClientRequest}
-use Rattle.srb.specs.declared.Kind.TheVariants.{Write}
-use Rattle.machine.specs.declared.Request.{Request}
-use Rattle.machine.specs.Rules.{Rules, place_count, as_client}
-use Rattle.machine.specs.State.{Untouched, State}
-use Rattle.machine.specs.Calling.{Opens, new_request}
-use Rattle.machine.specs.Numbers.{IsGiven, request_number}
-use Rattle.machine.specs.Step.{Run, as_label}
-use Rattle.machine.proofs.Permuting.{IsPermutation-uncons}
-use Rattle.device.specs.View.{DeviceView, Packet, IsOrderly, packet_of, packet_number, payload_bytes, sent_bytes, IsTopmost, whole_for}
-use Rattle.device.specs.Served.{Submits, IsAt}
+use Rattle.class_disk.proofs.Common.{range_with_len, take-append_seam, take-append-add, drop-append-add, map-append, IsPermutation-sym, IsPermutation-trans, IsPermutation-cons, IsPermutation-middle, IsPermutation-map, All-permutation, Contains-permutation, All-nil, All-cons, All-head, All-tail, All-append, All-contains, Contains-append_cases, Contains-append_left, Contains-append_right, DeviceLabel, Payload, ClientRequest, Write, Request, Rules, place_count, as_client, Untouched, State, Opens, new_request, IsGiven, request_number, Run, as_label, IsPermutation-uncons, DeviceView, Packet, IsOrderly, packet_of, packet_number, payload_bytes, sent_bytes, IsTopmost, whole_for, Submits, IsAt, Progress, part_count_of, part_request_of, goes_whole, data_length, note, note_by, known, knowns, tickets, tickets_held, tickets_open, packet_above, request_of_part, IsReadyPart, IsAsked, IsAskedBy, IsSpotted, IsSpottedBy, IsBuffered, IsWritten, most_over, AllOut, IsPartOf, Note, Sent, Kept, Known, below_rules, IsNothing, IsOver, HasSome, IsTaking, GoesOn, IsOpening, OpeningSoFar, SendsDown, IsDown, restarts_of, class_rules, sent_part, bytes_from}
 use Rattle.class_disk.specs.declared.parts.Part.{Part}
-use Rattle.class_disk.specs.declared.parts.Progress.{Progress}
 use Rattle.class_disk.specs.declared.parts.Progress.TheVariants.{Ready, Below, Ended as HasEnded}
-use Rattle.class_disk.specs.inside.Blocks.{part_count_of, part_request_of, goes_whole, data_length}
 use Rattle.class_disk.specs.inside.TableView.{Opened, TableView, opened, all_open, ended_in, restarts_left, open_at, put_at}
-use Rattle.class_disk.specs.inside.Driver.{note, note_by, known, knowns, tickets, tickets_held, tickets_open, packet_above, request_of_part, IsReadyPart, IsAsked, IsAskedBy, IsSpotted, IsSpottedBy, IsBuffered, IsWritten}
-use Rattle.class_disk.specs.Opening.{most_over}
 use Rattle.class_disk.specs.inside.Owners.{IsOwnedBy, AreOwnedFrom}
-use Rattle.class_disk.specs.inside.Rooms.{AllOut}
 use Rattle.class_disk.proofs.Rooms.{out_less}
-use Rattle.class_disk.specs.inside.Joint.{IsPartOf, Note, Sent, Kept, Known}
-use Rattle.class_disk.specs.inside.PortRules.{below_rules}
-use Rattle.class_disk.specs.inside.Invariant.{IsNothing, IsOver, HasSome}
-use Rattle.class_disk.specs.inside.DuringACall.{IsTaking, GoesOn, IsOpening, OpeningSoFar, SendsDown}
-use Rattle.class_disk.specs.inside.Parts.{IsDown, restarts_of}
-use Rattle.class_disk.specs.Shown.{class_rules}
-use Rattle.class_disk.specs.inside.TableCalls.{sent_part, bytes_from}
 use Rattle.class_disk.proofs.Acting.{map_there}
 use Rattle.class_disk.proofs.Asking.{asks_own, asks_run, asks_submitted}
 use Rattle.class_disk.proofs.Changing.{restarts-append}

@@ -1,25 +1,10 @@
 -- The data that a part takes along.
 use Rattle.std.specs.Prelude.{slice_get, slice_set, slice_range, vec_capacity, if◌then◌else◌}
 use Rattle.std.proofs.Common.{◌≡◌, ◌≤◌, true, IsTrue, take, drop, ℕ, zero, suc, ◌+◌, ◌-◌, ◌*◌, ◌==◌, List, [], ◌∷◌, Some, refl, sym, ◌∙◌, ap, subst, arith, length, get_or}
-use Rattle.std.proofs.lemmas.Option.{get_or_from_slice_get}
+use Rattle.class_disk.proofs.Common.{get_or_from_slice_get, Kind, Read, Write, Flush, Request, Rules, is_transfer, Srb, AsksFor, AsksInLocation, transfer_length, payload_bytes, Sizes, TransferPacket, Place, Progress, Ready, data_length, IsWholeDisk, IsOwnPacket, Opened, IsBufferOf, own_length, HasBuffers, CanTake, IsReadyAt, IsDataOf, SendsAs, bytes_from, sent_opened, sent_part}
 use Rattle.std.proofs.lemmas.List.{length-drop, length-take-le}
 use Rattle.irp.specs.declared.Payload.TheVariants.{Srb as Packed}
-use Rattle.srb.specs.declared.Kind.{Kind}
-use Rattle.srb.specs.declared.Kind.TheVariants.{Read, Write, Flush}
-use Rattle.machine.specs.declared.Request.{Request}
-use Rattle.machine.specs.Rules.{Rules, is_transfer}
-use Rattle.srb.specs.declared.Srb.{Srb}
-use Rattle.device.specs.View.{AsksFor, AsksInLocation, transfer_length, payload_bytes}
-use Rattle.class_disk.specs.declared.Sizes.{Sizes}
-use Rattle.class_disk.specs.declared.parts.TransferPacket.{TransferPacket}
 use Rattle.class_disk.specs.declared.parts.Part.{Part}
-use Rattle.class_disk.specs.declared.parts.Place.{Place}
-use Rattle.class_disk.specs.declared.parts.Progress.{Progress}
-use Rattle.class_disk.specs.declared.parts.Progress.TheVariants.{Ready}
-use Rattle.class_disk.specs.inside.Blocks.{data_length, IsWholeDisk, IsOwnPacket}
-use Rattle.class_disk.specs.inside.TableView.{Opened}
-use Rattle.class_disk.specs.inside.Parts.{IsBufferOf, own_length, HasBuffers}
-use Rattle.class_disk.specs.inside.TableCalls.{CanTake, IsReadyAt, IsDataOf, SendsAs, bytes_from, sent_opened, sent_part}
 
 -- the part that was found at its place
 pub found_part : (parts : List Part) (k : ℕ) (found part : Part) → found ≡ get_or parts k found

@@ -1,24 +1,12 @@
 -- What is read off the machine below is the coupling that there is.
 use Rattle.std.proofs.Common.{◌≡◌, ◌≢◌, ◌⊎◌, inl, inr, ℕ, zero, suc, ◌+◌, ◌==◌, eqb, Bool, true, false, List, [], ◌∷◌, ◌++◌, refl, sym, ◌∙◌, ap, subst, arith, rules, map, length, append_assoc}
 use Rattle.std.specs.Prelude.{IsPermutation, All, Contains, filter}
-use Rattle.std.specs.List.{IsDistinct}
-use Rattle.std.proofs.lemmas.Bool.{cases_Bool}
-use Rattle.std.proofs.lemmas.Bool.Decides.{nat_tests}
+use Rattle.class_disk.proofs.Common.{IsDistinct, cases_Bool, nat_tests, IsPermutation-refl, IsPermutation-sym, IsPermutation-trans, IsPermutation-middle, IsPermutation-append, IsPermutation-append_right, IsPermutation-map, All-permutation, Contains-permutation, All-nil, All-cons, All-head, All-tail, All-append, All-weaker, filter-append, OpenRequest, Piece, State, IsSame, Rules, ClientRequest, AreDistinct, request_number, requests_in_order, none_there, IsPermutation-uncons, distinct_first, open_under, is_owned_by, part_of, divided_of, shown_state}
 use Rattle.std.proofs.lemmas.List.{append-nil}
-use Rattle.std.proofs.lemmas.List.Sorted.{IsPermutation-refl, IsPermutation-sym, IsPermutation-trans, IsPermutation-middle, IsPermutation-append, IsPermutation-append_right, IsPermutation-map, All-permutation, Contains-permutation}
-use Rattle.std.proofs.lemmas.List.Elements.{All-nil, All-cons, All-head, All-tail, All-append, All-weaker, filter-append}
-use Rattle.machine.specs.State.{OpenRequest, Piece, State, IsSame}
-use Rattle.machine.specs.Rules.{Rules}
-use Rattle.machine.specs.declared.ClientRequest.{ClientRequest}
-use Rattle.machine.specs.Numbers.{AreDistinct, request_number}
 use Rattle.class_disk.proofs.Coupled.{pieces-append}
 use Rattle.class_disk.proofs.CoupledSteps.{divided_with, request_first}
-use Rattle.machine.proofs.Numbers.{requests_in_order}
-use Rattle.machine.proofs.Same.{none_there}
-use Rattle.machine.proofs.Permuting.{IsPermutation-uncons, distinct_first}
 use Rattle.class_disk.specs.inside.Joint.{Part, Below, Here, Known, Divided, Joint, note_of, known_of, gathered, requests_of, pieces_of, lifted_pieces, lifted, parts_requests, parts_pieces, parts_marks, parts_busy, parts_lifted, requests_below, pieces_below, pieces_above, shown, shown_mark, below, above}
 use Rattle.class_disk.specs.inside.Invariant.{IsOwnedBy, AreParts, IsMadeUp, Keeps}
-use Rattle.class_disk.specs.inside.Machine.{open_under, is_owned_by, part_of, divided_of, shown_state}
 use Rattle.class_disk.proofs.Focus.{second_first, gathered_first}
 use Rattle.class_disk.proofs.CoupledRun.{one_request}
 

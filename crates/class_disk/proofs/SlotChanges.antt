@@ -1,15 +1,7 @@
 -- One slot of the table changes: what that does to the open requests, to those with no packet, and to what is reserved.
 use Rattle.std.proofs.Common.{◌≡◌, ◌≢◌, ◌⊎◌, ◌==◌, inl, inr, ℕ, zero, suc, ◌+◌, true, false, List, [], ◌∷◌, ◌++◌, Option, Some, None, refl, sym, ◌∙◌, ap, subst, arith, length, get_or, is_some, cond, count_by}
-use Rattle.std.specs.Prelude.{IsPermutation}
-use Rattle.std.proofs.lemmas.Bool.{cases_Bool, eqb-true, eqb-false}
-use Rattle.std.proofs.lemmas.List.Sums.{sum_by-cons}
-use Rattle.std.proofs.lemmas.List.Sorted.{IsPermutation-middle}
-use Rattle.device.specs.Served.{SetsRoom}
-use Rattle.class_disk.specs.declared.requests.Places.{Places}
-use Rattle.class_disk.specs.declared.requests.Slot.{Slot}
+use Rattle.class_disk.proofs.Common.{IsPermutation, cases_Bool, eqb-true, eqb-false, sum_by-cons, IsPermutation-middle, SetsRoom, Places, Slot, Transfer, Opened, ClosedSlot, opened_of, held_as, left_as, open_from, held_from, open_at, room_of, rooms_from}
 use Rattle.class_disk.specs.declared.requests.Slot.TheVariants.{Reserved, Open, Left}
-use Rattle.class_disk.specs.declared.requests.Transfer.{Transfer}
-use Rattle.class_disk.specs.inside.TableView.{Opened, ClosedSlot, opened_of, held_as, left_as, open_from, held_from, open_at, room_of, rooms_from}
 use Rattle.class_disk.proofs.Slots.{Slots, open_is, room_in, same_rooms, rest_of, rest_is}
 
 -- what a slot adds to the open requests, and to those with no packet

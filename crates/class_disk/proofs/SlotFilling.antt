@@ -1,16 +1,8 @@
 -- A slot is filled, opened or given up, as the books have it.
 use Rattle.std.proofs.Common.{◌≡◌, ◌≢◌, ◌≤◌, ◌+◌, ◌⊎◌, inl, inr, ℕ, Bool, true, false, List, ◌∷◌, Option, Some, None, refl, sym, ◌∙◌, ap, subst, arith, get_or, length}
-use Rattle.std.specs.Prelude.{IsPermutation}
-use Rattle.slab.specs.Slab.{Slab, Updates, get, slab_len}
-use Rattle.irp.specs.declared.Irp.{Irp}
+use Rattle.class_disk.proofs.Common.{IsPermutation, Slab, Updates, get, slab_len, Irp, Places, Slot, Transfer, Table, Opened, opened_of, held_as, left_as, open_from, held_from, rooms_from, room_of, books_of, IsVacantFor, HasPlaceForMore, new_opened, AddsSlot, RemovesSlot, OpensAt}
 use Rattle.device.specs.View.{Reserved as DeviceRoom, whole_for, IsReady, IsReserved, request_at}
-use Rattle.class_disk.specs.declared.requests.Places.{Places}
-use Rattle.class_disk.specs.declared.requests.Slot.{Slot}
 use Rattle.class_disk.specs.declared.requests.Slot.TheVariants.{Reserved, Open, Left}
-use Rattle.class_disk.specs.declared.requests.Transfer.{Transfer}
-use Rattle.class_disk.specs.declared.table.Table.{Table}
-use Rattle.class_disk.specs.inside.TableView.{Opened, opened_of, held_as, left_as, open_from, held_from, rooms_from, room_of, books_of, IsVacantFor, HasPlaceForMore}
-use Rattle.class_disk.specs.inside.TableCalls.{new_opened, AddsSlot, RemovesSlot, OpensAt}
 use Rattle.class_disk.proofs.Slots.{room_in}
 use Rattle.class_disk.proofs.SlotChanges.{fills_reserved, fills_left, opens_there, changes_room, count_is}
 

@@ -1,11 +1,8 @@
 -- The slots, and what stands in each of them.
 use Rattle.std.proofs.Common.{◌≡◌, ◌≢◌, ◌<◌, inl, inr, ℕ, zero, suc, ◌+◌, ◌==◌, true, false, List, [], ◌∷◌, Option, Some, None, refl, sym, ◌∙◌, ap, arith, get_or}
-use Rattle.std.proofs.lemmas.Bool.{ne_eqb, eqb-false, cases_Bool}
+use Rattle.class_disk.proofs.Common.{ne_eqb, eqb-false, cases_Bool, Slot, Transfer, Opened, opened_of, open_from, open_at, put_at, room_of, before, rooms_from}
 use Rattle.device.specs.View.{Reserved as DeviceRoom, room_at}
-use Rattle.class_disk.specs.declared.requests.Slot.{Slot}
 use Rattle.class_disk.specs.declared.requests.Slot.TheVariants.{Reserved, Open, Left}
-use Rattle.class_disk.specs.declared.requests.Transfer.{Transfer}
-use Rattle.class_disk.specs.inside.TableView.{Opened, opened_of, open_from, open_at, put_at, room_of, before, rooms_from}
 
 abbrev pub Slots : Type 0
 Slots = List (Option Slot)

@@ -1,17 +1,9 @@
 -- Where an open request stands among all, and where a part of it; what changes with that part alone.
 use Rattle.std.proofs.Common.{◌≡◌, ◌≢◌, ◌<◌, ◌≤◌, inl, inr, ℕ, zero, suc, ◌+◌, ◌==◌, Bool, true, false, List, [], ◌∷◌, ◌++◌, Option, Some, None, refl, sym, ◌∙◌, ap, subst, arith, length, map, eqb, get_or}
 use Rattle.std.specs.Prelude.{slice_get, slice_set, All, Contains}
-use Rattle.std.proofs.lemmas.Bool.{cases_Bool, ne_eqb, eqb-false, eqb-true}
-use Rattle.std.proofs.lemmas.List.Sorted.{IsPermutation-sym, IsPermutation-middle, All-permutation}
-use Rattle.std.proofs.lemmas.List.Elements.{All-nil, All-cons, All-head, All-tail}
-use Rattle.std.specs.List.{IsDistinct, AllByRecursion}
-use Rattle.std.proofs.lemmas.Map.Keys.{IsDistinct-cons}
-use Rattle.device.specs.View.{packet_spot, IsOffRooms, room_at}
-use Rattle.class_disk.specs.declared.requests.Slot.{Slot}
+use Rattle.class_disk.proofs.Common.{cases_Bool, ne_eqb, eqb-false, eqb-true, IsPermutation-sym, IsPermutation-middle, All-permutation, All-nil, All-cons, All-head, All-tail, IsDistinct, AllByRecursion, IsDistinct-cons, packet_spot, IsOffRooms, room_at, Slot, packet_above, Opened, TableView, open_from, open_at, put_at, rooms_from, room_of, opened_of}
 use Rattle.class_disk.specs.declared.requests.Slot.TheVariants.{Reserved, Open, Left}
-use Rattle.class_disk.specs.inside.Driver.{packet_above}
 use Rattle.class_disk.proofs.Slots.{room_in}
-use Rattle.class_disk.specs.inside.TableView.{Opened, TableView, open_from, open_at, put_at, rooms_from, room_of, opened_of}
 use Rattle.class_disk.proofs.Owned.{apart_none}
 
 pub split_there : {X : Type 0} (x : X) (ys : List X) → Contains ys x → (front : List X) × (back : List X) × (ys ≡ front ++ (x ∷ back))

@@ -1,25 +1,7 @@
 -- A request was taken in, its parts were sent, and nothing came back: so the class driver has submitted it.
 use Rattle.std.proofs.Common.{◌≡◌, ◌<◌, ◌≤◌, ℕ, suc, ◌+◌, ◌^◌, false, Some, None, List, [], ◌∷◌, sym, ◌∙◌, ap, subst, arith, map}
 use Rattle.std.specs.Prelude.{IsPermutation, All, IsFalse}
-use Rattle.std.proofs.lemmas.List.Sorted.{IsPermutation-sym, IsPermutation-map, Contains-permutation}
-use Rattle.irp.specs.declared.Irp.{Irp}
-use Rattle.srb.specs.declared.DeviceLabel.{DeviceLabel}
-use Rattle.machine.specs.Rules.{Rules}
-use Rattle.machine.specs.State.{State}
-use Rattle.machine.specs.Numbers.{AreDistinct}
-use Rattle.machine.specs.Marks.{AreCounted}
-use Rattle.machine.specs.Step.{as_label}
-use Rattle.machine.proofs.Numbers.{AreDistinct-Run, AreDistinct-Admits}
-use Rattle.device.specs.View.{DeviceView, Carries, packet_of, whole_for, request_at, request_of}
-use Rattle.class_disk.specs.Opening.{most_over}
-use Rattle.device.specs.Served.{SetsRoom, Submits, StaysOpen}
-use Rattle.class_disk.specs.inside.TableView.{TableView}
-use Rattle.class_disk.specs.inside.TableCalls.{OpensAt}
-use Rattle.class_disk.specs.inside.Invariant.{IsSound, IsNothing}
-use Rattle.class_disk.specs.Shown.{class_rules}
-use Rattle.class_disk.specs.inside.Driver.{view_of, packet_above, knowns, places_of, IsCoupled, IsInHand}
-use Rattle.class_disk.specs.inside.DuringACall.{IsTaking, IsMidway, IsOpening, OpeningSoFar, SendsAll, FindsNone}
-use Rattle.std.proofs.lemmas.List.Elements.{All-contains}
+use Rattle.class_disk.proofs.Common.{IsPermutation-sym, IsPermutation-map, Contains-permutation, Irp, DeviceLabel, Rules, State, AreDistinct, AreCounted, as_label, AreDistinct-Run, AreDistinct-Admits, DeviceView, Carries, packet_of, whole_for, request_at, request_of, most_over, SetsRoom, Submits, StaysOpen, TableView, OpensAt, IsSound, IsNothing, class_rules, view_of, packet_above, knowns, places_of, IsCoupled, IsInHand, IsTaking, IsMidway, IsOpening, OpeningSoFar, SendsAll, FindsNone, All-contains}
 use Rattle.class_disk.proofs.Finishing.{IsKeptInTable, in_hand_again}
 use Rattle.class_disk.proofs.OpeningBegins.{opening_begins}
 use Rattle.class_disk.proofs.OthersStay.{others_stay_above, others_apart}

@@ -1,33 +1,9 @@
 -- A request is taken in: all of its parts are here, and then the layer below starts some.
 use Rattle.std.proofs.Common.{◌≡◌, ◌<◌, ◌≤◌, ℕ, ◌+◌, false, List, [], ◌∷◌, ◌++◌, refl, sym, ◌∙◌, ap, subst, arith, map, length, get_or, replicate, Some, None}
 use Rattle.std.specs.Prelude.{IsPermutation, All}
-use Rattle.std.proofs.lemmas.List.{length-replicate}
-use Rattle.std.proofs.lemmas.List.Sorted.{IsPermutation-cons}
-use Rattle.std.proofs.lemmas.List.Elements.{All-nil, All-cons, All-weaker}
-use Rattle.adapter.specs.View.{MovesByAll}
-use Rattle.srb.specs.declared.DeviceLabel.{DeviceLabel}
-use Rattle.machine.specs.declared.ClientRequest.{ClientRequest}
-use Rattle.machine.specs.declared.Request.{Request}
-use Rattle.machine.specs.Rules.{Rules, place_count, as_client}
-use Rattle.machine.specs.State.{Untouched, State, IsSame}
-use Rattle.machine.specs.Numbers.{request_number}
-use Rattle.machine.specs.Marks.{AreCounted}
-use Rattle.machine.specs.Calling.{Opens, refusal, bytes_carried, new_request}
-use Rattle.machine.specs.Sending.{IsStart}
-use Rattle.machine.specs.Step.{as_label}
-use Rattle.machine.proofs.Same.{IsSame-refl, Run-same}
-use Rattle.irp.specs.declared.Payload.{Payload}
-use Rattle.device.specs.View.{DeviceView, Packet, sent_bytes, whole_for}
-use Rattle.device.specs.Served.{SetsRoom, Submits, StaysOpen}
-use Rattle.class_disk.specs.inside.TableView.{TableView}
+use Rattle.class_disk.proofs.Common.{length-replicate, IsPermutation-cons, All-nil, All-cons, All-weaker, MovesByAll, DeviceLabel, ClientRequest, Request, Rules, place_count, as_client, Untouched, State, IsSame, request_number, AreCounted, Opens, refusal, bytes_carried, new_request, IsStart, as_label, IsSame-refl, Run-same, Payload, DeviceView, Packet, sent_bytes, whole_for, SetsRoom, Submits, StaysOpen, TableView, below_rules, class_rules, IsPort, shown_state, knowns, view_of, packet_above, IsCoupled, most_over, IsTaking}
 use Rattle.class_disk.specs.inside.Joint.{Part, Here, Note, Kept, Known, note_of, known_of, Divided, Joint, parts_requests, parts_pieces, parts_marks, parts_busy, parts_lifted, requests_below, pieces_below, pieces_above, shown, below, above}
-use Rattle.class_disk.specs.inside.PortRules.{below_rules}
 use Rattle.class_disk.specs.inside.Invariant.{IsSound, AreParts, IsMadeUp, IsCancelledAs, AgreesOnCancel, IsAhead, AreBehind, IsInTurn, places_in, AreCut, IsInPieces, Keeps}
-use Rattle.class_disk.specs.Shown.{class_rules, IsPort}
-use Rattle.class_disk.specs.inside.Machine.{shown_state}
-use Rattle.class_disk.specs.inside.Driver.{knowns, view_of, packet_above, IsCoupled}
-use Rattle.class_disk.specs.Opening.{most_over}
-use Rattle.class_disk.specs.inside.DuringACall.{IsTaking}
 use Rattle.class_disk.proofs.CoupledSteps.{replicate_more}
 use Rattle.class_disk.proofs.Showing.{shown_is}
 use Rattle.class_disk.proofs.Retaking.{taking_begins}

@@ -1,24 +1,8 @@
 -- A packet below that has ended is taken: its part is here, and the machine above stays as it was.
 use Rattle.std.proofs.Common.{◌≡◌, ◌<◌, ◌⊎◌, inl, inr, ℕ, zero, suc, ◌+◌, not, Bool, List, [], ◌∷◌, ◌++◌, refl, sym, ◌∙◌, ap, subst, arith, map, length, get_or}
 use Rattle.std.specs.Prelude.{IsPermutation, All, Contains, IsTrue, IsFalse}
-use Rattle.std.specs.List.{list_all}
-use Rattle.std.proofs.lemmas.List.{length-map, map-append}
-use Rattle.std.proofs.lemmas.List.Sorted.{IsPermutation-sym, IsPermutation-trans, IsPermutation-middle, All-permutation, Contains-permutation}
-use Rattle.std.proofs.lemmas.List.Elements.{All-cons, All-head, All-tail, All-contains, Contains-append_cases, Contains-append_left, Contains-append_right, Contains-get_or}
-use Rattle.ntstatus.specs.declared.NtStatus.{NtStatus}
-use Rattle.machine.specs.declared.ClientRequest.{ClientRequest}
-use Rattle.machine.specs.Rules.{Rules}
-use Rattle.machine.specs.State.{Untouched, Out, OpenRequest, Piece, State, IsSame}
-use Rattle.machine.specs.Numbers.{HasPlaces, HavePlaces, request_number}
-use Rattle.machine.specs.Cutting.{mark_at}
-use Rattle.machine.specs.Sending.{is_started, is_untouched}
-use Rattle.machine.specs.Answering.{HasEnded, Answers}
-use Rattle.machine.proofs.Same.{IsSame-sym, IsSame-trans}
-use Rattle.machine.proofs.Permuting.{IsPermutation-uncons}
-use Rattle.machine.proofs.Owners.{Owns, owns}
-use Rattle.machine.proofs.Commuting.{out_ends_not, started_marks}
+use Rattle.class_disk.proofs.Common.{list_all, length-map, map-append, IsPermutation-sym, IsPermutation-trans, IsPermutation-middle, All-permutation, Contains-permutation, All-cons, All-head, All-tail, All-contains, Contains-append_cases, Contains-append_left, Contains-append_right, Contains-get_or, NtStatus, ClientRequest, Rules, Untouched, Out, OpenRequest, Piece, State, IsSame, HasPlaces, HavePlaces, request_number, mark_at, is_started, is_untouched, HasEnded, Answers, IsSame-sym, IsSame-trans, IsPermutation-uncons, Owns, owns, out_ends_not, started_marks, below_rules}
 use Rattle.class_disk.specs.inside.Joint.{Part, Below, Here, note_of, Divided, Joint, shown_mark, parts_requests, parts_pieces, parts_marks, requests_below, pieces_below, shown, below, above}
-use Rattle.class_disk.specs.inside.PortRules.{below_rules}
 use Rattle.class_disk.specs.inside.Invariant.{IsSound, IsOwnedBy, AreParts, IsMadeUp, IsCancelledAs, AgreesOnCancel, HasPartBefore, IsInPieces, Keeps}
 use Rattle.class_disk.proofs.InPieces.{shown_begins, in_pieces_with}
 use Rattle.class_disk.proofs.Coupled.{requests-append, pieces-append, marks-append}

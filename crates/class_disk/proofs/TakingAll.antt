@@ -1,21 +1,15 @@
 -- Packets that have ended are taken one after the other, until none is left.
-use Rattle.std.proofs.Common.{List, [], ◌++◌, refl, sym, ◌∙◌, subst, append_assoc, append-nil}
-use Rattle.std.proofs.lemmas.List.Elements.{All-nil, All-append}
-use Rattle.adapter.proofs.Joining.{moves_none, moves_joined}
-use Rattle.srb.specs.declared.DeviceLabel.{DeviceLabel}
-use Rattle.machine.specs.State.{OpenRequest, State}
-use Rattle.machine.specs.Sending.{IsStart}
-use Rattle.device.specs.View.{DeviceView}
-use Rattle.class_disk.specs.inside.TableView.{TableView}
-use Rattle.class_disk.specs.inside.DuringACall.{GoesOn, IsMidway, TakesOne, TakesAll, FindsNone}
+use Rattle.std.proofs.Common.{◌≡◌, List, [], ◌++◌, refl, sym, ◌∙◌, subst, append_assoc, append-nil}
+use Rattle.class_disk.proofs.Common.{All-nil, All-append, moves_none, moves_joined, DeviceLabel, State, IsStart, DeviceView, Way, Unsent, EndedBy, TableView, GoesOn, IsMidway, TakesOne, TakesAll, FindsNone}
 
 -- some are taken so far
-pub record TakesSome (Is : OpenRequest → Type 0)
+pub record TakesSome (way : Way)
     (v : DeviceView) (b : TableView) (v' : DeviceView) (b' : TableView) : Type 0 where
   pub starts : List DeviceLabel
   pub goes_on : GoesOn v b starts v' b'
+  pub still : way ≡ Unsent → starts ≡ []
   pub stays : (first : State) (labels : List DeviceLabel)
-      → IsMidway Is first labels v b → IsMidway Is first
+      → IsMidway (EndedBy way) first labels v b → IsMidway (EndedBy way) first
       (labels ++ starts) v' b'
 
 pub stays_there : (v : DeviceView) (b : TableView) → GoesOn v b [] v b
@@ -44,33 +38,36 @@ goes_further v b starts v' b' more v'' b'' g h = record {
   same_rooms = h.same_rooms ∙ g.same_rooms;
 }
 
-module _ (Is : OpenRequest → Type 0) where
-  pub takes_nothing : (v : DeviceView) (b : TableView) → TakesSome Is v b v b
+module _ (way : Way) where
+  pub takes_nothing : (v : DeviceView) (b : TableView) → TakesSome way v b v b
   takes_nothing v b = record {
     starts = [];
     goes_on = stays_there v b;
-    stays = λ first labels m. subst (λ ls. IsMidway Is first ls v b) (sym (append-nil labels)) m;
+    still = λ is. refl;
+    stays = λ first labels m. subst (λ ls. IsMidway (EndedBy way) first ls v b) (sym (append-nil labels)) m;
   }
 
   module _ (v : DeviceView) (b : TableView) (v' : DeviceView) (b' : TableView) (v'' : DeviceView)
       (b'' : TableView) where
-    pub takes_more : TakesSome Is v b v' b' → TakesOne Is v' b' v'' b''
-        → TakesSome Is v b v'' b''
+    pub takes_more : TakesSome way v b v' b' → TakesOne way v' b' v'' b''
+        → TakesSome way v b v'' b''
     takes_more s one = record {
       starts = s.starts ++ one.starts;
       goes_on = goes_further v b s.starts v' b' one.starts v'' b'' s.goes_on one.goes_on;
+      still = λ is. subst (λ ls. ls ++ one.starts ≡ []) (sym (s.still is)) (one.still is);
       stays = λ first labels m.
-          subst (λ ls. IsMidway Is first ls v'' b'') (append_assoc labels s.starts one.starts)
+          subst (λ ls. IsMidway (EndedBy way) first ls v'' b'') (append_assoc labels s.starts one.starts)
           (one.stays first (labels ++ s.starts) (s.stays first labels m));
     }
 
-    pub takes_all : TakesSome Is v b v' b' → FindsNone v' b' v'' b''
-        → TakesAll Is v b v'' b''
+    pub takes_all : TakesSome way v b v' b' → FindsNone v' b' v'' b''
+        → TakesAll way v b v'' b''
     takes_all s f =
-        subst (λ x. TakesAll Is v b x b'') (sym f.none.same)
-        (subst (λ x. TakesAll Is v b v' x) (sym f.same) (record {
+        subst (λ x. TakesAll way v b x b'') (sym f.none.same)
+        (subst (λ x. TakesAll way v b v' x) (sym f.same) (record {
           starts = s.starts;
           goes_on = s.goes_on;
+          still = s.still;
           stays = s.stays;
           none = record { unfinished = f.none.unfinished; settled = f.none.settled; same = refl };
         }))

@@ -1,22 +1,7 @@
 -- All that ended unsent is taken: the class driver is in hand again, and its machine stands where it stood midway.
-use Rattle.std.proofs.Common.{◌≡◌, inl, inr, ℕ, ◌+◌, Bool, [], sym, ◌∙◌, ap, subst}
+use Rattle.class_disk.proofs.Common.{◌≡◌, inl, inr, ℕ, ◌+◌, Bool, [], refl, sym, ◌∙◌, ap, subst, All-weaker, Rules, Mark, Untouched, Out, Done, Failed, Back, State, IsSame, AreDistinct, AreCounted, IsSame-sym, IsSame-trans, AreDistinct-same, MovesByAll, DeviceView, Unsent, Note, Sent, Kept, Known, above, NeverSent, IsOver, IsOverNote, IsOverMark, noted_busy, class_rules, shown_state, TableView, knowns, view_of, IsInHand, IsTaking, IsMidway, TakesAll}
 use Rattle.std.specs.Prelude.{IsTrue}
-use Rattle.std.proofs.lemmas.List.Elements.{All-weaker}
-use Rattle.machine.specs.Rules.{Rules}
-use Rattle.machine.specs.State.{Mark, Untouched, Out, Done, Failed, Back, State, IsSame}
-use Rattle.machine.specs.Numbers.{AreDistinct}
-use Rattle.machine.specs.Marks.{AreCounted}
-use Rattle.machine.proofs.Same.{IsSame-sym, IsSame-trans}
-use Rattle.machine.proofs.Numbers.{AreDistinct-same}
-use Rattle.device.specs.View.{DeviceView}
 use Rattle.class_disk.proofs.Standing.{IsApart}
-use Rattle.class_disk.specs.inside.Joint.{Note, Sent, Kept, Known, above}
-use Rattle.class_disk.specs.inside.Invariant.{NeverSent, IsOver, IsOverNote, IsOverMark, noted_busy}
-use Rattle.class_disk.specs.Shown.{class_rules}
-use Rattle.class_disk.specs.inside.Machine.{shown_state}
-use Rattle.class_disk.specs.inside.TableView.{TableView}
-use Rattle.class_disk.specs.inside.Driver.{knowns, view_of, IsInHand}
-use Rattle.class_disk.specs.inside.DuringACall.{IsTaking, IsMidway, WithdrawsAll}
 use Rattle.class_disk.proofs.Showing.{shown_is}
 use Rattle.class_disk.proofs.Finishing.{in_hand_again}
 use Rattle.class_disk.proofs.PortRules.{port_rules}
@@ -27,13 +12,13 @@ pub record StandsAgain (first : State) (v : DeviceView) (b : TableView) : Type 0
   pub shows : IsSame first (view_of v b).state
 
 pub stands_again : (first : State) (v1 : DeviceView) (b1 : TableView) (v2 : DeviceView) (b2 : TableView)
-    → IsMidway NeverSent first [] v1 b1 → WithdrawsAll v1 b1 v2 b2 → IsApart b2 → AreDistinct first → first.next_request ≡ b1.last_request + 1
+    → IsMidway NeverSent first [] v1 b1 → TakesAll Unsent v1 b1 v2 b2 → IsApart b2 → AreDistinct first → first.next_request ≡ b1.last_request + 1
     → StandsAgain first v2 b2
 stands_again first v1 b1 v2 b2 m1 w apart distinct next =
-    let m : IsMidway NeverSent first [] v2 b2 = w.stays first [] m1 in
+    let m : IsMidway NeverSent first [] v2 b2 = subst (λ ls. IsMidway NeverSent first ls v2 b2) (w.still refl) (w.stays first [] m1) in
     let rules : Rules = class_rules v2.rules in
     let t : IsTaking rules first [] v2.state (knowns rules b2) = m.taking in
-    let next_above : t.j.next_above ≡ b2.last_request + 1 = t.next_above ∙ next ∙ ap (λ n. n + 1) (sym w.same_last) in
+    let next_above : t.j.next_above ≡ b2.last_request + 1 = t.next_above ∙ next ∙ ap (λ n. n + 1) (sym w.goes_on.same_last) in
     let shown : IsSame (above t.j) (view_of v2 b2).state = subst (λ n. IsSame (above t.j) (shown_state v2.state n (knowns rules b2))) next_above (shown_is rules t.j v2.state (knowns rules b2) t.same t.sound.distinct t.keeps t.knows) in
     let shows : IsSame first (view_of v2 b2).state = IsSame-trans _ _ _ t.run shown in
     record {
@@ -43,6 +28,10 @@ stands_again first v1 b1 v2 b2 m1 w apart distinct next =
           (AreDistinct-same (view_of v2 b2).state first (IsSame-sym _ _ shows) distinct) w.none;
       shows = shows;
     }
+
+-- and the adapter stays as it was
+pub same_adapter : (v : DeviceView) (b : TableView) (v' : DeviceView) (b' : TableView) → TakesAll Unsent v b v' b' → v'.adapter ≡ v.adapter
+same_adapter v b v' b' w = subst (λ ls. MovesByAll v.adapter ls v'.adapter) (w.still refl) w.goes_on.adapter
 
 -- WHAT IS OVER STAYS SO, with more cancelled or removed
 

@@ -3,6 +3,7 @@
 ghost use Rattle.std.specs.Prelude.{◌≡◌, refl, false};
 ghost use Rattle.class_disk.specs.Opening.{TakesParts, IsFreshPort, opening_over};
 
+use crate::parts::Way;
 use crate::requests::Places;
 use crate::table::Table;
 use crate::{Disk, Extension, Sizes};
@@ -132,7 +133,7 @@ impl<D: Device> Device for Disk<D> {
             return false;
         }
         self.extension.device.shows_order();
-        self.extension.take_returned();
+        self.extension.take_all(Way::Returned);
         true
     }
 
@@ -152,14 +153,14 @@ impl<D: Device> Device for Disk<D> {
             return;
         }
         self.extension.cancel_parts(spot);
-        self.extension.take_withdrawn();
+        self.extension.take_all(Way::Unsent);
     }
 
     fn drain(&mut self) {
         self.extension.table.removing = true;
         self.extension.device.drain();
         self.extension.device.shows_order();
-        self.extension.take_withdrawn();
+        self.extension.take_all(Way::Unsent);
     }
 
     fn take_done(&mut self) -> Option<(Climb, Room)> {

@@ -15,7 +15,7 @@ use sector::LabelRoom;
 use std::mem;
 
 /// How a part of a request ended.
-#[derive(Debug, Clone, Copy, PartialEq, Eq)]
+#[derive(Clone, Copy)]
 pub(crate) enum Outcome {
     /// Its piece came back good.
     Good,
@@ -27,8 +27,17 @@ pub(crate) enum Outcome {
     Withdrawn(NtStatus),
 }
 
+/// How packets that have ended below did so. Those that a call takes all did alike.
+#[derive(Clone, Copy)]
+pub(crate) enum Way {
+    /// Their pieces came back.
+    Returned,
+    /// They waited when their request was cancelled or the device was removed, and no piece of them was out.
+    Unsent,
+}
+
 /// A part of a request: the slot of the request, and the place of the part among its parts.
-#[derive(Debug, Clone, Copy, PartialEq, Eq)]
+#[derive(Clone, Copy)]
 pub(crate) struct PartId {
     pub slot: usize,
     pub part: usize,

@@ -9,7 +9,8 @@ ghost use Rattle.device.specs.View.{payload_bytes};
 ghost use Rattle.class_disk.specs.declared.parts.Part.{Part};
 ghost use Rattle.class_disk.specs.declared.parts.Place.{Place};
 ghost use Rattle.class_disk.specs.declared.parts.Progress.TheVariants.{Ready};
-ghost use Rattle.class_disk.specs.inside.Parts.{EndsBack, HasReason, GoesAgain, joined_of, lowest_status};
+ghost use Rattle.class_disk.specs.declared.parts.Way.TheVariants.{Returned};
+ghost use Rattle.class_disk.specs.inside.Parts.{EndsAs, EndsBack, HasReason, GoesAgain, joined_of, lowest_status};
 ghost use Rattle.class_disk.specs.inside.TableView.{opened_of};
 ghost use Rattle.class_disk.specs.inside.TableCalls.{new_opened, IsReadyAt, CanTake, IsDataOf, SendsAs, SendsAgain};
 ghost use Rattle.class_disk.specs.inside.TableCalls.{ended_at, Completes};
@@ -18,7 +19,7 @@ use crate::Sizes;
 use crate::blocks::{byte_count, ready_packet, srb_for};
 use crate::buffers::{carried_up, data_of, lent};
 use crate::noted::Noted;
-use crate::parts::{Ended, Outcome, Part, Place, TransferPacket};
+use crate::parts::{Ended, Outcome, Part, Place, TransferPacket, Way};
 use device::{Climb, Kind, Request, complete, information};
 use irp::{Irp, Payload};
 use ntstatus::NtStatus;
@@ -178,7 +179,7 @@ impl Transfer {
 
     /// Returns how a part that came back busy ends; `None` where it is sent again.
     fn busy_outcome(&self, removing: bool) -> Option<Outcome>
-        ensures again { IfNone result (GoesAgain self.now.irp.value.cancelled removing self.now.restarts DeviceBusy) }
+        ensures again { IfNone result (GoesAgain Returned self.now.irp.value.cancelled removing self.now.restarts DeviceBusy) }
         ensures ends { IfSome result (λ outcome. EndsBack DeviceBusy outcome
             × HasReason self.now.irp.value.cancelled removing self.now.restarts outcome) }
     {
@@ -194,8 +195,8 @@ impl Transfer {
     }
 
     /// Returns how a part that came back with this status ends; `None` where it is sent again.
-    pub fn outcome(&self, removing: bool, status: NtStatus) -> Option<Outcome>
-        ensures again { IfNone result (GoesAgain self.now.irp.value.cancelled removing self.now.restarts status) }
+    fn returned(&self, removing: bool, status: NtStatus) -> Option<Outcome>
+        ensures again { IfNone result (GoesAgain Returned self.now.irp.value.cancelled removing self.now.restarts status) }
         ensures ends { IfSome result (λ outcome. EndsBack status outcome
             × HasReason self.now.irp.value.cancelled removing self.now.restarts outcome) }
     {
@@ -205,6 +206,18 @@ impl Transfer {
             self.busy_outcome(removing)
         } else {
             Some(Outcome::Failed(status))
+        }
+    }
+
+    /// Returns how a part ends whose packet ended in this way, with this status; `None` where it is sent again.
+    pub fn outcome(&self, removing: bool, way: Way, status: NtStatus) -> Option<Outcome>
+        ensures again { IfNone result (GoesAgain way self.now.irp.value.cancelled removing self.now.restarts status) }
+        ensures ends { IfSome result (λ outcome. EndsAs way status outcome
+            × HasReason self.now.irp.value.cancelled removing self.now.restarts outcome) }
+    {
+        match way {
+            Way::Returned => self.returned(removing, status),
+            Way::Unsent => Some(Outcome::Withdrawn(status)),
         }
     }
 

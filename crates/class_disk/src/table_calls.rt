@@ -4,14 +4,14 @@ ghost use Rattle.std.specs.Prelude.{◌≡◌, ◌<◌, ◌+◌, ℕ, Some, All,
 ghost use Rattle.class_disk.specs.declared.parts.Part.{Part};
 ghost use Rattle.class_disk.specs.declared.parts.Place.{Place};
 ghost use Rattle.class_disk.specs.declared.parts.Progress.TheVariants.{Ready};
-ghost use Rattle.class_disk.specs.inside.Parts.{EndsBack, HasReason, GoesAgain, below_by};
+ghost use Rattle.class_disk.specs.inside.Parts.{EndsAs, HasReason, GoesAgain, below_by};
 ghost use Rattle.class_disk.specs.inside.TableView.{Opened, books_of, opened_of, open_at};
 ghost use Rattle.class_disk.specs.inside.TableCalls.{IsReadyAt, IsPartAt, CanNumber, SendsPart, SendsPartAgain};
 ghost use Rattle.class_disk.specs.inside.TableCalls.{ended_at, ended_books};
 ghost use Rattle.class_disk.specs.inside.TableCalls.{is_cancellable, can_cancel, CannotCancel, CanCancelAt};
 ghost use Rattle.class_disk.specs.inside.TableCalls.{CannotCancelAt, CancelsAtSlot, CancelsNoneAt};
 
-use crate::parts::{Ended, Outcome, PartId, TransferPacket};
+use crate::parts::{Ended, Outcome, PartId, TransferPacket, Way};
 use crate::requests::{Slot, Transfer};
 use crate::table::Table;
 use ntstatus::NtStatus;
@@ -89,17 +89,17 @@ impl Table {
         packet
     }
 
-    /// Returns how a part of the request in a slot ends, where it came back with this status; `None` where it is sent
-    /// again.
-    pub fn outcome(&self, slot: usize, status: NtStatus) -> Option<Outcome>
+    /// Returns how a part of the request in a slot ends, where its packet ended in this way, with this status; `None`
+    /// where it is sent again.
+    pub fn outcome(&self, slot: usize, way: Way, status: NtStatus) -> Option<Outcome>
         requires { (o : Opened) × (open_at slot (books_of self.now).opens ≡ Some o) }
         ensures again { (o : Opened) → open_at slot (books_of self.now).opens ≡ Some o
-            → IfNone result (GoesAgain o.irp.cancelled self.now.removing o.restarts status) }
+            → IfNone result (GoesAgain way o.irp.cancelled self.now.removing o.restarts status) }
         ensures ends { (o : Opened) → open_at slot (books_of self.now).opens ≡ Some o
-            → IfSome result (λ outcome. EndsBack status outcome
+            → IfSome result (λ outcome. EndsAs way status outcome
             × HasReason o.irp.cancelled self.now.removing o.restarts outcome) }
     {
-        self.at(slot).outcome(self.removing, status)
+        self.at(slot).outcome(self.removing, way, status)
     }
 
     /// Notes that a part has ended. The request ends with its last part.

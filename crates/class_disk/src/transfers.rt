@@ -17,12 +17,11 @@ ghost use Rattle.class_disk.specs.declared.parts.Place.{Place};
 ghost use Rattle.class_disk.specs.declared.parts.Progress.TheVariants.{Ready};
 ghost use Rattle.class_disk.specs.Opening.{TakesParts};
 ghost use Rattle.class_disk.specs.inside.Blocks.{part_count_of};
-ghost use Rattle.class_disk.specs.inside.Invariant.{WasSent, NeverSent, IsNothing};
+ghost use Rattle.class_disk.specs.inside.Invariant.{EndedBy, IsNothing};
 ghost use Rattle.class_disk.specs.inside.Parts.{IsHere, tickets_of, below_by};
 ghost use Rattle.class_disk.specs.inside.TableView.{Opened, books_of, open_at};
 ghost use Rattle.class_disk.specs.inside.TableCalls.{IsPartAt};
-ghost use Rattle.class_disk.specs.inside.DuringACall.{IsMidway, TakesOne, TakesAll, WithdrawsOne, WithdrawsAll};
-ghost use Rattle.class_disk.specs.inside.DuringACall.{FindsNone};
+ghost use Rattle.class_disk.specs.inside.DuringACall.{IsMidway, TakesOne, TakesAll, FindsNone};
 ghost use Rattle.class_disk.specs.inside.DuringACall.{ChangesRooms, CanSendPart, CanSendAgain, CancelsBelow};
 ghost use Rattle.class_disk.specs.inside.DuringACall.{CancelsAll};
 ghost use Rattle.class_disk.specs.inside.DuringACall.{packet_of_part, IsOpening, OpeningSoFar};
@@ -32,7 +31,7 @@ ghost use Rattle.class_disk.specs.inside.DuringACall.{CanCut, MakesNone, MakesRo
 use crate::Extension;
 use crate::blocks::{byte_count, part_count, part_request};
 use crate::buffers::{data_buffer, label_room, own_bytes};
-use crate::parts::{Ended, Outcome, Part, PartId, Place, Progress, TransferPacket};
+use crate::parts::{Ended, Part, PartId, Place, Progress, TransferPacket, Way};
 use device::{Climb, Device, Request};
 use irp::{Irp, Payload};
 use std::alloc::AllocError;
@@ -261,13 +260,13 @@ impl<D: Device> Extension<D> {
         self.device.shows_order();
     }
 
-    /// Takes a packet whose piece came back, where there is one: its part is sent again, or has ended.
-    fn take_one_returned(&mut self) -> bool
+    /// Takes a packet that ended in this way, where there is one: its part is sent again, or has ended.
+    fn take_one(&mut self, way: Way) -> bool
         requires takes { TakesParts D.takes_srb D.stack_size }
         requires midway { (first : State) × (labels : List DeviceLabel)
-            × IsMidway WasSent first labels (D.view self.old.device) (books_of self.old.table) }
+            × IsMidway (EndedBy way) first labels (D.view self.old.device) (books_of self.old.table) }
         ensures { MatchBool result
-            (TakesOne WasSent (D.view self.old.device) (books_of self.old.table) (D.view self.new.device)
+            (TakesOne way (D.view self.old.device) (books_of self.old.table) (D.view self.new.device)
             (books_of self.new.table))
             (FindsNone (D.view self.old.device) (books_of self.old.table) (D.view self.new.device)
             (books_of self.new.table)) }
@@ -282,58 +281,22 @@ impl<D: Device> Extension<D> {
         };
         let status = packet.irp.io_status.status;
         let id = self.table.owner(packet.room.spot);
-        match self.table.outcome(id.slot, status) {
+        match self.table.outcome(id.slot, way, status) {
             None => self.send_again(id, packet),
             Some(outcome) => self.table.end(id, Ended { packet, outcome }),
         }
         true
     }
 
-    /// Takes a packet that ended unsent, where there is one: its part has ended.
-    fn take_one_withdrawn(&mut self) -> bool
+    /// Takes all packets that ended, in this way.
+    pub fn take_all(&mut self, way: Way)
         requires takes { TakesParts D.takes_srb D.stack_size }
         requires midway { (first : State) × (labels : List DeviceLabel)
-            × IsMidway NeverSent first labels (D.view self.old.device) (books_of self.old.table) }
-        ensures { MatchBool result
-            (WithdrawsOne (D.view self.old.device) (books_of self.old.table) (D.view self.new.device)
-            (books_of self.new.table))
-            (FindsNone (D.view self.old.device) (books_of self.old.table) (D.view self.new.device)
-            (books_of self.new.table)) }
-    {
-        let Some((climb, room)) = self.device.take_done() else {
-            return false;
-        };
-        self.device.shows_order();
-        let packet = TransferPacket {
-            irp: finished(climb),
-            room,
-        };
-        let outcome = Outcome::Withdrawn(packet.irp.io_status.status);
-        let id = self.table.owner(packet.room.spot);
-        self.table.end(id, Ended { packet, outcome });
-        true
-    }
-
-    /// Takes all packets whose pieces came back.
-    pub fn take_returned(&mut self)
-        requires takes { TakesParts D.takes_srb D.stack_size }
-        requires midway { (first : State) × (labels : List DeviceLabel)
-            × IsMidway WasSent first labels (D.view self.old.device) (books_of self.old.table) }
-        ensures { TakesAll WasSent (D.view self.old.device) (books_of self.old.table)
+            × IsMidway (EndedBy way) first labels (D.view self.old.device) (books_of self.old.table) }
+        ensures { TakesAll way (D.view self.old.device) (books_of self.old.table)
             (D.view self.new.device) (books_of self.new.table) }
     {
-        while self.take_one_returned() {}
-    }
-
-    /// Takes all packets that ended unsent.
-    pub fn take_withdrawn(&mut self)
-        requires takes { TakesParts D.takes_srb D.stack_size }
-        requires midway { (first : State) × (labels : List DeviceLabel)
-            × IsMidway NeverSent first labels (D.view self.old.device) (books_of self.old.table) }
-        ensures { WithdrawsAll (D.view self.old.device) (books_of self.old.table)
-            (D.view self.new.device) (books_of self.new.table) }
-    {
-        while self.take_one_withdrawn() {}
+        'taking: while self.take_one(way) {}
     }
 
     /// Cancels the packet of a part, where it is below.

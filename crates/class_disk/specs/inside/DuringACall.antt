@@ -20,9 +20,11 @@ use Rattle.class_disk.specs.declared.parts.Place.{Place}
 use Rattle.class_disk.specs.declared.parts.Progress.TheVariants.{Ready}
 use Rattle.class_disk.specs.declared.parts.TransferPacket.{TransferPacket}
 use Rattle.class_disk.specs.declared.parts.PartId.{PartId}
+use Rattle.class_disk.specs.declared.parts.Way.{Way}
+use Rattle.class_disk.specs.declared.parts.Way.TheVariants.{Unsent}
 use Rattle.class_disk.specs.inside.Joint.{Known, Joint, known_of, below, above}
 use Rattle.class_disk.specs.inside.PortRules.{below_rules}
-use Rattle.class_disk.specs.inside.Invariant.{IsSound, Keeps, EndedAre, NeverSent, IsNothing, IsOver, HasSome}
+use Rattle.class_disk.specs.inside.Invariant.{IsSound, Keeps, EndedAre, EndedBy, IsNothing, IsOver, HasSome}
 use Rattle.class_disk.specs.Shown.{class_rules, IsPort}
 use Rattle.class_disk.specs.declared.Sizes.{Sizes}
 use Rattle.class_disk.specs.inside.Blocks.{IsCuttable, part_count_of, part_request_of, goes_whole, AreSizes}
@@ -73,15 +75,17 @@ pub record IsMidway (Is : OpenRequest → Type 0) (first : State) (labels : List
   pub below : AreBelow v b
   pub ended : EndedAre Is v.rules v.state
 
--- one packet is taken: if the class driver was midway before, it still is after some more starts
-pub record TakesOne (Is : OpenRequest → Type 0) (v : DeviceView) (b : TableView)
+-- one packet is taken: if the class driver was midway before, it still is after some more starts; behind those that
+-- ended unsent nothing starts
+pub record TakesOne (way : Way) (v : DeviceView) (b : TableView)
     (v' : DeviceView) (b' : TableView) : Type 0 where
   pub starts : List DeviceLabel
   pub goes_on : GoesOn v b starts v' b'
+  pub still : way ≡ Unsent → starts ≡ []
   -- each packet that is taken is one fewer below, or uses up a restart
   pub fewer : length v'.packets + restarts_left b'.opens < length v.packets + restarts_left b.opens
-  pub stays : (first : State) (labels : List DeviceLabel) → IsMidway Is first labels v b
-      → IsMidway Is first (labels ++ starts) v' b'
+  pub stays : (first : State) (labels : List DeviceLabel) → IsMidway (EndedBy way) first labels v b
+      → IsMidway (EndedBy way) first (labels ++ starts) v' b'
 
 -- no request has ended, and nothing changes
 pub record FindsNone (v : DeviceView) (b : TableView) (v' : DeviceView) (b' : TableView) : Type 0 where
@@ -89,39 +93,13 @@ pub record FindsNone (v : DeviceView) (b : TableView) (v' : DeviceView) (b' : Ta
   pub same : b' ≡ b
 
 -- all packets that ended are taken, and none is left
-pub record TakesAll (Is : OpenRequest → Type 0) (v : DeviceView) (b : TableView)
+pub record TakesAll (way : Way) (v : DeviceView) (b : TableView)
     (v' : DeviceView) (b' : TableView) : Type 0 where
   pub starts : List DeviceLabel
   pub goes_on : GoesOn v b starts v' b'
-  pub stays : (first : State) (labels : List DeviceLabel) → IsMidway Is first labels v b
-      → IsMidway Is first (labels ++ starts) v' b'
-  pub none : HandsUpNone v' v'
-
--- one packet that ended unsent is taken: nothing starts, the adapter stays as it was, and if the class driver was
--- midway before, it still is
-pub record WithdrawsOne (v : DeviceView) (b : TableView) (v' : DeviceView) (b' : TableView) : Type 0 where
-  pub same_rules : v'.rules ≡ v.rules
-  pub same_most : v'.most ≡ v.most
-  pub same_adapter : v'.adapter ≡ v.adapter
-  pub same_last : b'.last_request ≡ b.last_request
-  pub same_submitted : b'.submitted ≡ b.submitted
-  pub same_packets : map packet_above b'.opens ≡ map packet_above b.opens
-  pub same_rooms : b'.rooms ≡ b.rooms
-  pub fewer : length v'.packets + restarts_left b'.opens < length v.packets + restarts_left b.opens
-  pub stays : (first : State) (labels : List DeviceLabel) → IsMidway NeverSent first labels v b
-      → IsMidway NeverSent first labels v' b'
-
--- all requests are withdrawn, and none is left
-pub record WithdrawsAll (v : DeviceView) (b : TableView) (v' : DeviceView) (b' : TableView) : Type 0 where
-  pub same_rules : v'.rules ≡ v.rules
-  pub same_most : v'.most ≡ v.most
-  pub same_adapter : v'.adapter ≡ v.adapter
-  pub same_last : b'.last_request ≡ b.last_request
-  pub same_submitted : b'.submitted ≡ b.submitted
-  pub same_packets : map packet_above b'.opens ≡ map packet_above b.opens
-  pub same_rooms : b'.rooms ≡ b.rooms
-  pub stays : (first : State) (labels : List DeviceLabel) → IsMidway NeverSent first labels v b
-      → IsMidway NeverSent first labels v' b'
+  pub still : way ≡ Unsent → starts ≡ []
+  pub stays : (first : State) (labels : List DeviceLabel) → IsMidway (EndedBy way) first labels v b
+      → IsMidway (EndedBy way) first (labels ++ starts) v' b'
   pub none : HandsUpNone v' v'
 
 -- PARTS GO DOWN

@@ -10,6 +10,8 @@ use Rattle.machine.specs.Marks.{HaveEarned, AreOnePiece}
 use Rattle.machine.specs.Cutting.{restarts}
 use Rattle.machine.specs.Sending.{is_started}
 use Rattle.machine.specs.Answering.{HasEnded}
+use Rattle.class_disk.specs.declared.parts.Way.{Way}
+use Rattle.class_disk.specs.declared.parts.Way.TheVariants.{Returned, Unsent}
 use Rattle.class_disk.specs.inside.Joint.{Part, Below, Here, Note, Sent, Kept, Known, Divided, Joint, IsPartOf}
 use Rattle.class_disk.specs.inside.Joint.{parts_requests, parts_busy, shown}
 
@@ -141,6 +143,11 @@ IsUntouched mark = mark ≡ Untouched
 -- no piece of the request was ever sent
 abbrev pub NeverSent : OpenRequest → Type 0
 NeverSent o = All IsUntouched o.marks
+
+-- all that have ended and are not taken yet did so in this way
+abbrev pub EndedBy : Way → OpenRequest → Type 0
+EndedBy Returned = WasSent
+EndedBy Unsent = NeverSent
 
 -- no request is like this; where all that have ended are like this, none has ended
 abbrev pub IsNothing : OpenRequest → Type 0

@@ -19,6 +19,8 @@ use Rattle.class_disk.specs.declared.parts.Progress.{Progress}
 use Rattle.class_disk.specs.declared.parts.Progress.TheVariants.{Ready, Below, Ended}
 use Rattle.class_disk.specs.declared.parts.Outcome.{Outcome}
 use Rattle.class_disk.specs.declared.parts.Outcome.TheVariants.{Good, Failed, Busy, Withdrawn}
+use Rattle.class_disk.specs.declared.parts.Way.{Way}
+use Rattle.class_disk.specs.declared.parts.Way.TheVariants.{Returned, Unsent}
 
 -- the status that a part gives its request
 abbrev pub status_by : Outcome → NtStatus
@@ -41,6 +43,14 @@ EndsBack status (Failed failure) = (failure ≡ status) × (status ≢ Success) 
 EndsBack status (Busy told) = status ≡ DeviceBusy
 EndsBack status (Withdrawn told) = ⊥
 
+-- how a part ended whose packet ended below in this way, with this status, and is not sent again
+abbrev pub EndsAs : Way → NtStatus → Outcome → Type 0
+EndsAs Returned status outcome = EndsBack status outcome
+EndsAs Unsent status Good = ⊥
+EndsAs Unsent status (Failed failure) = ⊥
+EndsAs Unsent status (Busy told) = ⊥
+EndsAs Unsent status (Withdrawn told) = told ≡ status
+
 -- why a part that came back busy is not sent again, where its request has this many restarts; and its status
 abbrev pub IsBusyFor : (cancelled removing : Bool) (restarts : ℕ) → NtStatus → Type 0
 IsBusyFor cancelled removing restarts told =
@@ -54,7 +64,8 @@ HasReason cancelled removing restarts (Busy told) = IsBusyFor cancelled removing
 HasReason cancelled removing restarts (Withdrawn status) = ⊤
 
 -- a part that came back busy is sent again, as long as restarts last
-pub record GoesAgain (cancelled removing : Bool) (restarts : ℕ) (status : NtStatus) : Type 0 where
+pub record GoesAgain (way : Way) (cancelled removing : Bool) (restarts : ℕ) (status : NtStatus) : Type 0 where
+  pub came_back : way ≡ Returned
   pub busy : status ≡ DeviceBusy
   pub not_cancelled : IsFalse cancelled
   pub not_removing : IsFalse removing

@@ -1,9 +1,6 @@
 -- One more part is made, and its room is out beside the others.
-use Rattle.std.proofs.Common.{◌≤◌, ◌==◌, refl, sym, ◌∙◌, ap, subst}
+use Rattle.class_disk.proofs.Common.{◌≤◌, ◌==◌, refl, sym, ◌∙◌, ap, subst, near_same, Table, AreNewParts, MakesParts}
 use Rattle.std.specs.Prelude.{vec_capacity}
-use Rattle.device.proofs.Reserving.{near_same}
-use Rattle.class_disk.specs.declared.table.Table.{Table}
-use Rattle.class_disk.specs.inside.DuringACall.{AreNewParts, MakesParts}
 use Rattle.class_disk.proofs.NewParts.{none_made, one_made, asked_now, kind_now, new_here}
 use Rattle.class_disk.proofs.Making.{no_parts, one_more, no_more}
 use Rattle.class_disk.proofs.NearParts.{near_more}

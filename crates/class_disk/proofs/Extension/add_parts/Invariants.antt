@@ -1,9 +1,5 @@
-use Rattle.std.proofs.Common.{◌≡◌, ◌≢◌, ◌≤◌}
+use Rattle.class_disk.proofs.Common.{◌≡◌, ◌≢◌, ◌≤◌, ReservesNear, Write, part_count_of, AreNewParts, MakesParts}
 use Rattle.std.specs.Prelude.{vec_capacity}
-use Rattle.device.specs.Served.{ReservesNear}
-use Rattle.srb.specs.declared.Kind.TheVariants.{Write}
-use Rattle.class_disk.specs.inside.Blocks.{part_count_of}
-use Rattle.class_disk.specs.inside.DuringACall.{AreNewParts, MakesParts}
 use Rattle.class_disk.proofs.Extension.add_parts.Given as goal
 
 -- this many parts were made, and their rooms are out

@@ -1,6 +1,4 @@
-use Rattle.std.proofs.Common.{refl, sym, ◌∙◌, subst, arith}
-use Rattle.class_disk.specs.inside.TableView.{books_of}
-use Rattle.class_disk.specs.inside.TableCalls.{IsPartAt}
+use Rattle.class_disk.proofs.Common.{refl, sym, ◌∙◌, subst, arith, books_of, IsPartAt}
 use Rattle.class_disk.proofs.Parting.{cancels_none, part_at, cancels_more, cancels_all}
 use Rattle.class_disk.proofs.Extension.cancel_parts.Goals as goal
 

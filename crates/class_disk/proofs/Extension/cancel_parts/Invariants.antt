@@ -1,5 +1,4 @@
-use Rattle.std.proofs.Common.{◌≡◌}
-use Rattle.class_disk.specs.inside.TableView.{books_of}
+use Rattle.class_disk.proofs.Common.{◌≡◌, books_of}
 use Rattle.class_disk.proofs.Parting.{CancelsSoFar}
 use Rattle.class_disk.proofs.Extension.cancel_parts.Given as goal
 

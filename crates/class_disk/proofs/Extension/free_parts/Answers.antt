@@ -1,9 +1,7 @@
 -- The last part's room goes back, and those of the others are still out.
 use Rattle.std.proofs.Common.{◌∙◌, Some, refl, ap}
-use Rattle.std.proofs.lemmas.List.Elements.{All-pop}
-use Rattle.device.specs.View.{DeviceView, whole_for}
+use Rattle.class_disk.proofs.Common.{All-pop, DeviceView, whole_for, IsHere, ticket_for}
 use Rattle.class_disk.proofs.Rooms.{out_less, out_first}
-use Rattle.class_disk.specs.inside.Parts.{IsHere, ticket_for}
 use Rattle.class_disk.proofs.PartRooms.{part_ticket, taken_off}
 use Rattle.class_disk.proofs.Extension.free_parts.Goals as goal
 

@@ -1,7 +1,5 @@
-use Rattle.std.proofs.Common.{◌≡◌, ◌++◌, List, length}
+use Rattle.class_disk.proofs.Common.{◌≡◌, ◌++◌, List, length, Ticket, AllOut}
 use Rattle.std.specs.Prelude.{All}
-use Rattle.device.specs.inside.Out.{Ticket}
-use Rattle.class_disk.specs.inside.Rooms.{AllOut}
 use Rattle.class_disk.specs.inside.Parts.{IsHere, tickets_of}
 use Rattle.class_disk.proofs.Extension.free_parts.Given as goal
 

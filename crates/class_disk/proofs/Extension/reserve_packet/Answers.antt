@@ -1,8 +1,4 @@
-use Rattle.std.proofs.Common.{ap, refl, sym, subst}
-use Rattle.device.specs.View.{DeviceView}
-use Rattle.device.proofs.Reserving.{near_after, near_same}
-use Rattle.class_disk.specs.declared.table.Table.{Table}
-use Rattle.class_disk.specs.inside.DuringACall.{MakesNone}
+use Rattle.class_disk.proofs.Common.{ap, refl, sym, subst, DeviceView, near_after, near_same, Table, MakesNone}
 use Rattle.class_disk.proofs.Making.{none_asked, none_there, room_made, room_refused}
 use Rattle.class_disk.proofs.Reserving.{on_err}
 use Rattle.class_disk.proofs.Extension.reserve_packet.Goals as goal

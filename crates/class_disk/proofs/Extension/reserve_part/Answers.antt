@@ -1,7 +1,5 @@
-use Rattle.std.proofs.Common.{◌∙◌, refl, ap, subst}
+use Rattle.class_disk.proofs.Common.{◌∙◌, refl, ap, subst, near_same, IsBufferOf}
 use Rattle.std.specs.Prelude.{vec_capacity, if◌then◌else◌}
-use Rattle.device.proofs.Reserving.{near_same}
-use Rattle.class_disk.specs.inside.Parts.{IsBufferOf}
 use Rattle.class_disk.proofs.Making.{none_asked, part_made}
 use Rattle.class_disk.proofs.Reserving.{on_err}
 use Rattle.class_disk.proofs.Extension.reserve_part.Goals as goal

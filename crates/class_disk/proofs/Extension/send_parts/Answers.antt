@@ -1,6 +1,5 @@
 -- One part after the other goes down.
-use Rattle.std.proofs.Common.{arith}
-use Rattle.class_disk.specs.inside.TableView.{books_of}
+use Rattle.class_disk.proofs.Common.{arith, books_of}
 use Rattle.class_disk.proofs.AllSent.{none_sent, can_go_on, one_sent, all_sent}
 use Rattle.class_disk.proofs.Standing.{rising}
 use Rattle.class_disk.proofs.Extension.send_parts.Goals as goal

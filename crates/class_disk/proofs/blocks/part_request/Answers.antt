@@ -1,6 +1,4 @@
-use Rattle.std.proofs.Common.{◌≡◌, ◌∙◌, ap}
-use Rattle.sector.specs.declared.Extent.{Extent}
-use Rattle.split.specs.Pieces.{piece_of}
+use Rattle.class_disk.proofs.Common.{◌≡◌, ◌∙◌, ap, Extent, piece_of}
 use Rattle.class_disk.proofs.AsksWhole.{part_is}
 use Rattle.class_disk.proofs.blocks.part_request.Goals as goal
 

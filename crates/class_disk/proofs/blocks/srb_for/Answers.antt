@@ -1,6 +1,4 @@
-use Rattle.std.proofs.Common.{◌≡◌, sym, subst, refl}
-use Rattle.cdb.specs.Meaning.{IsPlain, Means}
-use Rattle.class_disk.specs.inside.Blocks.{disk_command}
+use Rattle.class_disk.proofs.Common.{◌≡◌, sym, subst, refl, IsPlain, Means, disk_command}
 use Rattle.class_disk.proofs.AsksWhole.{asks_for}
 use Rattle.class_disk.proofs.blocks.srb_for.Goals as goal
 

@@ -1,6 +1,5 @@
-use Rattle.std.proofs.Common.{◌≤◌, ◌++◌, ◌+◌, ◌∙◌, ap, arith, length, drop}
+use Rattle.class_disk.proofs.Common.{◌≤◌, ◌++◌, ◌+◌, ◌∙◌, ap, arith, length, drop, joined_of}
 use Rattle.std.specs.Prelude.{vec_capacity, vec_len, IsOk}
-use Rattle.class_disk.specs.inside.Parts.{joined_of}
 use Rattle.class_disk.proofs.PartFolds.{joined_more, joined_fits, joined_at_end, appended_if}
 use Rattle.class_disk.proofs.buffers.joined.Goals as goal
 

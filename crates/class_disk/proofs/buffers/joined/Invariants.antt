@@ -1,6 +1,5 @@
-use Rattle.std.proofs.Common.{◌≡◌, ◌≤◌, ◌++◌, drop, length}
+use Rattle.class_disk.proofs.Common.{◌≡◌, ◌≤◌, ◌++◌, drop, length, joined_of}
 use Rattle.std.specs.Prelude.{vec_capacity}
-use Rattle.class_disk.specs.inside.Parts.{joined_of}
 use Rattle.class_disk.proofs.buffers.joined.Given as goal
 
 -- what was taken so far and what is left is all, and all of it fits

@@ -1,6 +1,4 @@
-use Rattle.std.proofs.Common.{◌+◌, ◌≤◌, sym, subst}
-use Rattle.device.specs.View.{DeviceView, label_places}
-use Rattle.class_disk.specs.inside.TableView.{books_of}
+use Rattle.class_disk.proofs.Common.{◌+◌, ◌≤◌, sym, subst, DeviceView, label_places, books_of}
 use Rattle.class_disk.proofs.Acting.{label_place, either_acts}
 use Rattle.class_disk.proofs.layer.DiskDevice.act.Goals as goal
 

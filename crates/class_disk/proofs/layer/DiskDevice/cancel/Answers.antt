@@ -1,7 +1,4 @@
-use Rattle.std.proofs.Common.{sym, subst}
-use Rattle.device.specs.View.{DeviceView}
-use Rattle.device.specs.Served.{CancelsIfOpen, CancelsAt}
-use Rattle.class_disk.specs.inside.TableView.{books_of}
+use Rattle.class_disk.proofs.Common.{sym, subst, DeviceView, CancelsIfOpen, CancelsAt, books_of}
 use Rattle.class_disk.proofs.CancellingAt.{none_cancellable, by_spot}
 use Rattle.class_disk.proofs.layer.DiskDevice.cancel.Goals as goal
 

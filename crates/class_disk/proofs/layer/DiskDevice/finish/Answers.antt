@@ -1,7 +1,5 @@
 -- The piece comes back below, and all that has ended is taken.
-use Rattle.std.proofs.Common.{◌+◌, ◌≤◌, refl, sym, subst}
-use Rattle.device.specs.View.{DeviceView, label_places}
-use Rattle.class_disk.specs.inside.TableView.{books_of}
+use Rattle.class_disk.proofs.Common.{◌+◌, ◌≤◌, refl, sym, subst, DeviceView, label_places, books_of}
 use Rattle.class_disk.proofs.Acting.{label_place, hand_same}
 use Rattle.class_disk.proofs.Standing.{apart_in}
 use Rattle.class_disk.proofs.Finished.{free_above, midway_begins, finish_ends}
@@ -23,19 +21,19 @@ returns-then-not-finish g c = rw (← c.self.view_is) (record {
   finishes = free_above _ (books_of c.self.inside.extension.table) c.self.invariant.in_hand c.args.tag _ c.if-not-finish.ensures.finishes;
 })
 
-pub take_returned-requires-clause-midway : goal.take_returned-requires-clause-midway
-take_returned-requires-clause-midway g c =
+pub take_all-requires-clause-midway : goal.take_all-requires-clause-midway
+take_all-requires-clause-midway g c =
     (_, _, midway_begins _ (books_of c.self.inside.extension.table) c.self.invariant.in_hand c.args.tag _ c.if-not-finish.ensures.finishes c.shows_order.ensures.order)
 
 pub invariant_of-self-2 : goal.invariant_of-self-2
 invariant_of-self-2 g c = record {
   takes = c.self.invariant.takes;
   in_hand = (finish_ends _ (books_of c.self.inside.extension.table) c.self.invariant.in_hand c.args.tag _ c.if-not-finish.ensures.finishes c.shows_order.ensures.order
-      _ (books_of c.take_returned.new.self.table) c.take_returned.ensures (apart_in _ c.take_returned.new.self.table.slots.slots refl refl)).1;
+      _ (books_of c.take_all.new.self.table) c.take_all.ensures (apart_in _ c.take_all.new.self.table.slots.slots refl refl)).1;
 }
 
 pub returns : goal.returns
 returns g c = rw (← c.self.view_is) (record {
   finishes = (finish_ends _ (books_of c.self.inside.extension.table) c.self.invariant.in_hand c.args.tag _ c.if-not-finish.ensures.finishes c.shows_order.ensures.order
-      _ (books_of c.take_returned.new.self.table) c.take_returned.ensures (apart_in _ c.take_returned.new.self.table.slots.slots refl refl)).0;
+      _ (books_of c.take_all.new.self.table) c.take_all.ensures (apart_in _ c.take_all.new.self.table.slots.slots refl refl)).0;
 })

@@ -1,10 +1,5 @@
 -- The slot is given up, and the parts' rooms go back below.
-use Rattle.std.proofs.Common.{refl, sym, subst}
-use Rattle.device.specs.View.{DeviceView, IsReserved}
-use Rattle.class_disk.specs.declared.table.Table.{Table}
-use Rattle.class_disk.specs.inside.TableView.{books_of}
-use Rattle.class_disk.specs.inside.Driver.{tickets, view_of, IsInHand}
-use Rattle.device.specs.Served.{Frees}
+use Rattle.class_disk.proofs.Common.{refl, sym, subst, DeviceView, IsReserved, Table, books_of, tickets, view_of, IsInHand, Frees}
 use Rattle.class_disk.proofs.Standing.{apart_in}
 use Rattle.class_disk.proofs.Reserving.{freed_first, freed_here, frees_above, in_hand_freed}
 use Rattle.class_disk.proofs.layer.DiskDevice.free.Goals as goal

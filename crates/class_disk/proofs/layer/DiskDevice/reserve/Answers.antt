@@ -1,17 +1,7 @@
 -- A slot is made, the parts get their rooms below, and the slot is filled with them.
-use Rattle.std.proofs.Common.{refl, sym, ◌∙◌, ap, subst}
-use Rattle.device.specs.View.{DeviceView, IsBounded}
-use Rattle.class_disk.specs.declared.Sizes.{Sizes}
-use Rattle.class_disk.specs.declared.table.Table.{Table}
-use Rattle.class_disk.specs.inside.Blocks.{AreSizes}
-use Rattle.class_disk.specs.inside.TableView.{TableView, books_of, held_as}
-use Rattle.class_disk.specs.inside.DuringACall.{CanCut}
-use Rattle.class_disk.specs.Shown.{class_rules}
-use Rattle.class_disk.specs.inside.Driver.{view_of}
-use Rattle.device.specs.Served.{ReservesNone}
+use Rattle.class_disk.proofs.Common.{refl, sym, ◌∙◌, ap, subst, DeviceView, IsBounded, Sizes, Table, AreSizes, TableView, books_of, held_as, CanCut, class_rules, view_of, ReservesNone, near_same}
 use Rattle.class_disk.proofs.Cutting.{can_cut}
 use Rattle.class_disk.proofs.Making.{none_asked}
-use Rattle.device.proofs.Reserving.{near_same}
 use Rattle.class_disk.proofs.NearParts.{near_above}
 use Rattle.class_disk.proofs.NewParts.{new_held}
 use Rattle.class_disk.proofs.Reserving.{ended_open, on_err}

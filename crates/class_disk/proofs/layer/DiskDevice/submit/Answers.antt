@@ -1,8 +1,6 @@
 -- The request is opened, its parts are sent, and the layer below is asked for what came back: nothing.
 use Rattle.std.proofs.Common.{◌≤◌, ◌<◌, refl, sym, subst}
-use Rattle.std.specs.Prelude.{IsFalse}
-use Rattle.device.specs.View.{DeviceView, IsReady}
-use Rattle.class_disk.specs.inside.TableView.{books_of}
+use Rattle.class_disk.proofs.Common.{IsFalse, DeviceView, IsReady, books_of}
 use Rattle.class_disk.proofs.Standing.{rising, apart_in}
 use Rattle.class_disk.proofs.SubmitDone.{opening, can_settle, all_done, hand_again, carries_there, submits_there, few_there}
 use Rattle.class_disk.proofs.layer.DiskDevice.submit.Goals as goal

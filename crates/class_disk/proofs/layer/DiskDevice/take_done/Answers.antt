@@ -1,6 +1,5 @@
 -- The packet of a request that has ended goes up, and its room is left.
-use Rattle.std.proofs.Common.{refl, ap, ◌∙◌}
-use Rattle.class_disk.specs.inside.TableView.{books_of, opened_of, payload_of}
+use Rattle.class_disk.proofs.Common.{refl, ap, ◌∙◌, books_of, opened_of, payload_of}
 use Rattle.class_disk.proofs.Ended.{ended_open, small_up, room_up, some_up, hands_up}
 use Rattle.class_disk.proofs.Standing.{apart_in}
 use Rattle.class_disk.proofs.NoneEnded.{none_up}

@@ -1,5 +1,5 @@
 -- An empty body. The borrow is opened and closed at another ghost value.
-use Rattle.std.proofs.Common.{ℕ, List, [], ◌∷◌, refl, MutBor}
+use Rattle.class_disk.proofs.Common.{ℕ, List, [], ◌∷◌, refl, MutBor, Noted}
 use seplogic.Ra.Ura.{Ura}
 use mir.Syntax.{named}
 use mir.Val.{Val, vunit, vptr}
@@ -25,7 +25,6 @@ use denote.Triple.Entry.{on_entry}
 use denote.Triple.Spec.{Meets, triple_of}
 use denote.Triple.Table.{entered}
 use denote.Triple.Walked.{says, Stays, stay_ref, walk_of, AllGo, Goes-ref, Walks, ends_at, walked, walk_Meets}
-use Rattle.class_disk.specs.declared.noted.Noted.{Noted}
 use Rattle.class_disk.specs.contracts.noted.Noted as T
 use Rattle.class_disk.specs.contracts.noted.Noted.note.Key.{name as #it}
 use Rattle.class_disk.specs.contracts.noted.Noted.note as it

@@ -1,10 +1,5 @@
-use Rattle.std.proofs.Common.{◌≡◌, rules, ◌∙◌, ap, subst, refl, arith}
-use Rattle.irp.specs.declared.Irp.{Irp}
+use Rattle.class_disk.proofs.Common.{◌≡◌, rules, ◌∙◌, ap, subst, refl, arith, Irp, Climbs, AreLeft, lowest_status, payload_of, payload_up}
 use Rattle.irp.specs.Climb.{above as locations_above}
-use Rattle.device.specs.Climbing.{Climbs}
-use Rattle.class_disk.specs.inside.Parts.{AreLeft, lowest_status}
-use Rattle.class_disk.specs.inside.TableView.{payload_of}
-use Rattle.class_disk.specs.inside.TableCalls.{payload_up}
 use Rattle.class_disk.proofs.PartsLeft.{left_whole}
 use Rattle.class_disk.proofs.requests.Transfer.complete.Goals as goal
 

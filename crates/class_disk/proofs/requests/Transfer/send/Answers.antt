@@ -1,13 +1,7 @@
-use Rattle.std.proofs.Common.{◌≡◌, ◌≤◌, ◌==◌, true, sym, ◌∙◌, ap, subst, length}
+use Rattle.class_disk.proofs.Common.{◌≡◌, ◌≤◌, ◌==◌, true, sym, ◌∙◌, ap, subst, length, AsksFor, AsksInLocation, payload_bytes, transfer_length, Place, FitsBlock, IsOwnPacket, opened_of, HasBuffers, CanTake, IsDataOf, sent_part}
 use Rattle.std.specs.Prelude.{vec_capacity, slice_set}
 use Rattle.irp.specs.declared.Payload.TheVariants.{Srb as Packed}
-use Rattle.device.specs.View.{AsksFor, AsksInLocation, payload_bytes, transfer_length}
 use Rattle.class_disk.specs.declared.parts.Part.{Part}
-use Rattle.class_disk.specs.declared.parts.Place.{Place}
-use Rattle.class_disk.specs.inside.Blocks.{FitsBlock, IsOwnPacket}
-use Rattle.class_disk.specs.inside.TableView.{opened_of}
-use Rattle.class_disk.specs.inside.Parts.{HasBuffers}
-use Rattle.class_disk.specs.inside.TableCalls.{CanTake, IsDataOf, sent_part}
 use Rattle.class_disk.proofs.SentData.{found_part, same_place, set_long, can_take, sends_with}
 use Rattle.class_disk.proofs.requests.Transfer.send.Goals as goal
 

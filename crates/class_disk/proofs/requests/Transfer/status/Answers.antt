@@ -1,5 +1,4 @@
-use Rattle.std.proofs.Common.{sym, ◌∙◌, ap}
-use Rattle.class_disk.specs.inside.Parts.{lowest_status}
+use Rattle.class_disk.proofs.Common.{sym, ◌∙◌, ap, lowest_status}
 use Rattle.class_disk.proofs.PartFolds.{status_at_end, status_found, status_passed}
 use Rattle.class_disk.proofs.requests.Transfer.status.Goals as goal
 

@@ -1,5 +1,4 @@
-use Rattle.std.proofs.Common.{◌≡◌, drop}
-use Rattle.class_disk.specs.inside.Parts.{lowest_status}
+use Rattle.class_disk.proofs.Common.{◌≡◌, drop, lowest_status}
 use Rattle.class_disk.proofs.requests.Transfer.status.Given as goal
 
 abbrev pub invariant-loop-part : goal.invariant-loop-part

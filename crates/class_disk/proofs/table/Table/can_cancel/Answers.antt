@@ -1,5 +1,4 @@
-use Rattle.std.proofs.Common.{sym, ◌∙◌, ap}
-use Rattle.std.specs.Option.{option_copied}
+use Rattle.class_disk.proofs.Common.{sym, ◌∙◌, ap, option_copied}
 use Rattle.class_disk.proofs.Cancelling.{cannot_there, can_there}
 use Rattle.class_disk.proofs.table.Table.can_cancel.Goals as goal
 

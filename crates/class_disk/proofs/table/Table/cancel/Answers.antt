@@ -1,6 +1,4 @@
-use Rattle.std.proofs.Common.{true, ap, ◌∙◌}
-use Rattle.irp.specs.declared.Irp.{Irp}
-use Rattle.class_disk.specs.inside.TableView.{opened_of, payload_of}
+use Rattle.class_disk.proofs.Common.{true, ap, ◌∙◌, Irp, opened_of, payload_of}
 use Rattle.class_disk.proofs.Replacing.{stands_there}
 use Rattle.class_disk.proofs.Cancelling.{cancels_there}
 use Rattle.class_disk.proofs.table.Table.cancel.Goals as goal

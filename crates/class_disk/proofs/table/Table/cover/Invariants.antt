@@ -1,5 +1,4 @@
-use Rattle.std.proofs.Common.{◌≡◌, ◌-◌, ◌+◌, length}
-use Rattle.class_disk.specs.inside.Owners.{KeepsOwners}
+use Rattle.class_disk.proofs.Common.{◌≡◌, ◌-◌, ◌+◌, length, KeepsOwners}
 use Rattle.class_disk.proofs.table.Table.cover.Given as goal
 
 abbrev pub invariant-covering : goal.invariant-covering

@@ -1,8 +1,5 @@
-use Rattle.std.proofs.Common.{◌≡◌, ◌-◌, ◌==◌, true, false, sym, ◌∙◌, ap, subst}
+use Rattle.class_disk.proofs.Common.{◌≡◌, ◌-◌, ◌==◌, true, false, sym, ◌∙◌, ap, subst, slice_get_within, Opened, opened_of, books_of, ended_at}
 use Rattle.std.specs.Prelude.{◌<◌, slice_get}
-use Rattle.std.proofs.lemmas.Option.{slice_get_within}
-use Rattle.class_disk.specs.inside.TableView.{Opened, opened_of, books_of}
-use Rattle.class_disk.specs.inside.TableCalls.{ended_at}
 use Rattle.class_disk.proofs.Replacing.{stands_there, stands_as, replaces, books_replaced, ends_more, ends_last}
 use Rattle.class_disk.proofs.table.Table.end.Goals as goal
 

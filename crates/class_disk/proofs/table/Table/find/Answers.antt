@@ -1,7 +1,5 @@
 use Rattle.std.proofs.Common.{zero, refl, All, Contains, sym, ◌∙◌, ap, subst, arith}
-use Rattle.std.proofs.lemmas.List.Elements.{All-nil}
-use Rattle.slab.proofs.SlabLemmas.{Contains-cons, Contains-entries}
-use Rattle.class_disk.specs.inside.TableCalls.{CannotCancel}
+use Rattle.class_disk.proofs.Common.{All-nil, Contains-cons, Contains-entries, CannotCancel}
 use Rattle.class_disk.proofs.Cancelling.{open_entries, opens_are, one_more, found_open}
 use Rattle.class_disk.proofs.table.Table.find.Goals as goal
 

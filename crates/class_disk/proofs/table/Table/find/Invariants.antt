@@ -1,9 +1,6 @@
 use Rattle.std.proofs.Common.{◌≡◌, ℕ, Some}
 use Rattle.std.specs.Prelude.{All, Contains}
-use Rattle.slab.specs.Slab.{get}
-use Rattle.class_disk.specs.declared.requests.Slot.{Slot}
-use Rattle.class_disk.specs.inside.TableView.{open_from}
-use Rattle.class_disk.specs.inside.TableCalls.{CannotCancel}
+use Rattle.class_disk.proofs.Common.{get, Slot, open_from, CannotCancel}
 use Rattle.class_disk.proofs.Cancelling.{open_entries}
 use Rattle.class_disk.proofs.table.Table.find.Given as goal
 

@@ -1,6 +1,4 @@
-use Rattle.std.proofs.Common.{ap, arith}
-use Rattle.slab.specs.Slab.{Slab, slab_len}
-use Rattle.class_disk.specs.declared.requests.Slot.{Slot}
+use Rattle.class_disk.proofs.Common.{ap, arith, Slab, slab_len, Slot}
 use Rattle.class_disk.proofs.SlotFilling.{few_ended}
 use Rattle.class_disk.proofs.table.Table.make_slot.Goals as goal
 

@@ -1,8 +1,4 @@
-use Rattle.std.proofs.Common.{ap, sym, ◌∙◌, subst}
-use Rattle.std.specs.Prelude.{slice_get}
-use Rattle.class_disk.specs.declared.Sizes.{Sizes}
-use Rattle.class_disk.specs.inside.TableView.{Opened, opened_of}
-use Rattle.class_disk.specs.inside.TableCalls.{IsReadyAt, SendsAs}
+use Rattle.class_disk.proofs.Common.{ap, sym, ◌∙◌, subst, slice_get, Sizes, Opened, opened_of, IsReadyAt, SendsAs}
 use Rattle.class_disk.proofs.Replacing.{stands_counted, same_counted, sizes_counted, books_counted}
 use Rattle.class_disk.proofs.table.Table.send.Goals as goal
 

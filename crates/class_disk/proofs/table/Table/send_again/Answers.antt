@@ -1,7 +1,5 @@
-use Rattle.std.proofs.Common.{ap, sym, ◌∙◌, subst}
+use Rattle.class_disk.proofs.Common.{ap, sym, ◌∙◌, subst, Opened, opened_of, SendsAgain}
 use Rattle.std.specs.Prelude.{◌<◌, slice_get}
-use Rattle.class_disk.specs.inside.TableView.{Opened, opened_of}
-use Rattle.class_disk.specs.inside.TableCalls.{SendsAgain}
 use Rattle.class_disk.proofs.Replacing.{stands_counted, same_counted, books_counted}
 use Rattle.class_disk.proofs.table.Table.send_again.Goals as goal
 
