@@ -49,6 +49,7 @@ pub use Rattle.machine_laws.specs.Booked.{AreOfActs, IsAskedBy, IsOfAct, TakesEn
 pub use Rattle.machine_laws.specs.EndLaws.{AnsweredWriteNoMore, IsNotOfDevice, RemovedIsLast}
 pub use Rattle.machine_laws.specs.Reached.{IsReached, RunsGoOn, RunsSplit}
 pub use Rattle.machine_laws.specs.SoloLaws.{FailedWritesHold, LabelsAreOfOne, SoloReadsHold, SoloWritesHold}
+pub use Rattle.machine_laws.specs.Success.{ActsWereAsked, AnsweredWasMoved}
 pub use Rattle.machine_laws.specs.WriteLaws.{StepsKeepArrays, StepsKeepSectors}
 pub use Rattle.ntstatus.specs.First.{first_some, when}
 pub use Rattle.ntstatus.specs.declared.NtStatus.{NtStatus}

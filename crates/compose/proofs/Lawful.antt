@@ -1,13 +1,13 @@
 -- The labels of events that were carried out are a run, which obeys the laws of runs.
-use Rattle.compose.proofs.Common.{◌≡◌, ℕ, Bool, true, false, List, [], ◌∷◌, ◌++◌, refl, sym, ◌∙◌, subst, take, Vec, IsIn, NtStatus, Success, ClientRequest, Label, Call, Rules, State, Opens, Answers, Run, IsSame-refl, Run-append, IsReached, RunsGoOn, SoloReadsHold, SoloWritesHold, FailedWritesHold, LabelsAreOfOne, StepsKeepArrays, StepsKeepSectors, AnsweredWriteNoMore, Reply, ManagerView, KeepsOutside, Event, RunStopped, Shown, IsRight, Carries, CarriesAll, StopsAfter, labels_shown, IsOfRun, IsLawful, RunsObeyLaws, RunsAreQuietOnceRemoved}
+use Rattle.compose.proofs.Common.{◌≡◌, ℕ, Bool, true, false, List, [], ◌∷◌, ◌++◌, refl, sym, ◌∙◌, subst, take, Vec, IsIn, NtStatus, Success, ClientRequest, Label, Call, Rules, State, Opens, Answers, Run, IsSame-refl, Run-append, IsReached, RunsGoOn, SoloReadsHold, SoloWritesHold, FailedWritesHold, LabelsAreOfOne, StepsKeepArrays, StepsKeepSectors, AnsweredWriteNoMore, Reply, ManagerView, KeepsOutside, Event, RunStopped, Shown, IsRight, Carries, CarriesAll, StopsAfter, labels_shown, IsOfRun, IsLawful, RunsObeyLaws, RunsAreQuietOnceRemoved, opening, ActsWereAsked, AnsweredWasMoved}
 use Rattle.std.specs.Prelude.{Any, Result, Ok, Err, MatchResult}
 use Rattle.io_manager.specs.Right.{Told, IsRightBy, IsRight as IsRightCall}
 use Rattle.compose.specs.declared.Event.TheVariants.{Open, Close, Read as ReadEvent, Write as WriteEvent, Flush as FlushEvent, CancelIoEx, Mark, QueryRemove, CancelRemove, Remove, SurpriseRemove, Act, Finish, Reset}
 
 -- THE LAWS
 
-module _ (reads : SoloReadsHold) (writes : SoloWritesHold) (failed : FailedWritesHold) (keeps : StepsKeepArrays) (sectors : StepsKeepSectors) (over : AnsweredWriteNoMore)
-    (one : LabelsAreOfOne) (on : RunsGoOn) where
+module _ (moved : AnsweredWasMoved) (asked : ActsWereAsked) (reads : SoloReadsHold) (writes : SoloWritesHold) (failed : FailedWritesHold) (keeps : StepsKeepArrays) (sectors : StepsKeepSectors)
+    (over : AnsweredWriteNoMore) (one : LabelsAreOfOne) (on : RunsGoOn) where
   -- the request of a run that is called and answered there
   of_one : (rules : Rules) (s : State) (labels : List Label) (s' : State) (number : ℕ) (q : ClientRequest) (status : NtStatus) (bytes : List ℕ) (before after : State)
       → (h : IsOfRun rules s labels s' number q status bytes before after) → Opens rules before number q h.called × Answers rules h.ended number status bytes after
@@ -23,6 +23,10 @@ module _ (reads : SoloReadsHold) (writes : SoloWritesHold) (failed : FailedWrite
 
   pub obey : RunsObeyLaws
   obey rules s labels s' reached = record {
+    answered_was_moved = λ number q bytes before after h place inside.
+        moved rules number q h.informed bytes before h.called h.between h.ended after (on rules s h.first before reached h.comes) h.calls h.run h.answers place inside;
+    acts_were_asked = λ begun first last label before split comes act.
+        asked rules begun.arrays (begun.labels ++ first) before label begun.whole (Run-append rules (opening begun.arrays) begun.labels s first before begun.run comes) act;
     solo_reads = λ number q bytes before after h faithful is_read solo.
         let both : Opens rules before number q h.called × Answers rules h.ended number Success bytes after = of_one rules s labels s' number q Success bytes before after h in
         reads rules before faithful (on rules s h.first before reached h.comes) number q bytes after is_read

@@ -18,7 +18,8 @@ use Rattle.machine_laws.specs.SoloLaws.{WroteOrLeft}
 use Rattle.machine_laws.specs.Along.{Sometime}
 use Rattle.machine_laws.specs.EndLaws.{IsNotOfDevice}
 use Rattle.machine_laws.specs.Reached.{IsReached}
-use Rattle.machine_laws.specs.Sectors.{sector_at, WritesPartition, WritesSector}
+use Rattle.machine_laws.specs.Sectors.{sector_at, IsAct, WritesPartition, WritesSector}
+use Rattle.machine_laws.specs.Success.{MovesPlace, WasAsked, bytes_due}
 use Rattle.machine_laws.specs.WriteLaws.{IsWriteAt}
 use Rattle.io_manager.specs.Shown.{ManagerView}
 use Rattle.device.specs.View.{KeepsOutside}
@@ -88,6 +89,14 @@ IsSoloIn rules s labels s' number q status bytes before after h = IsSolo rules n
 
 -- what is promised of the requests that a run calls and answers, and of its arrays
 pub record ObeysLaws (rules : Rules) (s : State) (labels : List Label) (s' : State) : Type 0 where
+  -- SUCCESS: at each place of the request a piece of it acted between call and answer, with the bytes due there
+  pub answered_was_moved : (number : ℕ) (q : ClientRequest) (bytes : List ℕ) (before after : State)
+      (h : IsOfRun rules s labels s' number q Success bytes before after)
+      → (place : ℕ) → place < place_count rules q
+      → Sometime (MovesPlace rules number place (bytes_due rules q q.kind bytes place)) rules h.called h.between h.ended h.run
+  -- a piece that acts was asked for: it was started for a request called before and not yet answered, at places of it
+  pub acts_were_asked : (reached : IsReached rules s) (first last : List Label) (label : Label) (before : State) → labels ≡ first ++ label ∷ last
+      → Run rules s first before → (act : IsAct before label) → WasAsked rules (reached.labels ++ first) act.owner act.piece
   -- where acts read and write the arrays, a solo read that succeeds gives the bytes of the array at its call
   pub solo_reads : (number : ℕ) (q : ClientRequest) (bytes : List ℕ) (before after : State)
       (h : IsOfRun rules s labels s' number q Success bytes before after)

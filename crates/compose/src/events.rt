@@ -195,6 +195,8 @@ fn laws_of_runs()
     ensures laws { RunsObeyLaws }
     ensures quiet { RunsAreQuietOnceRemoved }
 {
+    machine_laws::answered_was_moved();
+    machine_laws::acts_were_asked();
     machine_laws::solo_reads();
     machine_laws::solo_writes();
     machine_laws::failed_writes();

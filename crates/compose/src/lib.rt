@@ -6,13 +6,14 @@
 //! [`Stack::step`]: its labels are a run of the machine, and the adapter moved by just the device labels among them
 //! (`right`); the stack is then settled (`settled`), a removal with nothing open has ended (`finished`), and all fits
 //! together (`whole`). `step_untraced` is a step whose labels are forgotten. `run` carries out each event, or just the
-//! first `done` (`carries`, `within`), and its labels obey the laws of whole runs (`lawful`). `start` gives the opening
-//! state (`view`), or fails by settings with nothing sent, as `probe` does, or for memory (`fault`). A step makes one
-//! call at most, first (`steps_call_once`). Only a read, a write or a flush wants memory (`steps_take_no_memory`). Each
-//! answer waits, or the reply says it (`steps_leave_answers`). What opens is what `admits` told (`steps_open_as_told`).
-//! `first_answer` shows the next answer (`IsNextAnswer`), and `refuse` is the step of a refused call without its buffer
-//! (`Refuses`). Over a journal: `armed_may_be_booked`, `booked_acts_add_entries`, `steps_keep_entries`,
-//! `idle_acts_keep_entries`, `steps_stay_apart`. Not promised: an order between requests that overlap.
+//! first `done` (`carries`, `within`), and its labels obey the laws of whole runs, what SUCCESS means and what an act
+//! was asked for among them (`lawful`). `start` gives the opening state (`view`), or fails by settings with nothing
+//! sent, as `probe` does, or for memory (`fault`). A step makes one call at most, first (`steps_call_once`). Only a
+//! read, a write or a flush wants memory (`steps_take_no_memory`). Each answer waits, or the reply says it
+//! (`steps_leave_answers`). What opens is what `admits` told (`steps_open_as_told`). `first_answer` shows the next
+//! answer (`IsNextAnswer`), and `refuse` is the step of a refused call without its buffer (`Refuses`). Over a journal:
+//! `armed_may_be_booked`, `booked_acts_add_entries`, `steps_keep_entries`, `idle_acts_keep_entries`,
+//! `steps_stay_apart`. Not promised: an order between requests that overlap.
 #![tactic(auto)]
 
 mod events;

@@ -15,7 +15,8 @@ use Rattle.machine.specs.declared.Label.{Label}
 use Rattle.machine.specs.declared.Label.TheVariants.{Call, Device, Answer, Cancel, Pause, Resume, Remove, Surprise, Removed}
 use Rattle.machine.specs.Rules.{Rules, is_transfer, is_in_bounds, first_sector, place_count}
 use Rattle.machine_laws.specs.NumberLaws.{AreFrom, call_numbers}
-use Rattle.history_laws.specs.Schedules.{Event, Seen, Effect, labels_of, value_after, IsAt, IsNoAnswer, IsNoEffect, Moves, TakesEffect, part_of, TookEffect, IsAnswer, MayFollow}
+use Rattle.machine_laws.specs.Sectors.{part_of}
+use Rattle.history_laws.specs.Schedules.{Event, Seen, Effect, labels_of, value_after, IsAt, IsNoAnswer, IsNoEffect, Moves, TakesEffect, TookEffect, IsAnswer, MayFollow}
 use Rattle.history_laws.proofs.Mirroring.{further, newest}
 use Rattle.history_laws.proofs.Scheduling.{explained_scheduled, explained_numbered}
 use Rattle.register.specs.declared.Sight.{Sight}

@@ -9,7 +9,7 @@ use Rattle.machine.specs.declared.ClientRequest.{ClientRequest}
 use Rattle.machine.specs.declared.Label.{Label}
 use Rattle.machine.specs.declared.Label.TheVariants.{Call, Answer}
 use Rattle.machine.specs.Rules.{Rules, is_transfer, is_in_bounds, first_sector, place_count}
-use Rattle.history_laws.specs.Schedules.{part_of}
+use Rattle.machine_laws.specs.Sectors.{part_of}
 use Rattle.register.specs.declared.Sight.{Sight}
 use Rattle.register.specs.declared.Sight.TheVariants.{Write as WriteSight, Read as ReadSight, Done, Failed}
 

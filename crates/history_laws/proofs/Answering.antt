@@ -1,13 +1,11 @@
 -- An answer is an event that may come, and leaves what a state shows of a sector in order.
-use Rattle.std.proofs.Common.{◌≡◌, ◌≢◌, ◌<◌, ℕ, ◌+◌, ◌-◌, ◌*◌, true, List, [], ◌∷◌, sym, ◌∙◌, ap, subst, arith, map, length, get_or, take, drop}
+use Rattle.std.proofs.Common.{◌≡◌, ◌≢◌, ◌<◌, ℕ, true, List, ◌∷◌, sym, ◌∙◌, subst, length, get_or}
 use Rattle.std.specs.Prelude.{IsNone, All, Contains}
-use Rattle.std.specs.List.{list_all, concat}
-use Rattle.std.proofs.lemmas.List.{length-map, get_or-map}
+use Rattle.std.specs.List.{list_all}
 use Rattle.std.proofs.lemmas.List.Sorted.{All-permutation}
-use Rattle.std.proofs.lemmas.List.Elements.{All-head, All-tail, All-cons, All-weaker, All-contains, All-map}
+use Rattle.std.proofs.lemmas.List.Elements.{All-head, All-tail, All-cons, All-weaker, All-contains}
 use Rattle.ntstatus.specs.declared.NtStatus.{NtStatus}
 use Rattle.sector.specs.Extents.{IsSector}
-use Rattle.srb.specs.declared.Kind.{Kind}
 use Rattle.srb.specs.declared.Kind.TheVariants.{Read}
 use Rattle.machine.specs.declared.ClientRequest.{ClientRequest}
 use Rattle.machine.specs.declared.Label.TheVariants.{Call, Answer}
@@ -19,11 +17,11 @@ use Rattle.machine.specs.Numbers.{request_number, IsGiven}
 use Rattle.machine.proofs.Permuting.{distinct_first}
 use Rattle.machine_laws.specs.EndLaws.{HasOtherNumber}
 use Rattle.machine_laws.specs.NumberLaws.{IsNoAnswerOf}
-use Rattle.machine_laws.proofs.Chunks.{chunk, concat_chunk}
 use Rattle.machine_laws.proofs.Marks.{all_right}
+use Rattle.machine_laws.proofs.Served.{read_part}
 use Rattle.machine_laws.proofs.Serving.{IsRightMark, IsSized}
 use Rattle.machine_laws.proofs.Sound.{IsSound}
-use Rattle.history_laws.specs.Schedules.{Event, Seen, Effect, IsAt, IsOpen, part_of, TookEffect, IsAnswer}
+use Rattle.history_laws.specs.Schedules.{Event, Seen, Effect, IsAt, IsOpen, TookEffect, IsAnswer}
 use Rattle.history_laws.proofs.Mirroring.{IsMarkFor, IsMirrored, IsFateOf, IsFollowed, OwedFor, IsOwedFor, IsBelow, Mirrors, Mirrors-same, requests_seen, pieces_seen, none_owed}
 use Rattle.history_laws.proofs.Sending.{first_mirrored}
 
@@ -38,12 +36,6 @@ got_mark rules p i past number q k Out h = tt
 got_mark rules p i past number q k (Failed status) h = tt
 got_mark rules p i past number q k Back h = tt
 
-read_joins : (kind : Kind) (marks : List Mark) → kind ≡ Read → list_all is_done marks ≡ true → answer_bytes kind marks ≡ concat (map bytes_of_mark marks)
-read_joins kind marks e done = rw (e, done)
-
-part_is : (rules : Rules) (bytes : List ℕ) (place : ℕ) → part_of rules bytes place ≡ chunk rules.sector_size place bytes
-part_is rules bytes place = let n : (place + 1) * rules.sector_size - place * rules.sector_size ≡ rules.sector_size = omega arith in ap (λ m. take m (drop (place * rules.sector_size) bytes)) n
-
 module _ (rules : Rules) (p i : ℕ) (start : List ℕ) (past : List Event) where
   -- a request whose places are all done took effect
   took_effect : (o : OpenRequest) (bytes : List ℕ) → IsMirrored rules p i past o → IsSized rules o → list_all is_done o.marks ≡ true → bytes ≡ answer_bytes o.request.kind o.marks
@@ -56,21 +48,12 @@ module _ (rules : Rules) (p i : ℕ) (start : List ℕ) (past : List Event) wher
       record {
         sector = bytes_of_mark (get_or o.marks place Untouched);
         before = (got place low).1 at;
-        hands_over = λ read. joined read got low;
+        hands_over = λ read. read_part rules o.request.kind o.marks bytes place read done (sized_at read) is_bytes low;
       }
     where
-      joined : o.request.kind ≡ Read → ((k : ℕ) → k < length o.marks → IsGot rules p i past o.number o.request k (bytes_of_mark (get_or o.marks k Untouched))) → place < length o.marks
-          → part_of rules bytes place ≡ bytes_of_mark (get_or o.marks place Untouched)
-      joined read got low =
-          let whole : All (IsSector rules.sector_size) (map bytes_of_mark o.marks) = All-map (IsSector rules.sector_size) bytes_of_mark o.marks (λ k d within. sized_at got read k d within) in
-          let long : place < length (map bytes_of_mark o.marks) = rw (length-map o.marks bytes_of_mark) low in
-          part_is rules bytes place ∙ ap (λ ys. chunk rules.sector_size place ys) (is_bytes ∙ read_joins o.request.kind o.marks read done)
-          ∙ sym (concat_chunk rules.sector_size (map bytes_of_mark o.marks) place [] whole long) ∙ get_or-map bytes_of_mark o.marks place Untouched [] low
-        where
-          sized_at : ((k : ℕ) → k < length o.marks → IsGot rules p i past o.number o.request k (bytes_of_mark (get_or o.marks k Untouched))) → o.request.kind ≡ Read
-              → (k : ℕ) (d : Mark) → k < length o.marks → IsSector rules.sector_size (bytes_of_mark (get_or o.marks k d))
-          sized_at got read k d within =
-              (all_right (IsGot rules p i past o.number o.request) o.marks k d done (λ j x inside. got_mark rules p i past o.number o.request j (get_or o.marks j x) (mine.marks j x inside)) within).0 read
+      sized_at : o.request.kind ≡ Read → (k : ℕ) (d : Mark) → k < length o.marks → IsSector rules.sector_size (bytes_of_mark (get_or o.marks k d))
+      sized_at read k d within =
+          (all_right (IsGot rules p i past o.number o.request) o.marks k d done (λ j x inside. got_mark rules p i past o.number o.request j (get_or o.marks j x) (mine.marks j x inside)) within).0 read
 
   pub Mirrors-Answers : (s : State) (n : ℕ) (status : NtStatus) (informed : ℕ) (bytes : List ℕ) (s' : State) → IsSound rules s → IsNone s.owed → Mirrors rules p i start past s
       → Answers rules s n status bytes s' → IsAnswer rules p i past n status bytes × Mirrors rules p i start (Seen (Answer n status informed bytes) ∷ past) s'

@@ -1,13 +1,10 @@
 -- A call is an event, and leaves what a state shows of a sector in order.
-use Rattle.std.proofs.Common.{◌≡◌, ◌<◌, ℕ, ◌+◌, ◌/◌, ◌==◌, ◌&&◌, Bool, true, false, not, List, [], ◌∷◌, Option, Some, None, refl, sym, ◌∙◌, ap, subst, arith, length, get_or, replicate}
-use Rattle.std.specs.Prelude.{IsNone, All, is_none, if◌then◌else◌}
-use Rattle.std.proofs.Math.Nat.{zero-div}
-use Rattle.std.proofs.lemmas.Bool.{not-false, and_parts, eqb-true}
+use Rattle.std.proofs.Common.{◌≡◌, ◌<◌, ℕ, ◌+◌, ◌&&◌, Bool, true, false, not, List, ◌∷◌, Option, Some, None, refl, sym, ◌∙◌, ap, subst, arith, get_or, replicate}
+use Rattle.std.specs.Prelude.{IsNone, All}
+use Rattle.std.proofs.lemmas.Bool.{not-false}
 use Rattle.std.proofs.lemmas.List.{length-replicate, get_or-replicate}
 use Rattle.std.proofs.lemmas.List.Elements.{All-cons, All-weaker}
 use Rattle.ntstatus.specs.declared.NtStatus.{NtStatus}
-use Rattle.ntstatus.specs.declared.NtStatus.TheVariants.{Success, DeviceBusy, DeletePending, InvalidHandle, InvalidParameter}
-use Rattle.ntstatus.specs.First.{when, first_some}
 use Rattle.sector.proofs.Splicing.{AllAt}
 use Rattle.srb.specs.declared.Kind.{Kind}
 use Rattle.srb.specs.declared.Kind.TheVariants.{Read, Write, Flush}
@@ -15,35 +12,14 @@ use Rattle.machine.specs.declared.ClientRequest.{ClientRequest}
 use Rattle.machine.specs.declared.Label.TheVariants.{Call}
 use Rattle.machine.specs.Rules.{Rules, is_transfer, is_in_bounds, place_count}
 use Rattle.machine.specs.State.{Untouched, OpenRequest, Piece, State}
-use Rattle.machine.specs.Calling.{refusal, is_full, new_request, Admits, Calls}
+use Rattle.machine.specs.Calling.{refusal, new_request, Admits, Calls}
 use Rattle.machine.specs.Numbers.{IsGiven}
 use Rattle.machine.proofs.Places.{IsTakenIn, taken_in}
 use Rattle.machine_laws.specs.EndLaws.{HasOtherNumber}
 use Rattle.machine_laws.proofs.Sound.{IsSound}
-use Rattle.history_laws.specs.Schedules.{Event, Seen, IsAt, IsNoAnswer, IsNoEffect, IsOpen}
+use Rattle.machine_laws.proofs.Success.{refused_nowhere}
+use Rattle.history_laws.specs.Schedules.{Event, Seen, IsNoAnswer, IsNoEffect, IsOpen}
 use Rattle.history_laws.proofs.Mirroring.{IsMarkFor, IsMirrored, IsFateOf, IsFollowed, IsBelow, Mirrors, Mirrors-same, newest, below_more, below_no_answer, below_no_effect, requests_seen, pieces_seen, none_owed}
-
--- of the refusals only an empty transfer is a success
-success_last : (a b c d e : Bool)
-    → first_some (when a InvalidHandle ∷ when b DeletePending ∷ when c InvalidParameter ∷ when d Success ∷ when e DeviceBusy ∷ []) ≡ Some Success → d ≡ true
-success_last true b c d e h = cc (h)
-success_last false true c d e h = cc (h)
-success_last false false true d e h = cc (h)
-success_last false false false true e h = refl
-success_last false false false false true h = cc (h)
-success_last false false false false false h = cc (h)
-
--- which has no place
-none_empty : (kind : Kind) (n size k : ℕ) → n ≡ 0 → is_transfer kind ≡ true → k < (if is_transfer kind then n / size else 1) → ⊥
-none_empty Read n size k empty transfer low = let e : n / size ≡ 0 = ap (λ m. m / size) empty ∙ zero-div size in absurd (omega arith)
-none_empty Write n size k empty transfer low = let e : n / size ≡ 0 = ap (λ m. m / size) empty ∙ zero-div size in absurd (omega arith)
-none_empty Flush n size k empty transfer low = absurd (cc (transfer))
-
-refused_nowhere : (rules : Rules) (p i : ℕ) (s : State) (q : ClientRequest) → refusal rules s q ≡ Some Success → (k : ℕ) → IsAt rules p i q k → ⊥
-refused_nowhere rules p i s q refused k at =
-    let empty : (is_transfer q.kind && (q.length == 0)) ≡ true =
-    success_last (is_none q.partition) s.removing (is_transfer q.kind && not (is_in_bounds rules q)) (is_transfer q.kind && (q.length == 0)) (is_full rules.open_requests (length s.requests)) refused in
-    none_empty q.kind q.length rules.sector_size k (eqb-true q.length 0 (and_parts (is_transfer q.kind) _ empty).1) at.transfer at.inside
 
 pub bounds_of : (kind : Kind) (b : Bool) → is_transfer kind ≡ true → (is_transfer kind && not b) ≡ false → b ≡ true
 bounds_of Write b e h = not-false b h
@@ -119,7 +95,7 @@ module _ (rules : Rules) (p i : ℕ) (start : List ℕ) (past : List Event) wher
         owed = record {
           request = q;
           is_open = newly_open n q below;
-          nowhere = λ success. refused_nowhere rules p i s q (e ∙ ap Some success);
+          nowhere = λ success k at. refused_nowhere rules s q (e ∙ ap Some success) k at.inside;
           apart = All-weaker (IsGiven s.next_request) (HasOtherNumber n) other s.requests sound.0.given;
         };
       })

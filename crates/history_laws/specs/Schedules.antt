@@ -1,5 +1,5 @@
 -- A schedule of one sector: the history, with the moments at which requests take effect on the sector (Herlihy and Wing: a linearization).
-use Rattle.std.specs.Prelude.{◌≡◌, ◌≢◌, ◌<◌, ℕ, ◌+◌, ◌*◌, List, [], ◌∷◌, Some, slice_range, IsTrue, All, Contains}
+use Rattle.std.specs.Prelude.{◌≡◌, ◌≢◌, ◌<◌, ℕ, List, [], ◌∷◌, Some, IsTrue, All, Contains}
 use Rattle.ntstatus.specs.declared.NtStatus.{NtStatus}
 use Rattle.ntstatus.specs.declared.NtStatus.TheVariants.{Success}
 use Rattle.srb.specs.declared.Kind.{Kind}
@@ -8,7 +8,7 @@ use Rattle.machine.specs.declared.ClientRequest.{ClientRequest}
 use Rattle.machine.specs.declared.Label.{Label}
 use Rattle.machine.specs.declared.Label.TheVariants.{Call, Answer}
 use Rattle.machine.specs.Rules.{Rules, is_transfer, is_in_bounds, place_count}
-use Rattle.machine_laws.specs.Sectors.{sector_of, bytes_for}
+use Rattle.machine_laws.specs.Sectors.{sector_of, part_of, bytes_for}
 use Rattle.machine_laws.specs.NumberLaws.{IsNoAnswerOf}
 
 -- a label of the history, or a request's effect on the sector, with the bytes that it read or wrote
@@ -63,10 +63,6 @@ pub record TakesEffect (rules : Rules) (p i : ℕ) (start : List ℕ) (past : Li
   pub there : IsAt rules p i request place
   pub once : All (IsNoEffect number) past
   pub moves : Moves rules (value_after start past) request place request.kind sector
-
--- the bytes of an answer that are of one place of its request
-abbrev pub part_of : Rules → List ℕ → ℕ → List ℕ
-part_of rules bytes place = slice_range bytes (place * rules.sector_size) ((place + 1) * rules.sector_size)
 
 -- the request took effect before, and a read hands over what it had then
 pub record TookEffect (rules : Rules) (past : List Event) (number : ℕ) (q : ClientRequest) (place : ℕ) (bytes : List ℕ) : Type 0 where

@@ -1,18 +1,5 @@
 -- The places of a request that no other write meets.
-use Rattle.std.proofs.Common.{◌≡◌, ◌<◌, ◌≤◌, ◌⊎◌, inl, inr, ℕ, ◌+◌, List, [], ◌∷◌, Some, sym, ◌∙◌, ap, subst, arith}
-use Rattle.std.specs.Prelude.{slice_get}
-use Rattle.std.proofs.lemmas.Bool.{cases_eq}
-use Rattle.std.proofs.lemmas.List.Elements.{All-contains}
-use Rattle.srb.specs.declared.Kind.TheVariants.{Write}
-use Rattle.machine.specs.declared.ClientRequest.{ClientRequest}
-use Rattle.machine.specs.declared.Label.{Label}
-use Rattle.machine.specs.Rules.{Rules, first_sector, place_count}
-use Rattle.machine.specs.State.{State}
-use Rattle.machine.specs.Sending.{partition_number, array_at}
-use Rattle.machine.specs.Step.{Run}
-use Rattle.machine.specs.Solo.{Meets, LeavesAlone, IsSoloAt, IsSolo}
-use Rattle.machine_laws.specs.Sectors.{sector_at, sector_of, bytes_for, WritesSector}
-use Rattle.machine_laws.specs.Along.{Sometime}
+use Rattle.machine_laws.proofs.Common.{◌≡◌, ◌<◌, ◌≤◌, ◌⊎◌, inl, inr, ℕ, ◌+◌, List, [], ◌∷◌, Some, sym, ◌∙◌, ap, subst, arith, slice_get, cases_eq, All-contains, Write, ClientRequest, Label, Rules, first_sector, place_count, State, partition_number, array_at, Run, Meets, LeavesAlone, IsSoloAt, IsSolo, sector_at, sector_of, bytes_for, WritesSector, Sometime}
 use Rattle.machine_laws.proofs.Serving.{HoldsPlaces, IsMine, PieceFits, Serves, Serves-Step}
 use Rattle.machine_laws.proofs.Sound.{Anything, IsSound, IsSound-Step, act_anyhow}
 use Rattle.machine_laws.proofs.Sectors.{Moved, step_arrays, step_sector}

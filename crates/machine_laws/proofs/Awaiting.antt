@@ -1,22 +1,6 @@
 -- The numbers that wait for an answer, label by label.
-use Rattle.std.proofs.Common.{◌≡◌, inl, inr, ℕ, ◌+◌, Bool, true, false, List, [], ◌∷◌, ◌++◌, Option, Some, None, refl, sym, ◌∙◌, ap, subst, arith, map, length}
+use Rattle.machine_laws.proofs.Common.{◌≡◌, inl, inr, ℕ, ◌+◌, Bool, true, false, List, [], ◌∷◌, ◌++◌, Option, Some, None, refl, sym, ◌∙◌, ap, subst, arith, map, length, append-nil, Contains-append_left, Contains-append_right, IsPermutation-refl, IsPermutation-sym, IsPermutation-trans, IsPermutation-cons, IsPermutation-map, IsPermutation-middle, IsPermutation-append_left, IsPermutation-append_right, Contains-permutation, NtStatus, DeviceLabel, Start, Act, Fault, Return, ClientRequest, Label, Call, Device, Answer, Cancel, Pause, Resume, Remove, Surprise, Removed, Rules, OpenRequest, Owed, State, refusal, Admits, held_back, beyond, as_timely, request_number, DeviceStep, FreeStep, OwingStep, Step, Run, call_numbers, AreFrom, CallsRise, CallsCount, answer_numbers, owed_number, awaited, CallsAwait, AnswersWereCalled, CallsAreAnswered}
 use Rattle.std.specs.Prelude.{IsPermutation, Contains, IsNone, if◌then◌else◌}
-use Rattle.std.proofs.lemmas.List.{append-nil}
-use Rattle.std.proofs.lemmas.List.Elements.{Contains-append_left, Contains-append_right}
-use Rattle.std.proofs.lemmas.List.Sorted.{IsPermutation-refl, IsPermutation-sym, IsPermutation-trans, IsPermutation-cons, IsPermutation-map, IsPermutation-middle, IsPermutation-append_left, IsPermutation-append_right, Contains-permutation}
-use Rattle.ntstatus.specs.declared.NtStatus.{NtStatus}
-use Rattle.srb.specs.declared.DeviceLabel.{DeviceLabel}
-use Rattle.srb.specs.declared.DeviceLabel.TheVariants.{Start, Act, Fault, Return}
-use Rattle.machine.specs.declared.ClientRequest.{ClientRequest}
-use Rattle.machine.specs.declared.Label.{Label}
-use Rattle.machine.specs.declared.Label.TheVariants.{Call, Device, Answer, Cancel, Pause, Resume, Remove, Surprise, Removed}
-use Rattle.machine.specs.Rules.{Rules}
-use Rattle.machine.specs.State.{OpenRequest, Owed, State}
-use Rattle.machine.specs.Calling.{refusal, Admits}
-use Rattle.machine.specs.Holding.{held_back, beyond, as_timely}
-use Rattle.machine.specs.Numbers.{request_number}
-use Rattle.machine.specs.Step.{DeviceStep, FreeStep, OwingStep, Step, Run}
-use Rattle.machine_laws.specs.NumberLaws.{call_numbers, AreFrom, CallsRise, CallsCount, answer_numbers, owed_number, awaited, CallsAwait, AnswersWereCalled, CallsAreAnswered}
 use Rattle.machine_laws.proofs.Going.{run_splits}
 
 -- NUMBERS

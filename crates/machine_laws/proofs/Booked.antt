@@ -1,33 +1,7 @@
 -- Entries that are of the acts of a trace by its labels are so by its run.
 use Rattle.std.proofs.Common.{◌≡◌, ◌≢◌, ◌<◌, ◌≤◌, inl, inr, ℕ, zero, suc, ◌+◌, Bool, true, false, IsTrue, List, [], ◌∷◌, Option, Some, None, refl, sym, ◌∙◌, ap, subst, arith, get_or, if◌then◌else◌}
-use Rattle.std.specs.Prelude.{IsPermutation, All, Contains, is_none, unwrap_or}
-use Rattle.std.proofs.lemmas.List.Sorted.{IsPermutation-sym, All-permutation}
-use Rattle.std.proofs.lemmas.List.Elements.{All-nil, All-head, All-tail, All-cons, All-weaker, All-map, All-contains, All-contains_itself}
-use Rattle.ntstatus.specs.declared.NtStatus.{NtStatus}
-use Rattle.ntstatus.specs.declared.NtStatus.TheVariants.{InvalidHandle}
-use Rattle.ntstatus.proofs.First.{none_first}
-use Rattle.sector.specs.declared.Extent.{Extent}
-use Rattle.cdb.specs.declared.Cdb.TheVariants.{Read10, Write10, Sync10, Read16, Write16, Sync16}
-use Rattle.cdb.specs.Meaning.{Means}
-use Rattle.cdb.proofs.Once.{means_once}
-use Rattle.srb.specs.declared.Entry.{Entry}
-use Rattle.srb.specs.declared.Kind.{Kind}
-use Rattle.srb.specs.declared.Kind.TheVariants.{Read, Write, Flush}
-use Rattle.srb.specs.declared.DeviceLabel.TheVariants.{Start, Act, Fault, Return}
-use Rattle.srb.specs.Fate.{Fate, Acted, Faulted}
-use Rattle.machine.specs.declared.ClientRequest.{ClientRequest}
-use Rattle.machine.specs.declared.Label.{Label}
-use Rattle.machine.specs.declared.Label.TheVariants.{Call, Device, Answer, Cancel, Pause, Resume, Remove, Surprise, Removed}
-use Rattle.machine.specs.Rules.{Rules, is_transfer, first_sector, home}
-use Rattle.machine.specs.State.{Mark, Done, OpenRequest, Piece, State, opening}
-use Rattle.machine.specs.Calling.{refusal, Admits, new_request}
-use Rattle.machine.specs.Sending.{Starts, Acts, sent, given_back, new_piece, with_fate, command_for}
-use Rattle.machine.specs.Holding.{held_back, beyond, as_timely, as_cancelled}
-use Rattle.machine.specs.Numbers.{request_number, AreDistinct, IsGiven}
-use Rattle.machine.specs.Step.{Step, Run}
-use Rattle.machine.proofs.Permuting.{distinct_first}
-use Rattle.machine_laws.specs.Lifting.{IsEntryOf, StepTakes, AreActsOf}
-use Rattle.machine_laws.specs.Booked.{IsTransfer, IsAskedBy, IsOfAct, TakesEntry, AreOfActs, EntriesAreOfRuns}
+use Rattle.machine_laws.proofs.Common.{IsPermutation, All, Contains, is_none, unwrap_or, IsPermutation-sym, All-permutation, All-nil, All-head, All-tail, All-cons, All-weaker, All-contains, All-contains_itself, NtStatus, InvalidHandle, none_first, Extent, Read10, Write10, Sync10, Read16, Write16, Sync16, Means, means_once, Entry, Kind, Read, Write, Flush, Start, Act, Fault, Return, Fate, Acted, Faulted, ClientRequest, Label, Call, Device, Answer, Cancel, Pause, Resume, Remove, Surprise, Removed, Rules, is_transfer, first_sector, home, Mark, Done, OpenRequest, Piece, State, opening, refusal, Admits, Starts, Acts, new_piece, with_fate, command_for, request_number, AreDistinct, IsGiven, Step, Run, distinct_first, IsEntryOf, StepTakes, AreActsOf, IsTransfer, IsAskedBy, IsOfAct, TakesEntry, AreOfActs, EntriesAreOfRuns}
+use Rattle.machine_laws.proofs.Opened.{brings_step}
 use Rattle.machine_laws.proofs.Serving.{IsRightMark, IsRightFate, IsMine, PieceFits, Serves, Serves-Step}
 use Rattle.machine_laws.proofs.Sound.{Anything, IsSound, IsSound-Step, IsSound-opening, act_anyhow}
 
@@ -144,42 +118,8 @@ said_once rules s (label ∷ labels) s' (mid, step, rest) piece tag tag' block b
 abbrev pub IsKnown : OpenRequest → Type 0
 IsKnown o = is_none o.request.partition ≡ false
 
-known_back : (window : Option ℕ) (os : List OpenRequest) → All IsKnown os → All IsKnown (held_back window os)
-known_back None os all = all
-known_back (Some window) os all = All-map IsKnown (beyond window os) os all
-
-known_drained : (paused : Bool) (window : Option ℕ) (os : List OpenRequest) → All IsKnown os → All IsKnown (if paused then os else held_back window os)
-known_drained true window os all = all
-known_drained false window os all = known_back window os all
-
-known_changed : (os os' others : List OpenRequest) (o o' : OpenRequest) → IsPermutation os (o ∷ others) → IsPermutation os' (o' ∷ others) → (IsKnown o → IsKnown o') → All IsKnown os → All IsKnown os'
-known_changed os os' others o o' p p' mine all =
-    let before : All IsKnown (o ∷ others) = All-permutation IsKnown _ _ p all in
-    All-permutation IsKnown _ _ (IsPermutation-sym _ _ p') (All-cons IsKnown o' others (mine (All-head IsKnown o others before)) (All-tail IsKnown o others before))
-
-known_same : (os os' : List OpenRequest) → IsPermutation os' os → All IsKnown os → All IsKnown os'
-known_same os os' p all = All-permutation IsKnown _ _ (IsPermutation-sym _ _ p) all
-
 known_step : (rules : Rules) (s : State) (label : Label) (s' : State) → All IsKnown s.requests → Step rules s label s' → All IsKnown s'.requests
-known_step rules s (Call number q) s' all (inl h) = by_answer (refusal rules s q) h.1.admits
-  where
-    by_answer : (answer : Option NtStatus) → Admits rules s number q answer s' → All IsKnown s'.requests
-    by_answer None a = known_same _ _ a.after.requests (All-cons IsKnown (new_request rules s number q) s.requests (none_first (is_none q.partition) InvalidHandle _ a.not_refused).0 all)
-    by_answer (Some status) a = known_same _ _ a.after.requests all
-known_step rules s (Device (Start piece tag block)) s' all (inl h) = known_changed s.requests s'.requests h.1.others h.1.owner (sent h.1.places h.1.owner) h.1.is_open h.1.after.requests (λ k. k) all
-known_step rules s (Device (Act piece bytes)) s' all (inl h) = known_same _ _ h.1.after.requests all
-known_step rules s (Device (Fault piece)) s' all (inl h) = known_same _ _ h.1.after.requests all
-known_step rules s (Device (Return piece class)) s' all (inl h) = known_changed s.requests s'.requests h.1.others h.1.owner (given_back h.1.piece class h.1.marks h.1.owner) h.1.is_open h.1.after.requests (λ k. k) all
-known_step rules s (Answer number status informed bytes) s' all (inl h) =
-    known_same _ _ h.1.answers.after.requests (All-tail IsKnown h.1.answers.request h.1.answers.others (All-permutation IsKnown _ _ h.1.answers.is_open all))
-known_step rules s (Cancel number) s' all (inl h) = known_changed s.requests s'.requests h.1.others h.1.request (as_cancelled h.1.request) h.1.is_open h.1.after.requests (λ k. k) all
-known_step rules s Pause s' all (inl h) = known_same _ _ h.1.after.requests (known_back rules.window s.requests all)
-known_step rules s Resume s' all (inl h) = known_same _ _ h.1.after.requests (All-map IsKnown as_timely s.requests all)
-known_step rules s Remove s' all (inl h) = known_same _ _ h.1.after.requests all
-known_step rules s Surprise s' all (inl h) = known_same _ _ h.1.drains.requests (known_drained s.paused rules.window s.requests all)
-known_step rules s Removed s' all (inl h) = known_same _ _ h.1.after.requests all
-known_step rules s (Answer number status informed bytes) s' all (inr h) = known_same _ _ h.after.requests all
-known_step rules s _ s' all (inr h) = absurd h
+known_step rules s label s' = brings_step (λ number q. is_none q.partition ≡ false) rules s label s' (λ number q e admitted. (none_first (is_none q.partition) InvalidHandle _ admitted).0)
 
 -- WHAT EACH PIECE OUT WAS STARTED FOR
 
@@ -227,10 +167,10 @@ module _ (rules : Rules) (trace : List Label) where
   any_fated : (s : State) (p : Piece) (fate : Fate) → HasStart rules trace s p → HasStart rules trace s (with_fate fate p)
   any_fated s p fate k = record { block = k.block; q = k.q; started = k.started; asks = k.asks; serves = k.serves }
 
-  abbrev AllStarted : State → List Piece → Type 0
+  abbrev pub AllStarted : State → List Piece → Type 0
   AllStarted s ps = All (HasStart rules trace s) ps
 
-  pieces_same : (s : State) (ps ps' : List Piece) → IsPermutation ps' ps → AllStarted s ps → AllStarted s ps'
+  pub pieces_same : (s : State) (ps ps' : List Piece) → IsPermutation ps' ps → AllStarted s ps → AllStarted s ps'
   pieces_same s ps ps' p all = All-permutation (HasStart rules trace s) _ _ (IsPermutation-sym _ _ p) all
 
   pieces_fated : (s : State) (ps ps' others : List Piece) (p : Piece) (fate : Fate) → IsPermutation ps (p ∷ others) → IsPermutation ps' (with_fate fate p ∷ others) → AllStarted s ps → AllStarted s ps'
@@ -250,7 +190,7 @@ module _ (rules : Rules) (trace : List Label) where
     serves = Serves-Step rules h.owner.number h.owner.request Anything s (Device (Start piece tag block)) s' sound.0 (act_anyhow rules h.owner.number s (Device (Start piece tag block)) s') (any_serves rules s h.owner h.others sound h.is_open) step;
   }
 
-  started_step : (s : State) (label : Label) (s' : State) → IsSound rules s → Contains trace label → Step rules s label s' → AllStarted s s.pieces → AllStarted s' s'.pieces
+  pub started_step : (s : State) (label : Label) (s' : State) → IsSound rules s → Contains trace label → Step rules s label s' → AllStarted s s.pieces → AllStarted s' s'.pieces
   started_step s label s' sound there step all = moved s label s' sound there step (All-weaker (HasStart rules trace s) (HasStart rules trace s') (keeps_start s label s' sound.0 step) s.pieces all)
     where
       moved : (s : State) (label : Label) (s' : State) → IsSound rules s → Contains trace label → Step rules s label s' → AllStarted s' s.pieces → AllStarted s' s'.pieces

@@ -1,10 +1,5 @@
 -- The bytes of a write, sector by sector.
-use Rattle.std.proofs.Common.{◌≡◌, ◌<◌, ◌≤◌, ℕ, zero, suc, ◌+◌, ◌-◌, ◌*◌, List, [], ◌∷◌, ◌++◌, Some, refl, sym, ◌∙◌, ap, subst, arith, length, take, drop, get_or, length-drop}
-use Rattle.std.specs.Prelude.{All, slice_get, slice_range}
-use Rattle.std.specs.List.{concat}
-use Rattle.std.proofs.lemmas.List.{drop-drop, drop-take, take-take, take_at, drop_at, take-append-drop}
-use Rattle.std.proofs.lemmas.List.Elements.{All-head, All-tail}
-use Rattle.sector.specs.Extents.{IsSector}
+use Rattle.machine_laws.proofs.Common.{◌≡◌, ◌<◌, ◌≤◌, ℕ, zero, suc, ◌+◌, ◌-◌, ◌*◌, List, [], ◌∷◌, ◌++◌, Some, refl, sym, ◌∙◌, ap, subst, arith, length, take, drop, get_or, length-drop, All, slice_get, slice_range, concat, drop-drop, drop-take, take-take, take_at, drop_at, take-append-drop, All-head, All-tail, IsSector}
 
 -- the sector at a place of bytes laid end to end
 abbrev pub chunk : ℕ → ℕ → List ℕ → List ℕ

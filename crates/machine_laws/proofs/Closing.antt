@@ -1,10 +1,7 @@
 -- A journal whose entries are of the acts of a trace closes its run.
-use Rattle.machine_laws.specs.Booked.{JournalsCloseRuns}
+use Rattle.machine_laws.proofs.Common.{JournalsCloseRuns, opening, IsSame-refl, []}
 use Rattle.machine_laws.proofs.Booked.{entries_are_of_runs}
 use Rattle.machine_laws.proofs.Lifted.{runs_lift}
-use Rattle.machine.specs.State.{opening}
-use Rattle.machine.proofs.Same.{IsSame-refl}
-use Rattle.std.proofs.Common.{[]}
 
 pub journals_close_runs : JournalsCloseRuns
 journals_close_runs rules arrays trace s' entries disk after whole is_map sized run acts replays =

@@ -1,15 +1,5 @@
 -- The partitions' sectors among the disk's, read and written.
-use Rattle.std.proofs.Common.{◌≡◌, ◌<◌, ◌≤◌, ◌⊎◌, inl, inr, ℕ, zero, suc, ◌+◌, ◌-◌, List, [], ◌∷◌, Some, None, refl, sym, ◌∙◌, ap, arith, map, length, take, drop, get_or, length-take, length-drop}
-use Rattle.std.specs.Prelude.{All, AllPairs, slice_get, slice_range, slice_set}
-use Rattle.std.proofs.lemmas.Bool.{cases_lt}
-use Rattle.std.proofs.lemmas.List.{get_or-take, get_or-drop, drop-take, take-take, drop-drop, same_lists}
-use Rattle.std.proofs.lemmas.List.Elements.{All-head, All-tail}
-use Rattle.sector.specs.declared.Extent.{Extent}
-use Rattle.sector.specs.Splice.{splice}
-use Rattle.machine.specs.Map.{AreApart, IsPartition}
-use Rattle.sector.specs.Extents.{sectors_in}
-use Rattle.sector.proofs.Splicing.{length-splice, range_apart}
-use Rattle.machine.proofs.Placed.{get_or-splice_inside, get_or-splice_below, get_or-splice_above}
+use Rattle.machine_laws.proofs.Common.{◌≡◌, ◌<◌, ◌≤◌, ◌⊎◌, inl, inr, ℕ, zero, suc, ◌+◌, ◌-◌, List, [], ◌∷◌, Some, None, refl, sym, ◌∙◌, ap, arith, map, length, take, drop, get_or, length-take, length-drop, All, AllPairs, slice_get, slice_range, slice_set, cases_lt, get_or-take, get_or-drop, drop-take, take-take, drop-drop, same_lists, All-head, All-tail, Extent, splice, AreApart, IsPartition, sectors_in, length-splice, range_apart, get_or-splice_inside, get_or-splice_below, get_or-splice_above}
 
 -- the part of this many items from a place on
 abbrev pub part : {X : Type 0} → List X → ℕ → ℕ → List X

@@ -1,30 +1,6 @@
 -- What comes no more after an answer.
-use Rattle.std.proofs.Common.{◌≡◌, ◌≢◌, ◌<◌, ◌≤◌, inl, inr, ℕ, Bool, true, false, List, [], ◌∷◌, Option, Some, None, refl, sym, ◌∙◌, arith}
+use Rattle.machine_laws.proofs.Common.{◌≡◌, ◌≢◌, ◌<◌, ◌≤◌, inl, inr, ℕ, Bool, true, false, List, [], ◌∷◌, Option, Some, None, refl, sym, ◌∙◌, arith, lt_of_lt_of_le, IsDistinct-tail, IsPermutation-sym, All-permutation, All-head, All-tail, All-cons, All-weaker, All-map, All-contains, NtStatus, DeviceLabel, Start, Act, Fault, Return, ClientRequest, Label, Call, Device, Answer, Cancel, Pause, Resume, Remove, Surprise, Removed, Rules, OpenRequest, Piece, State, IsSame, opening, refusal, Admits, Answers, held_back, beyond, as_timely, DeviceStep, FreeStep, OwingStep, Step, Run, request_number, IsGiven, AreDistinct, IsOwner, IsPlaced, ArePlaced, Step-number, AreDistinct-opening, AreDistinct-same, AreDistinct-Step, AreDistinct-Run, requests_in_order, ArePlaced-opening, ArePlaced-Answers, ArePlaced-Step, ArePlaced-Run, distinct_first, WritesSector, Sometime, Always, HasOtherNumber, HasOtherOwner, IsOver, AnsweredAreOver}
 use Rattle.std.specs.Prelude.{IsPermutation, All, Any, eqb, if◌then◌else◌}
-use Rattle.std.proofs.Math.Nat.{lt_of_lt_of_le}
-use Rattle.std.proofs.lemmas.Map.Keys.{IsDistinct-tail}
-use Rattle.std.proofs.lemmas.List.Sorted.{IsPermutation-sym, All-permutation}
-use Rattle.std.proofs.lemmas.List.Elements.{All-head, All-tail, All-cons, All-weaker, All-map, All-contains}
-use Rattle.ntstatus.specs.declared.NtStatus.{NtStatus}
-use Rattle.srb.specs.declared.DeviceLabel.{DeviceLabel}
-use Rattle.srb.specs.declared.DeviceLabel.TheVariants.{Start, Act, Fault, Return}
-use Rattle.machine.specs.declared.ClientRequest.{ClientRequest}
-use Rattle.machine.specs.declared.Label.{Label}
-use Rattle.machine.specs.declared.Label.TheVariants.{Call, Device, Answer, Cancel, Pause, Resume, Remove, Surprise, Removed}
-use Rattle.machine.specs.Rules.{Rules}
-use Rattle.machine.specs.State.{OpenRequest, Piece, State, IsSame, opening}
-use Rattle.machine.specs.Calling.{refusal, Admits}
-use Rattle.machine.specs.Answering.{Answers}
-use Rattle.machine.specs.Holding.{held_back, beyond, as_timely}
-use Rattle.machine.specs.Step.{DeviceStep, FreeStep, OwingStep, Step, Run}
-use Rattle.machine.specs.Numbers.{request_number, IsGiven, AreDistinct}
-use Rattle.machine.specs.Pieces.{IsOwner, IsPlaced, ArePlaced}
-use Rattle.machine.proofs.Numbers.{Step-number, AreDistinct-opening, AreDistinct-same, AreDistinct-Step, AreDistinct-Run, requests_in_order}
-use Rattle.machine.proofs.Placed.{ArePlaced-opening, ArePlaced-Answers, ArePlaced-Step, ArePlaced-Run}
-use Rattle.machine.proofs.Permuting.{distinct_first}
-use Rattle.machine_laws.specs.Sectors.{WritesSector}
-use Rattle.machine_laws.specs.Along.{Sometime, Always}
-use Rattle.machine_laws.specs.EndLaws.{HasOtherNumber, HasOtherOwner, IsOver, AnsweredAreOver}
 
 -- NO REQUEST OF THE NUMBER
 

@@ -1,22 +1,5 @@
 -- From an opening state on, and from a call to its answer.
-use Rattle.std.proofs.Common.{◌≡◌, ◌≢◌, ◌<◌, inl, inr, ℕ, List, [], ◌∷◌, ◌++◌, Option, Some, None, refl, subst, arith}
-use Rattle.std.specs.Prelude.{IsNone}
-use Rattle.std.proofs.Math.Nat.{lt_of_lt_of_le}
-use Rattle.ntstatus.specs.declared.NtStatus.{NtStatus}
-use Rattle.srb.specs.declared.DeviceLabel.{DeviceLabel}
-use Rattle.srb.specs.declared.DeviceLabel.TheVariants.{Start, Act, Fault, Return}
-use Rattle.machine.specs.declared.ClientRequest.{ClientRequest}
-use Rattle.machine.specs.declared.Label.{Label}
-use Rattle.machine.specs.declared.Label.TheVariants.{Call, Device, Answer, Cancel, Pause, Resume, Remove, Surprise, Removed}
-use Rattle.machine.specs.Rules.{Rules}
-use Rattle.machine.specs.State.{opening, Owed, State}
-use Rattle.machine.specs.Calling.{refusal, Admits, Opens}
-use Rattle.machine.specs.Answering.{Answers}
-use Rattle.machine.specs.Step.{FreeStep, OwingStep, Step, Run}
-use Rattle.machine.proofs.Same.{IsSame-refl, Run-append}
-use Rattle.machine.proofs.Numbers.{Step-number}
-use Rattle.machine_laws.specs.Reached.{OpeningsAreReached, RunsGoOn, RunsSplit}
-use Rattle.machine_laws.specs.SoloLaws.{LabelsAreOfOne}
+use Rattle.machine_laws.proofs.Common.{◌≡◌, ◌≢◌, ◌<◌, inl, inr, ℕ, List, [], ◌∷◌, ◌++◌, Option, Some, None, refl, subst, arith, IsNone, lt_of_lt_of_le, NtStatus, DeviceLabel, Start, Act, Fault, Return, ClientRequest, Label, Call, Device, Answer, Cancel, Pause, Resume, Remove, Surprise, Removed, Rules, opening, Owed, State, refusal, Admits, Opens, Answers, FreeStep, OwingStep, Step, Run, IsSame-refl, Run-append, Step-number, OpeningsAreReached, RunsGoOn, RunsSplit, LabelsAreOfOne}
 
 pub opening_is_reached : OpeningsAreReached
 opening_is_reached rules arrays whole = record { arrays = arrays; labels = []; whole = whole; run = IsSame-refl (opening arrays) }

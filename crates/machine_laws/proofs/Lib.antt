@@ -24,3 +24,7 @@ pub mod Starting
 pub mod Tidy
 pub mod UsedUp
 pub mod Awaiting
+pub mod Success
+pub mod Opened
+pub mod Asked
+mod Common

@@ -1,32 +1,5 @@
 -- A run lifted to the sectors that its journal replays.
-use Rattle.std.proofs.Common.{◌≡◌, ◌<◌, ◌≤◌, inl, inr, ℕ, suc, ◌+◌, List, [], ◌∷◌, Some, true, refl, sym, ◌∙◌, ap, subst, arith, length, take, drop}
-use Rattle.std.specs.Prelude.{All, slice_range}
-use Rattle.std.specs.List.{concat}
-use Rattle.std.proofs.lemmas.List.{take_at, drop_at}
-use Rattle.std.proofs.lemmas.List.Elements.{All-head, All-tail, All-take, All-drop, All-append, All-contains}
-use Rattle.std.proofs.lemmas.List.Sorted.{IsPermutation-sym, Contains-permutation}
-use Rattle.sector.specs.declared.Extent.{Extent}
-use Rattle.sector.specs.Extents.{IsSector, sectors_in}
-use Rattle.sector.specs.Splice.{splice}
-use Rattle.sector.proofs.Splicing.{length-splice}
-use Rattle.srb.specs.declared.DeviceLabel.TheVariants.{Start, Act, Fault, Return}
-use Rattle.srb.specs.declared.Kind.{Kind}
-use Rattle.srb.specs.declared.Kind.TheVariants.{Read, Write, Flush}
-use Rattle.machine.specs.declared.ClientRequest.{ClientRequest}
-use Rattle.machine.specs.declared.Label.{Label}
-use Rattle.machine.specs.declared.Label.TheVariants.{Call, Device, Answer, Cancel, Pause, Resume, Remove, Surprise, Removed}
-use Rattle.machine.specs.Rules.{Rules, as_faithful, is_transfer, first_sector, home, place_count, sectors_of}
-use Rattle.machine.specs.State.{opening, Piece, State}
-use Rattle.machine.specs.Map.{IsMap, IsPartition}
-use Rattle.machine.specs.Pieces.{ArePlaced}
-use Rattle.machine.specs.Sending.{Acts, Transfers, partition_number}
-use Rattle.machine.specs.Step.{Step, Run}
-use Rattle.machine.proofs.Numbers.{AreDistinct-opening}
-use Rattle.machine.proofs.Owners.{Owns, owns}
-use Rattle.machine.proofs.Placed.{ArePlaced-opening, ArePlaced-Run, ArePlaced-Step}
-use Rattle.srb.specs.declared.Entry.{Entry}
-use Rattle.machine_laws.specs.Lifting.{IsEntryOf, DeviceTakes, StepTakes, AreActsOf, over_disk, RunsLift}
-use Rattle.srb.specs.Replaying.{ReplaysKind, Replays}
+use Rattle.machine_laws.proofs.Common.{◌≡◌, ◌<◌, ◌≤◌, inl, inr, ℕ, suc, ◌+◌, List, [], ◌∷◌, Some, true, refl, sym, ◌∙◌, ap, subst, arith, length, take, drop, All, slice_range, concat, take_at, drop_at, All-head, All-tail, All-take, All-drop, All-append, All-contains, IsPermutation-sym, Contains-permutation, Extent, IsSector, sectors_in, splice, length-splice, Start, Act, Fault, Return, Kind, Read, Write, Flush, ClientRequest, Label, Call, Device, Answer, Cancel, Pause, Resume, Remove, Surprise, Removed, Rules, as_faithful, is_transfer, first_sector, home, place_count, sectors_of, opening, Piece, State, IsMap, IsPartition, ArePlaced, Acts, Transfers, partition_number, Step, Run, AreDistinct-opening, Owns, owns, ArePlaced-opening, ArePlaced-Run, ArePlaced-Step, Entry, IsEntryOf, DeviceTakes, StepTakes, AreActsOf, over_disk, RunsLift, ReplaysKind, Replays}
 use Rattle.machine_laws.proofs.DiskMap.{parts, home_at, count_at, read_at, write_at, home_inside, length-part, slice_is_part}
 use Rattle.machine_laws.proofs.Lifting.{over, DeviceMoves, StepMoves, IsSame-over, lift_step}
 use Rattle.machine_laws.proofs.Serving.{IsSized}

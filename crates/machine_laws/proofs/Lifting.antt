@@ -1,17 +1,5 @@
 -- A run over other arrays.
-use Rattle.std.proofs.Common.{◌≡◌, inl, inr, List, ℕ, Option, Some, None, refl}
-use Rattle.ntstatus.specs.declared.NtStatus.{NtStatus}
-use Rattle.srb.specs.declared.DeviceLabel.{DeviceLabel}
-use Rattle.srb.specs.declared.DeviceLabel.TheVariants.{Start, Act, Fault, Return}
-use Rattle.machine.specs.declared.ClientRequest.{ClientRequest}
-use Rattle.machine.specs.declared.Label.{Label}
-use Rattle.machine.specs.declared.Label.TheVariants.{Call, Device, Answer, Cancel, Pause, Resume, Remove, Surprise, Removed}
-use Rattle.machine.specs.Rules.{Rules, as_faithful}
-use Rattle.machine.specs.State.{State, IsSame}
-use Rattle.machine.specs.Calling.{refusal, Admits}
-use Rattle.machine.specs.Sending.{Transfers, IsFreshPiece}
-use Rattle.machine.specs.Answering.{Answers}
-use Rattle.machine.specs.Step.{DeviceStep, FreeStep, OwingStep, Step}
+use Rattle.machine_laws.proofs.Common.{◌≡◌, inl, inr, List, ℕ, Option, Some, None, refl, NtStatus, DeviceLabel, Start, Act, Fault, Return, ClientRequest, Label, Call, Device, Answer, Cancel, Pause, Resume, Remove, Surprise, Removed, Rules, as_faithful, State, IsSame, refusal, Admits, Transfers, IsFreshPiece, Answers, DeviceStep, FreeStep, OwingStep, Step}
 
 -- the state with other arrays
 abbrev pub over : List (List (List ℕ)) → State → State

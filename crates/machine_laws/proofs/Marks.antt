@@ -1,10 +1,5 @@
 -- Places that are all done.
-use Rattle.std.proofs.Common.{◌≡◌, ◌<◌, ℕ, zero, suc, ◌+◌, true, List, [], ◌∷◌, Some, refl, ap, subst, arith, map, length, take, drop, get_or}
-use Rattle.std.specs.Prelude.{slice_get}
-use Rattle.std.specs.List.{list_all}
-use Rattle.machine.specs.State.{Mark, Untouched, Out, Done, Failed, Back}
-use Rattle.machine.specs.Answering.{is_done, bytes_of_mark}
-use Rattle.sector.proofs.Splicing.{AllAt}
+use Rattle.machine_laws.proofs.Common.{◌≡◌, ◌<◌, ℕ, zero, suc, ◌+◌, true, List, [], ◌∷◌, Some, refl, ap, subst, arith, map, length, take, drop, get_or, slice_get, list_all, Mark, Untouched, Out, Done, Failed, Back, is_done, bytes_of_mark, AllAt}
 use Rattle.machine_laws.proofs.Chunks.{drop_is}
 use Rattle.machine_laws.proofs.Serving.{IsRightMark}
 

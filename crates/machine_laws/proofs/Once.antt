@@ -1,20 +1,5 @@
 -- No number is given to two calls, and no call is answered twice.
-use Rattle.std.proofs.Common.{◌≡◌, ◌<◌, ◌≤◌, inl, inr, ℕ, List, [], ◌∷◌, ◌++◌, Option, Some, None, refl, ◌∙◌, subst, arith}
-use Rattle.std.specs.Prelude.{IsNone, All}
-use Rattle.std.proofs.lemmas.List.Sorted.{IsPermutation-sym, All-permutation}
-use Rattle.std.proofs.lemmas.List.Elements.{All-nil, All-cons, All-head, All-weaker}
-use Rattle.ntstatus.specs.declared.NtStatus.{NtStatus}
-use Rattle.machine.specs.declared.ClientRequest.{ClientRequest}
-use Rattle.machine.specs.declared.Label.{Label}
-use Rattle.machine.specs.declared.Label.TheVariants.{Call, Device, Answer, Cancel, Pause, Resume, Remove, Surprise, Removed}
-use Rattle.machine.specs.Rules.{Rules}
-use Rattle.machine.specs.State.{Owed, State}
-use Rattle.machine.specs.Calling.{refusal, Admits}
-use Rattle.machine.specs.Step.{FreeStep, OwingStep, Step, Run}
-use Rattle.machine.specs.Numbers.{IsGiven, AreDistinct}
-use Rattle.machine_laws.specs.NumberLaws.{IsNoCallOf, IsNoAnswerOf, CallsOnce, AnswersOnce}
-use Rattle.machine.proofs.Numbers.{Step-number, AreDistinct-Step}
-use Rattle.machine_laws.specs.EndLaws.{HasOtherNumber}
+use Rattle.machine_laws.proofs.Common.{◌≡◌, ◌<◌, ◌≤◌, inl, inr, ℕ, List, [], ◌∷◌, ◌++◌, Option, Some, None, refl, sym, ◌∙◌, subst, arith, IsNone, All, Contains, IsPermutation-sym, All-permutation, All-nil, All-cons, All-head, All-weaker, All-contains, NtStatus, ClientRequest, Label, Call, Device, Answer, Cancel, Pause, Resume, Remove, Surprise, Removed, Rules, OpenRequest, Owed, State, refusal, Admits, FreeStep, OwingStep, Step, Run, IsGiven, AreDistinct, IsNoCallOf, IsNoAnswerOf, CallsOnce, AnswersOnce, Step-number, AreDistinct-Step, HasOtherNumber}
 use Rattle.machine_laws.proofs.Ending.{IsGone, IsGone-Step, answered_gone}
 use Rattle.machine_laws.proofs.Going.{IsNotOwed, none_owed, device_owed, step_owed}
 
@@ -91,7 +76,7 @@ none_owed_apart : (s : State) (owed : Option Owed) → IsNone owed → IsOwedApa
 none_owed_apart s None h = tt
 none_owed_apart s (Some owed) h = cc (h)
 
-AreApart-start : (s : State) → AreDistinct s → IsNone s.owed → AreApart s
+pub AreApart-start : (s : State) → AreDistinct s → IsNone s.owed → AreApart s
 AreApart-start s d free = record { distinct = d; owed = none_owed_apart s s.owed free }
 
 module _ (rules : Rules) where
@@ -137,6 +122,21 @@ module _ (rules : Rules) where
       → AreApart s → Run rules s (before ++ Answer r status informed bytes ∷ after) s' → All (IsNoAnswerOf r) after
   answers_apart [] s r status informed bytes after s' k (mid, step, rest) = Run-no_answer rules r mid after s' (answered_number s r status informed bytes mid k step) rest
   answers_apart (label ∷ before) s r status informed bytes after s' k (mid, step, rest) = answers_apart before mid r status informed bytes after s' (AreApart-Step s label mid k step) rest
+
+  gone_on : (r : ℕ) (s : State) (labels : List Label) (s' : State) → IsGone r s → Run rules s labels s' → IsGone r s'
+  gone_on r s [] s' k same = record { given = rw (← same.next_request) k.given; not_open = All-permutation (HasOtherNumber r) _ _ same.requests k.not_open }
+  gone_on r s (label ∷ labels) s' k (mid, step, rest) = gone_on r mid labels s' (IsGone-Step r rules s label mid k step) rest
+
+  -- a request that is open at the end was not answered on the way
+  pub open_unanswered : (s : State) (labels : List Label) (s' : State) → AreApart s → Run rules s labels s' → (o : OpenRequest) → Contains s'.requests o → All (IsNoAnswerOf o.number) labels
+  open_unanswered s [] s' k run o there = All-nil (IsNoAnswerOf o.number)
+  open_unanswered s (label ∷ labels) s' k (mid, step, rest) o there =
+      All-cons (IsNoAnswerOf o.number) label labels (by_label label step) (open_unanswered mid labels s' (AreApart-Step s label mid k step) rest o there)
+    where
+      by_label : (label : Label) → Step rules s label mid → IsNoAnswerOf o.number label
+      by_label (Answer r status informed bytes) step = λ e.
+          All-contains (HasOtherNumber r) s'.requests o (gone_on r mid labels s' (answered_number s r status informed bytes mid k step).gone rest).not_open there (sym e)
+      by_label _ step = tt
 
 pub answers_once : AnswersOnce
 answers_once rules s d free before r status informed bytes after s' run = answers_apart rules before s r status informed bytes after s' (AreApart-start s d free) run

@@ -1,26 +1,5 @@
 -- After the end of a removal the device is empty, and left alone.
-use Rattle.std.proofs.Common.{◌≡◌, ◌<◌, inl, inr, ℕ, List, [], ◌∷◌, Option, Some, None, refl, ap, arith, map, length}
-use Rattle.std.specs.Prelude.{IsPermutation, All}
-use Rattle.std.proofs.lemmas.List.Sorted.{IsPermutation-sym}
-use Rattle.std.proofs.lemmas.List.Elements.{All-nil, All-cons}
-use Rattle.ntstatus.specs.declared.NtStatus.{NtStatus}
-use Rattle.srb.specs.declared.DeviceLabel.{DeviceLabel}
-use Rattle.srb.specs.declared.DeviceLabel.TheVariants.{Start, Act, Fault, Return}
-use Rattle.machine.specs.declared.ClientRequest.{ClientRequest}
-use Rattle.machine.specs.declared.Label.{Label}
-use Rattle.machine.specs.declared.Label.TheVariants.{Call, Device, Answer, Cancel, Pause, Resume, Remove, Surprise, Removed}
-use Rattle.machine.specs.Rules.{Rules}
-use Rattle.machine.specs.State.{Piece, State, IsSame, opening}
-use Rattle.machine.specs.Calling.{refusal, Admits}
-use Rattle.machine.specs.Holding.{as_timely}
-use Rattle.machine.specs.Step.{DeviceStep, FreeStep, OwingStep, Step, Run}
-use Rattle.machine.specs.Pieces.{IsPlaced, ArePlaced}
-use Rattle.machine.proofs.Same.{IsSame-sym, none_there}
-use Rattle.machine.proofs.Places.{IsTakenIn, taken_in}
-use Rattle.machine.proofs.Numbers.{AreDistinct-opening}
-use Rattle.machine.proofs.Placed.{ArePlaced-opening, ArePlaced-Run}
-use Rattle.machine_laws.specs.Along.{Always}
-use Rattle.machine_laws.specs.EndLaws.{IsEmpty, RemovedAreEmpty, IsNotOfDevice, RemovedIsLast}
+use Rattle.machine_laws.proofs.Common.{◌≡◌, ◌<◌, inl, inr, ℕ, List, [], ◌∷◌, Option, Some, None, refl, ap, arith, map, length, IsPermutation, All, IsPermutation-sym, All-nil, All-cons, NtStatus, DeviceLabel, Start, Act, Fault, Return, ClientRequest, Label, Call, Device, Answer, Cancel, Pause, Resume, Remove, Surprise, Removed, Rules, Piece, State, IsSame, opening, refusal, Admits, as_timely, DeviceStep, FreeStep, OwingStep, Step, Run, IsPlaced, ArePlaced, IsSame-sym, none_there, IsTakenIn, taken_in, AreDistinct-opening, ArePlaced-opening, ArePlaced-Run, Always, IsEmpty, RemovedAreEmpty, IsNotOfDevice, RemovedIsLast}
 
 none_left : {X : Type 0} (x : X) (xs ys : List X) → ys ≡ [] → IsPermutation ys (x ∷ xs) → ⊥
 none_left x xs ys none p = let e : x ∷ xs ≡ [] = none_there ys (x ∷ xs) none p in cc (e)

@@ -1,34 +1,16 @@
 -- What a step does to one sector of the arrays.
-use Rattle.std.proofs.Common.{◌≡◌, ◌<◌, ◌≤◌, ◌⊎◌, inl, inr, ℕ, ◌+◌, ◌-◌, ◌*◌, List, [], ◌∷◌, Option, Some, None, refl, sym, ◌∙◌, ap, subst, arith, length, take, drop}
-use Rattle.std.specs.Prelude.{slice_get}
-use Rattle.std.proofs.Math.Nat.{lt_of_lt_of_le}
-use Rattle.std.proofs.lemmas.Bool.{cases_lt, cases_eq}
-use Rattle.std.proofs.lemmas.List.{get_or-set_same, get_or_past}
-use Rattle.std.proofs.lemmas.List.Elements.{All-contains}
-use Rattle.std.proofs.lemmas.List.Sorted.{IsPermutation-sym, Contains-permutation}
-use Rattle.std.proofs.lemmas.Option.{slice_get-get_or}
-use Rattle.sector.specs.Splice.{splice}
-use Rattle.srb.specs.declared.DeviceLabel.TheVariants.{Start, Act, Fault, Return}
-use Rattle.srb.specs.declared.Kind.{Kind}
-use Rattle.srb.specs.declared.Kind.TheVariants.{Read, Write, Flush}
-use Rattle.machine.specs.declared.ClientRequest.{ClientRequest}
-use Rattle.machine.specs.declared.Label.{Label}
-use Rattle.machine.specs.declared.Label.TheVariants.{Call, Device, Answer, Cancel, Pause, Resume, Remove, Surprise, Removed}
-use Rattle.machine.specs.Rules.{Rules, as_faithful, is_transfer, first_sector, place_count, sectors_of}
-use Rattle.machine.specs.State.{OpenRequest, Piece, State}
-use Rattle.machine.specs.Sending.{Acts, Transfers, partition_number, array_of, array_at}
-use Rattle.ntstatus.specs.declared.NtStatus.{NtStatus}
-use Rattle.machine.specs.Calling.{refusal, Admits}
-use Rattle.machine.specs.Step.{FreeStep, OwingStep, Step}
-use Rattle.machine_laws.specs.Sectors.{sector_at, sector_of, bytes_for, IsAct, WritesSector}
+use Rattle.machine_laws.proofs.Common.{◌≡◌, ◌<◌, ◌≤◌, ◌⊎◌, inl, inr, ℕ, ◌+◌, ◌-◌, ◌*◌, List, [], ◌∷◌, Option, Some, None, refl, sym, ◌∙◌, ap, subst, arith, length, take, drop, slice_get, lt_of_lt_of_le, cases_lt, cases_eq, get_or-set_same, get_or_past, All-contains, IsPermutation-sym, Contains-permutation, slice_get-get_or, splice, Start, Act, Fault, Return, Kind, Read, Write, Flush, ClientRequest, Label, Call, Device, Answer, Cancel, Pause, Resume, Remove, Surprise, Removed, Rules, as_faithful, is_transfer, first_sector, place_count, sectors_of, OpenRequest, Piece, State, Acts, Transfers, partition_number, array_of, array_at, NtStatus, refusal, Admits, FreeStep, OwingStep, Step, sector_at, sector_of, part_of, bytes_for, IsAct, WritesSector}
 use Rattle.machine_laws.proofs.Splicing.{first_of, splice_inside}
 use Rattle.machine_laws.proofs.Chunks.{chunk, concat_chunk, range_chunk}
 use Rattle.machine_laws.proofs.Acted.{moves_or_leaves, Transfers-range}
 use Rattle.machine_laws.proofs.Serving.{IsSized, act_inside, act_fits}
 use Rattle.machine_laws.proofs.Sound.{Anything, nothing, IsSound}
 
+pub part_is : (rules : Rules) (bytes : List ℕ) (place : ℕ) → part_of rules bytes place ≡ chunk rules.sector_size place bytes
+part_is rules bytes place = let n : (place + 1) * rules.sector_size - place * rules.sector_size ≡ rules.sector_size = omega arith in ap (λ m. take m (drop (place * rules.sector_size) bytes)) n
+
 pub bytes_are : (rules : Rules) (q : ClientRequest) (place : ℕ) → bytes_for rules q place ≡ chunk rules.sector_size place q.bytes
-bytes_are rules q place = let n : (place + 1) * rules.sector_size - place * rules.sector_size ≡ rules.sector_size = omega arith in ap (λ m. take m (drop (place * rules.sector_size) q.bytes)) n
+bytes_are rules q place = part_is rules q.bytes place
 
 -- AN ACT
 

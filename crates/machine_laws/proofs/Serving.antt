@@ -1,32 +1,7 @@
 -- What is kept of a request from its call on, whatever is right for a place that is done.
-use Rattle.std.proofs.Common.{◌≡◌, ◌≢◌, ◌<◌, ◌≤◌, inl, inr, ℕ, ◌+◌, Bool, true, false, List, [], ◌∷◌, Option, Some, None, refl, sym, ◌∙◌, ap, subst, arith, map, length, get_or, replicate}
+use Rattle.machine_laws.proofs.Common.{◌≡◌, ◌≢◌, ◌<◌, ◌≤◌, inl, inr, ℕ, ◌+◌, Bool, true, false, List, [], ◌∷◌, Option, Some, None, refl, sym, ◌∙◌, ap, subst, arith, map, length, get_or, replicate, length-replicate, length-map, get_or-map, get_or-replicate, IsPermutation-sym, All-permutation, All-head, All-tail, All-cons, All-weaker, All-map, All-contains, NtStatus, splice, DeviceLabel, Start, Act, Fault, Return, Class, Good, Busy, Bad, Fate, Fresh, Acted, Faulted, Write, ClientRequest, Label, Call, Device, Answer, Cancel, Pause, Resume, Remove, Surprise, Removed, Rules, is_transfer, first_sector, place_count, sectors_of, Mark, Untouched, Out, Done, Failed, Back, OpenRequest, Owed, Piece, State, IsSame, refusal, Admits, Opens, new_request, Starts, Acts, LeavesMarks, status_of_completion, sent, given_back, new_piece, with_fate, partition_number, array_of, array_at, held_back, beyond, as_timely, as_cancelled, DeviceStep, FreeStep, OwingStep, Step, request_number, IsGiven, AreDistinct, past, distinct_first, AllAt, splice_at, length-splice, AreWhole}
 use Rattle.std.specs.Prelude.{IsPermutation, All, if◌then◌else◌}
-use Rattle.std.proofs.lemmas.List.{length-replicate, length-map, get_or-map, get_or-replicate}
-use Rattle.std.proofs.lemmas.List.Sorted.{IsPermutation-sym, All-permutation}
-use Rattle.std.proofs.lemmas.List.Elements.{All-head, All-tail, All-cons, All-weaker, All-map, All-contains}
-use Rattle.ntstatus.specs.declared.NtStatus.{NtStatus}
-use Rattle.sector.specs.Splice.{splice}
-use Rattle.srb.specs.declared.DeviceLabel.{DeviceLabel}
-use Rattle.srb.specs.declared.DeviceLabel.TheVariants.{Start, Act, Fault, Return}
-use Rattle.srb.specs.declared.Class.{Class}
-use Rattle.srb.specs.declared.Class.TheVariants.{Good, Busy, Bad}
-use Rattle.srb.specs.Fate.{Fate, Fresh, Acted, Faulted}
-use Rattle.srb.specs.declared.Kind.TheVariants.{Write}
-use Rattle.machine.specs.declared.ClientRequest.{ClientRequest}
-use Rattle.machine.specs.declared.Label.{Label}
-use Rattle.machine.specs.declared.Label.TheVariants.{Call, Device, Answer, Cancel, Pause, Resume, Remove, Surprise, Removed}
-use Rattle.machine.specs.Rules.{Rules, is_transfer, first_sector, place_count, sectors_of}
-use Rattle.machine.specs.State.{Mark, Untouched, Out, Done, Failed, Back, OpenRequest, Owed, Piece, State, IsSame}
-use Rattle.machine.specs.Calling.{refusal, Admits, Opens, new_request}
-use Rattle.machine.specs.Sending.{Starts, Acts, LeavesMarks, status_of_completion, sent, given_back, new_piece, with_fate, partition_number, array_of, array_at}
-use Rattle.machine.specs.Holding.{held_back, beyond, as_timely, as_cancelled}
-use Rattle.machine.specs.Step.{DeviceStep, FreeStep, OwingStep, Step}
-use Rattle.machine.specs.Numbers.{request_number, IsGiven, AreDistinct}
-use Rattle.machine.specs.Solo.{past}
-use Rattle.machine.proofs.Permuting.{distinct_first}
-use Rattle.sector.proofs.Splicing.{AllAt, splice_at, length-splice}
 use Rattle.machine_laws.proofs.Bounds.{in_bounds}
-use Rattle.machine_laws.specs.Reached.{AreWhole}
 use Rattle.machine_laws.proofs.Acted.{Transfers-length}
 
 -- WHAT IS KEPT FROM THE CALL ON
@@ -92,8 +67,9 @@ abbrev pub ActsRightlyBy : Rules → ℕ → (List (List (List ℕ)) → ℕ →
 ActsRightlyBy rules number Right s (Device (Act n bytes)) s' = (h : Acts rules s n bytes s') → ActsRightly rules number Right s n bytes s' h
 ActsRightlyBy rules number Right s label s' = Unit {0}
 
-pub acts_by : (rules : Rules) (number : ℕ) (Right : List (List (List ℕ)) → ℕ → List ℕ → Type 0) (s : State) (label : Label) (s' : State) → AllActRightly rules number Right s s' → ActsRightlyBy rules number Right s label s'
-acts_by rules number Right s (Device (Act n bytes)) s' acts = acts n bytes
+pub acts_by : (rules : Rules) (number : ℕ) (Right : List (List (List ℕ)) → ℕ → List ℕ → Type 0) (s : State) (label : Label) (s' : State)
+    → ((n : ℕ) (bytes : List ℕ) (h : Acts rules s n bytes s') → label ≡ Device (Act n bytes) → ActsRightly rules number Right s n bytes s' h) → ActsRightlyBy rules number Right s label s'
+acts_by rules number Right s (Device (Act n bytes)) s' acts = λ h. acts n bytes h refl
 acts_by rules number Right s (Device (Start n tag block)) s' acts = tt
 acts_by rules number Right s (Device (Fault n)) s' acts = tt
 acts_by rules number Right s (Device (Return n class)) s' acts = tt

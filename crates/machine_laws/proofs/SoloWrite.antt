@@ -1,19 +1,6 @@
 -- A solo write that succeeds stands in the array at its answer.
-use Rattle.std.proofs.Common.{◌≡◌, ◌<◌, ◌≤◌, inl, inr, ℕ, ◌+◌, ◌*◌, List, Some, refl, sym, ◌∙◌, ap, subst, arith, length, take, drop}
+use Rattle.machine_laws.proofs.Common.{◌≡◌, ◌<◌, ◌≤◌, inl, inr, ℕ, ◌+◌, ◌*◌, List, Some, refl, sym, ◌∙◌, ap, subst, arith, length, take, drop, concat, All-contains, Acted, Act, Write, ClientRequest, Device, Rules, first_sector, place_count, Out, State, partition_number, array_at, IsSoloAt, SoloWrites, sector_at, sector_of, bytes_for, FailedWrites}
 use Rattle.std.specs.Prelude.{slice_range, slice_get, IsTrue}
-use Rattle.std.specs.List.{concat}
-use Rattle.std.proofs.lemmas.List.Elements.{All-contains}
-use Rattle.srb.specs.Fate.{Acted}
-use Rattle.srb.specs.declared.DeviceLabel.TheVariants.{Act}
-use Rattle.srb.specs.declared.Kind.TheVariants.{Write}
-use Rattle.machine.specs.declared.ClientRequest.{ClientRequest}
-use Rattle.machine.specs.declared.Label.TheVariants.{Device}
-use Rattle.machine.specs.Rules.{Rules, first_sector, place_count}
-use Rattle.machine.specs.State.{Out, State}
-use Rattle.machine.specs.Sending.{partition_number, array_at}
-use Rattle.machine.specs.Solo.{IsSoloAt, SoloWrites}
-use Rattle.machine_laws.specs.Sectors.{sector_at, sector_of, bytes_for}
-use Rattle.machine_laws.specs.SoloLaws.{FailedWrites}
 use Rattle.machine_laws.proofs.Bounds.{write_length}
 use Rattle.machine_laws.proofs.Chunks.{chunks_join}
 use Rattle.machine_laws.proofs.Acted.{moves_faithfully}

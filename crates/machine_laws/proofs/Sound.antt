@@ -1,22 +1,6 @@
 -- What holds at each moment of a run from an opening state.
-use Rattle.std.proofs.Common.{◌≡◌, ◌<◌, ◌≤◌, ℕ, false, List, [], ◌∷◌, Some, None, refl, arith, replicate, lit<}
-use Rattle.std.specs.Prelude.{All, eqb}
+use Rattle.machine_laws.proofs.Common.{◌≡◌, ◌<◌, ◌≤◌, ℕ, false, List, [], ◌∷◌, Some, None, refl, arith, replicate, lit<, All, eqb, length-replicate, get_or-replicate, IsPermutation-sym, All-permutation, All-cons, All-nil, All-weaker, Read, ClientRequest, Label, Rules, place_count, opening, Untouched, OpenRequest, State, IsSame, Opens, new_request, Step, Run, IsGiven, IsSent, AreDistinct, IsSame-sym, AreDistinct-Admits, AreDistinct-Step, AreDistinct-Run, AllAt, AreWhole, IsReached}
 use Rattle.std.specs.List.{IsDistinct}
-use Rattle.std.proofs.lemmas.List.{length-replicate, get_or-replicate}
-use Rattle.std.proofs.lemmas.List.Sorted.{IsPermutation-sym, All-permutation}
-use Rattle.std.proofs.lemmas.List.Elements.{All-cons, All-nil, All-weaker}
-use Rattle.srb.specs.declared.Kind.TheVariants.{Read}
-use Rattle.machine.specs.declared.ClientRequest.{ClientRequest}
-use Rattle.machine.specs.declared.Label.{Label}
-use Rattle.machine.specs.Rules.{Rules, place_count}
-use Rattle.machine.specs.State.{opening, Untouched, OpenRequest, State, IsSame}
-use Rattle.machine.specs.Calling.{Opens, new_request}
-use Rattle.machine.specs.Step.{Step, Run}
-use Rattle.machine.specs.Numbers.{IsGiven, IsSent, AreDistinct}
-use Rattle.machine.proofs.Same.{IsSame-sym}
-use Rattle.machine.proofs.Numbers.{AreDistinct-Admits, AreDistinct-Step, AreDistinct-Run}
-use Rattle.sector.proofs.Splicing.{AllAt}
-use Rattle.machine_laws.specs.Reached.{AreWhole, IsReached}
 use Rattle.machine_laws.proofs.Serving.{IsRightMark, IsSized, IsMine, PieceFits, Serves, ActsRightlyBy, acts_by, Serves-same, Serves-Opens, Serves-Step}
 
 -- any sector is right
@@ -31,7 +15,7 @@ abbrev pub IsSound : Rules → State → Type 0
 IsSound rules s = AreDistinct s × Serves rules 0 nothing Anything s
 
 pub act_anyhow : (rules : Rules) (number : ℕ) (s : State) (label : Label) (s' : State) → ActsRightlyBy rules number Anything s label s'
-act_anyhow rules number s label s' = acts_by rules number Anything s label s' (λ n bytes h. record { keeps = λ k sector right. tt; leaves = λ e k d within. tt })
+act_anyhow rules number s label s' = acts_by rules number Anything s label s' (λ n bytes h e. record { keeps = λ k sector right. tt; leaves = λ owner k d within. tt })
 
 pub IsSound-Step : (rules : Rules) (s : State) (label : Label) (s' : State) → IsSound rules s → Step rules s label s' → IsSound rules s'
 IsSound-Step rules s label s' sound h =

@@ -1,22 +1,6 @@
 -- How a start and a return change what may still start of a request.
-use Rattle.std.proofs.Common.{◌≡◌, ◌≢◌, ◌<◌, ◌≤◌, inl, inr, ℕ, zero, suc, ◌+◌, ◌-◌, ◌*◌, ◌/◌, ◌%◌, ◌==◌, Bool, true, false, List, refl, sym, ◌∙◌, ap, subst, arith, length, get_or, replicate, min}
+use Rattle.machine_laws.proofs.Common.{◌≡◌, ◌≢◌, ◌<◌, ◌≤◌, inl, inr, ℕ, zero, suc, ◌+◌, ◌-◌, ◌*◌, ◌/◌, ◌%◌, ◌==◌, Bool, true, false, List, refl, sym, ◌∙◌, ap, subst, arith, length, get_or, replicate, min, cases_lt, nat_tests, length-replicate, get_or-replicate, All-map, All-replicate, All-get_or, get_or-between, length-between, Extent, splice, length-splice, Class, Good, Busy, Bad, Rules, Mark, Untouched, Out, Done, Failed, Back, OpenRequest, Piece, mark_at, piece_count, count_below, is_back, pieces_with, restarts, is_untouched, IsUnsent, IsSendable, LeavesMarks, one_if_busy, sent, given_back, get_or-splice_inside, get_or-splice_below, get_or-splice_above, labels_of_starts}
 use Rattle.std.specs.Prelude.{All, IsTrue, IsFalse, slice_range, if◌then◌else◌}
-use Rattle.std.proofs.lemmas.Bool.{cases_lt}
-use Rattle.std.proofs.lemmas.Bool.Decides.{nat_tests}
-use Rattle.std.proofs.lemmas.List.{length-replicate, get_or-replicate}
-use Rattle.std.proofs.lemmas.List.Elements.{All-map, All-replicate, All-get_or}
-use Rattle.std.proofs.lemmas.List.Edits.{get_or-between, length-between}
-use Rattle.sector.specs.declared.Extent.{Extent}
-use Rattle.sector.specs.Splice.{splice}
-use Rattle.sector.proofs.Splicing.{length-splice}
-use Rattle.srb.specs.declared.Class.{Class}
-use Rattle.srb.specs.declared.Class.TheVariants.{Good, Busy, Bad}
-use Rattle.machine.specs.Rules.{Rules}
-use Rattle.machine.specs.State.{Mark, Untouched, Out, Done, Failed, Back, OpenRequest, Piece}
-use Rattle.machine.specs.Cutting.{mark_at, piece_count, count_below, is_back, pieces_with, restarts}
-use Rattle.machine.specs.Sending.{is_untouched, IsUnsent, IsSendable, LeavesMarks, one_if_busy, sent, given_back}
-use Rattle.machine.proofs.Placed.{get_or-splice_inside, get_or-splice_below, get_or-splice_above}
-use Rattle.machine_laws.specs.LabelsLeft.{labels_of_starts}
 
 -- COUNTS
 

@@ -1,24 +1,5 @@
 -- Pieces stand in their places, and have no more of them than the longest may have, at each moment that a run reaches.
-use Rattle.std.proofs.Common.{◌≡◌, ◌≤◌, inl, inr, ℕ, List, [], ◌∷◌, Option, Some, None, refl}
-use Rattle.std.specs.Prelude.{IsPermutation, All}
-use Rattle.std.proofs.lemmas.List.Sorted.{IsPermutation-sym, All-permutation}
-use Rattle.std.proofs.lemmas.List.Elements.{All-nil, All-cons, All-tail}
-use Rattle.ntstatus.specs.declared.NtStatus.{NtStatus}
-use Rattle.srb.specs.declared.DeviceLabel.TheVariants.{Start, Act, Fault, Return}
-use Rattle.machine.specs.declared.ClientRequest.{ClientRequest}
-use Rattle.machine.specs.declared.Label.{Label}
-use Rattle.machine.specs.declared.Label.TheVariants.{Call, Device, Answer, Cancel, Pause, Resume, Remove, Surprise, Removed}
-use Rattle.machine.specs.Rules.{Rules}
-use Rattle.machine.specs.State.{opening, Piece, State}
-use Rattle.machine.specs.Calling.{refusal, Admits}
-use Rattle.machine.specs.Numbers.{AreDistinct}
-use Rattle.machine.specs.Pieces.{ArePlaced}
-use Rattle.machine.specs.Step.{FreeStep, OwingStep, Step, Run}
-use Rattle.machine.proofs.Same.{IsSame-sym}
-use Rattle.machine.proofs.Numbers.{AreDistinct-opening, AreDistinct-Step, AreDistinct-same}
-use Rattle.machine.proofs.Permuting.{All-changed}
-use Rattle.machine.proofs.Placed.{ArePlaced-opening, ArePlaced-Step, ArePlaced-same}
-use Rattle.machine_laws.specs.Reached.{IsReached}
+use Rattle.machine_laws.proofs.Common.{◌≡◌, ◌≤◌, inl, inr, ℕ, List, [], ◌∷◌, Option, Some, None, refl, IsPermutation, All, IsPermutation-sym, All-permutation, All-nil, All-cons, All-tail, NtStatus, Start, Act, Fault, Return, ClientRequest, Label, Call, Device, Answer, Cancel, Pause, Resume, Remove, Surprise, Removed, Rules, opening, Piece, State, refusal, Admits, AreDistinct, ArePlaced, FreeStep, OwingStep, Step, Run, IsSame-sym, AreDistinct-opening, AreDistinct-Step, AreDistinct-same, All-changed, ArePlaced-opening, ArePlaced-Step, ArePlaced-same, IsReached}
 
 -- a piece has no more places than the longest may have
 abbrev pub IsShort : Rules → Piece → Type 0

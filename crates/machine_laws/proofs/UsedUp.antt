@@ -1,29 +1,6 @@
 -- Each label uses up one of those that were left.
-use Rattle.std.proofs.Common.{◌≡◌, ◌<◌, ◌≤◌, inl, inr, ℕ, ◌+◌, ◌*◌, ◌||◌, Bool, true, false, List, [], ◌∷◌, Option, Some, None, refl, sym, ◌∙◌, ap, arith, map, length}
+use Rattle.machine_laws.proofs.Common.{◌≡◌, ◌<◌, ◌≤◌, inl, inr, ℕ, ◌+◌, ◌*◌, ◌||◌, Bool, true, false, List, [], ◌∷◌, Option, Some, None, refl, sym, ◌∙◌, ap, arith, map, length, sum_by-cons, sum_by-le-sum_by, All-permutation, sum_by-IsPermutation, All-head, All-tail, NtStatus, DeviceLabel, Start, Act, Fault, Return, Class, Good, Busy, Bad, Fate, Fresh, Acted, Faulted, ClientRequest, Label, Call, Device, Answer, Cancel, Pause, Resume, Remove, Surprise, Removed, Rules, place_count, Mark, OpenRequest, Piece, State, IsSame, refusal, Admits, new_request, Returns, LeavesMarks, one_if_busy, sent, given_back, new_piece, with_fate, held_back, beyond, as_timely, as_cancelled, piece_count, restarts, IsPlaced, IsCovered, DeviceStep, FreeStep, OwingStep, Step, Run, leaves, is_inside, IsTakenIn, taken_in, labels_of_starts, labels_of_request, labels_of_fate, labels_of_piece, labels_left, labels_brought, StepsUseUp, RunsUseUp, NoMoreAreLeft, BringsNone, brought_along}
 use Rattle.std.specs.Prelude.{IsPermutation, All, IsTrue, IsFalse, is_none, IsNone, sum_by, if◌then◌else◌}
-use Rattle.std.proofs.lemmas.List.Sums.{sum_by-cons, sum_by-le-sum_by}
-use Rattle.std.proofs.lemmas.List.Sorted.{All-permutation, sum_by-IsPermutation}
-use Rattle.std.proofs.lemmas.List.Elements.{All-head, All-tail}
-use Rattle.ntstatus.specs.declared.NtStatus.{NtStatus}
-use Rattle.srb.specs.declared.DeviceLabel.{DeviceLabel}
-use Rattle.srb.specs.declared.DeviceLabel.TheVariants.{Start, Act, Fault, Return}
-use Rattle.srb.specs.declared.Class.{Class}
-use Rattle.srb.specs.declared.Class.TheVariants.{Good, Busy, Bad}
-use Rattle.srb.specs.Fate.{Fate, Fresh, Acted, Faulted}
-use Rattle.machine.specs.declared.ClientRequest.{ClientRequest}
-use Rattle.machine.specs.declared.Label.{Label}
-use Rattle.machine.specs.declared.Label.TheVariants.{Call, Device, Answer, Cancel, Pause, Resume, Remove, Surprise, Removed}
-use Rattle.machine.specs.Rules.{Rules, place_count}
-use Rattle.machine.specs.State.{Mark, OpenRequest, Piece, State, IsSame}
-use Rattle.machine.specs.Calling.{refusal, Admits, new_request}
-use Rattle.machine.specs.Sending.{Returns, LeavesMarks, one_if_busy, sent, given_back, new_piece, with_fate}
-use Rattle.machine.specs.Holding.{held_back, beyond, as_timely, as_cancelled}
-use Rattle.machine.specs.Cutting.{piece_count, restarts}
-use Rattle.machine.specs.Pieces.{IsPlaced, IsCovered}
-use Rattle.machine.specs.Step.{DeviceStep, FreeStep, OwingStep, Step, Run}
-use Rattle.machine.proofs.Placed.{leaves, is_inside}
-use Rattle.machine.proofs.Places.{IsTakenIn, taken_in}
-use Rattle.machine_laws.specs.LabelsLeft.{labels_of_starts, labels_of_request, labels_of_fate, labels_of_piece, labels_left, labels_brought, StepsUseUp, RunsUseUp, NoMoreAreLeft, BringsNone, brought_along}
 use Rattle.machine_laws.proofs.Starting.{one_if, new_starts, start_taken, return_adds}
 use Rattle.machine_laws.proofs.Tidy.{IsShort, IsTidy, IsTidy-Step, IsTidy-reached}
 

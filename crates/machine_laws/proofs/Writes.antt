@@ -1,20 +1,5 @@
 -- What the labels of a run may change of the arrays.
-use Rattle.std.proofs.Common.{◌≡◌, ◌⊎◌, inl, inr, ℕ, List, [], ◌∷◌, refl, sym, ◌∙◌, ap, length}
-use Rattle.std.specs.Prelude.{slice_get}
-use Rattle.std.proofs.lemmas.Bool.{cases_eq}
-use Rattle.std.proofs.lemmas.List.{length-set, get_or-set_other}
-use Rattle.srb.specs.declared.DeviceLabel.TheVariants.{Act}
-use Rattle.srb.specs.declared.Kind.{Kind}
-use Rattle.srb.specs.declared.Kind.TheVariants.{Read, Write, Flush}
-use Rattle.machine.specs.declared.Label.{Label}
-use Rattle.machine.specs.declared.Label.TheVariants.{Device}
-use Rattle.machine.specs.Rules.{Rules, as_faithful}
-use Rattle.machine.specs.State.{State}
-use Rattle.machine.specs.Sending.{Acts, Transfers, partition_number, array_at}
-use Rattle.machine.specs.Step.{Step, Run}
-use Rattle.machine_laws.specs.Sectors.{sector_at, WritesPartition}
-use Rattle.machine_laws.specs.Along.{Sometime}
-use Rattle.machine_laws.specs.WriteLaws.{IsWriteOn, IsWriteAt, HaveSameLengths, StepsKeepArrays, RunsKeepArrays}
+use Rattle.machine_laws.proofs.Common.{◌≡◌, ◌⊎◌, inl, inr, ℕ, List, [], ◌∷◌, refl, sym, ◌∙◌, ap, length, slice_get, cases_eq, length-set, get_or-set_other, Act, Kind, Read, Write, Flush, Label, Device, Rules, as_faithful, State, Acts, Transfers, partition_number, array_at, Step, Run, sector_at, WritesPartition, Sometime, IsWriteOn, IsWriteAt, HaveSameLengths, StepsKeepArrays, RunsKeepArrays}
 use Rattle.machine_laws.proofs.Acted.{moves_or_leaves, Transfers-length}
 use Rattle.machine_laws.proofs.Serving.{act_fits}
 use Rattle.machine_laws.proofs.Sound.{Anything, nothing, IsSound, IsSound-Step}

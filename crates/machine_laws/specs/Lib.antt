@@ -9,3 +9,4 @@ pub mod NumberLaws
 pub mod LabelsLeft
 pub mod CountedLabels
 pub mod Booked
+pub mod Success

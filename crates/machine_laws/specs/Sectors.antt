@@ -17,6 +17,10 @@ sector_at s p i = slice_get (array_at s.arrays p) i
 abbrev pub sector_of : Rules → ClientRequest → ℕ → ℕ
 sector_of rules q place = first_sector rules q + place
 
+-- of the bytes of a request, or of one of its answers, those of one place
+abbrev pub part_of : Rules → List ℕ → ℕ → List ℕ
+part_of rules bytes place = slice_range bytes (place * rules.sector_size) ((place + 1) * rules.sector_size)
+
 -- the bytes that a write carries for one of its places
 abbrev pub bytes_for : Rules → ClientRequest → ℕ → List ℕ
 bytes_for rules q place = slice_range q.bytes (place * rules.sector_size) ((place + 1) * rules.sector_size)

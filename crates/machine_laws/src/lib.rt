@@ -7,9 +7,10 @@
 //!
 //! # Promises
 //!
-//! Each law is the contract of the function of its name: on solo requests (`solo_reads`, `solo_writes`,
-//! `failed_writes`), on what a label may change, on what comes no more, on numbers, on how many labels may still come
-//! (`labels_run_out`), and on how a run is taken apart.
+//! Each law is the contract of the function of its name: on what SUCCESS means (`answered_was_moved`), on what a piece
+//! that acts was asked for (`acts_were_asked`), on solo requests (`solo_reads`, `solo_writes`, `failed_writes`), on what
+//! a label may change, on what comes no more, on numbers, on how many labels may still come (`labels_run_out`), and on
+//! how a run is taken apart.
 #![tactic(auto)]
 
 ghost use Rattle.machine_laws.specs.Booked.{EntriesAreOfRuns, JournalsCloseRuns};
@@ -42,6 +43,7 @@ ghost use Rattle.machine_laws.specs.SoloLaws.{
   SoloReadsHold,
   SoloWritesHold,
 };
+ghost use Rattle.machine_laws.specs.Success.{ActsWereAsked, AnsweredWasMoved};
 ghost use Rattle.machine_laws.specs.WriteLaws.{
   RunsKeepArrays,
   RunsKeepLengths,
@@ -64,6 +66,18 @@ pub fn solo_writes()
 /// piece of the write acted on it before, and its bytes stand there.
 pub fn failed_writes()
     ensures { FailedWritesHold }
+{}
+
+/// What SUCCESS means: between the call and the answer, at each place of the request, a piece of that request acted, with
+/// the bytes that a read's answer gives or a write's call brought.
+pub fn answered_was_moved()
+    ensures { AnsweredWasMoved }
+{}
+
+/// No piece acts that wasn't asked for: its request was called before and isn't answered yet, and it was started by a
+/// block that means just its places, which are places of that request.
+pub fn acts_were_asked()
+    ensures { ActsWereAsked }
 {}
 
 /// No label changes the array of another partition: a partition's array stays unless the label is the act of a write

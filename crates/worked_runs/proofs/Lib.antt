@@ -10,3 +10,4 @@ pub mod Starting
 pub mod Cutting
 pub mod Losing
 pub mod Long
+pub mod Moving

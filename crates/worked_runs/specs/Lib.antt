@@ -6,3 +6,4 @@ pub mod Refused
 pub mod Impossible
 pub mod Cut
 pub mod Long
+pub mod Moved

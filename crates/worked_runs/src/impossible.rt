@@ -3,9 +3,10 @@
 
 ghost use Rattle.ntstatus.specs.declared.NtStatus.TheVariants.{Success, DeviceNotReady};
 ghost use Rattle.machine.specs.declared.Label.TheVariants.{Answer, Removed};
-ghost use Rattle.std.specs.Prelude.{◌++◌};
+ghost use Rattle.std.specs.Prelude.{ℕ, List, ◌++◌};
 ghost use Rattle.machine.specs.Settled.{Settled};
 ghost use Rattle.worked_runs.specs.Small.{small, zeros, full_of, idle};
+ghost use Rattle.worked_runs.specs.Moved.{NeverMoves};
 ghost use Rattle.worked_runs.specs.Served.{pairs};
 ghost use Rattle.worked_runs.specs.Impossible.{AnswersOnce, Never, NeverAnswers, NeverAnswersAs, NeverAnswersBeforeReturn, NeverOpensPastEnd, NeverRefusesWithoutCause, NeverStarts, NeverWritesAt, NeverWritesBeyond, ReachesBothBack, ReachesBothFailed, ReachesCancelledOut, ReachesCut, ReachesFirstBad, ReachesHeldAlone, ReachesHeldBehind, ReachesLastSector, ReachesLastUnsent, ReachesLeftBehind, ReachesOneFailed, ReachesOneOfTwo, ReachesOneWaits, ReachesRemovingOut, ReachesUnsent, ReachesUnsentCancelled, ReachesWaitsBehind, ReachesWornOut, SendsTheOther, both_back, both_failed, cancelled_out, cut, first_bad, held_alone, held_behind, last_sector, last_unsent, left_behind, neighbours, one_below, one_failed, one_of_two, one_waits, removing_out, unsent, unsent_cancelled, waits_behind, worn_out};
 
@@ -29,6 +30,14 @@ pub fn success_never_sent()
     ensures unanswered { NeverAnswers small unsent 1 }
     ensures cancelled_reached { ReachesUnsentCancelled }
     ensures never { NeverAnswersAs small unsent_cancelled 1 Success }
+{}
+
+/// An act moves a place that is another piece's, or another request's, or its own with a neighbour's bytes.
+#[tactic(auto, using(crate::proofs::Moving::never_moves_last, crate::proofs::Moving::never_moves_neighbours, crate::proofs::Moving::never_moves_anothers))]
+pub fn acts_on_what_is_not_its_own()
+    ensures other_piece { (sector : List ℕ) → NeverMoves 1 2 sector }
+    ensures other_bytes { NeverMoves 1 1 (full_of 17) }
+    ensures other_request { (place : ℕ) (sector : List ℕ) → NeverMoves 2 place sector }
 {}
 
 /// An answer has the status of the piece that failed first, and not of the lowest.

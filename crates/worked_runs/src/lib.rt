@@ -17,6 +17,7 @@ ghost use Rattle.worked_runs.specs.Failed.{IsCutShort, StaysBusy, IsResetBeforeA
 ghost use Rattle.worked_runs.specs.Held.{HoldsThenResumes, RemovesAll, SurprisesAll};
 ghost use Rattle.worked_runs.specs.Impossible.{NeverWritesAt};
 ghost use Rattle.worked_runs.specs.Long.{StartsInEachForm, FlushesFar};
+ghost use Rattle.worked_runs.specs.Moved.{MovesItsPlaces, MovedItsLast};
 ghost use Rattle.worked_runs.specs.Refused.{RefusesClosedHandle, RefusesRemoved, RefusesOutOfBounds, RefusesTooLong, ReadsNothing, RefusesOneMore};
 ghost use Rattle.worked_runs.specs.Served.{WritesThenReads, JoinsInOrder, Flushes, WritesThrough, SendsAgain, SucceedsThoughCancelled};
 
@@ -30,6 +31,13 @@ pub fn write_then_read()
 #[tactic(auto, using(crate::proofs::Serving::joins_in_order))]
 pub fn join_in_order()
     ensures { JoinsInOrder }
+{}
+
+/// An act moves the places of its piece, each with the bytes of its sector; and an answer SUCCESS tells of such an act.
+#[tactic(auto, using(crate::proofs::Moving::moves_its_places, crate::proofs::Moving::moved_its_last))]
+pub fn move_each_place()
+    ensures places { MovesItsPlaces }
+    ensures answered { MovedItsLast }
 {}
 
 /// A flush, and a write that asks for forced unit access.
