@@ -10,6 +10,7 @@ use Rattle.class_disk.proofs.CoupledRun.{Ran, run_coupled, Contains-map}
 use Rattle.class_disk.proofs.Showing.{shown_is}
 use Rattle.class_disk.proofs.Orderly.{on_tags, orderly_above, All-from_map}
 use Rattle.class_disk.proofs.PortRules.{port_rules}
+use Rattle.std.proofs.lemmas.List.{nil_from_length}
 
 -- WHAT STAYS WHERE NO REQUEST CHANGES
 
@@ -20,10 +21,6 @@ pub record IsStill (s s' : State) : Type 0 where
   pub owed : s.owed ≡ s'.owed
   pub paused : s.paused ≡ s'.paused
   pub removing : s.removing ≡ s'.removing
-
-pub nil_from_length : {X : Type 0} (xs : List X) → length xs ≡ 0 → xs ≡ []
-nil_from_length [] e = refl
-nil_from_length (x ∷ xs) e = absurd (omega arith)
 
 pub ended_still : (rules : Rules) (s s' : State) (o : OpenRequest) (m : Mark) → s.removing ≡ s'.removing → HasEnded rules s' o m → HasEnded rules s o m
 ended_still rules s s' o m same (inl done) = inl done

@@ -1,13 +1,13 @@
 -- All parts of a request that is being opened are sent, one by one: then the class driver is midway in its call.
 use Rattle.std.proofs.Common.{◌≡◌, ◌≢◌, ◌<◌, ℕ, ◌+◌, Bool, List, [], ◌∷◌, ◌++◌, Some, refl, sym, ◌∙◌, ap, subst, arith, length, map, drop, take, get_or, append_assoc}
 use Rattle.std.specs.Prelude.{IsPermutation, All, Contains, slice_get}
-use Rattle.std.proofs.lemmas.List.{append-nil, length-take-le}
+use Rattle.std.proofs.lemmas.List.{append-nil, length-take-le, take_all, drop_all}
 use Rattle.class_disk.proofs.Common.{IsPermutation-sym, IsPermutation-map, All-permutation, Contains-permutation, All-nil, All-cons, All-head, All-tail, All-append, All-contains, All-weaker, Contains-get_or, moves_joined, DeviceLabel, Ticket, Climb, Rules, IsStart, State, DeviceView, IsOrderly, StaysOpen, HandsUp, Place, Progress, Opened, TableView, opened, open_at, part_count_of, part_request_of, note, note_by, known, knowns, IsCauseBy, HaveCauses, IsOpen, WentAs, WentInTurn, IsNothing, IsIfEnded, EndedAre, IsOver, IsOverNote, GoesOn, IsMidway, IsOpening, OpeningSoFar, SendsAll, SendsDown, CanSendPart, class_rules}
 use Rattle.class_disk.specs.declared.parts.Part.{Part}
 use Rattle.class_disk.specs.declared.parts.Progress.TheVariants.{Ready, Below, Ended as HasEnded}
 use Rattle.class_disk.specs.inside.Parts.{IsDown, IsDownBy, WasSent, WasSentBy, unfinished_of, unfinished_by}
 use Rattle.class_disk.proofs.OnlyPart.{lent_whole}
-use Rattle.class_disk.proofs.Parting.{drop_whole, found_same}
+use Rattle.class_disk.proofs.Parting.{found_same}
 use Rattle.class_disk.proofs.PiecePlaces.{as_many}
 use Rattle.class_disk.proofs.ReadyParts.{part, is_there, with_place, place, rooms_left, can_send_part}
 use Rattle.class_disk.proofs.SendingOn.{new_part, number_on, part_on, packets_on, table_on, long_on, taking_on, goes_on, sent_on}
@@ -15,10 +15,6 @@ use Rattle.class_disk.proofs.Standing.{AreRising}
 use Rattle.class_disk.proofs.TakingAll.{stays_there}
 
 -- ALL PARTS ARE BELOW
-
-take_whole : {X : Type 0} (xs : List X) → take (length xs) xs ≡ xs
-take_whole [] = refl
-take_whole (x ∷ xs) = ap (λ ys. x ∷ ys) (take_whole xs)
 
 was_sent : (x : Part) → IsDown x → WasSent x
 was_sent x h = by x.progress h
@@ -67,10 +63,10 @@ module _ {v : DeviceView}
   rules = class_rules v.rules
 
   down : All IsDown h.o.parts
-  down = subst (All IsDown) (ap (λ n. take n h.o.parts) at_end ∙ take_whole h.o.parts) h.sent
+  down = subst (All IsDown) (ap (λ n. take n h.o.parts) at_end ∙ take_all (length h.o.parts) h.o.parts (omega arith)) h.sent
 
   none_left : length (drop k h.o.parts) ≡ 0
-  none_left = ap (λ n. length (drop n h.o.parts)) at_end ∙ ap length (drop_whole h.o.parts)
+  none_left = ap (λ n. length (drop n h.o.parts)) at_end ∙ ap length (drop_all (length h.o.parts) h.o.parts (omega arith))
 
   is_open : IsOpen rules b.owners (slot, h.o)
   is_open = record {
@@ -251,7 +247,7 @@ module _ (v0 : DeviceView)
           goes_on = so_far.goes;
           in_turn = λ o is_open.
               (let all : take k o.parts ≡ o.parts = ap (λ n. take n o.parts)
-              (at_end ∙ counts h0.o h0.is_open ∙ sym (so_far.long h0.o o h0.is_open is_open)) ∙ take_whole o.parts in
+              (at_end ∙ counts h0.o h0.is_open ∙ sym (so_far.long h0.o o h0.is_open is_open)) ∙ take_all (length o.parts) o.parts (omega arith) in
               subst (WentInTurn b0.next_packet) all (so_far.in_turn o is_open));
           midway = opened_midway w (at_end ∙ counts_now w) first (labels ++ so_far.starts) (so_far.taking first labels t0);
           others_stay = so_far.others_stay;

@@ -1,9 +1,10 @@
 -- The open requests in another order: the rooms that they keep, the slots of the ended ones, and the restarts that are left.
 use Rattle.class_disk.proofs.Common.{Ticket, length-replicate, IsPermutation-refl, IsPermutation-sym, IsPermutation-trans, IsPermutation-middle, IsPermutation-append_left, IsPermutation-append_right, IsPermutation-append_comm, Contains-permutation, length_permutation, none_there, IsPermutation-uncons, tickets_held, tickets_open}
-use Rattle.std.proofs.Common.{◌≡◌, ℕ, zero, suc, ◌-◌, ◌==◌, Bool, true, false, List, [], ◌∷◌, ◌++◌, refl, sym, ◌∙◌, ap, subst, arith, length, replicate, length-append, append_assoc}
-use Rattle.std.specs.Prelude.{IsPermutation, Contains, if◌then◌else◌}
+use Rattle.std.proofs.Common.{◌≡◌, ℕ, ◌-◌, ◌==◌, Bool, true, false, List, [], ◌∷◌, ◌++◌, refl, sym, ◌∙◌, ap, subst, arith, length, replicate, length-append, append_assoc}
+use Rattle.std.specs.Prelude.{IsPermutation, if◌then◌else◌}
 use Rattle.class_disk.specs.inside.Parts.{tickets_of}
 use Rattle.class_disk.specs.inside.TableView.{Opened, ClosedSlot, ended_in, restarts_left}
+use Rattle.class_disk.proofs.Standing.{split_there}
 
 -- LISTS PUT TOGETHER, IN ANY ORDER
 
@@ -16,11 +17,6 @@ second_first xs ys zs =
     subst (λ ws. IsPermutation ws (ys ++ (xs ++ zs))) (append_assoc xs ys zs)
     (subst (λ ws. IsPermutation ((xs ++ ys) ++ zs) ws) (append_assoc ys xs zs) (IsPermutation-append_left zs _ _ (IsPermutation-append_comm xs ys)))
 
-split_at : {X : Type 0} (x : X) (ys : List X) → Contains ys x → (front : List X) × (back : List X) × (ys ≡ front ++ (x ∷ back))
-split_at x [] (k, low, is) = absurd (omega arith)
-split_at x (y ∷ ys) (zero, low, is) = ([], ys, ap (λ z. z ∷ ys) is)
-split_at x (y ∷ ys) (suc k, low, is) = let r = split_at x ys (k, omega arith, is) in (y ∷ r.0, r.1, ap (λ zs. y ∷ zs) r.2)
-
 flat_middle : {X Y : Type 0} (f : X → List Y) (front : List X) (x : X) (back : List X) → IsPermutation (flat f (front ++ (x ∷ back)))
     (f x ++ flat f (front ++ back))
 flat_middle f [] x back = IsPermutation-refl _
@@ -30,7 +26,7 @@ flat_middle f (y ∷ front) x back =
 flat_same : {X Y : Type 0} (f : X → List Y) (xs ys : List X) → IsPermutation xs ys → IsPermutation (flat f xs) (flat f ys)
 flat_same f [] ys h = subst (λ zs. IsPermutation [] (flat f zs)) (sym (none_there [] ys refl h)) (IsPermutation-refl [])
 flat_same f (x ∷ xs) ys h =
-    let c = split_at x ys (Contains-permutation _ _ x h (0, omega arith, refl)) in
+    let c = split_there x ys (Contains-permutation _ _ x h (0, omega arith, refl)) in
     let q : IsPermutation xs (c.0 ++ c.1) = IsPermutation-uncons x _ _
     (IsPermutation-trans _ _ _ (subst (IsPermutation (x ∷ xs)) c.2 h) (IsPermutation-middle c.0 x c.1)) in
     subst (λ zs. IsPermutation (flat f (x ∷ xs)) (flat f zs)) (sym c.2)

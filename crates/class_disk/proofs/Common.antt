@@ -32,7 +32,7 @@ pub use Rattle.class_disk.specs.inside.Parts.{AreLeft, EndsAs, EndsBack, GoesAga
 pub use Rattle.class_disk.specs.inside.PortRules.{below_rules}
 pub use Rattle.class_disk.specs.inside.Rooms.{AllOut}
 pub use Rattle.class_disk.specs.inside.TableCalls.{AddsNoSlot, AddsSlot, CanCancelAt, CanSend, CanTake, CancelsAtSlot, CancelsNoneAt, CannotCancel, CannotCancelAt, Completes, IsDataOf, IsPartAt, IsReadyAt, OpensAt, RemovesSlot, SendsAgain, SendsAs, SendsPart, SendsPartAgain, TakesEnded, TakesNone, again_part, bytes_from, can_cancel, cancelled_one, empty_books, ended_at, ended_books, ended_part, given_up, is_cancellable, joined_up, new_opened, payload_up, sent_opened, sent_part}
-pub use Rattle.class_disk.specs.inside.TableView.{ClosedSlot, HasPlaceForMore, IsVacantFor, Opened, PutsBack, TableView, TakesOut, all_open, before, books_of, ended_in, held_as, held_from, left_as, open_at, open_from, opened, opened_of, payload_of, put_at, reserved_for, room_of, rooms_from}
+pub use Rattle.class_disk.specs.inside.TableView.{ClosedSlot, HasPlaceForMore, IsVacantFor, Opened, PutsBack, TableView, TakesOut, all_open, before, books_of, ended_in, held_as, held_from, is_whole, open_at, open_from, opened, opened_of, payload_of, put_at, reserved_for, room_of, rooms_from}
 pub use Rattle.device.proofs.Bounded.{carries_bytes, not_refused, sectors_are}
 pub use Rattle.device.proofs.Reserving.{home_further, near_after, near_part, near_same, packets_apart}
 pub use Rattle.device.specs.Climbing.{Climbs, FinishesPacket}

@@ -112,14 +112,14 @@ shown_many : (again n : ℕ) (mark : Mark) → shown_mark again mark ≡ mark �
 shown_many again zero mark h = refl
 shown_many again (suc n) mark h = cc (h, shown_many again n mark h)
 
-shown_done : (again : ℕ) (sectors : List (List ℕ)) → map (shown_mark again) (map Done sectors) ≡ map Done sectors
+pub shown_done : (again : ℕ) (sectors : List (List ℕ)) → map (shown_mark again) (map Done sectors) ≡ map Done sectors
 shown_done again [] = refl
 shown_done zero (x ∷ xs) = ap (λ zs. Done x ∷ zs) (shown_done zero xs)
 shown_done (suc n) (x ∷ xs) = ap (λ zs. Done x ∷ zs) (shown_done (suc n) xs)
 
-back_stays : (again : ℕ) → shown_mark again Back ≡ Back
-back_stays zero = refl
-back_stays (suc n) = refl
+pub shown_back : (again : ℕ) → shown_mark again Back ≡ Back
+shown_back zero = refl
+shown_back (suc n) = refl
 
 failed_stays : (again : ℕ) (status : _) → shown_mark again (Failed status) ≡ Failed status
 failed_stays zero status = refl
@@ -127,7 +127,7 @@ failed_stays (suc n) status = refl
 
 shown_left : (again : ℕ) (piece : Piece) (class : Class) (marks : List Mark) → LeavesMarks piece class marks → map (shown_mark again) marks ≡ marks
 shown_left again piece Good marks (sectors, fate, is) = ap (map (shown_mark again)) is ∙ shown_done again sectors ∙ sym is
-shown_left again piece Busy marks (fate, is) = ap (map (shown_mark again)) is ∙ shown_many again piece.places.count Back (back_stays again) ∙ sym is
+shown_left again piece Busy marks (fate, is) = ap (map (shown_mark again)) is ∙ shown_many again piece.places.count Back (shown_back again) ∙ sym is
 shown_left again piece (Bad completion) marks (bad, is) = ap (map (shown_mark again)) is ∙ shown_many again piece.places.count _ (failed_stays again _) ∙ sym is
 
 module _ (rules : Rules) (j : Joint) (e : Divided) (es : List Divided) (front back : List Part) (arrays : List (List (List ℕ))) (next : ℕ) where

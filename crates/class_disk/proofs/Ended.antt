@@ -1,18 +1,13 @@
 -- The request that ended first, taken out of the table.
-use Rattle.std.proofs.Common.{◌≡◌, ◌<◌, ◌≤◌, inl, inr, ℕ, zero, suc, ◌+◌, ◌*◌, ◌==◌, ◌^◌, Bool, true, false, List, [], ◌∷◌, Some, None, refl, sym, ◌∙◌, ap, subst, arith, length, IsSome}
+use Rattle.std.proofs.Common.{◌≡◌, ◌<◌, ◌≤◌, ℕ, zero, suc, ◌+◌, ◌*◌, ◌==◌, ◌^◌, Bool, true, false, List, [], ◌∷◌, Some, None, refl, sym, ◌∙◌, ap, subst, arith, length, IsSome}
 use Rattle.std.specs.Prelude.{Contains, if◌then◌else◌}
-use Rattle.class_disk.proofs.Common.{mul-le-mul_left, ne_eqb, eqb-true, eqb-false, cases_Bool, Contains-permutation, Climb, Buffer, Read, Success, Rules, is_transfer, DeviceView, IsOrderly, Carries, HandsUp, SetsRoom, Sizes, Places, lowest_status, joined_of, Opened, TableView, opened_of, left_as, open_from, open_at, ended_in, AddsSlot, TakesEnded, Completes, class_rules, view_of, AreKept, IsInHand, part_count_of, part_request_of}
-use Rattle.class_disk.specs.declared.requests.Slot.TheVariants.{Reserved, Open, Left}
-use Rattle.class_disk.proofs.Slots.{Slots}
+use Rattle.class_disk.proofs.Common.{mul-le-mul_left, ne_eqb, eqb-true, Contains-permutation, Climb, Buffer, Read, Success, Rules, is_transfer, DeviceView, IsOrderly, Carries, HandsUp, SetsRoom, Sizes, Places, lowest_status, joined_of, Opened, TableView, opened_of, open_from, open_at, ended_in, AddsSlot, TakesEnded, Completes, class_rules, view_of, AreKept, IsInHand, part_count_of, part_request_of, held_as, reserved_for, is_whole}
+use Rattle.class_disk.specs.declared.requests.Slot.TheVariants.{Reserved, Open}
+use Rattle.class_disk.proofs.Slots.{Slots, equals}
 use Rattle.class_disk.proofs.PiecePlaces.{as_many}
 use Rattle.class_disk.proofs.HandingUp.{is_open}
 use Rattle.class_disk.proofs.HandedUp.{handed_up, fits}
-
-equals : (a : ℕ) → (a == a) ≡ true
-equals a = elim (cases_Bool (a == a)) [
-  | inl yes' ↦ yes'
-  | inr no' ↦ absurd (eqb-false a a no' refl)
-]
+use Rattle.class_disk.specs.declared.parts.Part.{Part}
 
 -- a request whose slot stands among those that have ended has none unfinished
 pub ended_entry : (es : List (ℕ × Opened)) (slot : ℕ) → Contains (ended_in es) slot → (x : ℕ × Opened) × Contains es x × (x.0 ≡ slot) × (x.1.unfinished ≡ 0)
@@ -30,7 +25,6 @@ from_first : (first : ℕ) (slots : Slots) (x : ℕ × Opened) → Contains (ope
 from_first first [] x c = absurd (let w = c.1 in omega arith)
 from_first first (None ∷ rest) x c = let l = from_first (first + 1) rest x c in omega arith
 from_first first (Some (Reserved places) ∷ rest) x c = let l = from_first (first + 1) rest x c in omega arith
-from_first first (Some (Left places) ∷ rest) x c = let l = from_first (first + 1) rest x c in omega arith
 from_first first (Some (Open t) ∷ rest) x (zero, low, is) = let e : first ≡ x.0 = ap (λ (y : ℕ × Opened). y.0) is in omega (arith, e)
 from_first first (Some (Open t) ∷ rest) x (suc k, low, is) = let l = from_first (first + 1) rest x (k, omega arith, is) in omega arith
 
@@ -39,7 +33,6 @@ pub open_entry : (first : ℕ) (slots : Slots) (x : ℕ × Opened) → Contains 
 open_entry first [] x c = absurd (let w = c.1 in omega arith)
 open_entry first (None ∷ rest) x c = open_entry (first + 1) rest x c
 open_entry first (Some (Reserved places) ∷ rest) x c = open_entry (first + 1) rest x c
-open_entry first (Some (Left places) ∷ rest) x c = open_entry (first + 1) rest x c
 open_entry first (Some (Open t) ∷ rest) x (zero, low, is) =
     subst (λ (y : ℕ × Opened). open_at y.0 ((first, opened_of t) ∷ open_from (first + 1) rest) ≡ Some y.1) is
     (let e : (first == first) ≡ true = equals first in rw e refl)
@@ -99,13 +92,15 @@ module _ (v : DeviceView) (b : TableView) (h : IsInHand v b) (ordered : IsOrderl
       let one = eqb-true (part_count_of limit o.request) 1 (sym w.lent ∙ lent) in
       omega (arith, many, one)
 
-  pub hands_up : (climb : Climb) (places : Places) → Completes new.sizes o climb places → (last : TableView) → AddsSlot new (left_as slot places) last
-      → HandsUp false (view_of v b) climb slot (view_of v last)
-  hands_up climb places c last adds =
+  pub hands_up : (climb : Climb) (parts : List Part) → Completes new.sizes o climb parts → (empty : Places) → empty.parts.items ≡ [] → empty.request ≡ o.request
+      → (last : TableView) → AddsSlot new (held_as slot empty) last → (v' : DeviceView) → v' ≡ record v { rooms = v'.rooms } → HandsUp false (view_of v b) climb slot (view_of v' last)
+  hands_up climb parts c empty none request_is last adds v' freed =
       let same : new.sizes ≡ b.sizes = ap (λ (x : TableView). x.sizes) t.after in
       let rooms : new.rooms ≡ b.rooms = ap (λ (x : TableView). x.rooms) t.after in
       let sets : SetsRoom b.rooms slot None (Some (record { request = o.request; whole = false })) last.rooms =
-      subst (λ q. SetsRoom b.rooms slot None (Some (record { request = q; whole = false })) last.rooms) c.request
-      (subst (λ rs. SetsRoom rs slot None (Some (record { request = places.request; whole = false })) last.rooms) rooms adds.room) in
-      subst (λ x. HandsUp false (view_of v b) climb slot (view_of v x)) (sym (adds.after ∙ ap (λ (x : TableView). record x { held = last.held; rooms = last.rooms }) t.after))
-      (handed_up v b h ordered slot o new.opens new.ended t.opens over_it climb places (subst (λ (s : Sizes). Completes s o climb places) same c) last.held last.rooms sets)
+      subst (λ w. SetsRoom b.rooms slot None (Some (record { request = o.request; whole = w })) last.rooms) (ap is_whole none)
+      (subst (λ q. SetsRoom b.rooms slot None (Some (record { request = q; whole = is_whole empty.parts.items })) last.rooms) request_is
+      (subst (λ rs. SetsRoom rs slot None (Some (reserved_for (held_as slot empty))) last.rooms) rooms adds.room)) in
+      subst (λ (x : DeviceView). HandsUp false (view_of v b) climb slot (view_of x last)) (sym freed)
+      (subst (λ x. HandsUp false (view_of v b) climb slot (view_of v x)) (sym (adds.after ∙ ap (λ (x : TableView). record x { held = last.held; rooms = last.rooms }) t.after))
+      (handed_up v b h ordered slot o new.opens new.ended t.opens over_it climb parts (subst (λ (s : Sizes). Completes s o climb parts) same c) last.held last.rooms sets))

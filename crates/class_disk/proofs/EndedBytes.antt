@@ -5,6 +5,7 @@ use Rattle.class_disk.proofs.Common.{list_all, concat, range_with_len, mul-div_c
 use Rattle.class_disk.specs.declared.parts.Part.{Part}
 use Rattle.class_disk.specs.declared.parts.Progress.TheVariants.{Ended as PartEnded}
 use Rattle.class_disk.proofs.EndedParts.{marks_noted, IsGoodPart}
+use Rattle.std.proofs.lemmas.List.{nil_from_length}
 
 -- BYTES CUT INTO SECTORS
 
@@ -26,10 +27,6 @@ length_drop : (m : ℕ) (xs : List ℕ) → length (drop m xs) ≡ length xs - m
 length_drop zero xs = omega arith
 length_drop (suc m) [] = omega arith
 length_drop (suc m) (x ∷ xs) = let e = length_drop m xs in omega arith
-
-no_items : {X : Type 0} (xs : List X) → length xs ≡ 0 → xs ≡ []
-no_items [] h = refl
-no_items (x ∷ xs) h = absurd (omega arith)
 
 suc_times : (n size : ℕ) → suc n * size ≡ size + n * size
 suc_times n size = omega arith
@@ -91,7 +88,7 @@ cut_taken (suc n) size xs =
 
 -- sectors joined again
 pub concat_cut : (n size : ℕ) (xs : List ℕ) → length xs ≡ n * size → concat (map bytes_of_mark (map Done (cut n size xs))) ≡ xs
-concat_cut zero size xs h = sym (no_items xs (omega arith))
+concat_cut zero size xs h = sym (nil_from_length xs (omega arith))
 concat_cut (suc n) size xs h =
     let e = suc_times n size in
     let l = length_drop size xs in
@@ -184,7 +181,7 @@ module _ (rules : Rules) where
       let b = read_marks some only parts (All-tail IsGoodPart part parts good) (All-tail (IsOfKind Read) part parts kind) (All-tail (IsBuffered rules only) part parts buffered) in
       let first : cut n size bytes ≡ cut n size (bytes ++ joined_of parts) = sym (cut_left n size bytes (joined_of parts) (omega (arith, a))) in
       let behind : joined_of parts ≡ drop (n * size) (bytes ++ joined_of parts) =
-      sym (drop_left (n * size) bytes (joined_of parts) (omega (arith, a)) ∙ ap (λ zs. zs ++ joined_of parts) (no_items (drop (n * size) bytes) (length_drop (n * size) bytes ∙ omega (arith, a)))) in
+      sym (drop_left (n * size) bytes (joined_of parts) (omega (arith, a)) ∙ ap (λ zs. zs ++ joined_of parts) (nil_from_length (drop (n * size) bytes) (length_drop (n * size) bytes ∙ omega (arith, a)))) in
       good_marks part parts g ∙ ap (λ zs. map Done (cut n size bytes) ++ zs) b
       ∙ ap (λ zs. map Done zs ++ map Done (cut (places_in parts) size (joined_of parts))) first
       ∙ ap (λ zs. map Done (cut n size (bytes ++ joined_of parts)) ++ map Done (cut (places_in parts) size zs)) behind

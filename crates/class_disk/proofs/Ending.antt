@@ -10,6 +10,7 @@ use Rattle.class_disk.specs.declared.parts.Outcome.TheVariants.{Good as IsGood, 
 use Rattle.class_disk.specs.inside.Invariant.{IsSound, WasSent, NeverSent, EndedBy, IsUntouched, IsIfEnded, EndedAre, EndsUnsent}
 use Rattle.class_disk.proofs.Resting.{Is, WaitsBelow, at_rest, untouched_all}
 use Rattle.class_disk.proofs.Acting.{ended_still}
+use Rattle.class_disk.proofs.CoupledSteps.{shown_done, shown_back}
 
 -- MARKS THAT ARE ALL ONE
 
@@ -24,19 +25,9 @@ all_one mark (m ∷ marks) all =
 so_many : (mark : Mark) (marks : List Mark) (count : ℕ) → length marks ≡ count → All (Is mark) marks → marks ≡ replicate count mark
 so_many mark marks count long all = subst (λ n. marks ≡ replicate n mark) long (all_one mark marks all)
 
--- a part sent before shows the marks of its end as they are
-shown_done : (again : ℕ) (sectors : List (List ℕ)) → map (shown_mark again) (map Done sectors) ≡ map Done sectors
-shown_done again [] = refl
-shown_done zero (x ∷ xs) = ap (λ ms. Done x ∷ ms) (shown_done zero xs)
-shown_done (suc n) (x ∷ xs) = ap (λ ms. Done x ∷ ms) (shown_done (suc n) xs)
-
 shown_failed : (again : ℕ) (status : NtStatus) → shown_mark again (Failed status) ≡ Failed status
 shown_failed zero status = refl
 shown_failed (suc n) status = refl
-
-shown_back : (again : ℕ) → shown_mark again Back ≡ Back
-shown_back zero = refl
-shown_back (suc n) = refl
 
 shown_many : (again count : ℕ) (mark : Mark) → map (shown_mark again) (replicate count mark) ≡ replicate count (shown_mark again mark)
 shown_many again zero mark = refl

@@ -1,18 +1,14 @@
 -- A part below, taken out of all others.
 use Rattle.std.proofs.Common.{◌≡◌, ◌⊎◌, inl, inr, ℕ, zero, suc, List, [], ◌∷◌, ◌++◌, refl, sym, ◌∙◌, ap, subst, arith, append_assoc}
 use Rattle.std.specs.Prelude.{IsPermutation, Contains}
-use Rattle.class_disk.proofs.Common.{IsPermutation-middle, IsPermutation-append_left, IsPermutation-append_comm, IsPermutation-map, Contains-append_cases, OpenRequest, Piece, IsSame}
+use Rattle.class_disk.proofs.Common.{IsPermutation-middle, IsPermutation-map, Contains-append_cases, OpenRequest, Piece, IsSame}
 use Rattle.class_disk.specs.inside.Joint.{Part, Below, Here, Divided, Joint, gathered, requests_of, pieces_of, lifted_pieces, parts_requests, parts_pieces, requests_below, pieces_below, shown, below, above}
 use Rattle.class_disk.proofs.CoupledSteps.{divided_with}
+use Rattle.class_disk.proofs.AnyOrder.{second_first}
 
 gathered-append : {X : Type 0} (of : Divided → List X) (es fs : List Divided) → gathered of (es ++ fs) ≡ gathered of es ++ gathered of fs
 gathered-append of [] fs = refl
 gathered-append of (e ∷ es) fs = ap (λ zs. of e ++ zs) (gathered-append of es fs) ∙ sym (append_assoc (of e) (gathered of es) (gathered of fs))
-
-pub second_first : {X : Type 0} (xs ys zs : List X) → IsPermutation (xs ++ (ys ++ zs)) (ys ++ (xs ++ zs))
-second_first xs ys zs =
-    subst (λ ws. IsPermutation ws (ys ++ (xs ++ zs))) (append_assoc xs ys zs)
-    (subst (λ ws. IsPermutation ((xs ++ ys) ++ zs) ws) (append_assoc ys xs zs) (IsPermutation-append_left zs _ _ (IsPermutation-append_comm xs ys)))
 
 pub gathered_first : {X : Type 0} (of : Divided → List X) (es : List Divided) (e : Divided) (fs : List Divided) → IsPermutation (gathered of (es ++ (e ∷ fs))) (gathered of (e ∷ (es ++ fs)))
 gathered_first of es e fs =

@@ -38,7 +38,7 @@ sent_by rules part (Below n spot) number again h =
     (spot, ap (λ m. Below m spot) a, b)
 
 -- of those that have ended there are fewer, where one has not
-ended_few : (xs : List (ℕ × Opened)) → length (ended_in xs) ≤ length xs
+pub ended_few : (xs : List (ℕ × Opened)) → length (ended_in xs) ≤ length xs
 ended_few [] = omega arith
 ended_few (x ∷ xs) = by (x.1.unfinished == 0) (ended_few xs)
   where

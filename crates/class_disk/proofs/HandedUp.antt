@@ -1,5 +1,5 @@
 -- What goes up with a request that has ended: its bytes, its status and its packet.
-use Rattle.class_disk.proofs.Common.{Places, concat, cases_Bool, eqb-true, IsPermutation-refl, IsPermutation-map, All-nil, All-head, Contains-get_or, All-permutation, NtStatus, Success, DeviceBusy, Climb, Payload, Climbs, moves_none, Kind, Read, Write, Flush, ClientRequest, Request, Rules, place_count, as_client, is_transfer, Mark, Done, IsStart, answer_bytes, bytes_of_mark, information, IsSame-refl, SetsRoom, HandsUp, cut, sectors_moved, part_count_of, part_request_of, goes_whole, lowest_status, joined_of, Opened, TableView, ClosedSlot, given_up, joined_up, payload_up, Completes, Known, parts_marks, IsMadeUp, noted_busy, view_of, note, packet_above, IsBuffered, IsWritten, IsWrittenBy, IsInHand, IsOpen}
+use Rattle.class_disk.proofs.Common.{concat, cases_Bool, eqb-true, IsPermutation-refl, IsPermutation-map, All-nil, All-head, Contains-get_or, All-permutation, NtStatus, Success, DeviceBusy, Climb, Payload, Climbs, moves_none, Kind, Read, Write, Flush, ClientRequest, Request, Rules, place_count, as_client, is_transfer, Mark, Done, IsStart, answer_bytes, bytes_of_mark, information, IsSame-refl, SetsRoom, HandsUp, cut, sectors_moved, part_count_of, part_request_of, goes_whole, lowest_status, joined_of, Opened, TableView, ClosedSlot, given_up, joined_up, payload_up, Completes, Known, parts_marks, IsMadeUp, noted_busy, view_of, note, packet_above, IsBuffered, IsWritten, IsWrittenBy, IsInHand, IsOpen}
 use Rattle.std.proofs.Common.{◌≡◌, ◌≢◌, ◌<◌, inl, inr, ℕ, ◌+◌, ◌*◌, Bool, true, false, List, [], ◌∷◌, Option, Some, None, refl, sym, ◌∙◌, ap, subst, arith, map, length, drop}
 use Rattle.std.specs.Prelude.{IsPermutation, All, slice_get, if◌then◌else◌}
 use Rattle.irp.specs.declared.Payload.TheVariants.{Buffer, Srb as Packed, Sent as AtAdapter}
@@ -13,10 +13,7 @@ use Rattle.class_disk.proofs.OnlyPart.{only_part}
 use Rattle.class_disk.proofs.PiecePlaces.{asked_at, as_many}
 use Rattle.class_disk.proofs.EndedBytes.{whole_places, places_in, places_marked, read_marks, flush_marks, write_marks, write_request, IsInRow, joined_long, concat_cut, all_done_are}
 use Rattle.class_disk.proofs.HandingUp.{rules, b', is_open, causes, ended, some_bytes, bounded_part, parts_kind, e, known_is, first_of_all, marks_are, status, bytes_up, answers_up}
-
-no_items : {X : Type 0} (xs : List X) → length xs ≡ 0 → xs ≡ []
-no_items [] h = refl
-no_items (x ∷ xs) h = absurd (omega arith)
+use Rattle.std.proofs.lemmas.List.{nil_from_length}
 
 -- as many bytes, whatever the request brings along
 info_same : (rules : Rules) (r : Request) (xs ys : List ℕ) (status : NtStatus) → information (as_client rules r xs) status ≡ information (as_client rules r ys) status
@@ -25,7 +22,7 @@ info_same rules r xs ys status = refl
 
 none_carried : (rules : Rules) (r : Request) (payload : Payload) → r.kind ≡ Flush → Carries false rules r payload → payload_bytes payload ≡ []
 none_carried rules r (Packed srb) kind h = absurd h
-none_carried rules r (Buffer bytes) kind h = no_items bytes (h ∙ ap (λ k. if is_transfer k then r.extent.count * rules.sector_size else 0) kind)
+none_carried rules r (Buffer bytes) kind h = nil_from_length bytes (h ∙ ap (λ k. if is_transfer k then r.extent.count * rules.sector_size else 0) kind)
 none_carried rules r AtAdapter kind h = absurd h
 
 bytes_joined : (rules : Rules) (r : Request) (payload : Payload) (parts : List Part) → Carries false rules r payload → payload_bytes (joined_up true payload parts) ≡ joined_of parts
@@ -175,7 +172,7 @@ module _ (v : DeviceView) (b : TableView) (h : IsInHand v b) (ordered : IsOrderl
       ∙ ap (λ n. map Done (cut n own_rules.sector_size (payload_bytes o.irp.payload))) (all_places all)
       ∙ ap moved_marks (sym (other (λ x. cc (x))))
 
-  module _ (climb : Climb) (places : Places) (c : Completes b.sizes o climb places) (held' : List ClosedSlot) (rooms' : List (Option Reserved))
+  module _ (climb : Climb) (parts : List Part) (c : Completes b.sizes o climb parts) (held' : List ClosedSlot) (rooms' : List (Option Reserved))
       (sets : SetsRoom b.rooms slot None (Some (record { request = o.request; whole = false })) rooms') where
     -- the table, with what it leaves behind
     abbrev pub left_now : TableView

@@ -1,26 +1,25 @@
 -- A request that has gone up leaves its room, and the class driver is in order again.
-use Rattle.std.proofs.Common.{◌≡◌, inl, ℕ, ◌+◌, ◌==◌, List, [], ◌∷◌, ◌++◌, refl, sym, ◌∙◌, ap, subst, arith, append_assoc}
+use Rattle.std.proofs.Common.{◌≡◌, inl, ℕ, ◌+◌, ◌==◌, List, [], ◌∷◌, ◌++◌, refl, sym, ◌∙◌, ap, subst, arith}
 use Rattle.std.specs.Prelude.{IsPermutation, All, if◌then◌else◌}
-use Rattle.class_disk.proofs.Common.{IsPermutation-refl, IsPermutation-sym, IsPermutation-trans, IsPermutation-append_left, IsPermutation-append_right, IsPermutation-map, All-permutation, length_permutation, All-cons, All-head, All-tail, Answer, Rules, AreDistinct, information, IsSame-refl, AreDistinct-Run, IsPermutation-uncons, DeviceView, IsOrderly, Climb, AllOut, Places, Opened, TableView, opened, left_as, all_open, ended_in, open_from, AddsSlot, TakesEnded, Completes, HasSome, IsOver, class_rules}
+use Rattle.class_disk.proofs.Common.{IsPermutation-sym, IsPermutation-trans, IsPermutation-append_left, IsPermutation-append_right, IsPermutation-map, All-permutation, length_permutation, All-cons, All-tail, Answer, Rules, AreDistinct, information, IsSame-refl, AreDistinct-Run, IsPermutation-uncons, DeviceView, IsOrderly, AllOut, Places, Opened, TableView, opened, all_open, ended_in, open_from, AddsSlot, TakesEnded, HasSome, IsOver, class_rules, held_as, All-nil, IsHere, AreLeft, IsBuffered, IsReadyPart, goes_whole}
 use Rattle.class_disk.proofs.Rooms.{out_any_order}
-use Rattle.class_disk.specs.inside.Owners.{IsOwnedBy, AreOwnedFrom}
 use Rattle.class_disk.specs.declared.parts.Part.{Part}
 use Rattle.class_disk.specs.inside.Parts.{tickets_of}
-use Rattle.class_disk.specs.inside.Driver.{known, knowns, view_of, tickets, tickets_held, tickets_open, IsCut, IsHeld, IsOpen, HaveCauses, AreAsked, AreSpotted, AreKept, AreBelow, IsCoupled, IsInHand}
+use Rattle.class_disk.specs.inside.Driver.{known, knowns, view_of, tickets, tickets_held, tickets_open, IsHeld, IsOpen, HaveCauses, AreAsked, AreSpotted, AreKept, AreBelow, IsCoupled, IsInHand}
 use Rattle.class_disk.proofs.AnyOrder.{second_first, rooms_same, held_same, ended_same, left_same}
 use Rattle.class_disk.proofs.Finishing.{in_hand_again}
-use Rattle.class_disk.proofs.EndedParts.{IsEndedPart, ended_here}
-use Rattle.class_disk.proofs.PartsLeft.{requests_left, tickets_left, ended_left_parts}
+use Rattle.class_disk.proofs.EndedParts.{ended_here}
+use Rattle.class_disk.proofs.PartsLeft.{tickets_left, ended_left_parts}
 use Rattle.class_disk.proofs.Slots.{Slots}
 use Rattle.class_disk.proofs.Standing.{IsApart}
-use Rattle.class_disk.proofs.HandingUp.{b', is_open, ended, j', same_others, knows_others, keeps_others, status, bytes_up, answers_up}
+use Rattle.class_disk.proofs.HandingUp.{b', ended, j', same_others, knows_others, keeps_others, status, bytes_up, answers_up}
 use Rattle.class_disk.proofs.Ended.{over_it}
 
 -- THE ROOM LEFT
 
 module _ (v : DeviceView) (b : TableView) (h : IsInHand v b) (ordered : IsOrderly v)
-    (slots : Slots) (of_slots : b.opens ≡ open_from 0 slots) (slot : ℕ) (o : Opened) (new : TableView) (t : TakesEnded b slot o new) (climb : Climb) (places : Places) (c : Completes new.sizes o climb places)
-    (last : TableView) (adds : AddsSlot new (left_as slot places) last) (apart : IsApart last) where
+    (slots : Slots) (of_slots : b.opens ≡ open_from 0 slots) (slot : ℕ) (o : Opened) (new : TableView) (t : TakesEnded b slot o new) (parts : List Part) (are : AreLeft o.parts parts)
+    (empty : Places) (none : empty.parts.items ≡ []) (last : TableView) (adds : AddsSlot new (held_as slot empty) last) where
   abbrev rules : Rules
   rules = class_rules v.rules
 
@@ -33,11 +32,8 @@ module _ (v : DeviceView) (b : TableView) (h : IsInHand v b) (ordered : IsOrderl
   is_left : last ≡ left
   is_left = adds.after ∙ ap (λ (x : TableView). record x { held = last.held; rooms = last.rooms }) t.after
 
-  one_more : IsPermutation last.held (left_as slot places ∷ b.held)
-  one_more = subst (λ hs. IsPermutation last.held (left_as slot places ∷ hs)) (ap (λ (x : TableView). x.held) t.after) adds.more
-
-  own : IsOpen rules b.owners (slot, o)
-  own = is_open v b h ordered slot o new.opens new.ended t.opens over
+  one_more : IsPermutation last.held (held_as slot empty ∷ b.held)
+  one_more = subst (λ hs. IsPermutation last.held (held_as slot empty ∷ hs)) (ap (λ (x : TableView). x.held) t.after) adds.more
 
   open_others : IsPermutation (all_open b) (o ∷ all_open left)
   open_others = IsPermutation-map opened _ _ t.opens
@@ -45,22 +41,13 @@ module _ (v : DeviceView) (b : TableView) (h : IsInHand v b) (ordered : IsOrderl
   fewer : (P : Opened → Type 0) → All P (all_open b) → All P (all_open left)
   fewer P all = All-tail P o (all_open left) (All-permutation P _ _ open_others all)
 
-  -- parts that have ended belong to nobody any more
-  none_owned : (k : ℕ) (parts : List Part) → All IsEndedPart parts → AreOwnedFrom b.owners slot k parts
-  none_owned k [] all = tt
-  none_owned k (part ∷ parts) all = (subst (IsOwnedBy b.owners slot k) (sym (All-head IsEndedPart part parts all).is) tt, none_owned (k + 1) parts (All-tail IsEndedPart part parts all))
-
-  room_left : IsHeld rules b.owners (left_as slot places)
-  room_left =
-      let all = ended v b h ordered slot o new.opens new.ended t.opens over in
-      record {
-        cut = subst (λ r. IsCut rules r places.parts.items) (sym c.request)
-            (record { bounded = own.cut.bounded; parts_are = requests_left o.parts places.parts.items c.parts ∙ own.cut.parts_are });
-        here = ended_here places.parts.items (ended_left_parts o.parts places.parts.items c.parts all);
-        buffered = λ whole. absurd (cc (whole));
-        owned = none_owned 0 places.parts.items (ended_left_parts o.parts places.parts.items c.parts all);
-        ready = λ whole. absurd (cc (whole));
-      }
+  room_left : IsHeld rules b.owners (held_as slot empty)
+  room_left = subst (λ ps. IsHeld rules b.owners (record { slot = slot; request = empty.request; parts = ps })) (sym none) (record {
+    cut = λ whole. absurd (cc (whole));
+    buffered = All-nil (IsBuffered rules (goes_whole rules.max_transfer empty.request));
+    owned = tt;
+    ready = All-nil IsReadyPart;
+  })
 
   ended_left : IsPermutation left.ended (ended_in left.opens)
   ended_left =
@@ -71,7 +58,7 @@ module _ (v : DeviceView) (b : TableView) (h : IsInHand v b) (ordered : IsOrderl
   kept_left : AreKept rules left
   kept_left = record {
     sizes = h.kept.sizes;
-    in_hand = All-permutation (IsHeld rules b.owners) _ _ (IsPermutation-sym _ _ one_more) (All-cons (IsHeld rules b.owners) (left_as slot places) b.held room_left h.kept.in_hand);
+    in_hand = All-permutation (IsHeld rules b.owners) _ _ (IsPermutation-sym _ _ one_more) (All-cons (IsHeld rules b.owners) (held_as slot empty) b.held room_left h.kept.in_hand);
     opens = All-tail (IsOpen rules b.owners) (slot, o) new.opens (All-permutation (IsOpen rules b.owners) _ _ t.opens h.kept.opens);
     ended = ended_left;
     places = let a = h.kept.places in let n = length_permutation _ _ t.opens in let m = length_permutation _ _ one_more in omega (arith, a, n, m);
@@ -79,49 +66,62 @@ module _ (v : DeviceView) (b : TableView) (h : IsInHand v b) (ordered : IsOrderl
     budget = let a = h.kept.budget in let n = left_same _ _ t.opens in omega (arith, a, n);
   }
 
-  below_left : AreBelow v left
-  below_left =
-      let ks : IsPermutation (knowns rules b) (known rules o ∷ knowns rules left) = IsPermutation-map (known rules) _ _ open_others in
-      record {
-        removing = h.below.removing;
-        next_number = h.below.next_number;
-        sent = h.below.sent;
-        submitted = h.below.submitted;
-        asked = fewer (AreAsked rules v.state.requests) h.below.asked;
-        spotted = fewer (AreSpotted v.packets) h.below.spotted;
-        topmost = h.below.topmost;
-        some = All-tail (HasSome rules) (known rules o) (knowns rules left) (All-permutation (HasSome rules) _ _ ks h.below.some);
-        over = All-tail (IsOver 17 v.state.removing) (known rules o) (knowns rules left) (All-permutation (IsOver 17 v.state.removing) _ _ ks h.below.over);
-      }
-
-  rooms_left : AllOut v (tickets left)
-  rooms_left =
-      out_any_order v _ _ (IsPermutation-trans _ _ _ (IsPermutation-append_right (tickets_held b.held) _ _ (rooms_same _ _ open_others))
+  -- the rooms of its parts come first, and none of these is below
+  rooms_first : AllOut v (tickets_of parts ++ tickets left)
+  rooms_first =
+      let held : IsPermutation (tickets_held last.held) (tickets_held b.held) = subst (λ ps. IsPermutation (tickets_held last.held) (tickets_of ps ++ tickets_held b.held)) none (held_same _ _ one_more) in
+      subst (λ ts. AllOut v (ts ++ tickets left)) (sym (tickets_left o.parts parts are))
+      (out_any_order v _ _ (IsPermutation-trans _ _ _ (IsPermutation-append_right (tickets_held b.held) _ _ (rooms_same _ _ open_others))
       (IsPermutation-trans _ _ _ (second_first (tickets_held b.held) (tickets_of o.parts) (tickets_open (all_open left)))
-      (IsPermutation-trans _ _ _ (subst (λ ts. IsPermutation (tickets_of o.parts ++ (tickets_held b.held ++ tickets_open (all_open left))) ((ts ++ tickets_held b.held) ++ tickets_open (all_open left))) (sym (tickets_left o.parts places.parts.items c.parts))
-      (subst (IsPermutation (tickets_of o.parts ++ (tickets_held b.held ++ tickets_open (all_open left)))) (sym (append_assoc (tickets_of o.parts) (tickets_held b.held) (tickets_open (all_open left)))) (IsPermutation-refl _)))
-      (IsPermutation-append_left (tickets_open (all_open left)) _ _ (IsPermutation-sym _ _ (held_same _ _ one_more)))))) h.rooms_out
+      (IsPermutation-append_right (tickets_of o.parts) _ _ (IsPermutation-append_left (tickets_open (all_open left)) _ _ (IsPermutation-sym _ _ held))))) h.rooms_out)
 
-  coupled_left : IsCoupled v left
-  coupled_left = record {
-    j = j' v b h ordered slot o new.opens new.ended t.opens over;
-    same = same_others v b h ordered slot o new.opens new.ended t.opens over;
-    knows = knows_others v b h ordered slot o new.opens new.ended t.opens over;
-    next_above = h.coupled.next_above;
-    keeps = keeps_others v b h ordered slot o new.opens new.ended t.opens over;
-  }
+  pub parts_first : AllOut v (tickets_of parts ++ tickets last)
+  parts_first = subst (λ x. AllOut v (tickets_of parts ++ tickets x)) (sym is_left) rooms_first
 
-  distinct_left : AreDistinct (view_of v left).state
-  distinct_left =
-      let answers = answers_up v b h ordered slot o new.opens new.ended t.opens over in
-      let st = status v b h ordered slot o new.opens new.ended t.opens over in
-      let informed : ℕ = information answers.request.request st in
-      AreDistinct-Run rules (view_of v b).state (Answer o.irp.number st informed (bytes_up v b h ordered slot o new.opens new.ended t.opens over) ∷ []) (view_of v left).state h.orderly.distinct
-      ((view_of v left).state, inl (refl, record { answers = answers; informs = refl }), IsSame-refl _)
+  pub parts_here : All IsHere parts
+  parts_here = ended_here parts (ended_left_parts o.parts parts are (ended v b h ordered slot o new.opens new.ended t.opens over))
 
-  pub in_hand_left : IsInHand v last
-  in_hand_left =
-      subst (IsInHand v) (sym is_left)
-      (in_hand_again v left v
-      (record { port = h.port; rooms_out = rooms_left; kept = kept_left; below = below_left; apart = subst IsApart is_left apart })
-      coupled_left h.sound h.counted ordered distinct_left (record { unfinished = h.unfinished; settled = h.settled; same = refl }))
+  -- THE ROOMS BELOW ARE GIVEN BACK
+  module _ (v' : DeviceView) (same : v' ≡ record v { rooms = v'.rooms }) (out : AllOut v' (tickets last)) (apart : IsApart last) where
+    abbrev freed : DeviceView
+    freed = record v { rooms = v'.rooms }
+
+    below_left : AreBelow freed left
+    below_left =
+        let ks : IsPermutation (knowns rules b) (known rules o ∷ knowns rules left) = IsPermutation-map (known rules) _ _ open_others in
+        record {
+          removing = h.below.removing;
+          next_number = h.below.next_number;
+          sent = h.below.sent;
+          submitted = h.below.submitted;
+          asked = fewer (AreAsked rules v.state.requests) h.below.asked;
+          spotted = fewer (AreSpotted v.packets) h.below.spotted;
+          topmost = h.below.topmost;
+          some = All-tail (HasSome rules) (known rules o) (knowns rules left) (All-permutation (HasSome rules) _ _ ks h.below.some);
+          over = All-tail (IsOver 17 v.state.removing) (known rules o) (knowns rules left) (All-permutation (IsOver 17 v.state.removing) _ _ ks h.below.over);
+        }
+
+    coupled_left : IsCoupled freed left
+    coupled_left = record {
+      j = j' v b h ordered slot o new.opens new.ended t.opens over;
+      same = same_others v b h ordered slot o new.opens new.ended t.opens over;
+      knows = knows_others v b h ordered slot o new.opens new.ended t.opens over;
+      next_above = h.coupled.next_above;
+      keeps = keeps_others v b h ordered slot o new.opens new.ended t.opens over;
+    }
+
+    distinct_left : AreDistinct (view_of v left).state
+    distinct_left =
+        let answers = answers_up v b h ordered slot o new.opens new.ended t.opens over in
+        let st = status v b h ordered slot o new.opens new.ended t.opens over in
+        let informed : ℕ = information answers.request.request st in
+        AreDistinct-Run rules (view_of v b).state (Answer o.irp.number st informed (bytes_up v b h ordered slot o new.opens new.ended t.opens over) ∷ []) (view_of v left).state h.orderly.distinct
+        ((view_of v left).state, inl (refl, record { answers = answers; informs = refl }), IsSame-refl _)
+
+    pub in_hand_left : IsInHand v' last
+    in_hand_left =
+        let rooms_out : AllOut freed (tickets left) = subst (λ x. AllOut x (tickets left)) same (subst (λ x. AllOut v' (tickets x)) is_left out) in
+        subst (λ x. IsInHand x last) (sym same) (subst (IsInHand freed) (sym is_left)
+        (in_hand_again freed left freed
+        (record { port = h.port; rooms_out = rooms_out; kept = kept_left; below = below_left; apart = subst IsApart is_left apart })
+        coupled_left h.sound h.counted rooms_out.orderly distinct_left (record { unfinished = h.unfinished; settled = h.settled; same = refl })))

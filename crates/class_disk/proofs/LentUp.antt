@@ -1,6 +1,6 @@
 -- The buffer that was lent to the only part of a request, as it goes up.
 use Rattle.class_disk.proofs.Common.{◌≡◌, ℕ, ◌+◌, ◌-◌, ◌*◌, true, false, List, [], ◌∷◌, refl, sym, ◌∙◌, ap, subst, arith, length, take, slice_range, Success, DeviceBusy, Payload, Write, Flush, Request, Rules, Carries, payload_bytes, transfer_length, Outcome, payload_in, given_of, given_by, HoldsData, bytes_by, joined_of, status_by, status_or, failure_of, failure_by, lowest_status, bytes_from, given_up, IsBuffered, IsBufferedBy, IsWrittenBy}
-use Rattle.std.proofs.lemmas.List.{append-nil}
+use Rattle.std.proofs.lemmas.List.{append-nil, take_all}
 use Rattle.irp.specs.declared.Payload.TheVariants.{Buffer, Srb as Packed, Sent as AtAdapter}
 use Rattle.class_disk.specs.declared.parts.Part.{Part}
 use Rattle.class_disk.specs.declared.parts.Outcome.TheVariants.{Good, Failed as IsBad, Busy, Withdrawn}
@@ -18,17 +18,10 @@ given_carries rules r (Packed srb) h = h
 given_carries rules r (Buffer bytes) h = h
 given_carries rules r AtAdapter h = absurd h
 
-take_all : (xs : List ℕ) (n : ℕ) → length xs ≡ n → take n xs ≡ xs
-take_all xs n long = subst (λ m. take m xs ≡ xs) long (all xs)
-  where
-    all : (ys : List ℕ) → take (length ys) ys ≡ ys
-    all [] = refl
-    all (y ∷ ys) = ap (λ zs. y ∷ zs) (all ys)
-
 -- all bytes of a request, from its first on
 range_all : (xs : List ℕ) (from long : ℕ) → from ≡ 0 → length xs ≡ long → slice_range xs from (from + long) ≡ xs
 range_all xs from long none all =
-    ap (λ n. slice_range xs n (n + long)) none ∙ ap (λ n. take n xs) (omega arith) ∙ take_all xs long all
+    ap (λ n. slice_range xs n (n + long)) none ∙ ap (λ n. take n xs) (omega arith) ∙ take_all long xs (omega (arith, all))
 
 nothing : (n : ℕ) → n - n ≡ 0
 nothing n = omega arith
@@ -69,7 +62,7 @@ module _ (rules : Rules) (r : Request) (payload : Payload) (part : Part) (e : Is
       let from : bytes_from rules.sector_size r part.request ≡ 0 =
       ap (λ (q : Request). (q.extent.first - r.extent.first) * rules.sector_size) asks ∙ ap (λ n. n * rules.sector_size) (nothing r.extent.first) ∙ omega arith in
       let long : length (payload_bytes payload) ≡ transfer_length rules part.request = long_of payload carries ∙ ap (transfer_length rules) (sym asks) in
-      bytes_are ∙ sym (take_all (payload_bytes back) (transfer_length rules part.request) both.1) ∙ both.0
+      bytes_are ∙ sym (take_all (transfer_length rules part.request) (payload_bytes back) (let n = both.1 in omega arith)) ∙ both.0
       ∙ range_all (payload_bytes payload) (bytes_from rules.sector_size r part.request) (transfer_length rules part.request) from long
 
   pub flush_alone : r.kind ≡ Flush → payload_bytes (given_up (part ∷ [])) ≡ []

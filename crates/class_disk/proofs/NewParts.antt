@@ -1,9 +1,10 @@
 -- Parts that were made for a request, one by one, and what a list of them all is.
-use Rattle.std.proofs.Common.{◌≡◌, ◌⊎◌, inl, inr, ℕ, zero, suc, ◌+◌, List, [], ◌∷◌, ◌++◌, Some, Bool, true, false, if◌then◌else◌, refl, sym, ◌∙◌, ap, subst, arith, map, length}
+use Rattle.std.proofs.Common.{◌≡◌, ◌⊎◌, inl, inr, ℕ, zero, suc, ◌+◌, List, [], ◌∷◌, ◌++◌, Some, Bool, true, false, if◌then◌else◌, refl, sym, ◌∙◌, ap, subst, arith, map, length, ◌<◌}
 use Rattle.std.specs.Prelude.{All, slice_get}
-use Rattle.class_disk.proofs.Common.{range_with_len, length_push, All-nil, All-cons, Request, piece_of, Rules, is_transfer, Sizes, goes_whole, AreSizes, part_count_of, part_request_of, requests_for, HasBuffers, IsHere, IsHereBy, PartId, AreOwnedFrom, ClosedSlot, IsBounded, IsNewPart, AreNewParts}
+use Rattle.class_disk.proofs.Common.{range_with_len, length_push, All-nil, All-cons, Request, piece_of, Rules, is_transfer, Sizes, goes_whole, AreSizes, part_count_of, part_request_of, requests_for, HasBuffers, IsHere, IsHereBy, PartId, AreOwnedFrom, ClosedSlot, IsBounded, IsNewPart, AreNewParts, is_whole}
 use Rattle.class_disk.specs.declared.parts.Part.{Part}
 use Rattle.class_disk.specs.inside.Driver.{IsCut, IsHeld, request_of_part, IsReadyPart, IsReadyBy, IsBuffered, IsBufferedBy}
+use Rattle.class_disk.proofs.PiecePlaces.{parts_some}
 
 -- the item behind a list is the last one
 get_behind : {X : Type 0} (xs : List X) (x y : X) (k : ℕ) → slice_get (xs ++ x ∷ []) k ≡ Some y
@@ -104,12 +105,19 @@ module _ (sizes : Sizes) (r : Request) where
   pub new_held : (rules : Rules) (owners : List PartId) (held : ClosedSlot) → held.request ≡ r → AreSizes sizes rules → IsBounded rules r
       → AreNewParts sizes r (part_count_of sizes.max_transfer r) held.parts → AreOwnedFrom owners held.slot 0 held.parts → IsHeld rules owners held
   new_held rules owners held is are bounded h owned = record {
-    cut = subst (λ q. IsCut rules q held.parts) (sym is) (record {
+    cut = λ whole. subst (λ q. IsCut rules q held.parts) (sym is) (record {
       bounded = bounded;
       parts_are = new_requests _ held.parts h rules.max_transfer are.max_transfer (ap (λ n. part_count_of n r) are.max_transfer);
     });
-    here = new_here _ held.parts h;
-    buffered = λ whole. subst (λ q. All (IsBuffered rules (goes_whole rules.max_transfer q)) held.parts) (sym is) (new_buffered _ held.parts h rules are.sector_size are.max_transfer are.keeps_bytes);
+    buffered = subst (λ q. All (IsBuffered rules (goes_whole rules.max_transfer q)) held.parts) (sym is) (new_buffered _ held.parts h rules are.sector_size are.max_transfer are.keeps_bytes);
     owned = owned;
-    ready = λ whole. new_ready _ held.parts h;
+    ready = new_ready _ held.parts h;
   }
+
+  -- and there are some
+  pub new_whole : (rules : Rules) → AreSizes sizes rules → 0 < rules.max_transfer → IsBounded rules r → (parts : List Part)
+      → AreNewParts sizes r (part_count_of sizes.max_transfer r) parts → is_whole parts ≡ true
+  new_whole rules are some bounded [] h =
+      let n = parts_some sizes.max_transfer r (subst (λ m. 0 < m) (sym are.max_transfer) some) bounded.some in
+      absurd (let l = h.long in omega arith)
+  new_whole rules are some bounded (part ∷ parts) h = refl

@@ -168,15 +168,15 @@ module _ (v : DeviceView) (b : TableView) (h : IsInHand v b) (slot : ℕ) (irp :
 
   pub opens_above : Opens rules (view_of v b).state irp.number q first_above
   opens_above = opens_new rules h.coupled.j irp.number q counts covers (view_of v b).state (shows v b h) high
-      (not_refused rules opens.held.request (sent_bytes opens.held.request.kind irp.payload) (view_of v b).state h.kept.sizes.whole.some_bytes h.port.uncounted (held_there rules b slot irp b1 opens h.kept).cut.bounded stays)
+      (not_refused rules opens.held.request (sent_bytes opens.held.request.kind irp.payload) (view_of v b).state h.kept.sizes.whole.some_bytes h.port.uncounted ((held_there rules b slot irp b1 opens h.kept).cut opens.whole).bounded stays)
       (carries_bytes false rules opens.held.request irp.payload carries)
 
   pub taking_opened : IsTaking rules first_above [] v.state (knowns rules b1)
   taking_opened =
       let new : record { number = irp.number; request = q; cancelled = false; parts = map new_note counts } ≡ known rules (new_opened irp opens.held.request opens.held.parts) =
-      ap (λ ns. record { number = irp.number; request = q; cancelled = false; parts = ns }) (sym (notes_ready rules opens.held.parts ((held_there rules b slot irp b1 opens h.kept).ready opens.whole)))
+      ap (λ ns. record { number = irp.number; request = q; cancelled = false; parts = ns }) (sym (notes_ready rules opens.held.parts ((held_there rules b slot irp b1 opens h.kept).ready)))
       ∙ ap (λ c. record { number = irp.number; request = q; cancelled = c; parts = map (note rules) opens.held.parts }) (sym timely) in
-      let cut : AreCut rules.max_transfer counts = parts_cut rules opens.held.request opens.held.parts h.kept.sizes.whole.some_bytes h.port.some_transfer (held_there rules b slot irp b1 opens h.kept).cut in
+      let cut : AreCut rules.max_transfer counts = parts_cut rules opens.held.request opens.held.parts h.kept.sizes.whole.some_bytes h.port.some_transfer ((held_there rules b slot irp b1 opens h.kept).cut opens.whole) in
       let permuted : IsPermutation (known rules (new_opened irp opens.held.request opens.held.parts) ∷ knowns rules b) (knowns rules b1) = IsPermutation-sym _ _ (IsPermutation-map (known rules) _ _ (IsPermutation-map opened _ _ opens.opens)) in
       taking_permuted rules first_above [] v.state _ _ (subst (λ (x : Known). IsPermutation (x ∷ knowns rules b) (knowns rules b1)) (sym new) permuted)
       (taking_new rules h.coupled.j irp.number q counts covers refl v.state (knowns rules b) h.coupled.same h.coupled.knows cut before h.coupled.keeps h.sound (subst (λ r. AreCounted r v.state) (port_rules h.port) h.counted))

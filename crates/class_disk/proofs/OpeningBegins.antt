@@ -6,7 +6,7 @@ use Rattle.class_disk.specs.declared.parts.Part.{Part}
 use Rattle.class_disk.specs.declared.parts.Progress.TheVariants.{Ready, Below, Ended as HasEnded}
 use Rattle.class_disk.proofs.Rooms.{out_any_order}
 use Rattle.class_disk.proofs.NewRequest.{held_there}
-use Rattle.class_disk.specs.inside.Driver.{view_of, known, knowns, tickets, tickets_held, tickets_open, IsInHand, IsReadyBy, IsReadyPart, IsHeld, IsWrittenBy, IsAskedBy, IsSpottedBy, AreAsked, AreSpotted}
+use Rattle.class_disk.specs.inside.Driver.{view_of, known, knowns, tickets, tickets_held, tickets_open, IsInHand, IsReadyBy, IsReadyPart, IsHeld, IsWrittenBy, IsAskedBy, IsSpottedBy, AreAsked, AreSpotted, IsCut}
 use Rattle.class_disk.specs.inside.Parts.{IsDown, restarts_of, tickets_of}
 use Rattle.class_disk.proofs.AnyOrder.{rooms_same, held_same, ended_same, left_same}
 use Rattle.class_disk.proofs.Cutting.{can_cut}
@@ -57,8 +57,11 @@ module _ (v : DeviceView) (b : TableView) (h : IsInHand v b) (slot : ℕ) (irp :
   is_room : IsHeld rules b.owners opens.held
   is_room = held_there rules b slot irp b1 opens h.kept
 
+  is_cut : IsCut rules opens.held.request parts
+  is_cut = is_room.cut opens.whole
+
   is_ready : All IsReadyPart parts
-  is_ready = is_room.ready opens.whole
+  is_ready = is_room.ready
 
   each : (P : Part → Progress → Type 0) → ((x : Part) (unsent : _) → P x (Ready unsent)) → All (λ (x : Part). P x x.progress) parts
   each P holds = All-weaker IsReadyPart (λ (x : Part). P x x.progress) (ready_holds P holds) parts is_ready
@@ -70,18 +73,18 @@ module _ (v : DeviceView) (b : TableView) (h : IsInHand v b) (slot : ℕ) (irp :
   one_more P own all = All-permutation P _ _ (IsPermutation-sym _ _ open_first) (All-cons P o (all_open b) own all)
 
   long : length parts ≡ part_count_of rules.max_transfer opens.held.request
-  long = as_many (part_request_of rules.max_transfer opens.held.request) 0 (part_count_of rules.max_transfer opens.held.request) parts is_room.cut.parts_are
+  long = as_many (part_request_of rules.max_transfer opens.held.request) 0 (part_count_of rules.max_transfer opens.held.request) parts is_cut.parts_are
 
   few_parts : length parts ≤ 2 ^ 16
   few_parts =
-      let c = can_cut v b.sizes opens.held.request h.port h.rooms_out.orderly h.kept.sizes is_room.cut.bounded in
+      let c = can_cut v b.sizes opens.held.request h.port h.rooms_out.orderly h.kept.sizes is_cut.bounded in
       let n : part_count_of rules.max_transfer opens.held.request ≤ 2 ^ 16 =
       subst (λ m. part_count_of m opens.held.request ≤ 2 ^ 16) h.kept.sizes.max_transfer c.count in
       let e = long in
       omega arith
 
   some_part : 0 < length parts
-  some_part = let e = long in let n = parts_some rules.max_transfer opens.held.request h.port.some_transfer is_room.cut.bounded.some in omega arith
+  some_part = let e = long in let n = parts_some rules.max_transfer opens.held.request h.port.some_transfer is_cut.bounded.some in omega arith
 
   rooms_open : AllOut v (tickets b_new)
   rooms_open =
@@ -118,9 +121,9 @@ module _ (v : DeviceView) (b : TableView) (h : IsInHand v b) (slot : ℕ) (irp :
     sizes = h.kept.sizes;
     in_hand = All-tail (IsHeld rules b.owners) opens.held b1.held (All-permutation (IsHeld rules b.owners) _ _ opens.fewer h.kept.in_hand);
     opens = h.kept.opens;
-    cut = record { bounded = is_room.cut.bounded; parts_are = is_room.cut.parts_are };
+    cut = record { bounded = is_cut.bounded; parts_are = is_cut.parts_are };
     carries = carries;
-    buffered = is_room.buffered opens.whole;
+    buffered = is_room.buffered;
     written = each (λ x p. IsWrittenBy rules opens.held.request (payload_bytes irp.payload) x.request p) (λ x unsent. tt);
     owned = subst (λ n. AreOwnedFrom b.owners n 0 parts) opens.slot_is is_room.owned;
     lent = refl;
@@ -139,7 +142,7 @@ module _ (v : DeviceView) (b : TableView) (h : IsInHand v b) (slot : ℕ) (irp :
     topmost = h.below.topmost;
     some = All-permutation (HasSome rules) _ _ (IsPermutation-sym _ _ (IsPermutation-map (known rules) _ _ open_first))
         (All-cons (HasSome rules) (known rules o) (knowns rules b)
-        (places_some rules h.kept.sizes.whole.some_bytes opens.held.request is_room.cut.bounded) h.below.some);
+        (places_some rules h.kept.sizes.whole.some_bytes opens.held.request is_cut.bounded) h.below.some);
     over = h.below.over;
     none_ended = none_ended v.rules h.port v.state h.unfinished;
   })

@@ -1,21 +1,17 @@
 -- The rooms below of a list of parts, as parts are put behind it and taken off its end.
-use Rattle.std.proofs.Common.{◌≡◌, List, [], ◌∷◌, ◌++◌, Some, refl, sym, ◌∙◌, ap, subst, append_assoc}
+use Rattle.std.proofs.Common.{◌≡◌, List, [], ◌∷◌, ◌++◌, Some, sym, ap, subst, append_assoc}
 use Rattle.class_disk.proofs.Common.{IsPermutation, IsPermutation-sym, IsPermutation-append_left, IsPermutation-append_comm, DeviceView, Ticket, AllOut, Progress, TransferPacket}
 use Rattle.class_disk.proofs.Rooms.{out_any_order}
 use Rattle.class_disk.specs.declared.parts.Part.{Part}
 use Rattle.class_disk.specs.declared.parts.Progress.TheVariants.{Ready, Below, Ended}
 use Rattle.class_disk.specs.inside.Parts.{packet_by, ticket_for, ticket_by, tickets_of}
-
-tickets_joined : (xs ys : List Part) → tickets_of (xs ++ ys) ≡ tickets_of xs ++ tickets_of ys
-tickets_joined [] ys = refl
-tickets_joined (x ∷ xs) ys =
-    ap (λ zs. ticket_by x.request x.progress ++ zs) (tickets_joined xs ys) ∙ sym (append_assoc (ticket_by x.request x.progress) (tickets_of xs) (tickets_of ys))
+use Rattle.class_disk.proofs.Noting.{tickets_of-append}
 
 -- those of the last part come first
 last_first : (front : List Part) (part : Part) (others : List Ticket)
     → IsPermutation (tickets_of (front ++ part ∷ []) ++ others) (tickets_of (part ∷ []) ++ (tickets_of front ++ others))
 last_first front part others =
-    subst (λ ws. IsPermutation (ws ++ others) (tickets_of (part ∷ []) ++ (tickets_of front ++ others))) (sym (tickets_joined front (part ∷ [])))
+    subst (λ ws. IsPermutation (ws ++ others) (tickets_of (part ∷ []) ++ (tickets_of front ++ others))) (sym (tickets_of-append front (part ∷ [])))
     (subst (IsPermutation ((tickets_of front ++ tickets_of (part ∷ [])) ++ others))
     (append_assoc (tickets_of (part ∷ [])) (tickets_of front) others)
     (IsPermutation-append_left others _ _ (IsPermutation-append_comm (tickets_of front) (tickets_of (part ∷ [])))))

@@ -2,6 +2,7 @@
 use Rattle.std.proofs.Common.{◌≡◌, ◌<◌, ℕ, zero, suc, ◌+◌, List, [], ◌∷◌, Option, Some, refl, sym, ◌∙◌, ap, subst, arith, map, length, drop}
 use Rattle.class_disk.proofs.Common.{slice_get, slice_get_within, DeviceView, below_by, Opened, TableView, open_at, IsPartAt, CancelsBelow, CancelsAll, packet_of_part}
 use Rattle.class_disk.specs.declared.parts.Part.{Part}
+use Rattle.std.proofs.lemmas.List.{drop_all}
 
 -- what stands at a place, and all behind it
 pub at_place : {X : Type 0} (xs : List X) (k : ℕ) → k < length xs → (x : X) × (slice_get xs k ≡ Some x) × (drop k xs ≡ x ∷ drop (k + 1) xs)
@@ -11,10 +12,6 @@ at_place (x ∷ xs) (suc k) low =
     let r = at_place xs k (omega arith) in
     let e : suc k + 1 ≡ suc (k + 1) = omega arith in
     (r.0, r.1, r.2 ∙ ap (λ n. r.0 ∷ drop n (x ∷ xs)) (sym e))
-
-pub drop_whole : {X : Type 0} (xs : List X) → drop (length xs) xs ≡ []
-drop_whole [] = refl
-drop_whole (x ∷ xs) = drop_whole xs
 
 pub found_same : {X : Type 0} (x : Option X) (y z : X) → x ≡ Some y → x ≡ Some z → y ≡ z
 found_same x y z a b = cc (a, b)
@@ -48,4 +45,4 @@ module _ (v : DeviceView) (b : TableView) (slot : ℕ) where
   pub cancels_all : (k count : ℕ) (v' : DeviceView) → k ≡ count → ((o : Opened) → open_at slot b.opens ≡ Some o → count ≡ length o.parts) → CancelsSoFar v b slot k v' → (o : Opened) → open_at slot b.opens ≡ Some o → CancelsAll v (map packet_of_part o.parts) v'
   cancels_all k count v' at_end counts h o is_open =
       let n : k ≡ length o.parts = at_end ∙ counts o is_open in
-      h.goes_on o is_open v' (subst (λ ps. CancelsAll v' (map packet_of_part ps) v') (sym (ap (λ m. drop m o.parts) n ∙ drop_whole o.parts)) refl)
+      h.goes_on o is_open v' (subst (λ ps. CancelsAll v' (map packet_of_part ps) v') (sym (ap (λ m. drop m o.parts) n ∙ drop_all (length o.parts) o.parts (omega arith))) refl)

@@ -1,7 +1,7 @@
 -- The parts that a packet leaves behind.
-use Rattle.std.proofs.Common.{◌≡◌, ◌<◌, ℕ, suc, List, [], ◌∷◌, ◌++◌, refl, sym, ◌∙◌, ap, subst, arith, map, length, take, drop, get_or}
+use Rattle.std.proofs.Common.{◌≡◌, ◌<◌, ℕ, suc, List, [], ◌∷◌, ◌++◌, refl, sym, ◌∙◌, ap, subst, arith, length, take, drop, get_or}
 use Rattle.std.specs.Prelude.{All, slice_set}
-use Rattle.class_disk.proofs.Common.{take-append_seam, All-nil, All-cons, All-head, All-tail, Request, Room, whole_for, Progress, request_of_part}
+use Rattle.class_disk.proofs.Common.{take-append_seam, All-nil, All-cons, All-head, All-tail, Request, Room, whole_for, Progress}
 use Rattle.class_disk.specs.declared.parts.Part.{Part}
 use Rattle.class_disk.specs.declared.parts.Progress.TheVariants.{Ready, Below, Ended as HasEnded}
 use Rattle.class_disk.specs.inside.Parts.{ticket_by, tickets_of, IsLeftBy, IsLeft, AreLeft}
@@ -32,12 +32,6 @@ left_whole was now len is h =
 pub left_first : (parts : List Part) (found now : Part) → 0 < length parts → IsLeft (get_or parts 0 found) now → AreLeft parts (slice_set parts 0 now)
 left_first [] found now some h = absurd (omega (arith, some))
 left_first (part ∷ parts) found now some h = (h, left_same parts)
-
-pub requests_left : (was now : List Part) → AreLeft was now → map request_of_part now ≡ map request_of_part was
-requests_left [] [] h = refl
-requests_left [] (part ∷ parts) h = absurd h
-requests_left (part ∷ parts) [] h = absurd h
-requests_left (part ∷ parts) (left ∷ rest) h = ap (λ r. r ∷ map request_of_part rest) h.0.request ∙ ap (λ rs. part.request ∷ rs) (requests_left parts rest h.1)
 
 ticket_left : (r : Request) (was now : Progress) → IsLeftBy was now → ticket_by r now ≡ ticket_by r was
 ticket_left r (Ready place) now h = ap (ticket_by r) h

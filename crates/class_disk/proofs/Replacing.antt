@@ -1,7 +1,7 @@
 -- An open request is taken out of its slot, changed, and put back.
 use Rattle.std.proofs.Common.{◌≡◌, ◌≢◌, ℕ, zero, suc, ◌+◌, ◌==◌, true, false, if◌then◌else◌, List, [], ◌∷◌, ◌++◌, Option, Some, None, refl, sym, ◌∙◌, ap, subst, arith, get_or}
 use Rattle.class_disk.proofs.Common.{get, Slot, Transfer, Table, Opened, TableView, ClosedSlot, opened_of, open_from, held_from, rooms_from, open_at, put_at, books_of, TakesOut, PutsBack, ended_books}
-use Rattle.class_disk.specs.declared.requests.Slot.TheVariants.{Reserved, Open, Left}
+use Rattle.class_disk.specs.declared.requests.Slot.TheVariants.{Reserved, Open}
 use Rattle.class_disk.proofs.Slots.{Slots, put_here, put_later, is_there, rest_of, rest_is}
 use Rattle.class_disk.proofs.SlotChanges.{open_step, opens_split, same_slots, changes_in, keeps_rooms}
 
@@ -9,7 +9,6 @@ put_step : (slot first : ℕ) (z : Option Slot) (u : Opened) (later : List (ℕ 
     → open_step first z (put_at slot u later) ≡ put_at slot u (open_step first z later)
 put_step slot first None u later away = refl
 put_step slot first (Some (Reserved places)) u later away = refl
-put_step slot first (Some (Left places)) u later away = refl
 put_step slot first (Some (Open t)) u later away = sym (put_later slot first (opened_of t) u later away)
 
 put_is : (first at slot : ℕ) (slots slots' : Slots) (t u : Transfer) → slot ≡ first + at → get_or slots at None ≡ Some (Open t)

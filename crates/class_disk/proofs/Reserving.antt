@@ -1,7 +1,7 @@
 -- Rooms are made below, and given back: what the class driver shows, and that it stays in order.
-use Rattle.std.proofs.Common.{◌≡◌, ◌≤◌, ℕ, zero, suc, ◌+◌, ◌==◌, Bool, true, false, if◌then◌else◌, List, [], ◌∷◌, ◌++◌, Option, Result, Ok, Err, refl, sym, ◌∙◌, ap, subst, arith, append_assoc, map, length}
+use Rattle.std.proofs.Common.{◌≡◌, ◌≤◌, ℕ, zero, suc, ◌+◌, List, [], ◌∷◌, ◌++◌, Option, Result, Ok, Err, refl, sym, ◌∙◌, ap, subst, arith, append_assoc, map, length}
 use Rattle.std.specs.Prelude.{IsPermutation, All, Any, OnErr}
-use Rattle.class_disk.proofs.Common.{map-append, All-nil, All-cons, All-head, All-tail, All-weaker, IsPermutation-sym, IsPermutation-append_left, All-permutation, length_permutation, Extent, Request, Rules, AdapterView, reserves_none, ticket_spot, AllOut, Reserves, Frees, IsAt, PartId, Progress, Opened, TableView, ClosedSlot, opened, all_open, ended_in, reserved_for, Places, class_rules, RemovesSlot, StaysOwned, StaysTaken}
+use Rattle.class_disk.proofs.Common.{map-append, All-nil, All-cons, All-head, All-tail, All-weaker, IsPermutation-sym, IsPermutation-append_left, All-permutation, length_permutation, Extent, Request, Rules, AdapterView, reserves_none, ticket_spot, AllOut, Reserves, Frees, IsAt, PartId, Progress, Opened, TableView, ClosedSlot, opened, all_open, reserved_for, Places, class_rules, RemovesSlot, StaysOwned, StaysTaken, IsReadyPart, IsReadyBy, IsHereBy}
 use Rattle.class_disk.proofs.Rooms.{out_any_order}
 use Rattle.class_disk.proofs.AnyOrder.{held_same}
 use Rattle.class_disk.proofs.Standing.{IsApart}
@@ -11,6 +11,7 @@ use Rattle.class_disk.specs.declared.parts.Progress.TheVariants.{Ready, Below, E
 use Rattle.class_disk.specs.inside.Parts.{IsHere, IsHereBy, ticket_by, tickets_of}
 use Rattle.class_disk.specs.inside.Owners.{IsOwner, IsOwnedBy, AreOwnedFrom}
 use Rattle.class_disk.specs.inside.Driver.{view_of, AreKept, IsInHand, IsHeld, IsOpen, IsSpotted, IsSpottedBy, AreSpotted, tickets, tickets_held, tickets_open}
+use Rattle.class_disk.proofs.Handed.{ended_few}
 
 -- WHOSE PARTS STAY WHERE THEY WERE
 
@@ -78,6 +79,15 @@ reserves_freed v v' same = subst (Reserves v) (sym same) (record { same = refl; 
 
 -- HELD AND OPEN, WITH THE OWNERS AS THEY ARE NOW
 
+-- a part that can be sent is not below
+ready_here : (part : Part) → IsReadyPart part → IsHere part
+ready_here part h = by part.progress h.1
+  where
+    by : (p : Progress) → IsReadyBy p → IsHereBy p
+    by (Ready place) is = tt
+    by (Below number spot) is = absurd is
+    by (Ended ended) is = absurd is
+
 module _ (rules : Rules) (owners owners' : List PartId) (longer : length owners ≤ length owners') (packets : List Packet) (below : All (StaysOwned owners owners') (map packet_spot packets)) where
   held_stays : (hs : List ClosedSlot) → All (StaysOwned owners owners') (map ticket_spot (tickets_held hs)) → All (IsHeld rules owners) hs → All (IsHeld rules owners') hs
   held_stays [] held h = All-nil (IsHeld rules owners')
@@ -87,9 +97,8 @@ module _ (rules : Rules) (owners owners' : List PartId) (longer : length owners 
       All-cons (IsHeld rules owners') x xs
       (record {
         cut = is.cut;
-        here = is.here;
         buffered = is.buffered;
-        owned = owned_stays owners owners' longer packets below x.slot 0 x.parts both.0 (All-weaker IsHere (IsSpotted packets) (here_spotted packets) x.parts is.here) is.owned;
+        owned = owned_stays owners owners' longer packets below x.slot 0 x.parts both.0 (All-weaker IsReadyPart (IsSpotted packets) (λ part ready. here_spotted packets part (ready_here part ready)) x.parts is.ready) is.owned;
         ready = is.ready;
       })
       (held_stays xs both.1 (All-tail (IsHeld rules owners) x xs h))
@@ -258,7 +267,7 @@ freed_first v b b' slot places removes out =
 pub freed_here : (rules : Rules) (b b' : TableView) (slot : ℕ) (places : Places) → RemovesSlot b slot places b' → AreKept rules b → All IsHere places.parts.items
 freed_here rules b b' slot places removes k =
     subst (All IsHere) (sym removes.parts)
-    (All-head (IsHeld rules b.owners) removes.held b'.held (All-permutation (IsHeld rules b.owners) _ _ removes.fewer k.in_hand)).here
+    (All-weaker IsReadyPart IsHere ready_here removes.held.parts (All-head (IsHeld rules b.owners) removes.held b'.held (All-permutation (IsHeld rules b.owners) _ _ removes.fewer k.in_hand)).ready)
 
 -- what is shown of it
 pub frees_above : (v v' : DeviceView) (b b' : TableView) (slot : ℕ) (places : Places) → v' ≡ record v { rooms = v'.rooms } → RemovesSlot b slot places b'
@@ -268,16 +277,6 @@ frees_above v v' b b' slot places same removes = record {
   room = removes.room;
   same = cc (ap (λ (x : DeviceView). view_of x b') same, ap (λ (x : TableView). view_of (record v { rooms = v'.rooms }) x) removes.after);
 }
-
--- no more requests have ended than are open
-ended_few : (opens : List (ℕ × Opened)) → length (ended_in opens) ≤ length opens
-ended_few [] = omega arith
-ended_few (e ∷ opens) = by (e.1.unfinished == 0) (ended_few opens)
-  where
-    by : (over : Bool) → length (ended_in opens) ≤ length opens
-        → length (if over then e.0 ∷ ended_in opens else ended_in opens) ≤ length (e ∷ opens)
-    by true h = omega arith
-    by false h = omega arith
 
 pub ended_open : (rules : Rules) (b : TableView) → AreKept rules b → length b.ended ≤ length b.opens
 ended_open rules b k = let h = ended_few b.opens in let e = length_permutation _ _ k.ended in omega arith

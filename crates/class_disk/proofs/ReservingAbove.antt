@@ -1,10 +1,11 @@
 -- A room is made for a request, or none: what the class driver shows.
 use Rattle.std.proofs.Common.{◌≡◌, ◌≤◌, ◌+◌, true, List, ◌∷◌, Some, None, refl, sym, ◌∙◌, ap, subst, arith, length, map}
 use Rattle.std.specs.Prelude.{All, IsPermutation}
-use Rattle.class_disk.proofs.Common.{ReservesMore, packets_apart, DeviceView, room_at, whole_for, HasOtherSpot, Reserves, ReservesSpot, ReservesNone, SetsRoom, PartId, TableView, ClosedSlot, class_rules, AddsSlot, AddsNoSlot, StaysTaken, MakesNone, MakesParts}
+use Rattle.class_disk.proofs.Common.{ReservesMore, packets_apart, DeviceView, room_at, whole_for, HasOtherSpot, Reserves, ReservesSpot, ReservesNone, SetsRoom, PartId, TableView, ClosedSlot, class_rules, AddsSlot, AddsNoSlot, StaysTaken, MakesNone, MakesParts, Sizes, AreSizes, IsBounded, AreNewParts, part_count_of, is_whole}
 use Rattle.class_disk.specs.inside.Driver.{view_of, packet_above, IsInHand, IsHeld, tickets}
 use Rattle.class_disk.proofs.Standing.{IsApart}
 use Rattle.class_disk.proofs.Reserving.{in_hand_refused, in_hand_made}
+use Rattle.class_disk.proofs.NewParts.{new_held, new_whole}
 
 module _ (v : DeviceView) (b b1 : TableView) (h : IsInHand v b) (grows : AddsNoSlot b b1) (v2 : DeviceView) (o2 : List PartId) where
   stays_from : StaysTaken v b1.owners v2 o2 → StaysTaken v b.owners v2 o2
@@ -38,10 +39,13 @@ module _ (v : DeviceView) (b b1 : TableView) (h : IsInHand v b) (grows : AddsNoS
       )
 
   -- one is made
-  pub reserved_above : (b2 : TableView) → b2 ≡ record b1 { owners = o2 } → (new : ClosedSlot) → new.whole ≡ true → MakesParts v b1.owners new.slot 0 new.parts v2 o2 → (b3 : TableView) → AddsSlot b2 new b3
-      → IsHeld (class_rules v.rules) o2 new → IsApart b3 → length b1.held + length b1.opens + 1 ≤ b1.ended_places
+  pub reserved_above : (b2 : TableView) → b2 ≡ record b1 { owners = o2 } → (new : ClosedSlot) → IsBounded (class_rules v.rules) new.request → AreNewParts b1.sizes new.request (part_count_of b1.sizes.max_transfer new.request) new.parts → MakesParts v b1.owners new.slot 0 new.parts v2 o2 → (b3 : TableView) → AddsSlot b2 new b3
+      → IsApart b3 → length b1.held + length b1.opens + 1 ≤ b1.ended_places
       → IsInHand v2 b3 × ReservesSpot (view_of v b) new.slot new.request (view_of v2 b3)
-  reserved_above b2 after new is_whole m b3 adds is_held apart few =
+  reserved_above b2 after new bounded made m b3 adds apart few =
+      let sizes : AreSizes b1.sizes (class_rules v.rules) = subst (λ (x : Sizes). AreSizes x (class_rules v.rules)) (sym (ap (λ (x : TableView). x.sizes) grows.after)) h.kept.sizes in
+      let is_held : IsHeld (class_rules v.rules) o2 new = new_held b1.sizes new.request (class_rules v.rules) o2 new refl sizes bounded made m.owned in
+      let all_there : is_whole new.parts ≡ true = new_whole b1.sizes new.request (class_rules v.rules) sizes h.port.some_transfer bounded new.parts made in
       let s = stays_from m.stays in
       let from : b3 ≡ record b { held = b3.held; rooms = b3.rooms; owners = o2; ended_places = b1.ended_places } =
       adds.after ∙ ap (λ (x : TableView). record x { held = b3.held; rooms = b3.rooms }) after ∙ ap (λ (x : TableView). record x { held = b3.held; rooms = b3.rooms; owners = o2 }) grows.after in
@@ -57,7 +61,7 @@ module _ (v : DeviceView) (b b1 : TableView) (h : IsInHand v b) (grows : AddsNoS
       let fits : length b.held + length b.opens + 1 ≤ b3.ended_places = let p = ap length held1 in let q = ap length opens1 in omega (arith, few, p, q, places) in
       let set : SetsRoom b.rooms new.slot None (Some (whole_for new.request)) b3.rooms =
       subst (λ rs. SetsRoom rs new.slot None (Some (whole_for new.request)) b3.rooms) rooms
-      (subst (λ w. SetsRoom b2.rooms new.slot None (Some (record { request = new.request; whole = w })) b3.rooms) is_whole adds.room) in
+      (subst (λ w. SetsRoom b2.rooms new.slot None (Some (record { request = new.request; whole = w })) b3.rooms) all_there adds.room) in
       let opens : b3.opens ≡ b.opens = ap (λ (x : TableView). x.opens) full in
       let packets : All (HasOtherSpot new.slot) (map packet_above b.opens) =
       subst (λ os. All (HasOtherSpot new.slot) (map packet_above os)) opens

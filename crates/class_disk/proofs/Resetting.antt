@@ -2,8 +2,10 @@
 use Rattle.class_disk.proofs.Common.{◌≡◌, Bool, true, false, List, [], ◌∷◌, ◌++◌, refl, sym, ◌∙◌, ap, subst, arith, map, cond, IsStrictlyIncreasing, length-map, All-weaker, IsPermutation-refl, IsPermutation-sym, IsPermutation-trans, IsPermutation-cons, IsPermutation-middle, IsPermutation-map, All-permutation, Contains-permutation, length_permutation, DeviceLabel, Fault, is_fresh, Rules, Piece, State, IsSame, IsCounted, Run, as_label, IsPermutation-uncons, IsSame-refl, DeviceView, OnTag, piece_on_tag, IsOrderly, Moves, Resets, is_fresh_piece, fault_of, piece_tag, TableView, all_open, class_rules, view_of, tickets, IsInHand, AreAsked, AreBelow}
 use Rattle.std.specs.Prelude.{IsPermutation, All, Contains, filter}
 use Rattle.class_disk.proofs.Rooms.{out_same}
-use Rattle.class_disk.proofs.Showing.{IsPermutation-filter, split_at}
-use Rattle.class_disk.proofs.Acting.{IsStill, nil_from_length, still_run, unfinished_still, settled_still, asked_still, map_there, MovesAbove, moves_above, below_moved, hand_ran, same_tags}
+use Rattle.class_disk.proofs.Showing.{IsPermutation-filter}
+use Rattle.class_disk.proofs.Acting.{IsStill, still_run, unfinished_still, settled_still, asked_still, map_there, MovesAbove, moves_above, below_moved, hand_ran, same_tags}
+use Rattle.std.proofs.lemmas.List.{nil_from_length}
+use Rattle.class_disk.proofs.Standing.{split_there}
 
 at_first : {Y : Type 0} {a b : Y} {us ws : List Y} → a ≡ b → us ≡ ws → a ∷ us ≡ b ∷ ws
 at_first e h = cc (e, h)
@@ -17,7 +19,7 @@ lift f [] xs p =
 lift f (y ∷ ys) xs p =
     let there : Contains (map f xs) y = Contains-permutation _ _ y (IsPermutation-sym _ _ p) (0, omega arith, refl) in
     let x = map_there f xs y there in
-    let c = split_at x.0 xs x.1 in
+    let c = split_there x.0 xs x.1 in
     let all : IsPermutation xs (x.0 ∷ (c.0 ++ c.1)) = subst (λ zs. IsPermutation zs (x.0 ∷ (c.0 ++ c.1))) (sym c.2) (IsPermutation-middle c.0 x.0 c.1) in
     let images : IsPermutation (f x.0 ∷ map f (c.0 ++ c.1)) (y ∷ ys) = IsPermutation-trans _ _ _ (IsPermutation-sym _ _ (IsPermutation-map f _ _ all)) p in
     let rest : IsPermutation (map f (c.0 ++ c.1)) ys = IsPermutation-uncons y _ _ (subst (λ z. IsPermutation (z ∷ map f (c.0 ++ c.1)) (y ∷ ys)) x.2 images) in

@@ -7,6 +7,7 @@ use Rattle.class_disk.specs.inside.Joint.{Part, Below, Here, Divided, Joint, sho
 use Rattle.class_disk.proofs.CoupledMarks.{started_part, same_tags, tag_of}
 use Rattle.class_disk.proofs.CoupledSteps.{in_requests}
 use Rattle.class_disk.proofs.CoupledRun.{Contains-map}
+use Rattle.std.proofs.lemmas.List.{nil_from_length}
 
 -- A REQUEST BELOW, WHERE NOTHING THAT HAS ENDED WAITS
 
@@ -108,10 +109,6 @@ part_timely rules q first [] o h c = absurd (let w = c.1 in omega arith)
 part_timely rules q first (Below p again ps ∷ parts) o h (zero, low, is) = subst (λ (x : OpenRequest). x.late ≡ false) is h.0.timely
 part_timely rules q first (Below p again ps ∷ parts) o h (suc k, low, is) = part_timely rules q (first + length p.marks) parts o h.2 (k, omega arith, is)
 part_timely rules q first (Here marks busy ∷ parts) o h c = part_timely rules q (first + length marks) parts o h c
-
-nil_from_length : {X : Type 0} (xs : List X) → length xs ≡ 0 → xs ≡ []
-nil_from_length [] e = refl
-nil_from_length (x ∷ xs) e = absurd (omega arith)
 
 -- THE LAYER BETWEEN CALLS
 

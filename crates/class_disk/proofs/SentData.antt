@@ -2,7 +2,7 @@
 use Rattle.std.specs.Prelude.{slice_get, slice_set, slice_range, vec_capacity, if◌then◌else◌}
 use Rattle.std.proofs.Common.{◌≡◌, ◌≤◌, true, IsTrue, take, drop, ℕ, zero, suc, ◌+◌, ◌-◌, ◌*◌, ◌==◌, List, [], ◌∷◌, Some, refl, sym, ◌∙◌, ap, subst, arith, length, get_or}
 use Rattle.class_disk.proofs.Common.{get_or_from_slice_get, Kind, Read, Write, Flush, Request, Rules, is_transfer, Srb, AsksFor, AsksInLocation, transfer_length, payload_bytes, Sizes, TransferPacket, Place, Progress, Ready, data_length, IsWholeDisk, IsOwnPacket, Opened, IsBufferOf, own_length, HasBuffers, CanTake, IsReadyAt, IsDataOf, SendsAs, bytes_from, sent_opened, sent_part}
-use Rattle.std.proofs.lemmas.List.{length-drop, length-take-le}
+use Rattle.std.proofs.lemmas.List.{length-drop, length-take-le, take_all}
 use Rattle.irp.specs.declared.Payload.TheVariants.{Srb as Packed}
 use Rattle.class_disk.specs.declared.parts.Part.{Part}
 
@@ -76,11 +76,7 @@ data_whole size whole r part is long = record {
     nothing n = omega arith
 
     whole_range : (xs : List ℕ) → slice_range xs 0 (0 + length xs) ≡ xs
-    whole_range xs = ap (λ n. take n xs) (omega arith) ∙ take_all xs
-      where
-        take_all : (ys : List ℕ) → take (length ys) ys ≡ ys
-        take_all [] = refl
-        take_all (y ∷ ys) = ap (λ zs. y ∷ zs) (take_all ys)
+    whole_range xs = take_all (0 + length xs - 0) xs (omega arith)
 
 pub set_long : (parts : List Part) (k : ℕ) (x : Part) → length (slice_set parts k x) ≡ length parts
 set_long [] k x = refl

@@ -7,15 +7,12 @@ use Rattle.class_disk.proofs.Coupled.{pieces-append}
 use Rattle.class_disk.proofs.CoupledSteps.{divided_with, request_first}
 use Rattle.class_disk.specs.inside.Joint.{Part, Below, Here, Known, Divided, Joint, note_of, known_of, gathered, requests_of, pieces_of, lifted_pieces, lifted, parts_requests, parts_pieces, parts_marks, parts_busy, parts_lifted, requests_below, pieces_below, pieces_above, shown, shown_mark, below, above}
 use Rattle.class_disk.specs.inside.Invariant.{IsOwnedBy, AreParts, IsMadeUp, Keeps}
-use Rattle.class_disk.proofs.Focus.{second_first, gathered_first}
+use Rattle.class_disk.proofs.Focus.{gathered_first}
 use Rattle.class_disk.proofs.CoupledRun.{one_request}
+use Rattle.class_disk.proofs.Standing.{split_there}
+use Rattle.class_disk.proofs.AnyOrder.{second_first}
 
 -- A FILTER AND AN ORDER
-
-pub split_at : {X : Type 0} (x : X) (ys : List X) → Contains ys x → (front : List X) × (back : List X) × (ys ≡ front ++ (x ∷ back))
-split_at x [] (k, low, is) = absurd (omega arith)
-split_at x (y ∷ ys) (zero, low, is) = ([], ys, ap (λ z. z ∷ ys) is)
-split_at x (y ∷ ys) (suc k, low, is) = let r = split_at x ys (k, omega arith, is) in (y ∷ r.0, r.1, ap (λ zs. y ∷ zs) r.2)
 
 filter_first : {X : Type 0} (p : X → Bool) (x : X) (xs : List X) → filter p (x ∷ xs) ≡ filter p (x ∷ []) ++ filter p xs
 filter_first p x xs = filter-append p (x ∷ []) xs
@@ -29,7 +26,7 @@ filter_middle p x front back =
 pub IsPermutation-filter : {X : Type 0} (p : X → Bool) (xs ys : List X) → IsPermutation xs ys → IsPermutation (filter p xs) (filter p ys)
 IsPermutation-filter p [] ys h = subst (λ zs. IsPermutation [] (filter p zs)) (sym (none_there [] ys refl h)) (IsPermutation-refl [])
 IsPermutation-filter p (x ∷ xs) ys h =
-    let c = split_at x ys (Contains-permutation _ _ x h (0, omega arith, refl)) in
+    let c = split_there x ys (Contains-permutation _ _ x h (0, omega arith, refl)) in
     let q : IsPermutation xs (c.0 ++ c.1) = IsPermutation-uncons x _ _ (IsPermutation-trans _ _ _ (subst (IsPermutation (x ∷ xs)) c.2 h) (IsPermutation-middle c.0 x c.1)) in
     let r : IsPermutation (filter p xs) (filter p (c.0 ++ c.1)) = IsPermutation-filter p xs (c.0 ++ c.1) q in
     subst (λ zs. IsPermutation (filter p (x ∷ xs)) (filter p zs)) (sym c.2)
@@ -211,7 +208,7 @@ module _ (s : State) (distinct : AreDistinct s) (divided : List Divided) (own : 
 pub gathered-permutation : {X : Type 0} (of : Divided → List X) (es fs : List Divided) → IsPermutation es fs → IsPermutation (gathered of es) (gathered of fs)
 gathered-permutation of [] fs h = subst (λ zs. IsPermutation [] (gathered of zs)) (sym (none_there [] fs refl h)) (IsPermutation-refl [])
 gathered-permutation of (e ∷ es) fs h =
-    let c = split_at e fs (Contains-permutation _ _ e h (0, omega arith, refl)) in
+    let c = split_there e fs (Contains-permutation _ _ e h (0, omega arith, refl)) in
     let q : IsPermutation es (c.0 ++ c.1) = IsPermutation-uncons e _ _ (IsPermutation-trans _ _ _ (subst (IsPermutation (e ∷ es)) c.2 h) (IsPermutation-middle c.0 e c.1)) in
     let r : IsPermutation (gathered of es) (gathered of (c.0 ++ c.1)) = gathered-permutation of es (c.0 ++ c.1) q in
     subst (λ zs. IsPermutation (gathered of (e ∷ es)) (gathered of zs)) (sym c.2)

@@ -1,7 +1,7 @@
 -- One slot of the table changes: what that does to the open requests, to those with no packet, and to what is reserved.
 use Rattle.std.proofs.Common.{◌≡◌, ◌≢◌, ◌⊎◌, ◌==◌, inl, inr, ℕ, zero, suc, ◌+◌, true, false, List, [], ◌∷◌, ◌++◌, Option, Some, None, refl, sym, ◌∙◌, ap, subst, arith, length, get_or, is_some, cond, count_by}
-use Rattle.class_disk.proofs.Common.{IsPermutation, cases_Bool, eqb-true, eqb-false, sum_by-cons, IsPermutation-middle, SetsRoom, Places, Slot, Transfer, Opened, ClosedSlot, opened_of, held_as, left_as, open_from, held_from, open_at, room_of, rooms_from}
-use Rattle.class_disk.specs.declared.requests.Slot.TheVariants.{Reserved, Open, Left}
+use Rattle.class_disk.proofs.Common.{IsPermutation, cases_Bool, eqb-true, eqb-false, sum_by-cons, IsPermutation-middle, SetsRoom, Places, Slot, Transfer, Opened, ClosedSlot, opened_of, held_as, open_from, held_from, open_at, room_of, rooms_from}
+use Rattle.class_disk.specs.declared.requests.Slot.TheVariants.{Reserved, Open}
 use Rattle.class_disk.proofs.Slots.{Slots, open_is, room_in, same_rooms, rest_of, rest_is}
 
 -- what a slot adds to the open requests, and to those with no packet
@@ -9,39 +9,33 @@ abbrev pub open_step : ℕ → Option Slot → List (ℕ × Opened) → List (�
 open_step slot None later = later
 open_step slot (Some (Reserved places)) later = later
 open_step slot (Some (Open t)) later = (slot, opened_of t) ∷ later
-open_step slot (Some (Left places)) later = later
 
 abbrev pub held_step : ℕ → Option Slot → List ClosedSlot → List ClosedSlot
 held_step slot None later = later
 held_step slot (Some (Reserved places)) later = held_as slot places ∷ later
 held_step slot (Some (Open t)) later = later
-held_step slot (Some (Left places)) later = left_as slot places ∷ later
 
 pub opens_split : (first : ℕ) (slots : Slots) → open_from first slots ≡ open_step first (get_or slots zero None) (open_from (first + 1) (rest_of slots))
 opens_split first [] = refl
 opens_split first (None ∷ rest) = refl
 opens_split first (Some (Reserved places) ∷ rest) = refl
 opens_split first (Some (Open t) ∷ rest) = refl
-opens_split first (Some (Left places) ∷ rest) = refl
 
 held_split : (first : ℕ) (slots : Slots) → held_from first slots ≡ held_step first (get_or slots zero None) (held_from (first + 1) (rest_of slots))
 held_split first [] = refl
 held_split first (None ∷ rest) = refl
 held_split first (Some (Reserved places) ∷ rest) = refl
 held_split first (Some (Open t) ∷ rest) = refl
-held_split first (Some (Left places) ∷ rest) = refl
 
 open_append : (slot : ℕ) (x : Option Slot) (before after : List (ℕ × Opened)) → open_step slot x (before ++ after) ≡ open_step slot x before ++ after
 open_append slot None before after = refl
 open_append slot (Some (Reserved places)) before after = refl
 open_append slot (Some (Open t)) before after = refl
-open_append slot (Some (Left places)) before after = refl
 
 held_append : (slot : ℕ) (x : Option Slot) (before after : List ClosedSlot) → held_step slot x (before ++ after) ≡ held_step slot x before ++ after
 held_append slot None before after = refl
 held_append slot (Some (Reserved places)) before after = refl
 held_append slot (Some (Open t)) before after = refl
-held_append slot (Some (Left places)) before after = refl
 
 -- slots none of which is there
 none_there : (first : ℕ) (slots : Slots) → ((i : ℕ) → get_or slots i None ≡ None) → (open_from first slots ≡ []) × (held_from first slots ≡ [])
@@ -151,8 +145,6 @@ count_is first (Some (Reserved places) ∷ rest) =
     omega (arith, count_is (first + 1) rest, sum_by-cons (λ o. cond (is_some o) 1 0) (Some (Reserved places)) rest)
 count_is first (Some (Open t) ∷ rest) =
     omega (arith, count_is (first + 1) rest, sum_by-cons (λ o. cond (is_some o) 1 0) (Some (Open t)) rest)
-count_is first (Some (Left places) ∷ rest) =
-    omega (arith, count_is (first + 1) rest, sum_by-cons (λ o. cond (is_some o) 1 0) (Some (Left places)) rest)
 
 -- A SLOT IS FILLED, OR GIVEN UP
 
@@ -176,11 +168,6 @@ pub fills_reserved : (slot : ℕ) (places : Places) (slots slots' : Slots) → g
     → get_or slots' slot None ≡ Some (Reserved places) → ((i : ℕ) → i ≢ slot → get_or slots' i None ≡ get_or slots i None)
     → Fills (held_as slot places) slots slots'
 fills_reserved slot places slots slots' = fills_by slot (Reserved places) (held_as slot places) slots slots' (λ later. refl) (λ later. refl)
-
-pub fills_left : (slot : ℕ) (places : Places) (slots slots' : Slots) → get_or slots slot None ≡ None
-    → get_or slots' slot None ≡ Some (Left places) → ((i : ℕ) → i ≢ slot → get_or slots' i None ≡ get_or slots i None)
-    → Fills (left_as slot places) slots slots'
-fills_left slot places slots slots' = fills_by slot (Left places) (left_as slot places) slots slots' (λ later. refl) (λ later. refl)
 
 -- A PACKET COMES
 

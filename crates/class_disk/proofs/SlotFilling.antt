@@ -1,10 +1,10 @@
 -- A slot is filled, opened or given up, as the books have it.
-use Rattle.std.proofs.Common.{◌≡◌, ◌≢◌, ◌≤◌, ◌+◌, ◌⊎◌, inl, inr, ℕ, Bool, true, false, List, ◌∷◌, Option, Some, None, refl, sym, ◌∙◌, ap, subst, arith, get_or, length}
-use Rattle.class_disk.proofs.Common.{IsPermutation, Slab, Updates, get, slab_len, Irp, Places, Slot, Transfer, Table, Opened, opened_of, held_as, left_as, open_from, held_from, rooms_from, room_of, books_of, IsVacantFor, HasPlaceForMore, new_opened, AddsSlot, RemovesSlot, OpensAt}
+use Rattle.std.proofs.Common.{◌≡◌, ◌≢◌, ◌≤◌, ◌+◌, ℕ, Bool, true, List, ◌∷◌, Option, Some, None, refl, sym, ◌∙◌, ap, subst, arith, get_or, length}
+use Rattle.class_disk.proofs.Common.{IsPermutation, Slab, Updates, get, slab_len, Irp, Places, Slot, Transfer, Table, Opened, opened_of, held_as, open_from, held_from, rooms_from, room_of, books_of, IsVacantFor, HasPlaceForMore, new_opened, AddsSlot, RemovesSlot, OpensAt, SetsRoom, is_whole}
 use Rattle.device.specs.View.{Reserved as DeviceRoom, whole_for, IsReady, IsReserved, request_at}
-use Rattle.class_disk.specs.declared.requests.Slot.TheVariants.{Reserved, Open, Left}
+use Rattle.class_disk.specs.declared.requests.Slot.TheVariants.{Reserved, Open}
 use Rattle.class_disk.proofs.Slots.{room_in}
-use Rattle.class_disk.proofs.SlotChanges.{fills_reserved, fills_left, opens_there, changes_room, count_is}
+use Rattle.class_disk.proofs.SlotChanges.{fills_reserved, opens_there, changes_room, count_is}
 
 -- the table with these slots
 abbrev pub with_slots : Table → Slab Slot → Table
@@ -35,16 +35,6 @@ module _ (old : Table) (slots : Slab Slot) (slot key : ℕ) (places : Places) (v
         after = same_opens old slots f.opens;
       }
 
-  pub adds_left : Updates old.slots slots key (Some (Left places)) → AddsSlot (books_of old) (left_as slot places) (books_of (with_slots old slots))
-  adds_left updates =
-      let u : Updates old.slots slots slot (Some (Left places)) = subst (λ k. Updates old.slots slots k (Some (Left places))) same_key updates in
-      let f = fills_left slot places old.slots.slots slots.slots was_there u.changed u.others in
-      record {
-        more = f.more;
-        room = changes_room slot old.slots.slots slots.slots None (Some (Left places)) was_there u.changed u.others;
-        after = same_opens old slots f.opens;
-      }
-
 -- A SLOT IS GIVEN UP
 
 pub removes_reserved : (old : Table) (slots : Slab Slot) (slot : ℕ) (places : Places) → get old.slots slot ≡ Some (Reserved places) → Updates old.slots slots slot None
@@ -61,30 +51,15 @@ removes_reserved old slots slot places was u =
       after = same_opens old slots (sym f.opens);
     }
 
-pub removes_left : (old : Table) (slots : Slab Slot) (slot : ℕ) (places : Places) → get old.slots slot ≡ Some (Left places) → Updates old.slots slots slot None
-    → RemovesSlot (books_of old) slot places (books_of (with_slots old slots))
-removes_left old slots slot places was u =
-    let f = fills_left slot places slots.slots old.slots.slots u.changed was (λ i away. sym (u.others i away)) in
-    record {
-      held = left_as slot places;
-      slot_is = refl;
-      request = refl;
-      parts = refl;
-      fewer = f.more;
-      room = changes_room slot old.slots.slots slots.slots (Some (Left places)) None was u.changed u.others;
-      after = same_opens old slots (sym f.opens);
-    }
-
 -- what stands where something is reserved
 pub reserved_there : (table : Table) (slot : ℕ) → IsReserved (books_of table).rooms slot
-    → ((p : Places) × (get table.slots slot ≡ Some (Reserved p))) ⊎ ((p : Places) × (get table.slots slot ≡ Some (Left p)))
+    → (p : Places) × (get table.slots slot ≡ Some (Reserved p))
 reserved_there table slot (reserved, is) = by (get table.slots slot) refl (sym (room_in table.slots.slots slot) ∙ is)
   where
     by : (x : Option Slot) → get table.slots slot ≡ x → room_of (get table.slots slot) ≡ Some reserved
-        → ((p : Places) × (get table.slots slot ≡ Some (Reserved p))) ⊎ ((p : Places) × (get table.slots slot ≡ Some (Left p)))
+        → (p : Places) × (get table.slots slot ≡ Some (Reserved p))
     by None e h = absurd (let n = ap room_of e in cc (n, h))
-    by (Some (Reserved p)) e h = inl (p, e)
-    by (Some (Left p)) e h = inr (p, e)
+    by (Some (Reserved p)) e h = (p, e)
     by (Some (Open t)) e h = absurd (let n = ap room_of e in cc (n, h))
 
 abbrev is_whole_at : Option DeviceRoom → Bool
@@ -93,14 +68,7 @@ is_whole_at (Some room) = room.whole
 
 -- and where a packet may come
 pub ready_there : (table : Table) (slot : ℕ) → IsReady (books_of table).rooms slot → (p : Places) × (get table.slots slot ≡ Some (Reserved p))
-ready_there table slot is = by (get table.slots slot) refl (sym (room_in table.slots.slots slot) ∙ is)
-  where
-    by : (x : Option Slot) → get table.slots slot ≡ x → room_of (get table.slots slot) ≡ Some (whole_for (request_at (books_of table).rooms slot))
-        → (p : Places) × (get table.slots slot ≡ Some (Reserved p))
-    by None e h = absurd (let n = ap room_of e in cc (n, h))
-    by (Some (Reserved p)) e h = (p, e)
-    by (Some (Left p)) e h = absurd (let n = ap room_of e in let w : false ≡ true = ap is_whole_at (sym n ∙ h) in cc (w))
-    by (Some (Open t)) e h = absurd (let n = ap room_of e in cc (n, h))
+ready_there table slot is = reserved_there table slot (whole_for (request_at (books_of table).rooms slot), is)
 
 -- A PACKET COMES
 
@@ -108,19 +76,21 @@ ready_there table slot is = by (get table.slots slot) refl (sym (room_in table.s
 abbrev pub with_packet : Table → Slab Slot → ℕ → Table
 with_packet table slots number = record table { slots = slots; last_request = number; submitted = table.submitted + 1 }
 
-pub opens_at : (old : Table) (mid new : Slab Slot) (slot key number : ℕ) (places : Places) (t : Transfer) (irp : Irp) → get old.slots slot ≡ Some (Reserved places) → Updates old.slots mid slot None
+pub opens_at : (old : Table) (mid new : Slab Slot) (slot key number : ℕ) (places : Places) (t : Transfer) (irp : Irp) → IsReady (books_of old).rooms slot → get old.slots slot ≡ Some (Reserved places) → Updates old.slots mid slot None
     → mid.vacant_key ≡ slot → key ≡ mid.vacant_key → Updates mid new key (Some (Open t)) → number ≡ irp.number → opened_of t ≡ new_opened irp places.request places.parts.items
     → OpensAt (books_of old) slot irp (books_of (with_packet old new number))
-opens_at old mid new slot key number places t irp was out vacant key_is back number_is is =
+opens_at old mid new slot key number places t irp ready was out vacant key_is back number_is is =
     let u : Updates mid new slot (Some (Open t)) = subst (λ k. Updates mid new k (Some (Open t))) (key_is ∙ vacant) back in
     let others : (i : ℕ) → i ≢ slot → get_or new.slots i None ≡ get_or old.slots.slots i None = λ i away. u.others i away ∙ out.others i away in
     let o = opens_there slot places t old.slots.slots new.slots was u.changed others in
+    let whole : is_whole places.parts.items ≡ true = ap is_whole_at (sym (ap room_of was) ∙ sym (room_in old.slots.slots slot) ∙ ready) in
     record {
       held = held_as slot places;
       slot_is = refl;
-      whole = refl;
+      whole = whole;
       fewer = o.fewer;
-      room = changes_room slot old.slots.slots new.slots (Some (Reserved places)) (Some (Open t)) was u.changed others;
+      room = subst (λ w. SetsRoom (rooms_from old.slots.slots) slot (Some (record { request = places.request; whole = w })) None (rooms_from new.slots)) whole
+          (changes_room slot old.slots.slots new.slots (Some (Reserved places)) (Some (Open t)) was u.changed others);
       opens = subst (λ x. IsPermutation (open_from 0 new.slots) ((slot, x) ∷ open_from 0 old.slots.slots)) is o.opens;
       is_open = o.is_open ∙ ap Some is;
       after = ap (λ n. record (books_of old) { held = held_from 0 new.slots; rooms = rooms_from new.slots; opens = open_from 0 new.slots; last_request = n; submitted = old.submitted + 1 }) number_is;
@@ -136,6 +106,3 @@ place_there table h = let n = count_is 0 table.slots.slots in let p = h.ended in
 -- other owners leave the slots as they are
 pub still_vacant : (old new : Table) (slot : ℕ) → new ≡ record old { owners = new.owners } → IsVacantFor old slot → IsVacantFor new slot
 still_vacant old new slot same h = subst (λ (x : Table). IsVacantFor x slot) (sym same) (record { is_next = h.is_next; room = h.room })
-
-pub still_placed : (old new : Table) → new ≡ record old { owners = new.owners } → HasPlaceForMore old → HasPlaceForMore new
-still_placed old new same h = subst HasPlaceForMore (sym same) (record { slots = h.slots; ended = h.ended })

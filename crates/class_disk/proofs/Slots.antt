@@ -2,7 +2,7 @@
 use Rattle.std.proofs.Common.{◌≡◌, ◌≢◌, ◌<◌, inl, inr, ℕ, zero, suc, ◌+◌, ◌==◌, true, false, List, [], ◌∷◌, Option, Some, None, refl, sym, ◌∙◌, ap, arith, get_or}
 use Rattle.class_disk.proofs.Common.{ne_eqb, eqb-false, cases_Bool, Slot, Transfer, Opened, opened_of, open_from, open_at, put_at, room_of, before, rooms_from}
 use Rattle.device.specs.View.{Reserved as DeviceRoom, room_at}
-use Rattle.class_disk.specs.declared.requests.Slot.TheVariants.{Reserved, Open, Left}
+use Rattle.class_disk.specs.declared.requests.Slot.TheVariants.{Reserved, Open}
 
 abbrev pub Slots : Type 0
 Slots = List (Option Slot)
@@ -10,20 +10,20 @@ Slots = List (Option Slot)
 differ : (a b : ℕ) → a ≢ b → (a == b) ≡ false
 differ a b h = ne_eqb a b h
 
-same : (a : ℕ) → (a == a) ≡ true
-same a = elim (cases_Bool (a == a)) [
+pub equals : (a : ℕ) → (a == a) ≡ true
+equals a = elim (cases_Bool (a == a)) [
   | inl yes' ↦ yes'
   | inr no' ↦ absurd (eqb-false a a no' refl)
 ]
 
 found : (slot : ℕ) (o : Opened) (rest : List (ℕ × Opened)) → open_at slot ((slot, o) ∷ rest) ≡ Some o
-found slot o rest = let e : (slot == slot) ≡ true = same slot in rw e refl
+found slot o rest = let e : (slot == slot) ≡ true = equals slot in rw e refl
 
 passed : (slot other : ℕ) (o : Opened) (rest : List (ℕ × Opened)) → other ≢ slot → open_at slot ((other, o) ∷ rest) ≡ open_at slot rest
 passed slot other o rest h = let e : (other == slot) ≡ false = differ other slot h in rw e refl
 
 pub put_here : (slot : ℕ) (o x : Opened) (rest : List (ℕ × Opened)) → put_at slot x ((slot, o) ∷ rest) ≡ (slot, x) ∷ rest
-put_here slot o x rest = let e : (slot == slot) ≡ true = same slot in rw e refl
+put_here slot o x rest = let e : (slot == slot) ≡ true = equals slot in rw e refl
 
 pub put_later : (slot other : ℕ) (o x : Opened) (rest : List (ℕ × Opened)) → other ≢ slot
     → put_at slot x ((other, o) ∷ rest) ≡ (other, o) ∷ put_at slot x rest
@@ -34,7 +34,6 @@ none_before : (slot first : ℕ) (slots : Slots) → slot < first → open_at sl
 none_before slot first [] low = refl
 none_before slot first (None ∷ rest) low = none_before slot (first + 1) rest (omega arith)
 none_before slot first (Some (Reserved places) ∷ rest) low = none_before slot (first + 1) rest (omega arith)
-none_before slot first (Some (Left places) ∷ rest) low = none_before slot (first + 1) rest (omega arith)
 none_before slot first (Some (Open t) ∷ rest) low =
     passed slot first (opened_of t) (open_from (first + 1) rest) (λ e. omega (arith, e)) ∙ none_before slot (first + 1) rest (omega arith)
 
@@ -44,7 +43,6 @@ pub open_is : (first at slot : ℕ) (slots : Slots) (t : Transfer) → slot ≡ 
 open_is first at slot [] t n h = absurd (cc (h))
 open_is first zero slot (None ∷ rest) t n h = absurd (cc (h))
 open_is first zero slot (Some (Reserved places) ∷ rest) t n h = absurd (cc (h))
-open_is first zero slot (Some (Left places) ∷ rest) t n h = absurd (cc (h))
 open_is first zero slot (Some (Open u) ∷ rest) t n h =
     let is : u ≡ t = cc (h) in
     let here : slot ≡ first = omega arith in
@@ -52,7 +50,6 @@ open_is first zero slot (Some (Open u) ∷ rest) t n h =
     ∙ found first (opened_of u) (open_from (first + 1) rest) ∙ ap (λ x. Some (opened_of x)) is
 open_is first (suc at) slot (None ∷ rest) t n h = open_is (first + 1) at slot rest t (omega arith) h
 open_is first (suc at) slot (Some (Reserved places) ∷ rest) t n h = open_is (first + 1) at slot rest t (omega arith) h
-open_is first (suc at) slot (Some (Left places) ∷ rest) t n h = open_is (first + 1) at slot rest t (omega arith) h
 open_is first (suc at) slot (Some (Open u) ∷ rest) t n h =
     passed slot first (opened_of u) (open_from (first + 1) rest) (λ e. omega (arith, e)) ∙ open_is (first + 1) at slot rest t (omega arith) h
 
@@ -67,7 +64,6 @@ pub is_there : (first at slot : ℕ) (slots : Slots) (o : Opened) → slot ≡ f
 is_there first at slot [] o n h = absurd (cc (h))
 is_there first zero slot (None ∷ rest) o n h = absurd (let e = none_before slot (first + 1) rest (omega arith) in cc (h, e))
 is_there first zero slot (Some (Reserved places) ∷ rest) o n h = absurd (let e = none_before slot (first + 1) rest (omega arith) in cc (h, e))
-is_there first zero slot (Some (Left places) ∷ rest) o n h = absurd (let e = none_before slot (first + 1) rest (omega arith) in cc (h, e))
 is_there first zero slot (Some (Open u) ∷ rest) o n h =
     let here : first ≡ slot = omega arith in
     let e : open_at slot ((first, opened_of u) ∷ open_from (first + 1) rest) ≡ Some (opened_of u) =
@@ -79,8 +75,6 @@ is_there first zero slot (Some (Open u) ∷ rest) o n h =
 is_there first (suc at) slot (None ∷ rest) o n h =
     let r = is_there (first + 1) at slot rest o (omega arith) h in record { transfer = r.transfer; there = r.there; is = r.is }
 is_there first (suc at) slot (Some (Reserved places) ∷ rest) o n h =
-    let r = is_there (first + 1) at slot rest o (omega arith) h in record { transfer = r.transfer; there = r.there; is = r.is }
-is_there first (suc at) slot (Some (Left places) ∷ rest) o n h =
     let r = is_there (first + 1) at slot rest o (omega arith) h in record { transfer = r.transfer; there = r.there; is = r.is }
 is_there first (suc at) slot (Some (Open u) ∷ rest) o n h =
     let r = is_there (first + 1) at slot rest o (omega arith)

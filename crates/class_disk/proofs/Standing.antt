@@ -2,7 +2,7 @@
 use Rattle.std.proofs.Common.{◌≡◌, ◌≢◌, ◌<◌, ◌≤◌, inl, inr, ℕ, zero, suc, ◌+◌, ◌==◌, Bool, true, false, List, [], ◌∷◌, ◌++◌, Option, Some, None, refl, sym, ◌∙◌, ap, subst, arith, length, map, eqb, get_or}
 use Rattle.std.specs.Prelude.{slice_get, slice_set, All, Contains}
 use Rattle.class_disk.proofs.Common.{cases_Bool, ne_eqb, eqb-false, eqb-true, IsPermutation-sym, IsPermutation-middle, All-permutation, All-nil, All-cons, All-head, All-tail, IsDistinct, AllByRecursion, IsDistinct-cons, packet_spot, IsOffRooms, room_at, Slot, packet_above, Opened, TableView, open_from, open_at, put_at, rooms_from, room_of, opened_of}
-use Rattle.class_disk.specs.declared.requests.Slot.TheVariants.{Reserved, Open, Left}
+use Rattle.class_disk.specs.declared.requests.Slot.TheVariants.{Reserved, Open}
 use Rattle.class_disk.proofs.Slots.{room_in}
 use Rattle.class_disk.proofs.Owned.{apart_none}
 
@@ -55,7 +55,6 @@ pub rising : (first : ℕ) (slots : List (Option Slot)) → AreRising first (ope
 rising first [] = tt
 rising first (None ∷ rest) = rising_from first (first + 1) _ (omega arith) (rising (first + 1) rest)
 rising first (Some (Reserved places) ∷ rest) = rising_from first (first + 1) _ (omega arith) (rising (first + 1) rest)
-rising first (Some (Left places) ∷ rest) = rising_from first (first + 1) _ (omega arith) (rising (first + 1) rest)
 rising first (Some (Open t) ∷ rest) = (omega arith, rising (first + 1) rest)
 
 -- THE SLOTS AS SPOTS
@@ -88,7 +87,6 @@ vacant_from all first (x ∷ rest) same = by x (same 0) (vacant_from all (first 
         → All (IsOffRooms (rooms_from all)) (map packet_above (open_from first (y ∷ rest)))
     by None is later = later
     by (Some (Reserved places)) is later = later
-    by (Some (Left places)) is later = later
     by (Some (Open t)) is later =
         All-cons (IsOffRooms (rooms_from all)) (packet_above (first, opened_of t)) (map packet_above (open_from (first + 1) rest))
         (ap (room_at (rooms_from all)) (let e : first ≡ first + 0 = omega arith in e) ∙ room_in all (first + 0) ∙ ap room_of (sym is)) later

@@ -17,7 +17,7 @@ module _ (v : DeviceView) (b : TableView) (h : IsInHand v b) (slot : ℕ) (irp :
 
   abbrev pub covers : total (map (places_of rules) opens.held.parts) ≡ places_for rules opens.held.request
   covers = parts_cover rules opens.held.request opens.held.parts h.kept.sizes.whole.some_bytes h.port.some_transfer
-      (held_there rules b slot irp b1 opens h.kept).cut
+      ((held_there rules b slot irp b1 opens h.kept).cut opens.whole)
 
   abbrev pub first : State
   first = first_above v b h slot irp b1 opens high stays timely carries covers

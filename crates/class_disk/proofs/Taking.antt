@@ -1,7 +1,7 @@
 -- A packet below that has ended is taken: its part is here, and the machine above stays as it was.
 use Rattle.std.proofs.Common.{◌≡◌, ◌<◌, ◌⊎◌, inl, inr, ℕ, zero, suc, ◌+◌, not, Bool, List, [], ◌∷◌, ◌++◌, refl, sym, ◌∙◌, ap, subst, arith, map, length, get_or}
 use Rattle.std.specs.Prelude.{IsPermutation, All, Contains, IsTrue, IsFalse}
-use Rattle.class_disk.proofs.Common.{list_all, length-map, map-append, IsPermutation-sym, IsPermutation-trans, IsPermutation-middle, All-permutation, Contains-permutation, All-cons, All-head, All-tail, All-contains, Contains-append_cases, Contains-append_left, Contains-append_right, Contains-get_or, NtStatus, ClientRequest, Rules, Untouched, Out, OpenRequest, Piece, State, IsSame, HasPlaces, HavePlaces, request_number, mark_at, is_started, is_untouched, HasEnded, Answers, IsSame-sym, IsSame-trans, IsPermutation-uncons, Owns, owns, out_ends_not, started_marks, below_rules}
+use Rattle.class_disk.proofs.Common.{list_all, length-map, map-append, IsPermutation-sym, IsPermutation-trans, Contains-permutation, All-cons, All-head, All-tail, All-contains, Contains-append_cases, Contains-append_left, Contains-append_right, Contains-get_or, NtStatus, ClientRequest, Rules, Untouched, Out, OpenRequest, Piece, State, IsSame, HasPlaces, HavePlaces, request_number, mark_at, is_started, is_untouched, HasEnded, Answers, IsSame-sym, IsSame-trans, IsPermutation-uncons, Owns, owns, out_ends_not, started_marks, below_rules}
 use Rattle.class_disk.specs.inside.Joint.{Part, Below, Here, note_of, Divided, Joint, shown_mark, parts_requests, parts_pieces, parts_marks, requests_below, pieces_below, shown, below, above}
 use Rattle.class_disk.specs.inside.Invariant.{IsSound, IsOwnedBy, AreParts, IsMadeUp, IsCancelledAs, AgreesOnCancel, HasPartBefore, IsInPieces, Keeps}
 use Rattle.class_disk.proofs.InPieces.{shown_begins, in_pieces_with}
@@ -11,6 +11,7 @@ use Rattle.class_disk.proofs.CoupledSteps.{divided_with, request_first, taken}
 use Rattle.class_disk.proofs.Focus.{Found}
 use Rattle.class_disk.proofs.Keeping.{Follows, turns_follow_in, part_in, there}
 use Rattle.class_disk.proofs.CoupledRun.{rest, here, same_below, same_above, keeps_here, moved}
+use Rattle.class_disk.proofs.Standing.{All-others}
 
 parts_taken : (rules : Rules) (q : ClientRequest) (o : OpenRequest) (again busy : ℕ) (ps : List Piece) (back : List Part) (first : ℕ) (front : List Part)
     → AreParts rules q first (front ++ (Below o again ps ∷ back)) → AreParts rules q first (front ++ (Here (map (shown_mark again) o.marks) busy ∷ back))
@@ -20,9 +21,6 @@ parts_taken rules q o again busy ps back first (Here marks more ∷ front) h = p
 
 pub notes_of : (front : List Part) (part : Part) (back : List Part) → map note_of (front ++ (part ∷ back)) ≡ map note_of front ++ (note_of part ∷ map note_of back)
 notes_of front part back = map-append note_of front (part ∷ back)
-
-fewer : {X : Type 0} (P : X → Type 0) (xs : List X) (x : X) (ys : List X) → All P (xs ++ (x ∷ ys)) → All P (xs ++ ys)
-fewer P xs x ys all = All-tail P x (xs ++ ys) (All-permutation P _ _ (IsPermutation-middle xs x ys) all)
 
 module _ (removing : Bool) (e : Divided) (front back : List Part) (o : OpenRequest) (again busy : ℕ) where
   abbrev before_it : Divided
@@ -93,7 +91,7 @@ taken_at rules j s e es front back o again others s' sa sb kh _ is_open after go
     let same_pieces : pieces_below (was ∷ es) ≡ pieces_below next.divided =
     ap (λ zs. zs ++ pieces_below es) (pieces-append front (Below o again [] ∷ back) ∙ sym (pieces-append front (Here (map (shown_mark again) o.marks) busy ∷ back))) in
     let left_out : (P : OpenRequest → Type 0) → All P (parts_requests was.parts) → All P (parts_requests now.parts) = λ P all.
-    subst (All P) (sym left) (fewer P (parts_requests front) o (parts_requests back) (subst (All P) (requests-append front (Below o again [] ∷ back)) all)) in
+    subst (All P) (sym left) (All-others P (parts_requests front) o (parts_requests back) (subst (All P) (requests-append front (Below o again [] ∷ back)) all)) in
     record {
       same = IsSame-trans _ _ _ (record {
         arrays = sb.arrays;
@@ -123,7 +121,7 @@ taken_at rules j s e es front back o again others s' sa sb kh _ is_open after go
         let ys : List ℕ = map request_number (parts_requests back) in
         let a : map request_number (parts_requests (front ++ (Below o again [] ∷ back))) ≡ xs ++ (o.number ∷ ys) = ap (map request_number) (requests-append front (Below o again [] ∷ back)) ∙ map-append request_number (parts_requests front) (o ∷ parts_requests back) in
         let b : map request_number (parts_requests (front ++ (Here (map (shown_mark again) o.marks) (again + o.busy_returns) ∷ back))) ≡ xs ++ ys = ap (map request_number) (requests-append front (Here (map (shown_mark again) o.marks) (again + o.busy_returns) ∷ back)) ∙ map-append request_number (parts_requests front) (parts_requests back) in
-        subst (All P) (sym b) (fewer P xs o.number ys (subst (All P) a all))
+        subst (All P) (sym b) (All-others P xs o.number ys (subst (All P) a all))
 
 module _ (rules : Rules) (j : Joint) (s : State) (same : IsSame (below j) s) (sound : IsSound s) (places : HavePlaces s) (k : Keeps rules j) where
   -- the answer of a packet below, wherever its part was found

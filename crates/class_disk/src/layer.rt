@@ -165,8 +165,14 @@ impl<D: Device> Device for Disk<D> {
 
     fn take_done(&mut self) -> Option<(Climb, Room)> {
         let (slot, transfer) = self.extension.table.take_ended()?;
-        let (climb, places) = transfer.complete(&self.extension.table.sizes);
-        self.extension.table.leave(slot, places);
+        let request = transfer.request;
+        let (climb, parts) = transfer.complete(&self.extension.table.sizes);
+        let left = Places {
+            request,
+            parts: Vec::new(self.extension.alloc),
+        };
+        self.extension.table.fill(slot, left);
+        self.extension.free_parts(parts);
         Some((climb, Room { spot: slot }))
     }
 

@@ -1,4 +1,4 @@
-//! A request, by its parts in the order of their places: reserved, open, or left behind by its packet.
+//! A request, by its parts in the order of their places: reserved, or open.
 
 ghost use Rattle.std.specs.Prelude.{◌≡◌, ◌==◌, ◌<◌, ◌≤◌, ◌-◌, ◌*◌, ◌^◌, ℕ, true, false, List, Some, IfNone, IfSome};
 ghost use Rattle.std.specs.Prelude.{length as list_length, slice_get, vec_capacity};
@@ -29,7 +29,7 @@ use std::mem;
 /// How many restarts one request is allowed.
 const RESTARTS: u8 = 16;
 
-/// The parts of a request that has no packet here.
+/// The parts of a request that has no packet here, each of which can be sent; none, once its packet has gone up.
 #[derive(Drop)]
 pub(crate) struct Places {
     pub request: Request,
@@ -54,12 +54,10 @@ pub(crate) struct Transfer {
 /// What a slot has.
 #[derive(Drop)]
 pub(crate) enum Slot {
-    /// A room: each part can be sent.
+    /// A room.
     Reserved(Places),
     /// A packet.
     Open(Transfer),
-    /// What a packet left behind: each part has ended, and can only be given back.
-    Left(Places),
 }
 
 impl Transfer {
@@ -235,13 +233,13 @@ impl Transfer {
 
     /// Completes the packet of a request, all of whose parts have ended (WDK: IoCompleteRequest). The parts are left
     /// behind.
-    pub fn complete(self, sizes: &Sizes) -> (Climb, Places)
+    pub fn complete(self, sizes: &Sizes) -> (Climb, Vec<Part>)
         requires small { self.request.extent.count * sizes.now.sector_size < 2 ^ 64 }
         requires some { self.lent ≡ true → 0 < list_length self.parts.items }
         requires room { (bytes : List ℕ) → self.lent ≡ false → self.irp.value.payload ≡ Buffer bytes
             → self.request.kind ≡ Read → lowest_status self.parts.items ≡ Success
             → list_length (joined_of self.parts.items) ≤ list_length bytes }
-        ensures { Completes sizes.now (opened_of self) result.0 result.1 }
+        ensures { Completes sizes.now (opened_of self) result.0 result.1.items }
     {
         let status = self.status();
         let information = information(sizes.sector_size, &self.request, status);
@@ -255,9 +253,6 @@ impl Transfer {
         let joins = request.kind == Kind::Read && status == NtStatus::Success;
         let payload = mem::replace(&mut irp.payload, Payload::Sent);
         irp.payload = carried_up(payload, lent, joins, &mut parts);
-        (
-            complete(irp, status, information),
-            Places { request, parts },
-        )
+        (complete(irp, status, information), parts)
     }
 }

@@ -7,7 +7,7 @@ ghost use Rattle.device.specs.View.{IsReady, IsReserved};
 ghost use Rattle.class_disk.specs.declared.requests.Transfer.{Transfer};
 ghost use Rattle.class_disk.specs.declared.requests.Slot.TheVariants.{Open as IsOpen};
 ghost use Rattle.class_disk.specs.inside.Owners.{owner_at, KeepsOwners, OwnsSpot};
-ghost use Rattle.class_disk.specs.inside.TableView.{books_of, opened_of, open_at, held_as, left_as, HasRoomForMore};
+ghost use Rattle.class_disk.specs.inside.TableView.{books_of, opened_of, open_at, held_as, HasRoomForMore};
 ghost use Rattle.class_disk.specs.inside.TableView.{HasPlaceForMore, IsVacantFor, TakesOut, PutsBack};
 ghost use Rattle.class_disk.specs.inside.TableCalls.{empty_books, AddsSlot, AddsNoSlot, RemovesSlot, OpensAt};
 ghost use Rattle.class_disk.specs.inside.TableCalls.{TakesEnded, TakesNone};
@@ -75,21 +75,12 @@ impl Table {
         Ok(self.slots.vacant_key())
     }
 
-    /// Reserves the slot that was made, with its parts.
+    /// Reserves a vacant slot, with these parts.
     pub fn fill(&mut self, slot: usize, places: Places)
-        requires vacant { IsVacantFor self.old slot }
-        requires place { HasPlaceForMore self.old }
+        requires { IsVacantFor self.old slot }
         ensures { AddsSlot (books_of self.old) (held_as slot places) (books_of self.new) }
     {
         let _slot = self.slots.insert_reserved(Slot::Reserved(places));
-    }
-
-    /// Leaves the parts of a packet that went behind in its slot.
-    pub fn leave(&mut self, slot: usize, places: Places)
-        requires { IsVacantFor self.old slot }
-        ensures { AddsSlot (books_of self.old) (left_as slot places) (books_of self.new) }
-    {
-        let _slot = self.slots.insert_reserved(Slot::Left(places));
     }
 
     /// Gives up a slot that has no packet.
@@ -97,12 +88,10 @@ impl Table {
         requires { IsReserved (books_of self.old).rooms slot }
         ensures { RemovesSlot (books_of self.old) slot result (books_of self.new) }
     {
-        match self.slots.try_remove(slot) {
-            Some(Slot::Reserved(places)) => places,
-            Some(Slot::Left(places)) => places,
-            Some(Slot::Open(_)) => unreachable!(),
-            None => unreachable!(),
-        }
+        let Some(Slot::Reserved(places)) = self.slots.try_remove(slot) else {
+            unreachable!()
+        };
+        places
     }
 
     /// Takes in a packet at a slot that is reserved.

@@ -22,7 +22,7 @@ fn is_open_under(slot: &Slot, number: u128) -> bool
 {
     match slot {
         Slot::Open(transfer) => transfer.irp.number == number && !transfer.irp.cancelled,
-        Slot::Reserved(_) | Slot::Left(_) => false,
+        Slot::Reserved(_) => false,
     }
 }
 

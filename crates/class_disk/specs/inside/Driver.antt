@@ -22,8 +22,8 @@ use Rattle.class_disk.specs.declared.parts.Outcome.{Outcome}
 use Rattle.class_disk.specs.declared.parts.Outcome.TheVariants.{Good, Failed as IsBad, Busy, Withdrawn}
 use Rattle.class_disk.specs.declared.parts.PartId.{PartId}
 use Rattle.class_disk.specs.inside.Blocks.{requests_for, goes_whole, AreSizes}
-use Rattle.class_disk.specs.inside.TableView.{Opened, TableView, ClosedSlot, all_open, ended_in, restarts_left}
-use Rattle.class_disk.specs.inside.Parts.{HasBuffers, HoldsData, payload_in, status_by, tickets_of, IsHere, WasSent}
+use Rattle.class_disk.specs.inside.TableView.{Opened, TableView, ClosedSlot, is_whole, all_open, ended_in, restarts_left}
+use Rattle.class_disk.specs.inside.Parts.{HasBuffers, HoldsData, payload_in, status_by, tickets_of, WasSent}
 use Rattle.class_disk.specs.inside.Parts.{restarts_of, unfinished_of}
 use Rattle.class_disk.specs.inside.TableCalls.{bytes_from}
 use Rattle.class_disk.specs.inside.Joint.{Note, Sent, Kept, Known, Joint, known_of, shown_mark, below}
@@ -230,14 +230,12 @@ HaveCauses rules removing e =
 
 -- ROOMS IN HAND, AND OPEN REQUESTS
 
--- a slot with no packet has its parts as the class driver cuts them, none of them below; where it is reserved, each can
--- be sent
+-- a slot with no packet has its parts as the class driver cuts them, each of which can be sent; or none any more
 pub record IsHeld (rules : Rules) (owners : List PartId) (held : ClosedSlot) : Type 0 where
-  pub cut : IsHeldCut rules held
-  pub here : All IsHere held.parts
-  pub buffered : held.whole ≡ true → All (IsBuffered rules (goes_whole rules.max_transfer held.request)) held.parts
+  pub cut : is_whole held.parts ≡ true → IsHeldCut rules held
+  pub buffered : All (IsBuffered rules (goes_whole rules.max_transfer held.request)) held.parts
   pub owned : AreOwnedFrom owners held.slot 0 held.parts
-  pub ready : held.whole ≡ true → All IsReadyPart held.parts
+  pub ready : All IsReadyPart held.parts
 
 -- an open request is cut by the rules too, and each of its parts was sent
 pub record IsOpen (rules : Rules) (owners : List PartId) (e : ℕ × Opened) : Type 0 where

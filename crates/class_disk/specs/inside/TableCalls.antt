@@ -24,11 +24,11 @@ use Rattle.class_disk.specs.declared.parts.TransferPacket.{TransferPacket}
 use Rattle.class_disk.specs.declared.parts.Progress.TheVariants.{Ready, Below, Ended as HasEnded}
 use Rattle.class_disk.specs.declared.requests.Places.{Places}
 use Rattle.class_disk.specs.declared.requests.Slot.{Slot}
-use Rattle.class_disk.specs.declared.requests.Slot.TheVariants.{Reserved, Open, Left}
+use Rattle.class_disk.specs.declared.requests.Slot.TheVariants.{Reserved, Open}
 use Rattle.class_disk.specs.inside.Blocks.{FitsBlock, data_length, AreSizes, IsOwnPacket}
 use Rattle.class_disk.specs.inside.Parts.{IsBufferOf, own_length, HasBuffers, payload_in, given_by, AreLeft, joined_of}
 use Rattle.class_disk.specs.inside.Parts.{lowest_status}
-use Rattle.class_disk.specs.inside.TableView.{Opened, TableView, ClosedSlot, reserved_for, open_at, put_at}
+use Rattle.class_disk.specs.inside.TableView.{Opened, TableView, ClosedSlot, is_whole, reserved_for, open_at, put_at}
 
 -- where the bytes of a part begin among those of its request
 abbrev pub bytes_from : ℕ → Request → Request → ℕ
@@ -153,7 +153,7 @@ payload_up true joins payload parts = given_up parts
 payload_up false joins payload parts = joined_up joins payload parts
 
 -- the packet of a request that has ended goes up, and leaves its parts
-pub record Completes (sizes : Sizes) (o : Opened) (climb : Climb) (places : Places) : Type 0 where
+pub record Completes (sizes : Sizes) (o : Opened) (climb : Climb) (parts : List Part) : Type 0 where
   pub joins : Bool
   pub informed : ℕ
   pub joins_if : joins ≡ true → (o.request.kind ≡ Read) × (lowest_status o.parts ≡ Success)
@@ -163,8 +163,7 @@ pub record Completes (sizes : Sizes) (o : Opened) (climb : Climb) (places : Plac
   pub climbs : Climbs (locations_above o.irp) o.irp.number o.irp.cancelled (lowest_status o.parts) informed
       (payload_up o.lent joins o.irp.payload o.parts) climb
   pub brings_routine : BringsRoutine (cancel_routine_of o.irp) climb
-  pub request : places.request ≡ o.request
-  pub parts : AreLeft o.parts places.parts.items
+  pub left : AreLeft o.parts parts
 
 -- THE TABLE
 
@@ -184,7 +183,7 @@ empty_books sizes ended_places = record {
   removing = false;
 }
 
--- a slot that was not there is reserved, or left behind
+-- a slot that was not there is reserved
 pub record AddsSlot (old : TableView) (held : ClosedSlot) (new : TableView) : Type 0 where
   pub more : IsPermutation new.held (held ∷ old.held)
   pub room : SetsRoom old.rooms held.slot None (Some (reserved_for held)) new.rooms
@@ -209,7 +208,7 @@ pub record RemovesSlot (old : TableView) (slot : ℕ) (places : Places) (new : T
 pub record OpensAt (old : TableView) (slot : ℕ) (irp : Irp) (new : TableView) : Type 0 where
   pub held : ClosedSlot
   pub slot_is : held.slot ≡ slot
-  pub whole : held.whole ≡ true
+  pub whole : is_whole held.parts ≡ true
   pub fewer : IsPermutation old.held (held ∷ new.held)
   pub room : SetsRoom old.rooms slot (Some (whole_for held.request)) None new.rooms
   pub opens : IsPermutation new.opens ((slot, new_opened irp held.request held.parts) ∷ old.opens)
@@ -269,7 +268,6 @@ cancelled_one o = record o { irp = record o.irp { cancelled = true } }
 abbrev pub can_cancel : ℕ → Slot → Bool
 can_cancel number (Reserved places) = false
 can_cancel number (Open t) = (t.irp.value.number == number) && not t.irp.value.cancelled
-can_cancel number (Left places) = false
 
 -- the slot has a request of this number that is not cancelled yet
 pub record CanCancelAt (b : TableView) (slot number : ℕ) : Type 0 where

@@ -13,7 +13,7 @@ use Rattle.class_disk.specs.declared.parts.Part.{Part}
 use Rattle.class_disk.specs.declared.parts.PartId.{PartId}
 use Rattle.class_disk.specs.declared.requests.Places.{Places}
 use Rattle.class_disk.specs.declared.requests.Slot.{Slot}
-use Rattle.class_disk.specs.declared.requests.Slot.TheVariants.{Reserved, Open, Left}
+use Rattle.class_disk.specs.declared.requests.Slot.TheVariants.{Reserved, Open}
 use Rattle.class_disk.specs.declared.requests.Transfer.{Transfer}
 use Rattle.class_disk.specs.declared.table.Table.{Table}
 
@@ -28,12 +28,11 @@ pub record Opened : Type 0 where
   -- whether its buffer went below with the only part
   pub lent : Bool
 
--- a slot that has no packet: a request with its parts, each of which can be sent, or was left behind
+-- a slot that has no packet: a request with its parts, each of which can be sent, or with none any more
 pub record ClosedSlot : Type 0 where
   pub slot : ℕ
   pub request : Request
   pub parts : List Part
-  pub whole : Bool
 
 -- the table, as lists
 pub record TableView : Type 0 where
@@ -73,10 +72,12 @@ opened_of t = record {
 }
 
 abbrev pub held_as : ℕ → Places → ClosedSlot
-held_as slot places = record { slot = slot; request = places.request; parts = places.parts.items; whole = true }
+held_as slot places = record { slot = slot; request = places.request; parts = places.parts.items }
 
-abbrev pub left_as : ℕ → Places → ClosedSlot
-left_as slot places = record { slot = slot; request = places.request; parts = places.parts.items; whole = false }
+-- whether all is there that a request needs: its parts are, until its packet has gone up
+abbrev pub is_whole : List Part → Bool
+is_whole [] = false
+is_whole (part ∷ parts) = true
 
 -- the open requests of these slots, of which the first has this number
 abbrev pub open_from : ℕ → List (Option Slot) → List (ℕ × Opened)
@@ -84,7 +85,6 @@ open_from slot [] = []
 open_from slot (None ∷ rest) = open_from (slot + 1) rest
 open_from slot (Some (Reserved places) ∷ rest) = open_from (slot + 1) rest
 open_from slot (Some (Open t) ∷ rest) = (slot, opened_of t) ∷ open_from (slot + 1) rest
-open_from slot (Some (Left places) ∷ rest) = open_from (slot + 1) rest
 
 -- the slots among these that have no packet
 abbrev pub held_from : ℕ → List (Option Slot) → List ClosedSlot
@@ -92,18 +92,16 @@ held_from slot [] = []
 held_from slot (None ∷ rest) = held_from (slot + 1) rest
 held_from slot (Some (Reserved places) ∷ rest) = held_as slot places ∷ held_from (slot + 1) rest
 held_from slot (Some (Open t) ∷ rest) = held_from (slot + 1) rest
-held_from slot (Some (Left places) ∷ rest) = left_as slot places ∷ held_from (slot + 1) rest
 
 -- what a room is reserved for
 abbrev pub reserved_for : ClosedSlot → DeviceRoom
-reserved_for held = record { request = held.request; whole = held.whole }
+reserved_for held = record { request = held.request; whole = is_whole held.parts }
 
 -- what is reserved in a slot
 abbrev pub room_of : Option Slot → Option DeviceRoom
 room_of None = None
-room_of (Some (Reserved places)) = Some (record { request = places.request; whole = true })
+room_of (Some (Reserved places)) = Some (record { request = places.request; whole = is_whole places.parts.items })
 room_of (Some (Open t)) = None
-room_of (Some (Left places)) = Some (record { request = places.request; whole = false })
 
 -- what is reserved in a slot, in front of the slots behind; a last slot with nothing reserved is left out
 abbrev pub before : Option DeviceRoom → List (Option DeviceRoom) → List (Option DeviceRoom)

@@ -1,12 +1,11 @@
 -- A slot is made, the parts get their rooms below, and the slot is filled with them.
-use Rattle.class_disk.proofs.Common.{refl, sym, ◌∙◌, ap, subst, DeviceView, IsBounded, Sizes, Table, AreSizes, TableView, books_of, held_as, CanCut, class_rules, view_of, ReservesNone, near_same}
+use Rattle.class_disk.proofs.Common.{refl, sym, ◌∙◌, ap, subst, DeviceView, IsBounded, Sizes, Table, TableView, books_of, held_as, CanCut, view_of, ReservesNone, near_same}
 use Rattle.class_disk.proofs.Cutting.{can_cut}
 use Rattle.class_disk.proofs.Making.{none_asked}
 use Rattle.class_disk.proofs.NearParts.{near_above}
-use Rattle.class_disk.proofs.NewParts.{new_held}
 use Rattle.class_disk.proofs.Reserving.{ended_open, on_err}
 use Rattle.class_disk.proofs.ReservingAbove.{refused_there, reserved_above}
-use Rattle.class_disk.proofs.SlotFilling.{still_vacant, still_placed, place_there}
+use Rattle.class_disk.proofs.SlotFilling.{still_vacant, place_there}
 use Rattle.class_disk.proofs.Standing.{apart_in}
 use Rattle.class_disk.proofs.layer.DiskDevice.reserve.Goals as goal
 
@@ -48,32 +47,23 @@ returns-in_err-parts-clause-refused g c =
     (ap (λ (t : Table). books_of t) c.reserve_parts.ensures.table) c.in_err-parts.ensures.refused).1 in
     on_err _ h
 
-pub fill-requires-clause-vacant : goal.fill-requires-clause-vacant
-fill-requires-clause-vacant g c = still_vacant c.make_slot.new.self c.reserve_parts.new.self.table c.in_ok-slot.slot c.reserve_parts.ensures.table c.in_ok-slot.ensures.slot
-
-pub fill-requires-clause-place : goal.fill-requires-clause-place
-fill-requires-clause-place g c = still_placed c.make_slot.new.self c.reserve_parts.new.self.table c.reserve_parts.ensures.table c.in_ok-slot.ensures.place
+pub fill-requires : goal.fill-requires
+fill-requires g c = still_vacant c.make_slot.new.self c.reserve_parts.new.self.table c.in_ok-slot.slot c.reserve_parts.ensures.table c.in_ok-slot.ensures.slot
 
 pub invariant_of-self-2 : goal.invariant_of-self-2
 invariant_of-self-2 g c = record {
   takes = c.self.invariant.takes;
   in_hand = (reserved_above (g.D.Shown.view c.self.inside.extension.device) (books_of c.self.inside.extension.table) (books_of c.make_slot.new.self) c.self.invariant.in_hand c.make_slot.ensures.same _ _ (books_of c.reserve_parts.new.self.table)
-      (ap (λ (t : Table). books_of t) c.reserve_parts.ensures.table) (held_as c.in_ok-slot.slot (record { request = c.args.request.now; parts = c.in_ok-parts.parts })) refl c.in_ok-parts.ensures.makes
-      (books_of c.fill.new.self) c.fill.ensures
-      (new_held c.make_slot.new.self.sizes c.args.request.now _ _ (held_as c.in_ok-slot.slot (record { request = c.args.request.now; parts = c.in_ok-parts.parts })) refl
-      (subst (λ (s : Sizes). AreSizes s (class_rules (g.D.Shown.view c.self.inside.extension.device).rules)) (sym (ap (λ (b : TableView). b.sizes) c.make_slot.ensures.same.after)) c.self.invariant.in_hand.kept.sizes)
-      (subst (λ (x : DeviceView). IsBounded x.rules c.args.request.now) (sym c.self.view_is) c.requires.bounded) c.in_ok-parts.ensures.parts c.in_ok-parts.ensures.makes.owned)
+      (ap (λ (t : Table). books_of t) c.reserve_parts.ensures.table) (held_as c.in_ok-slot.slot (record { request = c.args.request.now; parts = c.in_ok-parts.parts })) (subst (λ (x : DeviceView). IsBounded x.rules c.args.request.now) (sym c.self.view_is) c.requires.bounded)
+      c.in_ok-parts.ensures.parts c.in_ok-parts.ensures.makes (books_of c.fill.new.self) c.fill.ensures
       (apart_in _ c.fill.new.self.slots.slots refl refl) (place_there c.make_slot.new.self c.in_ok-slot.ensures.place)).0;
 }
 
 pub returns-clause-reserved : goal.returns-clause-reserved
 returns-clause-reserved g c =
     rw (← c.self.view_is) (reserved_above (g.D.Shown.view c.self.inside.extension.device) (books_of c.self.inside.extension.table) (books_of c.make_slot.new.self) c.self.invariant.in_hand c.make_slot.ensures.same _ _ (books_of c.reserve_parts.new.self.table)
-    (ap (λ (t : Table). books_of t) c.reserve_parts.ensures.table) (held_as c.in_ok-slot.slot (record { request = c.args.request.now; parts = c.in_ok-parts.parts })) refl c.in_ok-parts.ensures.makes
-    (books_of c.fill.new.self) c.fill.ensures
-    (new_held c.make_slot.new.self.sizes c.args.request.now _ _ (held_as c.in_ok-slot.slot (record { request = c.args.request.now; parts = c.in_ok-parts.parts })) refl
-    (subst (λ (s : Sizes). AreSizes s (class_rules (g.D.Shown.view c.self.inside.extension.device).rules)) (sym (ap (λ (b : TableView). b.sizes) c.make_slot.ensures.same.after)) c.self.invariant.in_hand.kept.sizes)
-    (subst (λ (x : DeviceView). IsBounded x.rules c.args.request.now) (sym c.self.view_is) c.requires.bounded) c.in_ok-parts.ensures.parts c.in_ok-parts.ensures.makes.owned)
+    (ap (λ (t : Table). books_of t) c.reserve_parts.ensures.table) (held_as c.in_ok-slot.slot (record { request = c.args.request.now; parts = c.in_ok-parts.parts })) (subst (λ (x : DeviceView). IsBounded x.rules c.args.request.now) (sym c.self.view_is) c.requires.bounded)
+    c.in_ok-parts.ensures.parts c.in_ok-parts.ensures.makes (books_of c.fill.new.self) c.fill.ensures
     (apart_in _ c.fill.new.self.slots.slots refl refl) (place_there c.make_slot.new.self c.in_ok-slot.ensures.place)).1
 
 pub returns-clause-unless_write : goal.returns-clause-unless_write

@@ -1,4 +1,4 @@
-use Rattle.class_disk.proofs.Common.{◌≡◌, rules, ◌∙◌, ap, subst, refl, arith, Irp, Climbs, AreLeft, lowest_status, payload_of, payload_up}
+use Rattle.class_disk.proofs.Common.{◌≡◌, rules, ◌∙◌, ap, subst, arith, Irp, Climbs, AreLeft, lowest_status, payload_of, payload_up}
 use Rattle.irp.specs.Climb.{above as locations_above}
 use Rattle.class_disk.proofs.PartsLeft.{left_whole}
 use Rattle.class_disk.proofs.requests.Transfer.complete.Goals as goal
@@ -28,7 +28,6 @@ returns c =
           (subst (λ (x : Irp). Climbs (locations_above (record x { payload = c.carried_up.result })) x.number x.cancelled c.status-status.result told c.carried_up.result c.complete.result)
           now c.complete.ensures.climbs));
       brings_routine = search rules;
-      request = refl;
-      parts = left_whole parts c.carried_up.new.parts c.args.self.parts.len (let n = c.args.self.parts.ok.0 in omega (arith, n))
+      left = left_whole parts c.carried_up.new.parts c.args.self.parts.len (let n = c.args.self.parts.ok.0 in omega (arith, n))
           (subst (λ ps. AreLeft ps c.carried_up.new.parts) c.deref_mut-2.ensures.value c.carried_up.ensures.left);
     }

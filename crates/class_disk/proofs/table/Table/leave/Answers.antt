@@ -1,5 +1,0 @@
-use Rattle.class_disk.proofs.SlotFilling.{adds_left}
-use Rattle.class_disk.proofs.table.Table.leave.Goals as goal
-
-pub returns : goal.returns
-returns c = let i = c.insert_reserved-slot.ensures in adds_left c.args.self.now c.insert_reserved-slot.new.self c.args.slot c.insert_reserved-slot.result c.args.places c.requires i.key i.was_vacant i.updates
