@@ -98,7 +98,7 @@ right_acts rules number q s s' k n bytes h = record { keeps = λ j sector right.
 serves_on : (rules : Rules) (s : State) (label : Label) (s' : State) → IsSound rules s → Step rules s label s' → (number : ℕ) (q : ClientRequest)
     → Serves rules number q (IsWhole rules q) s → Serves rules number q (IsWhole rules q) s'
 serves_on rules s label s' sound step number q k =
-    Serves-Step rules number q (IsWhole rules q) s label s' sound.0 (acts_by rules number (IsWhole rules q) s label s' (right_acts rules number q s s' k)) k step
+    Serves-Step rules number q (IsWhole rules q) s label s' sound.0 (acts_by rules number (IsWhole rules q) s label s' (λ n bytes h e. right_acts rules number q s s' k n bytes h)) k step
 
 known_on : (rules : Rules) (asked : List (Option Asked)) (s : State) (label : Label) (s' : State) → IsSound rules s → Step rules s label s' → (o : OpenRequest)
     → IsKnown rules asked s o → IsKnown rules asked s' o
