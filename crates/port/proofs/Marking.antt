@@ -1,5 +1,5 @@
 -- A packet that is cancelled at the adapter, or after it ended.
-use Rattle.std.proofs.Common.{◌≡◌, ◌<◌, ◌≤◌, ◌⊎◌, inl, inr, ℕ, ◌+◌, Bool, true, false, List, [], ◌∷◌, ◌++◌, Some, None, refl, sym, subst, ap, ◌∙◌, arith, map, length, get_or}
+use Rattle.std.proofs.Common.{◌≡◌, ◌<◌, ◌≤◌, ◌⊎◌, inl, inr, ℕ, ◌+◌, Bool, true, false, List, ◌∷◌, ◌++◌, Some, None, refl, sym, subst, ap, ◌∙◌, arith, map, length, get_or}
 use Rattle.std.specs.Prelude.{All, Any, IsPermutation, MatchBool, slice_set, remove}
 use Rattle.std.specs.List.{concat}
 use Rattle.std.proofs.lemmas.List.{length-set, get_or-set_same, get_or_default}

@@ -1,5 +1,5 @@
 -- Packets that are cancelled, or that wait at a removal: the queues.
-use Rattle.std.proofs.Common.{◌≡◌, ◌<◌, ℕ, zero, suc, ◌+◌, Bool, true, false, List, [], ◌∷◌, ◌++◌, Some, None, refl, sym, ap, ◌∙◌, arith, map, length, get_or, take, drop}
+use Rattle.std.proofs.Common.{◌≡◌, ◌<◌, ℕ, zero, suc, ◌+◌, Bool, true, false, List, [], ◌∷◌, ◌++◌, Some, None, refl, sym, subst, ap, ◌∙◌, arith, map, length, get_or, take, drop}
 use Rattle.std.specs.Prelude.{All, position, remove, slice_set}
 use Rattle.std.specs.List.{position_from}
 use Rattle.std.proofs.lemmas.List.{append-nil, nil_from_length, take-append-drop, drop_more}
@@ -10,7 +10,7 @@ use Rattle.port.specs.declared.queues.PortPacket.{PortPacket}
 use Rattle.port.specs.declared.queues.Ended.{Ended}
 use Rattle.port.specs.declared.queues.Outcome.TheVariants.{Withdrawn}
 use Rattle.port.specs.inside.TableView.{TableView, entry_of, ended_entry}
-use Rattle.port.specs.inside.TableCalls.{gone, drained, cancelled, can_cancel_held, can_cancel_ended, Withdraws, CancelsEnded, CancelsNoEnded}
+use Rattle.port.specs.inside.TableCalls.{gone, drained, cancelled, can_cancel_held, can_cancel_ended, Withdraws, Marks, CancelsEnded, CancelsNoEnded}
 
 pub drained_by : (b x : TableView) (before after : List PortPacket) → b.waiting ≡ before ++ x.waiting → x.done ≡ b.done ++ map gone before → x ≡ record b { waiting = x.waiting; done = x.done }
     → length x.waiting ≡ 0 → length after ≡ 0 → record x { waiting = after; removing = true } ≡ drained b
@@ -65,23 +65,27 @@ set_between [] k x low = absurd (omega arith)
 set_between (y ∷ xs) zero x low = refl
 set_between (y ∷ xs) (suc k) x low = ap (λ zs. y ∷ zs) (set_between xs k x (omega arith))
 
-pub cancels_ended : (b b' : TableView) (number index : ℕ) (ended marked : Ended) (done' : List Ended) → Some index ≡ position (can_cancel_ended number) b.done → ended ≡ get_or b.done index ended
-    → ended_entry marked ≡ cancelled (ended_entry ended) → marked.irp.value.payload ≡ ended.irp.value.payload → marked.outcome ≡ ended.outcome → done' ≡ slice_set b.done index marked
-    → b' ≡ record b { done = done' } → CancelsEnded b number b'
-cancels_ended b b' number index ended marked done' found is entry carries ends set after =
-    let at = position-Some (can_cancel_ended number) b.done index ended (sym found) in
+pub found_within : (number index : ℕ) (done : List Ended) → Some index ≡ position (can_cancel_ended number) done → index < length done
+found_within number index [] found = cc (found)
+found_within number index (e ∷ done) found = (position-Some (can_cancel_ended number) (e ∷ done) index e (sym found)).0
+
+pub cancels_marked : (b b' : TableView) (number index : ℕ) (done done' : List Ended) → Some index ≡ position (can_cancel_ended number) b.done → done ≡ b.done → Marks done index done' → b' ≡ record b { done = done' }
+    → CancelsEnded b number b'
+cancels_marked b b' number index done done' found same marks after =
+    let m : Marks b.done index done' = subst (λ (ds : List Ended). Marks ds index done') same marks in
+    let at = position-Some (can_cancel_ended number) b.done index m.ended (sym found) in
     record {
       before = take index b.done;
-      ended = ended;
+      ended = m.ended;
       behind = drop (suc index) b.done;
-      marked = marked;
-      is_done = split_at b.done index ended at.0 is;
-      can = ap (can_cancel_ended number) is ∙ at.1;
-      same_entry = entry;
-      carries = carries;
-      ends = ends;
-      after = after ∙ ap (λ (ds : List Ended). record b { done = ds }) (set ∙ set_between b.done index marked at.0);
+      marked = m.marked;
+      is_done = split_at b.done index m.ended at.0 m.stood;
+      can = ap (can_cancel_ended number) m.stood ∙ at.1;
+      same_entry = m.same_entry;
+      carries = m.carries;
+      ends = m.ends;
+      after = after ∙ ap (λ (ds : List Ended). record b { done = ds }) (m.after ∙ set_between b.done index m.marked at.0);
     }
 
-pub cancels_no_ended : (b : TableView) (number : ℕ) → None ≡ position (can_cancel_ended number) b.done → CancelsNoEnded b number b
-cancels_no_ended b number h = record { none = none_found (can_cancel_ended number) b.done (sym h); same = refl }
+pub cancels_no_ended : (b b' : TableView) (number : ℕ) → None ≡ position (can_cancel_ended number) b.done → b' ≡ b → CancelsNoEnded b number b'
+cancels_no_ended b b' number h same = record { none = none_found (can_cancel_ended number) b.done (sym h); same = same }

@@ -90,7 +90,8 @@ impl<A: Adapter> Parts<A> {
         ensures cancels { MatchBool result
             (CancelsQueued (books_of self.old.queues) (A.view self.old.adapter) spot number (books_of self.new.queues))
             (WithdrawsNotAt (books_of self.old.queues) spot number (books_of self.new.queues)) }
-        ensures visits { VisitsAtMost 3 (visits_of self.old.queues) (visits_of self.new.queues) }
+        ensures visits { VisitsAtMost 3 (visits_of self.old.queues).queue (visits_of self.new.queues).queue }
+        ensures walks { (visits_of self.new.queues).walks ≡ (visits_of self.old.queues).walks }
     {
         self.queues.withdraw_at(spot, number)
     }
@@ -224,10 +225,11 @@ impl<A: Adapter> Device for Port<A> {
         self.parts.queues.cancel_done(number);
     }
 
-    /// At most three entries of the queue are visited.
+    /// At most three entries of the queue are visited, and the packets that ended are walked once.
     fn cancel_at(&mut self, spot: usize, number: u128)
         ensures cancels { ShownCancelsAt self.old.shown spot number self.new.shown }
         ensures visits { VisitsAtMost 3 self.old.visits self.new.visits }
+        ensures walks { VisitsAtMost 1 self.old.walks self.new.walks }
     {
         if self.parts.cancel_queued(spot, number) {
             return;

@@ -4,12 +4,13 @@
 //!
 //! `Port<A>` is a `Device` over any adapter, and shows one volume, the whole disk (`opening`). Packets start in turn,
 //! on the lowest free tag, and wait only while all are in use (`IsSending`). `cancel_at` visits three entries of the
-//! queue at most (`visits`).
+//! queue at most (`visits`), and walks the packets that ended once (`walks`).
 #![tactic(auto)]
 
 ghost use Rattle.std.specs.Prelude.{◌≡◌, IfErr, IfOk};
 ghost use Rattle.port.specs.Opening.{IsFresh, opening_view};
 
+mod ended;
 mod layer;
 mod queues;
 mod table_calls;

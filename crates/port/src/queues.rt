@@ -5,12 +5,12 @@ ghost use Rattle.std.specs.VecDeque.{deque_capacity};
 ghost use Rattle.slab.specs.Slab.{slab_len};
 ghost use Rattle.port.specs.inside.Covered.{AreCovered};
 
+use crate::ended::EndedList;
 use device::Request;
 use irp::Irp;
 use linked::{Linked, Numbered};
 use slab::Slab;
 use srb::Class;
-use std::collections::VecDeque;
 
 /// The sizes of the adapter's disk.
 #[derive(Debug, Clone, Copy, PartialEq, Eq)]
@@ -79,7 +79,7 @@ pub(crate) struct Queues {
     /// The packets that wait, first in, first out.
     pub waiting: Linked<Waiting>,
     pub started: Vec<Option<PortPacket>>,
-    pub done: VecDeque<Ended>,
+    pub done: EndedList,
     /// The last number submitted; 0 before the first.
     pub last_request: u128,
     pub next_piece: u128,
@@ -88,5 +88,5 @@ pub(crate) struct Queues {
     /// By spots: the request that a spot is reserved for, or `None` where a packet has the spot.
     pub rooms: Slab<Option<Request>>,
     ghost covered: { AreCovered rooms waiting.places },
-    ghost done_places: { slab_len rooms ≤ deque_capacity done },
+    ghost done_places: { slab_len rooms ≤ deque_capacity done.list },
 }

@@ -1,12 +1,12 @@
 //! The calls of the queues.
 
 ghost use Rattle.std.specs.Prelude.{◌≡◌, ◌==◌, ◌&&◌, not, ◌<◌, ◌≤◌, ◌+◌, ◌^◌, ◌-◌, ℕ, [], All, Option, Some, None};
-ghost use Rattle.std.specs.Prelude.{IfOk, IsSome, OnOk, OnErr, IsTrue, MatchBool, MatchOption, length, position};
+ghost use Rattle.std.specs.Prelude.{IfOk, IsSome, OnOk, OnErr, IsTrue, MatchBool, MatchOption, length};
 ghost use Rattle.std.specs.Prelude.{slice_index_or};
 ghost use Rattle.irp.specs.declared.Payload.TheVariants.{Srb as Packed};
 ghost use Rattle.machine.specs.declared.Request.{Request};
 ghost use Rattle.port.specs.inside.TableView.{books_of, visits_of, entry, entry_of};
-ghost use Rattle.port.specs.inside.TableCalls.{IsEmpty, IsPacked, cancelled, can_cancel_held, can_cancel_ended};
+ghost use Rattle.port.specs.inside.TableCalls.{IsEmpty, IsPacked, cancelled};
 ghost use Rattle.port.specs.inside.TableCalls.{held_on};
 ghost use Rattle.port.specs.inside.TableCalls.{AddsPlace, RemovesPlace, HasOtherSpot, IsEndedTaken, Queued, Starts};
 ghost use Rattle.port.specs.inside.TableCalls.{StartsNot, Ends, TakesDone, TakesNone, drained, as_returned};
@@ -18,6 +18,7 @@ ghost use Rattle.port.specs.Shown.{status_left};
 ghost use Rattle.linked.specs.Queue.{VisitsAtMost};
 ghost use Rattle.slab.specs.Slab.{get, slab_len, with_value, HasRoomFor};
 
+use crate::ended::EndedList;
 use crate::queues::{Ended, Outcome, PortPacket, Queues, Sizes, Waiting};
 use device::Request;
 use irp::{Irp, Payload};
@@ -26,7 +27,6 @@ use ntstatus::NtStatus;
 use slab::Slab;
 use srb::{Class, Srb, SrbStatus};
 use std::alloc::{AllocError, Global};
-use std::collections::VecDeque;
 use std::mem;
 
 impl Outcome {
@@ -65,7 +65,7 @@ fn forget_sense(srb: &mut Srb, class: Class)
 }
 
 /// Marks the packet as cancelled. Its cancel routine stays, and isn't called.
-fn mark_cancelled(irp: &mut Box<Irp>)
+pub(crate) fn mark_cancelled(irp: &mut Box<Irp>)
     ensures entry { (request : Request) (spot : ℕ)
         → entry irp.new.value request spot ≡ cancelled (entry irp.old.value request spot) }
     ensures payload { irp.new.value.payload ≡ irp.old.value.payload }
@@ -74,7 +74,7 @@ fn mark_cancelled(irp: &mut Box<Irp>)
 }
 
 /// Whether the packet has this number and is not cancelled yet.
-fn is_cancellable(irp: &Irp, number: u128) -> bool
+pub(crate) fn is_cancellable(irp: &Irp, number: u128) -> bool
     ensures { result ≡ ((irp.now.number == number) && not irp.now.cancelled) }
 {
     irp.number == number && !irp.cancelled
@@ -144,7 +144,7 @@ impl Queues {
             sizes,
             waiting: Linked::new(alloc),
             started,
-            done: VecDeque::new(alloc),
+            done: EndedList::new(alloc),
             last_request: 0,
             next_piece: 1,
             submitted: 0,
@@ -267,15 +267,6 @@ impl Queues {
         self.removing = true;
     }
 
-    /// Returns the place of the ended packet of this number, where it is not cancelled yet.
-    fn find_done(&self, number: u128) -> Option<usize>
-        ensures { result ≡ position (can_cancel_ended number) self.now.done.items }
-    {
-        self.done
-            .iter()
-            .position(|ended| is_cancellable(&ended.irp, number))
-    }
-
     /// The packet of this number ends as cancelled, where it waits (WDK: SRB_STATUS_REQUEST_FLUSHED).
     pub fn withdraw(&mut self, number: u128) -> bool
         requires places { length (books_of self.old).waiting + length (books_of self.old).done ≤ (books_of self.old).places }
@@ -295,7 +286,8 @@ impl Queues {
         requires not_cancelled { All IsUncancelled (books_of self.old).waiting }
         ensures withdraws { MatchBool result (WithdrawsAt (books_of self.old) spot number (books_of self.new))
             (WithdrawsNotAt (books_of self.old) spot number (books_of self.new)) }
-        ensures visits { VisitsAtMost 3 (visits_of self.old) (visits_of self.new) }
+        ensures visits { VisitsAtMost 3 (visits_of self.old).queue (visits_of self.new).queue }
+        ensures walks { (visits_of self.new).walks ≡ (visits_of self.old).walks }
     {
         let Some(Waiting { mut irp, request }) = self.waiting.remove_number(spot, number) else {
             return false;
@@ -325,15 +317,13 @@ impl Queues {
     pub fn cancel_done(&mut self, number: u128) -> bool
         ensures cancels { MatchBool result (CancelsEnded (books_of self.old) number (books_of self.new))
             (CancelsNoEnded (books_of self.old) number (books_of self.new)) }
-        ensures visits { visits_of self.new ≡ visits_of self.old }
+        ensures visits { (visits_of self.new).queue ≡ (visits_of self.old).queue }
+        ensures walks { (visits_of self.new).walks ≡ (visits_of self.old).walks + 1 }
     {
-        let Some(index) = self.find_done(number) else {
+        let Some(index) = self.done.find(number) else {
             return false;
         };
-        let Some(ended) = self.done.get_mut(index) else {
-            unreachable!()
-        };
-        mark_cancelled(&mut ended.irp);
+        self.done.mark(index);
         true
     }
 }

@@ -228,6 +228,16 @@ pub record CancelsNotOn (old : TableView) (tag number : ℕ) (new : TableView) :
   pub cannot : CannotCancelOn old.started number tag
   pub same : new ≡ old
 
+-- the packet at a place of those that ended is cancelled, and ends as it did
+pub record Marks (old : List Ended) (index : ℕ) (new : List Ended) : Type 0 where
+  pub ended : Ended
+  pub marked : Ended
+  pub stood : ended ≡ slice_index_or old index ended
+  pub same_entry : ended_entry marked ≡ cancelled (ended_entry ended)
+  pub carries : marked.irp.value.payload ≡ ended.irp.value.payload
+  pub ends : marked.outcome ≡ ended.outcome
+  pub after : new ≡ slice_set old index marked
+
 -- a packet that has ended is cancelled, and ends as it did
 pub record CancelsEnded (old : TableView) (number : ℕ) (new : TableView) : Type 0 where
   pub before : List Ended

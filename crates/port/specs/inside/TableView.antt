@@ -76,7 +76,7 @@ books_of q = record {
   sizes = q.sizes;
   waiting = map held_at q.waiting.entries;
   started = q.started.items;
-  done = q.done.items;
+  done = q.done.list.items;
   last_request = q.last_request;
   next_piece = q.next_piece;
   submitted = q.submitted;
@@ -85,9 +85,13 @@ books_of q = record {
   rooms = q.rooms.slots;
 }
 
--- how often an entry of the queue was visited
-abbrev pub visits_of : Queues → ℕ
-visits_of q = q.waiting.visits
+-- how often an entry of the queue was visited, and the packets that ended were walked
+pub record Visited : Type 0 where
+  pub queue : ℕ
+  pub walks : ℕ
+
+abbrev pub visits_of : Queues → Visited
+visits_of q = record { queue = q.waiting.visits; walks = q.done.walks.count }
 
 -- where a packet stood
 abbrev pub spot_in : PacketEntry → ℕ

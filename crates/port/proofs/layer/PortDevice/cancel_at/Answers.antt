@@ -1,10 +1,10 @@
-use Rattle.std.proofs.Common.{◌∙◌, sym, subst}
+use Rattle.std.proofs.Common.{◌+◌, ◌∙◌, sym, ap, subst}
 use Rattle.linked.specs.Queue.{VisitsAtMost}
-use Rattle.port.specs.inside.TableView.{books_of, visits_of}
+use Rattle.port.specs.inside.TableView.{Visited, books_of, visits_of}
 use Rattle.port.specs.Shown.{reserved_of}
 use Rattle.port.proofs.Spots.{at_queued, at_started, at_last}
 use Rattle.port.proofs.Sound.{sound_on, same_cancelled_at}
-use Rattle.port.proofs.Seeing.{shown_is, visits_are}
+use Rattle.port.proofs.Seeing.{shown_is, visits_are, walks_are, unwalked, walked_once}
 use Rattle.port.proofs.layer.PortDevice.cancel_at.Goals as goal
 
 pub invariant_of-self : goal.invariant_of-self
@@ -36,8 +36,19 @@ returns-then-cancel_queued-clause-visits g c = rw (← visits_are c.self.view_is
 
 pub returns-then-cancel_started-clause-visits : goal.returns-then-cancel_started-clause-visits
 returns-then-cancel_started-clause-visits g c =
-    rw (← visits_are c.self.view_is) (subst (λ n. VisitsAtMost 3 (visits_of c.self.inside.parts.queues) n) (sym c.cancel_started.ensures.visits) c.cancel_queued.ensures.visits)
+    rw (← visits_are c.self.view_is) (subst (λ n. VisitsAtMost 3 (visits_of c.self.inside.parts.queues).queue n) (sym (ap (λ (v : Visited). v.queue) c.cancel_started.ensures.visits)) c.cancel_queued.ensures.visits)
 
 pub returns-clause-visits : goal.returns-clause-visits
 returns-clause-visits g c =
-    rw (← visits_are c.self.view_is) (subst (λ n. VisitsAtMost 3 (visits_of c.self.inside.parts.queues) n) (sym (c.cancel_done.ensures.visits ∙ c.cancel_started.ensures.visits)) c.cancel_queued.ensures.visits)
+    rw (← visits_are c.self.view_is) (subst (λ n. VisitsAtMost 3 (visits_of c.self.inside.parts.queues).queue n) (sym (c.cancel_done.ensures.visits ∙ ap (λ (v : Visited). v.queue) c.cancel_started.ensures.visits)) c.cancel_queued.ensures.visits)
+
+pub returns-then-cancel_queued-clause-walks : goal.returns-then-cancel_queued-clause-walks
+returns-then-cancel_queued-clause-walks g c = rw (← walks_are c.self.view_is) (unwalked _ _ c.cancel_queued.ensures.walks)
+
+pub returns-then-cancel_started-clause-walks : goal.returns-then-cancel_started-clause-walks
+returns-then-cancel_started-clause-walks g c =
+    rw (← walks_are c.self.view_is) (unwalked _ _ (ap (λ (v : Visited). v.walks) c.cancel_started.ensures.visits ∙ c.cancel_queued.ensures.walks))
+
+pub returns-clause-walks : goal.returns-clause-walks
+returns-clause-walks g c =
+    rw (← walks_are c.self.view_is) (walked_once _ _ (c.cancel_done.ensures.walks ∙ ap (λ n. n + 1) (ap (λ (v : Visited). v.walks) c.cancel_started.ensures.visits ∙ c.cancel_queued.ensures.walks)))

@@ -1,10 +1,16 @@
-use Rattle.std.proofs.Common.{refl}
+use Rattle.std.proofs.Common.{◌<◌, ◌∙◌, refl, sym, ap, subst, length}
 use Rattle.port.specs.inside.TableView.{books_of}
-use Rattle.port.proofs.Searching.{cancels_ended, cancels_no_ended}
+use Rattle.port.proofs.Searching.{found_within, cancels_marked, cancels_no_ended}
 use Rattle.port.proofs.queues.Queues.cancel_done.Goals as goal
 
+pub mark-requires : goal.mark-requires
+mark-requires c =
+    subst (λ ds. c.in-Some.index < length ds) (sym (ap (λ l. l.items) c.find.ensures.same)) (found_within c.args.number c.in-Some.index c.args.self.now.done.list.items (sym c.in-Some.is ∙ c.find.ensures.found))
+
 pub returns-in_default-clause-cancels : goal.returns-in_default-clause-cancels
-returns-in_default-clause-cancels c = cancels_no_ended (books_of c.args.self.now) _ c.in_default.ensures
+returns-in_default-clause-cancels c =
+    cancels_no_ended (books_of c.args.self.now) _ c.args.number (sym c.in_default.is ∙ c.find.ensures.found) (ap (λ l. record (books_of c.args.self.now) { done = l.items }) c.find.ensures.same)
 
 pub returns-clause-cancels : goal.returns-clause-cancels
-returns-clause-cancels c = cancels_ended (books_of c.args.self.now) _ _ _ c.in-Some-get_mut.ended.now _ _ c.in-Some.ensures c.in-Some-get_mut.ensures.value (c.mark_cancelled.ensures.entry _ _) c.mark_cancelled.ensures.payload refl refl refl
+returns-clause-cancels c =
+    cancels_marked (books_of c.args.self.now) _ c.args.number c.in-Some.index c.find.new.self.list.items c.mark.new.self.list.items (sym c.in-Some.is ∙ c.find.ensures.found) (ap (λ l. l.items) c.find.ensures.same) c.mark.ensures.marks refl

@@ -15,7 +15,7 @@ pub push_back_reserved-requires : goal.push_back_reserved-requires
 push_back_reserved-requires c =
     let l = ap (λ (hs : List PortPacket). length hs) (popped _ _ _ _ c.in-Some.ensures) in
     let few = c.loop-spot.invariant.few in
-    omega (arith, c.loop-spot.self.done.ok, c.loop-spot.self.done_places)
+    omega (arith, c.loop-spot.self.done.list.ok, c.loop-spot.self.done_places)
 
 pub loop-spot-smaller : goal.loop-spot-smaller
 loop-spot-smaller c = let l = ap (λ (hs : List PortPacket). length hs) (popped _ _ _ _ c.in-Some.ensures) in omega arith
@@ -30,9 +30,9 @@ loop-spot-preserved c =
     record {
       before = i.before ++ h ∷ [];
       waited = i.waited ∙ ap (λ (hs : List PortPacket). i.before ++ hs) p ∙ sym (append_assoc i.before (h ∷ []) _);
-      went = c.push_back_reserved.ensures.items ∙ ap (λ (ds : List Ended). ds ++ gone h ∷ []) i.went ∙ append_assoc _ (map gone i.before) (gone h ∷ []) ∙ ap (λ (ds : List Ended). c.args.self.now.done.items ++ ds) (sym (map-append gone i.before (h ∷ [])));
-      others = ap (λ (x : TableView). record x { waiting = map held_at c.pop_front.new.self.entries; done = c.push_back_reserved.new.self.items }) i.others;
-      few = omega (arith, i.few, length-append c.loop-spot.self.done.items (gone h ∷ []));
+      went = c.push_back_reserved.ensures.items ∙ ap (λ (ds : List Ended). ds ++ gone h ∷ []) i.went ∙ append_assoc _ (map gone i.before) (gone h ∷ []) ∙ ap (λ (ds : List Ended). c.args.self.now.done.list.items ++ ds) (sym (map-append gone i.before (h ∷ [])));
+      others = ap (λ (x : TableView). record x { waiting = map held_at c.pop_front.new.self.entries; done = c.push_back_reserved.new.self.list.items }) i.others;
+      few = omega (arith, i.few, length-append c.loop-spot.self.done.list.items (gone h ∷ []));
     }
 
 pub returns : goal.returns
