@@ -1,6 +1,9 @@
-pub mod Growing
+pub mod Listing
+pub mod Turning
+pub mod Matching
 pub mod Calling
-pub mod Covering
-pub mod Seeing
+pub mod Adding
+pub mod Inserting
 pub mod Reaching
+pub mod Standing
 pub mod Judging

@@ -1,57 +1,76 @@
 //! A register as it may be, by what was seen of it.
 
-ghost use Rattle.std.specs.Prelude.{◌≡◌, true, [], IfOk, IfSome, IsTrue, MatchOption, ◌↔◌};
+ghost use Rattle.std.specs.Prelude.{◌≡◌, true, [], ◌∷◌, ◌++◌, ◌↔◌, IfOk, IsTrue, OnOk};
+ghost use Rattle.std.specs.List.{list_any};
+ghost use Rattle.register_judge.specs.inside.States.{called, form_of};
 ghost use Rattle.register_judge.specs.inside.Registers.{
   Begins,
   Calls,
+  EachCalled,
   EndsAt,
-  IsFree,
-  IsInNoSlot,
-  IsSlotOf,
+  is_this,
   Sees,
+  without,
 };
 
-use crate::states::{Operation, SLOTS, State, close, settled, wait_in_each};
+use crate::states::{State, Waiting, end_all};
 use register::Sight;
 use std::alloc::{AllocError, Global};
 
 #[derive(Debug, Drop)]
 pub(crate) struct Register {
-    pub operations: [Operation; 64],
-    // The number of the last call.
+    /// The numbers of the open operations.
+    pub numbers: Vec<u64>,
+    /// The number of the last call.
     pub last: u64,
     pub states: Vec<State>,
 }
 
-const NONE: Operation = Operation {
-    is_open: false,
-    number: 0,
-    writes: false,
-    value: 0,
-};
-
-/// A slot with nothing open.
-fn free_slot(operations: &[Operation; 64]) -> Option<usize>
-    ensures { IfSome result (λ slot. IsFree operations.now slot) }
+fn is_this(number: u64, other: u64) -> bool
+    ensures { result ≡ is_this number other }
 {
-    for slot in 0..SLOTS {
-        if !operations[slot].is_open {
-            return Some(slot);
-        }
-    }
-    None
+    other == number
 }
 
-/// The slot of an open operation.
-fn slot_of(operations: &[Operation; 64], number: u64) -> Option<usize>
-    ensures { MatchOption result (IsInNoSlot operations.now number) (λ slot. IsSlotOf operations.now number slot) }
+/// Whether an operation is open.
+fn is_among(number: u64, numbers: &[u64]) -> bool
+    ensures { result ≡ list_any (is_this number) numbers.now }
 {
-    for slot in 0..SLOTS {
-        if operations[slot].is_open && operations[slot].number == number {
-            return Some(slot);
+    numbers.iter().any(|other| is_this(number, *other))
+}
+
+/// The others.
+fn without(alloc: Global, number: u64, numbers: &[u64]) -> Result<Vec<u64>, AllocError>
+    ensures { IfOk result (λ left. left.items ≡ without number [] numbers.now) }
+{
+    let mut left = Vec::new(alloc);
+    for other in numbers {
+        if is_this(number, *other) {
+            continue;
         }
+        left.push(*other)?;
     }
-    None
+    Ok(left)
+}
+
+/// Lets a called operation wait, unless it is a read of the value that the register has.
+fn call_one(state: &mut State, wait: Waiting) -> Result<(), AllocError>
+    ensures { OnOk result (form_of state.new ≡ called wait (form_of state.old)) }
+{
+    if wait.writes || wait.value != state.value {
+        state.waits.push(wait)?;
+    }
+    Ok(())
+}
+
+/// The same in each state.
+fn call_all(states: &mut Vec<State>, wait: Waiting) -> Result<(), AllocError>
+    ensures { OnOk result (EachCalled wait states.old.items states.new.items) }
+{
+    for state in states.iter_mut() {
+        call_one(state, wait)?;
+    }
+    Ok(())
 }
 
 impl Register {
@@ -59,13 +78,14 @@ impl Register {
     pub fn new(alloc: Global, start: u64) -> Result<Register, AllocError>
         ensures { IfOk result (λ register. Begins start register) }
     {
+        let waits = Vec::new(alloc);
         let mut states = Vec::new(alloc);
         states.push(State {
             value: start,
-            waits: [false; 64],
+            waits,
         })?;
         Ok(Register {
-            operations: [NONE; 64],
+            numbers: Vec::new(alloc),
             last: 0,
             states,
         })
@@ -96,28 +116,29 @@ impl Register {
         if number <= self.last {
             return Ok(false);
         }
-        let Some(slot) = free_slot(&self.operations) else {
-            return Ok(false);
-        };
-        self.operations[slot] = Operation {
-            is_open: true,
+        let wait = Waiting {
             number,
             writes,
             value,
+            is_old: false,
         };
+        self.numbers.push(number)?;
         self.last = number;
-        wait_in_each(&mut self.states, slot);
-        close(&self.operations, &mut self.states)
+        call_all(&mut self.states, wait)?;
+        Ok(true)
     }
 
     fn end(&mut self, alloc: Global, number: u64, must: bool) -> Result<bool, AllocError>
         ensures { IfOk result (λ seen. seen ≡ true → EndsAt self.old number must self.new) }
     {
-        let Some(slot) = slot_of(&self.operations, number) else {
+        if !is_among(number, self.numbers.as_slice()) {
             return Ok(false);
-        };
-        self.operations[slot].is_open = false;
-        self.states = settled(alloc, &self.states, slot, must)?;
-        close(&self.operations, &mut self.states)
+        }
+        self.numbers = without(alloc, number, self.numbers.as_slice())?;
+        self.states = end_all(alloc, must, number, self.states.as_slice())?;
+        Ok(self.states.len() <= MOST)
     }
 }
+
+/// The number of states that are kept.
+const MOST: usize = 1024;

@@ -1,12 +1,12 @@
 //! A judge of one register: it says of what was seen of it, calls and answers, whether some schedule explains them.
 //!
-//! It keeps each state that the register may have.
+//! It lets no operation take effect before an end asks for it, and keeps of each state that the register may have what may
+//! have taken effect unseen (`specs/inside/States`): so many open writes are one state.
 //!
 //! # Promises
 //!
 //! `judge` passes only what some schedule explains, refuses only what none does, and tells how many sights suffice
-//! (`right`). It is `Undecided` with more than 64 operations open or 2,048 states left, or where numbers don't rise or
-//! what isn't open ends.
+//! (`right`). It is `Undecided` with more than 1,024 states left, or where numbers don't rise or what isn't open ends.
 #![tactic(auto)]
 
 mod keeping;
@@ -28,7 +28,7 @@ pub enum Verdict {
     Passed,
     /// The first so many have no schedule.
     Refused { sights: usize },
-    /// Too many operations are open, the register may have too many states, numbers don't rise, or what isn't open ends.
+    /// The register may have too many states, numbers don't rise, or what isn't open ends.
     Undecided,
 }
 

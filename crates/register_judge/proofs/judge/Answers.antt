@@ -7,7 +7,7 @@ loop-index-init c = exact_first c.args.start c.in_ok-register.register c.in_ok-r
 pub returns-then-has_none : goal.returns-then-has_none
 returns-then-has_none c = record {
   right = refuses c.args.start c.see.new.self c.args.sights.now c.loop-index.index c.loop-index-test.true
-      (covers_next c.args.start c.loop-index.register c.see.new.self c.args.sights.now c.loop-index.index _ c.loop-index-test.true c.loop-index.invariant.covers (c.in_ok-see.ensures c.if-not-branch.false))
+      (covers_next c.args.start c.loop-index.register c.see.new.self c.args.sights.now c.loop-index.index _ c.loop-index-test.true c.loop-index.invariant (c.in_ok-see.ensures c.if-not-branch.false))
       (c.has_none.ensures.0 c.if-has_none.true);
 }
 

@@ -1,73 +1,108 @@
 -- What operations make of states, as the judge keeps them.
-use Rattle.std.specs.Prelude.{◌≡◌, ◌⊎◌, ◌<◌, ◌≤◌, ℕ, ◌==◌, ◌&&◌, ◌||◌, Bool, true, false, List, length, slice_index_or, slice_set, Option, Some, None, IfSome, Contains, if◌then◌else◌}
-use Rattle.register_judge.specs.declared.states.Operation.{Operation}
+use Rattle.std.specs.Prelude.{◌≡◌, ◌⊎◌, ℕ, ◌==◌, ◌&&◌, ◌||◌, Bool, true, false, not, List, [], ◌∷◌, ◌++◌, Option, Some, None, find, map, Contains, if◌then◌else◌}
+use Rattle.register_judge.specs.declared.states.Waiting.{Waiting}
 use Rattle.register_judge.specs.declared.states.State.{State}
+use Rattle.register_judge.specs.declared.states.Turn.{Turn}
+use Rattle.register_judge.specs.declared.states.How.{How}
+use Rattle.register_judge.specs.declared.states.How.TheVariants.{Act, Hide, Leave}
 
--- whether the operation of a slot waits
-abbrev pub waits_at : State → ℕ → Bool
-waits_at s slot = slice_index_or s.waits slot false
+-- a value that the register may have, and what waits
+pub record Form : Type 0 where
+  pub value : ℕ
+  pub waits : List Waiting
 
--- the state without that operation, and with it
-abbrev pub without_wait : ℕ → State → State
-without_wait slot s = record s { waits = slice_set s.waits slot false }
+abbrev pub form_of : State → Form
+form_of s = record { value = s.value; waits = s.waits.items }
 
-abbrev pub with_wait : ℕ → State → State
-with_wait slot s = record s { waits = slice_set s.waits slot true }
+abbrev pub forms_of : List State → List Form
+forms_of states = map form_of states
 
--- an open operation that waits may take effect: a write at any value, a read at its own
-abbrev pub may_act : Operation → ℕ → State → Bool
-may_act o slot s = (o.is_open && waits_at s slot) && (o.writes || (o.value == s.value))
+abbrev pub with_some : {X : Type 0} → List X → Option X → List X
+with_some xs None = xs
+with_some xs (Some x) = xs ++ x ∷ []
 
-abbrev pub effect_of : Operation → ℕ → State → Option State
-effect_of o slot s = if may_act o slot s then Some (record s { value = o.value; waits = slice_set s.waits slot false }) else None
+-- what a function gives of each, behind these
+abbrev pub gather : {X Y : Type 0} → (X → Option Y) → List Y → List X → List Y
+gather f ys [] = ys
+gather f ys (x ∷ xs) = gather f (with_some ys (f x)) xs
 
--- the old items stand where they stood
-pub record Grows (old new : List State) : Type 0 where
-  pub no_shorter : length old ≤ length new
-  pub same : (k : ℕ) (d : State) → k < length old → slice_index_or new k d ≡ slice_index_or old k d
+-- a read of this value
+abbrev pub is_met : ℕ → Waiting → Bool
+is_met value o = not o.writes && (o.value == value)
 
--- no operation
-abbrev pub no_operation : Operation
-no_operation = record { is_open = false; number = 0; writes = false; value = 0 }
+-- a read that takes effect behind a write of this value, which acts now or acted hidden
+abbrev pub meets : How → ℕ → Waiting → Bool
+meets Act value o = is_met value o
+meets Hide value o = o.is_old && is_met value o
+meets Leave value o = false
 
--- what the operations make of one of the states is among others
-abbrev pub EffectsAreIn : List Operation → List State → ℕ → List State → Type 0
-EffectsAreIn operations states at others =
-    (slot : ℕ) (d : State) → slot < 64 → IfSome (effect_of (slice_index_or operations slot no_operation) slot (slice_index_or states at d)) (Contains others)
+abbrev pub is_gone : Turn → Waiting → Bool
+is_gone turn o = (o.number == turn.number) || meets turn.how turn.value o
 
--- and of each of them, among them
-abbrev pub IsClosed : List Operation → List State → Type 0
-IsClosed operations states = (at : ℕ) → at < length states → EffectsAreIn operations states at states
+-- what waits beside a write that acts was open then
+abbrev pub ages : How → Waiting → Waiting
+ages Act o = record o { is_old = true }
+ages Hide o = o
+ages Leave o = o
 
--- the states that effects lead to from these
-pub data IsLed : List Operation → List State → State → Type 0 where
-  There : {operations : List Operation} {first : List State} {s : State} → Contains first s → IsLed operations first s
-  Acts : {operations : List Operation} {first : List State} {s s' : State} (slot : ℕ) → slot < 64 → IsLed operations first s
-      → effect_of (slice_index_or operations slot no_operation) slot s ≡ Some s' → IsLed operations first s'
+abbrev pub left_of : Turn → Waiting → Option Waiting
+left_of turn o = if is_gone turn o then None else Some (ages turn.how o)
 
--- the state is one of these, or what an operation makes of that one
-abbrev pub IsEffect : List Operation → List State → ℕ → State → Type 0
-IsEffect operations states at s =
-    Contains states s ⊎ ((slot : ℕ) × (slot < 64) × ((d : State) → effect_of (slice_index_or operations slot no_operation) slot (slice_index_or states at d) ≡ Some s))
+-- what is left of those that wait, behind these
+abbrev pub lefts : Turn → List Waiting → List Waiting → List Waiting
+lefts turn left os = gather (left_of turn) left os
 
--- the state is one of these without a slot's operation, which took effect or need not have
-pub record IsCleared (slot : ℕ) (must : Bool) (old : List State) (s : State) : Type 0 where
-  pub place : ℕ
-  pub within : place < length old
-  pub settled : (d : State) → must ≡ true → waits_at (slice_index_or old place d) slot ≡ false
-  pub is : (d : State) → s ≡ without_wait slot (slice_index_or old place d)
+abbrev pub value_by : How → ℕ → ℕ → ℕ
+value_by Act value before = value
+value_by Hide value before = before
+value_by Leave value before = before
 
--- each state as it was, but for the slot's operation, which waits
-pub record EachWaits (slot : ℕ) (old new : List State) : Type 0 where
-  pub same_length : length new ≡ length old
-  pub waits : (k : ℕ) (d : State) → k < length old → slice_index_or new k d ≡ with_wait slot (slice_index_or old k d)
+abbrev pub turned : Turn → Form → Form
+turned turn f = record { value = value_by turn.how turn.value f.value; waits = lefts turn [] f.waits }
 
--- up to one of them
-pub record WaitsBelow (slot index : ℕ) (old new : List State) : Type 0 where
-  pub same_length : length new ≡ length old
-  pub below : (k : ℕ) (d : State) → k < index → k < length old → slice_index_or new k d ≡ with_wait slot (slice_index_or old k d)
-  pub above : (k : ℕ) (d : State) → index ≤ k → k < length old → slice_index_or new k d ≡ slice_index_or old k d
+-- the write by which an operation can take effect: itself, or one of the value that it reads
+abbrev pub is_source : Waiting → Waiting → Bool
+is_source of w = if w.writes then (if of.writes then w.number == of.number else w.value == of.value) else false
 
--- each state in which the slot's operation took effect, or need not have, is there without it
-abbrev pub KeepsCleared : ℕ → Bool → List State → List State → Type 0
-KeepsCleared slot must old new = (k : ℕ) (d : State) → k < length old → (must ≡ true → waits_at (slice_index_or old k d) slot ≡ false) → Contains new (without_wait slot (slice_index_or old k d))
+abbrev pub may_turn : How → Waiting → Waiting → Bool
+may_turn Act of w = is_source of w
+may_turn Hide of w = (is_source of w && of.is_old) && w.is_old
+may_turn Leave of w = false
+
+abbrev pub turn_by : How → Waiting → Waiting → Option Turn
+turn_by how of w = if may_turn how of w then Some (record { how = how; number = w.number; value = w.value }) else None
+
+abbrev pub turns_onto : How → Waiting → List Turn → List Waiting → List Turn
+turns_onto how of turns ws = gather (turn_by how of) turns ws
+
+abbrev pub is_number : ℕ → Waiting → Bool
+is_number n o = o.number == n
+
+abbrev pub leave : ℕ → Turn
+leave n = record { how = Leave; number = n; value = 0 }
+
+abbrev pub turns_for : Bool → ℕ → List Waiting → Option Waiting → List Turn
+turns_for must n waits None = leave n ∷ []
+turns_for must n waits (Some of) = with_some (turns_onto Hide of (turns_onto Act of [] waits) waits) (if must then None else Some (leave n))
+
+-- what the end of operation n may mean
+abbrev pub turns_of : Bool → ℕ → List Waiting → List Turn
+turns_of must n waits = turns_for must n waits (find (is_number n) waits)
+
+-- a form is added, unless it is there
+abbrev pub Adds : List Form → Form → List Form → Type 0
+Adds old f new = ((new ≡ old) × Contains old f) ⊎ (new ≡ old ++ f ∷ [])
+
+-- one for each turn
+abbrev pub Ends : Form → List Turn → List Form → List Form → Type 0
+Ends f [] old new = new ≡ old
+Ends f (turn ∷ turns) old new = (mid : List Form) × Adds old (turned turn f) mid × Ends f turns mid new
+
+-- one for each turn of each
+abbrev pub EndsAll : Bool → ℕ → List Form → List Form → List Form → Type 0
+EndsAll must n [] old new = new ≡ old
+EndsAll must n (f ∷ fs) old new = (mid : List Form) × Ends f (turns_of must n f.waits) old mid × EndsAll must n fs mid new
+
+-- a call waits, unless it is a read of what the register has
+abbrev pub called : Waiting → Form → Form
+called o f = if o.writes || not (o.value == f.value) then record f { waits = f.waits ++ o ∷ [] } else f
