@@ -1,9 +1,12 @@
-/* A driver bench whose runs are judged as they go: random calls, cancels, resets and removals over a stack, as the trace of
- * what it did, for `drive settings > CONFIG; drive EVENTS SEED | stackjudge check --settled CONFIG -`. */
+/* A driver bench whose runs are judged as they go: random calls, cancels, resets and removals over a stack. It prints the trace,
+ * which `drive settings > CONFIG; drive EVENTS SEED | stackjudge check --settled CONFIG -` judges again. With a request's NUMBER
+ * the judge is told another count in its answer, and has to refuse it. */
+#include <inttypes.h>
+#include <stdio.h>
 #include <stdlib.h>
 
 #include "descriptors.h"
-#include "line.h"
+#include "saddlemug.h"
 
 static const char settings[] =
 	"sector_size = 512\nsectors = 4096\nmax_transfer = 4\ndepth = 4\nwindow = 8\n[[partition]]\nfirst = 64\ncount = 1024\n";
@@ -14,9 +17,11 @@ static const char settings[] =
 #define TAGS 4
 
 static struct saddlemug_stack stack;
+static struct saddlemug_judge judge;
 static struct saddlemug_id handle;
 static uint8_t bytes[LONGEST * SECTOR], told[LONGEST * SECTOR];
 static uint64_t calls;
+static uint64_t wrong;  /* the request whose answer is told wrongly, or 0 */
 static uint64_t flush;  /* the one that is open, or 0: of two the judge could not tell whose a block is */
 
 /* What the numbers of a label say of requests. */
@@ -40,7 +45,30 @@ take_answers(void)
 		continue;
 }
 
-/* Carries an event out, and writes what it did. */
+static void
+refuse(const char *line)
+{
+	char why[256];
+	saddlemug_judge_why(&judge, why, sizeof why);
+	fprintf(stderr, "drive: %s: %s\n", line, why);
+	exit(EXIT_FAILURE);
+}
+
+/* Prints a label, and has it judged. */
+static void
+tell(struct saddlemug_label label)
+{
+	static char line[8 * sizeof told];
+	if (label.kind == SADDLEMUG_ANSWERED && label.number == wrong)
+		label.information++;
+	if (saddlemug_label_line(&label, told, label.bytes, line, sizeof line) == 0)
+		exit(EXIT_FAILURE);
+	puts(line);
+	if (saddlemug_judge_take(&judge, &label, told, label.bytes) != SADDLEMUG_TAKEN)
+		refuse(line);
+}
+
+/* Carries an event out, and has what it did judged. */
 static struct saddlemug_reply
 carry(struct saddlemug_event event, size_t length)
 {
@@ -49,9 +77,11 @@ carry(struct saddlemug_event event, size_t length)
 	if (saddlemug_stack_step(&stack, &event, bytes, length, &reply) != SADDLEMUG_SUCCESS)
 		exit(EXIT_FAILURE);
 	while (saddlemug_stack_take_label(&stack, &label, told, sizeof told)) {
-		write_line(stdout, &label, told);
+		tell(label);
 		note(&label);
 	}
+	if (!saddlemug_judge_settled(&judge))
+		refuse("something is left undone");
 	take_answers();
 	return reply;
 }
@@ -97,6 +127,7 @@ end(void)
 	for (uint8_t tag = 0; tag < TAGS; tag++)
 		carry((struct saddlemug_event){.kind = SADDLEMUG_FINISH, .tag = tag}, 0);
 	saddlemug_stack_close(&stack);
+	saddlemug_judge_close(&judge);
 }
 
 int
@@ -106,13 +137,15 @@ main(int argc, char **argv)
 		return EXIT_FAILURE;
 	if (argc == 2 && strcmp(argv[1], "settings") == 0)
 		return fputs(settings, stdout) < 0 || fflush(stdout) != 0;
-	if (argc != 3) {
-		fputs("usage: drive settings | drive EVENTS SEED\n", stderr);
+	if (argc != 3 && argc != 4) {
+		fputs("usage: drive settings | drive EVENTS SEED [NUMBER]\n", stderr);
 		return 2;
 	}
-	if (saddlemug_stack_open(&stack, (const uint8_t *) settings, sizeof settings - 1) != SADDLEMUG_SUCCESS)
+	if (saddlemug_stack_open(&stack, (const uint8_t *) settings, sizeof settings - 1) != SADDLEMUG_SUCCESS
+		|| saddlemug_judge_open(&judge, (const uint8_t *) settings, sizeof settings - 1) != SADDLEMUG_SUCCESS)
 		return EXIT_FAILURE;
 	srand(atoi(argv[2]));
+	wrong = argc == 4 ? strtoull(argv[3], NULL, 10) : 0;
 	handle = carry((struct saddlemug_event){.kind = SADDLEMUG_OPEN}, 0).id;
 	for (int count = atoi(argv[1]); count > 0; count--)
 		go_on();

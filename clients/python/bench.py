@@ -31,7 +31,7 @@ class Run:
     """One stack, and what may stand in each sector."""
 
     def __init__(self, chance):
-        self.chance, self.stack, self.judge = chance, Stack(CONFIG), Judge(CONFIG, "--settled")
+        self.chance, self.stack, self.judge = chance, Stack(CONFIG), Judge(CONFIG)
         self.handle = self.carry(Open(0)).id
         self.may = [{bytes(SECTOR)} for _ in range(PLACES * LONGEST)]
         self.open, self.free = {}, list(range(PLACES))
@@ -40,6 +40,7 @@ class Run:
         """Carries an event out, and tells the judge what it did."""
         reply = self.stack.step(event)
         self.judge.take(*self.stack.labels())
+        assert self.judge.settled, f"{event} leaves something undone"
         return reply
 
     def call(self):

@@ -26,11 +26,6 @@ import ctypes
 import ctypes.util
 import enum
 import os
-import re
-import select
-import shutil
-import subprocess
-import tempfile
 from ctypes import POINTER, byref, c_bool, c_size_t, c_uint8, c_uint32, c_uint64, c_void_p
 from dataclasses import dataclass
 from typing import Iterator, Optional, Union
@@ -176,12 +171,20 @@ _CALLS = {
     "saddlemug_stack_open_into": (c_uint32, [_ROOM, c_void_p, c_size_t]),
     "saddlemug_stack_step": (c_uint32, [_ROOM, POINTER(_Event), c_void_p, c_size_t, POINTER(_Reply)]),
     "saddlemug_stack_take_label": (c_bool, [_ROOM, POINTER(_Label), c_void_p, c_size_t]),
+    "saddlemug_stack_first_answer": (c_bool, [_ROOM, POINTER(_Answer)]),
     "saddlemug_stack_take_answer": (c_bool, [_ROOM, POINTER(_Answer), c_void_p, c_size_t]),
     "saddlemug_stack_take_answer_of": (c_bool, [_ROOM, c_uint64, POINTER(_Answer), c_void_p, c_size_t]),
     "saddlemug_stack_close_full": (None, [_ROOM]),
     "saddlemug_over_open": (c_uint32, [_ROOM, POINTER(_Disk), c_void_p, c_size_t]),
     "saddlemug_over_armed": (c_uint32, [_ROOM, c_uint8, POINTER(_Armed)]),
     "saddlemug_over_book": (c_uint32, [_ROOM, POINTER(_Booking)]),
+    "saddlemug_label_words": (c_uint64, [POINTER(_Label), c_void_p, c_size_t, c_void_p, c_size_t]),
+    "saddlemug_judge_open_into": (c_uint32, [_ROOM, c_void_p, c_size_t]),
+    "saddlemug_judge_take": (c_uint32, [_ROOM, POINTER(_Label), c_void_p, c_size_t]),
+    "saddlemug_judge_take_line": (c_uint32, [_ROOM, c_void_p, c_size_t]),
+    "saddlemug_judge_words": (c_uint64, [_ROOM, c_void_p, c_size_t]),
+    "saddlemug_judge_settled": (c_bool, [_ROOM]),
+    "saddlemug_judge_close_full": (None, [_ROOM]),
 }
 
 
@@ -510,106 +513,77 @@ class Label:
 
     def line(self) -> str:
         """The label as a line of a trace (docs/TRACES.md)."""
-        return " ".join(_WORDS[self.kind](self))
+        told, room = _label(self), 64 + 8 * len(self.data)
+        buffer = _room_for(room)
+        count = _c.saddlemug_label_words(byref(told), self.data, len(self.data), buffer, room)
+        return bytes(buffer[: count - 1]).decode() if count else ""
 
 
-def _call_words(it: Label) -> list[str]:
-    words = ["call", str(it.number), ("read", "write", "flush")[it.request]]
-    if it.request < 2:
-        words += [str(it.offset), str(it.length)]
-    elif it.offset or it.length:
-        words += ["at", str(it.offset), str(it.length)]
-    return words + ["through"] * it.through + ["in", str(it.partition - 1) if it.partition else "-"] + _runs(it.data)
-
-
-def _return_words(it: Label) -> list[str]:
-    words = ["return", str(it.piece), ("good", "busy", "bad")[it.returned]]
+def _label(it: Label) -> _Label:
+    told = _Label(
+        it.kind, it.status, it.number, it.information, it.piece & (1 << 64) - 1, it.piece >> 64, it.tag, it.returned, it.request,
+        it.partition, it.offset, it.length, it.through, bytes=len(it.data),
+    )
     if it.completion:
-        told = it.completion
-        words += [f"{code:02x}" for code in (told.srb_status, told.scsi_status, *(told.sense or ()))]
-    return words
-
-
-def _runs(data: bytes) -> list[str]:
-    """Bytes as a word: each run of equal ones as BYTE*COUNT."""
-    return [",".join(f"{it[0][0]:02x}*{len(it[0])}" for it in re.finditer(rb"(.)\1*", data, re.S))] if data else []
-
-
-_WORDS = {
-    LabelKind.CALLED: _call_words,
-    LabelKind.STARTED: lambda it: ["start", str(it.piece), "tag", str(it.tag)] + [it.data.hex()] * bool(it.data),
-    LabelKind.ACTED: lambda it: ["act", str(it.piece)] + _runs(it.data),
-    LabelKind.FAULTED: lambda it: ["fault", str(it.piece)],
-    LabelKind.RETURNED: _return_words,
-    LabelKind.ANSWERED: lambda it: ["answer", str(it.number), it.status.name, str(it.information)] + _runs(it.data),
-    LabelKind.CANCELLED: lambda it: ["cancel", str(it.number)],
-    LabelKind.PAUSED: lambda it: ["pause"],
-    LabelKind.RESUMED: lambda it: ["resume"],
-    LabelKind.REMOVING: lambda it: ["remove"],
-    LabelKind.SURPRISED: lambda it: ["surprise"],
-    LabelKind.REMOVED: lambda it: ["removed"],
-}
+        sense = it.completion.sense
+        told.completion = _Completion(it.completion.srb_status, it.completion.scsi_status, sense is not None, *(sense or ()))
+    return told
 
 
 class Refused(Exception):
-    """A run that the judge refused, in its words: the line, which counts from 1, and the rule that it breaks."""
+    """What a judge didn't take: which it was of all that it was told, counted from 1; the number of why, and its sentence."""
 
-
-def _judge_program() -> Optional[str]:
-    named = os.environ.get("STACKJUDGE")
-    beside = os.path.normpath(os.path.dirname(os.path.abspath(__file__)) + "/../../stackjudge")
-    return named or (beside if os.path.exists(beside) else shutil.which("stackjudge"))
+    def __init__(self, place: int, number: int, why: str):
+        super().__init__(f"line {place}: {why}")
+        self.place, self.number, self.why = place, number, why
 
 
 class Judge:
-    """The judge of traces, `stackjudge check`, of the machine of these settings (docs/TRACES.md). It is the program that
-    STACKJUDGE names, or that of this repository. It needs no library: the lines may be those of any stack.
+    """The judge of runs of the machine of these settings (docs/TRACES.md), before the first label. It is told the labels of a
+    stack, or lines, which may be those of any stack."""
 
-    A refusal is raised as `Refused` by the call of `take` that finds it, the one that told the line or a later one, and by
-    `close` at the latest."""
+    def __init__(self, settings: Union[str, bytes]):
+        self._room, self._count, text = _Room(None), 0, _settings(settings)
+        _check_open(_c.saddlemug_judge_open_into(byref(self._room), text, len(text)), text)
 
-    def __init__(self, settings: Union[str, bytes], *flags: str):
-        """`flags` are the program's: --any-cut, --settled, --ended."""
-        program = _judge_program()
-        if program is None:
-            raise FileNotFoundError("stackjudge is not found: STACKJUDGE names it")
-        self._settings = tempfile.NamedTemporaryFile(suffix=".toml")
-        self._settings.write(_settings(settings))
-        self._settings.flush()
-        pipe = subprocess.PIPE
-        self._program = subprocess.Popen(
-            [program, "check", *flags, self._settings.name, "-"], stdin=pipe, stdout=pipe, stderr=pipe
-        )
+    def take(self, *told: Union[Label, str]) -> None:
+        """Tells labels, or lines, in their order. Raises `Refused` at the first that no run has behind the others."""
+        for it in told:
+            self._count += 1
+            if isinstance(it, str):
+                line = it.encode()
+                number = _c.saddlemug_judge_take_line(self._open(), line, len(line))
+            else:
+                label = _label(it)
+                number = _c.saddlemug_judge_take(self._open(), byref(label), it.data, len(it.data))
+            if number:
+                raise Refused(self._count, number, self._why())
 
-    def take(self, *labels: Union[Label, str]) -> None:
-        """Tells labels, or lines, in their order."""
-        if labels:
-            lines = (it if isinstance(it, str) else it.line() for it in labels)
-            self._program.stdin.write("".join(f"{it}\n" for it in lines).encode())
-        if select.select([self._program.stdout], [], [], 0)[0]:
-            self.close()
+    @property
+    def settled(self) -> bool:
+        """Whether what was told, which is to be all of a step, leaves nothing undone."""
+        return _c.saddlemug_judge_settled(self._open())
 
-    def close(self) -> str:
-        """Ends the run. The verdict on a legal one: `legal: 9 labels, ..`."""
-        if self._program is not None:
-            told, fault = self._program.communicate()
-            self._settings.close()
-            self._verdict, self._failed = (told or fault).decode().strip(), self._program.returncode != 0
-            self._program = None
-        if self._failed:
-            raise Refused(self._verdict)
-        return self._verdict
+    def close(self) -> None:
+        """Ends the judge. A second call does nothing."""
+        if self._room.at:
+            _c.saddlemug_judge_close_full(byref(self._room))
+
+    def _why(self) -> str:
+        buffer = _room_for(256)
+        count = _c.saddlemug_judge_words(self._open(), buffer, len(buffer))
+        return bytes(buffer[:count]).decode()
+
+    def _open(self):
+        if not self._room.at:
+            raise Failed("judge", Status.INVALID_HANDLE)
+        return byref(self._room)
 
     def __enter__(self) -> Judge:
         return self
 
-    def __exit__(self, kind, *_) -> None:
-        if kind is None:
-            self.close()
-        elif self._program is not None:
-            self._program.kill()
-            self._program.communicate()
-            self._settings.close()
+    def __exit__(self, *_) -> None:
+        self.close()
 
 
 @dataclass(frozen=True)
@@ -690,6 +664,13 @@ class Stack:
                 label.piece_low | label.piece_high << 64, label.tag, label.class_, _completion(label), label.request,
                 label.partition, label.offset, label.length, bool(label.through), ctypes.string_at(buffer, min(label.bytes, len(buffer))),
             )
+
+    def first_answer(self) -> Optional[Answer]:
+        """The waiting answer of the lowest number, without its bytes; it goes on waiting."""
+        answer = _Answer()
+        if not _c.saddlemug_stack_first_answer(self._open(), byref(answer)):
+            return None
+        return Answer(answer.number, Status(answer.status), answer.information, b"")
 
     def answers(self) -> list[Answer]:
         """Takes all answers that wait, the lowest number first."""

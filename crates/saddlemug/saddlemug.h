@@ -471,6 +471,104 @@ saddlemug_stack_book(struct saddlemug_stack *stack, const struct saddlemug_booki
 	return stack->at == NULL ? SADDLEMUG_INVALID_HANDLE : saddlemug_over_book(stack, booking);
 }
 
+/* JUDGES, for test benches: the labels of a run are judged as they come, be they of this stack or of another that says what it
+ * did in the same terms. A judge follows the machine of docs/DEFINITIONS.md over the settings' disk, which holds zeros. */
+
+/* The line of a label, as docs/TRACES.md has it, with a line feed and without a zero at its end: as much of it as `room` says goes
+ * into the buffer. `length` bytes come with the label; its own `bytes`, and what its kind doesn't name, are not read. Answers how
+ * long the line is: 0 where there is no such label (no such kind, status or class, a partition above 256, a tag above 255, a
+ * command block above 16 bytes), or memory was refused. */
+uint64_t saddlemug_label_words(const struct saddlemug_label *label, const uint8_t *bytes, size_t length, uint8_t *buffer, size_t room);
+
+/* The same with a zero in place of the line feed, cut to `room` bytes, of which there is one at least. Answers how long the whole
+ * line is without it; 0 also where a pointer is null. */
+static inline uint64_t
+saddlemug_label_line(const struct saddlemug_label *label, const uint8_t *bytes, size_t length, char *buffer, size_t room)
+{
+	static const uint8_t none = 0;
+	uint64_t count;
+	if (buffer == NULL || room == 0)
+		return 0;
+	buffer[0] = 0;
+	if (label == NULL || (bytes == NULL && length != 0))
+		return 0;
+	count = saddlemug_label_words(label, bytes == NULL ? &none : bytes, length, (uint8_t *) buffer, room);
+	if (count == 0)
+		return 0;
+	buffer[count <= room ? count - 1 : room - 1] = 0;
+	return count - 1;
+}
+
+/* Room for a judge, as for a volume: between `saddlemug_judge_open` and `saddlemug_judge_close`. */
+struct saddlemug_judge {
+	void *at;
+};
+
+/* Opens a judge of the stack of these settings, before its first label. The statuses are those of `saddlemug_stack_open`. */
+uint32_t saddlemug_judge_open_into(struct saddlemug_judge *room, const uint8_t *settings, size_t length);
+
+static inline uint32_t
+saddlemug_judge_open(struct saddlemug_judge *room, const uint8_t *settings, size_t length)
+{
+	if (room == NULL || room->at != NULL || settings == NULL)
+		return SADDLEMUG_INVALID_PARAMETER;
+	return saddlemug_judge_open_into(room, settings, length);
+}
+
+/* Why a judge doesn't take what it is told. The numbers stay; a rule has one from 101 on, with hundreds by what it is asked of: 1 the
+ * answer that a refused call is owed, 2 a call, 3 a start, 4 an act, 5 a return, 6 an answer, 7 a cancel, 8 a removal. */
+enum saddlemug_refusal {
+	SADDLEMUG_TAKEN,
+	SADDLEMUG_NO_LINE,      /* the text is no line of a trace */
+	SADDLEMUG_NO_PARTITION, /* a call in a partition that the settings don't have */
+	SADDLEMUG_NO_MEMORY,    /* there is no verdict, now or later */
+	SADDLEMUG_TOO_MANY,     /* nor here: more than 1,024 requests might have made the starts; a line can name the request of each */
+	SADDLEMUG_NO_LABEL,     /* as of `saddlemug_label_words` */
+	SADDLEMUG_FIRST_RULE = 101
+};
+
+/* Tells the judge a label, with `length` bytes, all that come with it. 0 where it is taken: what was taken and this is a run then.
+ * Else the number of why it isn't, as above; with a rule no run goes on by this label. Where there still is a verdict the judge is
+ * as it was, and goes on. */
+uint32_t saddlemug_judge_take(struct saddlemug_judge *judge, const struct saddlemug_label *label, const uint8_t *bytes, size_t length);
+
+/* The same of a line, `length` bytes without a line feed. One that is empty, or begins with #, is taken and tells nothing. */
+uint32_t saddlemug_judge_take_line(struct saddlemug_judge *judge, const uint8_t *line, size_t length);
+
+/* The sentence that says why what was told last wasn't taken, in the words of `stackjudge`, without a zero at the end: as much of it
+ * as `room` says goes into the buffer. Answers how long it is: 0 where it was taken. */
+uint64_t saddlemug_judge_words(struct saddlemug_judge *judge, uint8_t *buffer, size_t room);
+
+/* The same with a zero at the end, cut to `room` bytes, of which there is one at least. True where something wasn't taken; also
+ * where a pointer is null, or the room of the judge is empty. */
+static inline bool
+saddlemug_judge_why(struct saddlemug_judge *judge, char *buffer, size_t room)
+{
+	uint64_t count;
+	if (buffer == NULL || room == 0)
+		return true;
+	buffer[0] = 0;
+	if (judge == NULL || judge->at == NULL)
+		return true;
+	count = saddlemug_judge_words(judge, (uint8_t *) buffer, room - 1);
+	buffer[count < room ? count : room - 1] = 0;
+	return count != 0;
+}
+
+/* Does what was taken, which is to be all of a step, leave nothing undone: no answer that is owed, no piece that a stack would have
+ * sent? */
+bool saddlemug_judge_settled(struct saddlemug_judge *judge);
+
+/* Ends the judge. The room is empty then. With an empty room, or none, it does nothing. */
+void saddlemug_judge_close_full(struct saddlemug_judge *judge);
+
+static inline void
+saddlemug_judge_close(struct saddlemug_judge *judge)
+{
+	if (judge != NULL && judge->at != NULL)
+		saddlemug_judge_close_full(judge);
+}
+
 #ifdef __cplusplus
 }
 #endif

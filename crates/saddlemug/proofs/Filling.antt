@@ -6,8 +6,9 @@ use Rattle.ntstatus.specs.declared.NtStatus.TheVariants.{InsufficientResources}
 use Rattle.io_manager.specs.Shown.{ManagerView}
 use Rattle.saddlemug.specs.declared.instance.Instance.{Instance}
 use Rattle.volume.specs.Shown.{VolumeView}
-use Rattle.saddlemug.specs.declared.instance.Instance.TheVariants.{Over, Stack, Volume}
-use Rattle.saddlemug.specs.Holding.{HoldsOver, HoldsStack, HoldsVolume}
+use Rattle.saddlemug.specs.declared.instance.Instance.TheVariants.{Judge, Over, Stack, Volume}
+use Rattle.saddlemug.specs.Holding.{HoldsJudge, HoldsOver, HoldsStack, HoldsVolume}
+use Rattle.referee.specs.Taking.{RefereeView}
 use Rattle.saddlemug.specs.Over.{OverView}
 use Rattle.saddlemug.specs.Statuses.{IsNumberOfStatus}
 
@@ -25,6 +26,11 @@ pub holds_over : (P : OverView → Type 0) (filled : Bool) (held : Option Instan
     → P v → MatchBool filled (held ≡ Some (Over v)) (held ≡ None) → MatchBool filled (HoldsOver P held) (held ≡ None)
 holds_over P true held v new is = subst (HoldsOver P) (sym is) new
 holds_over P false held v new is = is
+
+pub holds_judge : (P : RefereeView → Type 0) (filled : Bool) (held : Option Instance) (v : RefereeView)
+    → P v → MatchBool filled (held ≡ Some (Judge v)) (held ≡ None) → MatchBool filled (HoldsJudge P held) (held ≡ None)
+holds_judge P true held v new is = subst (HoldsJudge P) (sym is) new
+holds_judge P false held v new is = is
 
 -- its status, where want of memory may be told
 pub filled_status : (IsWhy : NtStatus → Type 0) (number : ℕ) → IsWhy InsufficientResources → (number ≡ 0) ⊎ (number ≡ value_of InsufficientResources)

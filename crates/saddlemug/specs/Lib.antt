@@ -3,6 +3,7 @@ pub mod Calls
 pub mod Cell
 pub mod Holding
 pub mod InMemory
+pub mod Judged
 pub mod Names
 pub mod Opened
 pub mod Over
@@ -11,4 +12,5 @@ pub mod Stacks
 pub mod Statuses
 pub mod Stepping
 pub mod Suiting
+pub mod ToldLabels
 pub mod TooLong

@@ -64,14 +64,21 @@ impl StackCompletion {
     pub(crate) fn failure(&self) -> Option<Completion>
         ensures { MatchOption result (¬ (class_of (completion_of self.now) ≡ Bad (completion_of self.now))) (λ failure. (failure ≡ completion_of self.now) × (class_of failure ≡ Bad failure)) }
     {
-        let completion = Completion {
-            srb_status: self.srb_status,
-            scsi_status: self.scsi_status,
-            sense: self.sense(),
-        };
+        let completion = self.told();
         match completion.class() {
             Class::Good | Class::Busy => None,
             Class::Bad(_) => Some(completion),
+        }
+    }
+
+    /// The completion.
+    pub(crate) fn told(&self) -> Completion
+        ensures { result ≡ completion_of self.now }
+    {
+        Completion {
+            srb_status: self.srb_status,
+            scsi_status: self.scsi_status,
+            sense: self.sense(),
         }
     }
 

@@ -1,10 +1,12 @@
 //! What C holds, and the calls on it.
 
-ghost use Rattle.std.specs.Prelude.{◌≡◌, ◌≢◌, ◌*◌, ⊤, Err, length, IfErr, IfOk, MatchResult};
+ghost use Rattle.std.specs.Prelude.{◌≡◌, ◌≢◌, ◌*◌, ⊤, Err, length, IfErr, IfOk, MatchBool, MatchResult};
 ghost use Rattle.volume.specs.Calls.{AreInBounds, IsFault, IsSameDisk, IsToldAsAnswered, Reads, WasSent, Writes, flush_of, read_of, write_of};
 ghost use Rattle.saddlemug.specs.Calls.{IsReadFault, IsWriteFault};
 ghost use Rattle.ntstatus.specs.declared.NtStatus.TheVariants.{InvalidDeviceRequest, Success};
-ghost use Rattle.saddlemug.specs.Holding.{IfInMemory, IfOver, IsAnyStack, IsAnyVolume, IsOver, IsStack, IsVolume, places_in};
+ghost use Rattle.referee.specs.Taking.{LeavesNothing};
+ghost use Rattle.saddlemug.specs.Holding.{IfInMemory, IfOver, IsAnyJudge, IsAnyStack, IsAnyVolume, IsJudge, IsOver, IsStack, IsVolume, places_in};
+ghost use Rattle.saddlemug.specs.Judged.{TakesLabel, TakesText, TellsWhy};
 ghost use Rattle.saddlemug.specs.Over.{BooksTold, IsArmedStatus, IsBookStatus, TellsArmed};
 ghost use Rattle.saddlemug.specs.Stepping.{IsNotStepped, IsStepStatus, ShowsAnswer, Steps, TellsAnswer, TellsAnswerOf, TellsLabel};
 
@@ -12,6 +14,7 @@ use crate::asked::StackArmed;
 use crate::booking::StackBooking;
 use crate::bytes::{copied, zeros};
 use crate::events::{StackEvent, StackReply};
+use crate::judged::{take_label, take_text, tell_why};
 use crate::labels::{StackAnswer, StackLabel};
 use crate::memory_stack::MemoryStack;
 use crate::over::Over;
@@ -20,6 +23,7 @@ use compose::Refusal;
 use disk::SparseDisk;
 use miniport::MemAdapter;
 use ntstatus::NtStatus;
+use referee::Referee;
 use std::alloc::Global;
 use volume::{Error, Sizes, Volume};
 
@@ -32,6 +36,8 @@ pub enum Instance {
     Stack(MemoryStack),
     /// A stack over storage of C's own.
     Over(Over),
+    /// A judge of runs.
+    Judge(Referee),
 }
 
 impl Instance {
@@ -43,7 +49,7 @@ impl Instance {
     {
         match self {
             Instance::Volume(volume) => volume.sizes(),
-            Instance::Stack(_) | Instance::Over(_) => unreachable!(),
+            Instance::Stack(_) | Instance::Over(_) | Instance::Judge(_) => unreachable!(),
         }
     }
 
@@ -63,7 +69,7 @@ impl Instance {
     {
         match self {
             Instance::Volume(volume) => read_into(volume, alloc, offset, buffer),
-            Instance::Stack(_) | Instance::Over(_) => unreachable!(),
+            Instance::Stack(_) | Instance::Over(_) | Instance::Judge(_) => unreachable!(),
         }
     }
 
@@ -88,7 +94,7 @@ impl Instance {
     {
         match self {
             Instance::Volume(volume) => write_from(volume, alloc, offset, bytes, through),
-            Instance::Stack(_) | Instance::Over(_) => unreachable!(),
+            Instance::Stack(_) | Instance::Over(_) | Instance::Judge(_) => unreachable!(),
         }
     }
 
@@ -107,7 +113,7 @@ impl Instance {
     {
         match self {
             Instance::Volume(volume) => volume.flush(alloc),
-            Instance::Stack(_) | Instance::Over(_) => unreachable!(),
+            Instance::Stack(_) | Instance::Over(_) | Instance::Judge(_) => unreachable!(),
         }
     }
 
@@ -132,7 +138,7 @@ impl Instance {
         match self {
             Instance::Stack(stack) => stack.step(alloc, event, bytes),
             Instance::Over(over) => over.step(alloc, event, bytes),
-            Instance::Volume(_) => unreachable!(),
+            Instance::Volume(_) | Instance::Judge(_) => unreachable!(),
         }
     }
 
@@ -146,7 +152,7 @@ impl Instance {
         match self {
             Instance::Stack(stack) => stack.next_label(buffer),
             Instance::Over(over) => over.next_label(buffer),
-            Instance::Volume(_) => unreachable!(),
+            Instance::Volume(_) | Instance::Judge(_) => unreachable!(),
         }
     }
 
@@ -158,7 +164,7 @@ impl Instance {
         match self {
             Instance::Stack(stack) => stack.first_answer(),
             Instance::Over(over) => over.first_answer(),
-            Instance::Volume(_) => unreachable!(),
+            Instance::Volume(_) | Instance::Judge(_) => unreachable!(),
         }
     }
 
@@ -172,7 +178,7 @@ impl Instance {
         match self {
             Instance::Stack(stack) => stack.next_answer(buffer),
             Instance::Over(over) => over.next_answer(buffer),
-            Instance::Volume(_) => unreachable!(),
+            Instance::Volume(_) | Instance::Judge(_) => unreachable!(),
         }
     }
 
@@ -186,7 +192,7 @@ impl Instance {
         match self {
             Instance::Stack(stack) => stack.answer_of(number, buffer),
             Instance::Over(over) => over.answer_of(number, buffer),
-            Instance::Volume(_) => unreachable!(),
+            Instance::Volume(_) | Instance::Judge(_) => unreachable!(),
         }
     }
 
@@ -205,7 +211,7 @@ impl Instance {
         match self {
             Instance::Over(over) => over.armed(alloc, tag),
             Instance::Stack(_) => Err(NtStatus::InvalidDeviceRequest),
-            Instance::Volume(_) => unreachable!(),
+            Instance::Volume(_) | Instance::Judge(_) => unreachable!(),
         }
     }
 
@@ -224,7 +230,53 @@ impl Instance {
         match self {
             Instance::Over(over) => over.book(booking),
             Instance::Stack(_) => Err(NtStatus::InvalidDeviceRequest),
-            Instance::Volume(_) => unreachable!(),
+            Instance::Volume(_) | Instance::Judge(_) => unreachable!(),
+        }
+    }
+
+    /// Has the judge take a label, as [`take_label`].
+    pub fn take_label(&mut self, alloc: Global, label: &StackLabel, bytes: &[u8]) -> u32
+        requires { IsAnyJudge self.old }
+        ensures held { IsAnyJudge self.new }
+        ensures takes { IsJudge (λ old. IsJudge (TakesLabel old label.now bytes.now result) self.new) self.old }
+    {
+        match self {
+            Instance::Judge(judge) => take_label(judge, alloc, label, bytes),
+            Instance::Volume(_) | Instance::Stack(_) | Instance::Over(_) => unreachable!(),
+        }
+    }
+
+    /// Has the judge take a line, as [`take_text`].
+    pub fn take_text(&mut self, alloc: Global, text: &[u8]) -> u32
+        requires { IsAnyJudge self.old }
+        ensures held { IsAnyJudge self.new }
+        ensures takes { IsJudge (λ old. IsJudge (TakesText old text.now result) self.new) self.old }
+    {
+        match self {
+            Instance::Judge(judge) => take_text(judge, alloc, text),
+            Instance::Volume(_) | Instance::Stack(_) | Instance::Over(_) => unreachable!(),
+        }
+    }
+
+    /// Puts into a buffer why the judge didn't take what it was told last.
+    pub fn tell_why(&self, alloc: Global, buffer: &mut [u8]) -> u64
+        requires { IsAnyJudge self.now }
+        ensures { IsJudge (λ judge. TellsWhy judge.why buffer.old result buffer.new) self.now }
+    {
+        match self {
+            Instance::Judge(judge) => tell_why(alloc, judge.why(), buffer),
+            Instance::Volume(_) | Instance::Stack(_) | Instance::Over(_) => unreachable!(),
+        }
+    }
+
+    /// Whether what the judge has taken leaves nothing undone.
+    pub fn is_settled(&self) -> bool
+        requires { IsAnyJudge self.now }
+        ensures { IsJudge (λ judge. MatchBool result (LeavesNothing judge) (¬ (LeavesNothing judge))) self.now }
+    {
+        match self {
+            Instance::Judge(judge) => judge.is_settled(),
+            Instance::Volume(_) | Instance::Stack(_) | Instance::Over(_) => unreachable!(),
         }
     }
 }

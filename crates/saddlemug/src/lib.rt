@@ -1,8 +1,8 @@
 //! The stack as a static library for C. Its header is `saddlemug.h`, which says what C has to know.
 //!
 //! C holds a [`Cell`], which begins as zeros: it is empty. A cell may hold a volume, which is one partition of a disk
-//! in memory as an array of bytes, or a whole stack. Each call is carried out whole, and answers an NTSTATUS. A disk in
-//! memory is that of a text of settings, or of a struct.
+//! in memory as an array of bytes, a whole stack, or a judge of runs. Each call is carried out whole, and answers an
+//! NTSTATUS. A disk in memory is that of a text of settings, or of a struct.
 //!
 //! # Promises
 //!
@@ -14,9 +14,11 @@
 //! wrong with settings (`TellsFault`). A disk by numbers is that of settings with these values (`AreTold`). Else
 //! nothing changes, nor what is behind a buffer's bytes (`as_it_was`, `behind`). Over C's own storage:
 //! `saddlemug_over_open` (`IsNewOver`, `IsOverStatus`), `saddlemug_over_armed` (`TellsArmed`, `StandsAt`),
-//! `saddlemug_over_book`, of just what may be booked (`BooksTold`, `IsBookStatus`). The cell keeps what it held
-//! (`held`). Nothing checks that C passes the right slot and no overlapping arguments. `unsafe`: C's pointer
-//! (`RawBox::into_box`) and the exports' names.
+//! `saddlemug_over_book`, of just what may be booked (`BooksTold`, `IsBookStatus`). A judge: of the settings' stack
+//! (`IsNewJudge`); 0 just where a label or a line is taken (`takes`, by `GoesBy` of referee), with the sentence
+//! (`TellsWhy`) and whether anything is left undone (`settled`); a label has its one line (`TellsLine`). The cell keeps
+//! what it held (`held`). Nothing checks that C passes the right slot and no overlapping arguments. `unsafe`: C's
+//! pointer (`RawBox::into_box`) and the exports' names.
 #![tactic(auto)]
 
 mod asked;
@@ -26,6 +28,11 @@ mod cell;
 mod events;
 mod faults;
 mod instance;
+mod judge_calls;
+#[cfg(test)]
+mod judge_tests;
+mod judged;
+mod label_kinds;
 mod labels;
 mod memory_calls;
 mod memory_disk;

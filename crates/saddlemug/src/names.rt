@@ -4,7 +4,7 @@ ghost use Rattle.std.specs.Prelude.{◌≡◌, ◌==◌};
 ghost use Rattle.std.specs.List.{find};
 ghost use Rattle.std.specs.Option.{option_copied};
 ghost use Rattle.ntstatus.specs.Codes.{value_of};
-ghost use Rattle.saddlemug.specs.Names.{IsPut, name_of_number};
+ghost use Rattle.saddlemug.specs.Names.{IsPut, name_of_number, status_of};
 
 use crate::bytes::put;
 use ntstatus::NtStatus;
@@ -53,6 +53,13 @@ fn name_of(number: u32) -> &'static str
         Some(status) => status.name(),
         None => "",
     }
+}
+
+/// The status of a number, if there is one.
+pub(crate) fn status_of(number: u32) -> Option<NtStatus>
+    ensures { result ≡ status_of number }
+{
+    of_number(&STATUSES, number).copied()
 }
 
 /// The first of the statuses that has this number.

@@ -57,7 +57,7 @@ pub(crate) fn new_stack(alloc: Global, text: &[u8]) -> Result<MemoryStack, NtSta
 ///
 /// [`NtStatus::InvalidParameter`] where the text gives none; [`NtStatus::InsufficientResources`] where memory was
 /// refused.
-fn config_of(alloc: Global, text: &[u8]) -> Result<Config, NtStatus>
+pub(crate) fn config_of(alloc: Global, text: &[u8]) -> Result<Config, NtStatus>
     ensures settings { IfOk result (AreSettingsOf text.now) }
     ensures in_range { IfOk result AreInRange }
     ensures fault { IfErr result (λ status. status ≢ Success) }

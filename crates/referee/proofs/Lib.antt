@@ -1,0 +1,3 @@
+mod Absent
+mod Refused
+mod Tables

@@ -1,0 +1,4 @@
+pub mod Numbers
+pub mod Opening
+pub mod Taking
+pub mod Telling
