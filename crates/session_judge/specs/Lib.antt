@@ -1,0 +1,5 @@
+pub mod Deeds
+pub mod Numbers
+pub mod Walks
+pub mod Verdicts
+pub mod inside
