@@ -193,6 +193,8 @@ run_cuts() {
     local folder=$top/examples/judged
     want cuts.refused 1 << 'END'
 line 4: request 1 asks for it, but no piece begins at its sector 8: it is cut at multiples of 64
+label: start 2 tag 1 2a000000080800000800
+at: request 1, piece 2, place 8, block 2056
 open: request 1 of line 2, begun
 out: piece 1 of request 1, on tag 0
 END

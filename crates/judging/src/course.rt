@@ -9,9 +9,11 @@ ghost use Rattle.judging.specs.inside.Course.{GoesByLine, GoesOn, HasTried, IsAb
 ghost use Rattle.judging.specs.declared.faults.Error.TheVariants.{NoMemory};
 
 use crate::Error;
-use crate::left::Calls;
+use crate::details::Scene;
+use crate::fields::Fields;
 use crate::misstep::Misstep;
 use crate::opened::{Standard, arrays_of, rules_of};
+use crate::past::Past;
 use crate::progress::Progress;
 use crate::told::Told;
 use crate::words::asked::Asked;
@@ -43,8 +45,8 @@ pub(crate) struct Trial {
     pub tags: Option<Tags>,
     /// The counts of their labels.
     pub tally: Tally,
-    /// Their calls that have no answer yet.
-    pub calls: Calls,
+    /// What a refusal tells of them.
+    pub past: Past,
     /// Whether a refusal is told as a JSON object.
     pub json: bool,
 }
@@ -173,7 +175,7 @@ impl Trial {
             judge,
             tags,
             tally: Tally::none(),
-            calls: Calls::new(alloc),
+            past: Past::new(alloc),
             json: standard.asked.json,
         })
     }
@@ -224,33 +226,40 @@ impl Trial {
         ensures fault { IfErr result (IsStopByLine self number (O.contents out.old) (O.contents out.new)) }
     {
         if let Some(misstep) = self.unfit(&line) {
-            return self.stopped(alloc, number, misstep, out);
+            let stop = Stop {
+                line: number,
+                misstep,
+            };
+            return self.stopped(alloc, &line, stop, out);
         }
         self.count(&line.label, number)?;
         let told = self.read(line)?;
         match self.judge.take_line(alloc, &told) {
             Ok(()) => Ok(Course::Legal(self)),
-            Err(Refusal::Breaks(rule)) => self.stopped(alloc, number, Misstep::Breaks(rule), out),
+            Err(Refusal::Breaks(rule)) => {
+                let stop = Stop {
+                    line: number,
+                    misstep: Misstep::Breaks(rule),
+                };
+                self.stopped(alloc, &told, stop, out)
+            }
             Err(Refusal::NoVerdict(why)) => Err(no_verdict(number, why)),
         }
     }
 
-    /// Writes that the line of this number is refused, and stops there.
+    /// Writes that this line is refused, and stops there.
     fn stopped<O: Write>(
         self,
         alloc: Global,
-        number: u64,
-        misstep: Misstep,
+        line: &Line,
+        stop: Stop,
         out: &mut O,
     ) -> Result<Course, Error>
-        ensures stops { IfOk result (IsStopped self.json number misstep (O.contents out.old) (O.contents out.new)) }
+        ensures stops { IfOk result (IsStopped self.json stop.line stop.misstep (O.contents out.old) (O.contents out.new)) }
         ensures fault { IfErr result IsOutputFault }
     {
-        self.say_refused(alloc, number, misstep, out)?;
-        Ok(Course::Refused(Stop {
-            line: number,
-            misstep,
-        }))
+        self.say_refused(alloc, line, stop, out)?;
+        Ok(Course::Refused(stop))
     }
 
     /// Counts the label of the line of this number.
@@ -258,39 +267,39 @@ impl Trial {
         ensures counted { OnOk result (IsCounted self.old label.now self.new) }
         ensures fault { IfErr result (λ fault. fault ≡ NoMemory) }
     {
-        self.calls.note(label, number)?;
+        self.past.note(&self.judge, label, number)?;
         self.tally = self.tally.with(label);
         Ok(())
     }
 
-    /// Writes why the line of this number is refused, and flushes it.
+    /// Writes why this line is refused, and flushes it.
     fn say_refused<O: Write>(
         &self,
         alloc: Global,
-        number: u64,
-        misstep: Misstep,
+        line: &Line,
+        stop: Stop,
         out: &mut O,
     ) -> Result<(), Error>
-        ensures said { OnOk result (SaysRefused self.now.json number misstep (O.contents out.old) (O.contents out.new)) }
+        ensures said { OnOk result (SaysRefused self.now.json stop.line stop.misstep (O.contents out.old) (O.contents out.new)) }
         ensures fault { IfErr result IsOutputFault }
     {
-        let more = self.left_by(alloc)?;
-        write_refused(
-            out,
-            self.json,
-            Stop {
-                line: number,
-                misstep,
-            },
-            &more,
-        )?;
+        let more = self.told_of(alloc, line, stop.misstep)?;
+        write_refused(out, self.json, stop, &more)?;
         out.flush()?;
         Ok(())
     }
 
-    /// What is open and out, in words.
-    fn left_by(&self, alloc: Global) -> Result<String, AllocError> {
-        let mut text = String::new(alloc);
+    /// What a line is about that is refused, and what is open and out.
+    fn told_of(&self, alloc: Global, line: &Line, misstep: Misstep) -> Result<String, AllocError> {
+        let scene = Scene {
+            judge: &self.judge,
+            past: &self.past,
+            line,
+            misstep,
+        };
+        let mut fields = Fields::new(alloc, self.json);
+        scene.tell(alloc, &mut fields)?;
+        let mut text = fields.text;
         self.tell_left(alloc, &mut text)?;
         Ok(text)
     }
@@ -298,8 +307,8 @@ impl Trial {
     /// Tells what is open and out.
     fn tell_left(&self, alloc: Global, text: &mut String) -> Result<(), AllocError> {
         match self.judge.machines().first() {
-            Some(machine) if self.json => self.calls.tell_json(alloc, machine, text),
-            Some(machine) => self.calls.tell(alloc, machine, text),
+            Some(machine) if self.json => self.past.calls.tell_json(alloc, machine, text),
+            Some(machine) => self.past.calls.tell(alloc, machine, text),
             None => Ok(()),
         }
     }

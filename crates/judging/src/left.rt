@@ -54,14 +54,14 @@ impl Calls {
         }
     }
 
-    /// The number of the line of a request's call; 0 where there is none.
-    fn line_of(&self, number: u64) -> u64 {
+    /// The number of the line of a request's call.
+    pub fn line_of(&self, number: u64) -> Option<u64> {
         for call in self.calls.as_slice() {
             if call.number == number {
-                return call.line;
+                return Some(call.line);
             }
         }
-        0
+        None
     }
 
     /// Tells what is open and at the adapter in a machine, each on a line of its own, in the order of their numbers.
@@ -94,7 +94,7 @@ impl Calls {
         let mut comma = "";
         for request in machine.requests() {
             let number = request.number();
-            let line = self.line_of(number);
+            let line = self.line_of(number).unwrap_or(0);
             let begun = request.is_started();
             let item = format!(in alloc;
                 "{comma}{{\"request\": {number}, \"line\": {line}, \"begun\": {begun}}}"
@@ -118,7 +118,7 @@ impl Calls {
 
     fn open_line(&self, alloc: Global, request: &OpenRequest) -> Result<String, AllocError> {
         let number = request.number();
-        let line = self.line_of(number);
+        let line = self.line_of(number).unwrap_or(0);
         let state = if request.is_started() {
             "begun"
         } else {

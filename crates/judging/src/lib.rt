@@ -15,12 +15,15 @@
 
 pub mod checking;
 mod course;
+mod details;
 pub mod drawing;
 mod faults;
+mod fields;
 pub mod histories;
 mod left;
 mod misstep;
 pub mod opened;
+mod past;
 pub mod progress;
 mod reading;
 pub mod scripts;
