@@ -1,5 +1,7 @@
 //! The calls by which C has a run judged.
 
+ghost use Rattle.saddlemug.specs.Holding.{HoldsAnyJudge};
+
 use crate::cell::Cell;
 use crate::judge_calls::{
     saddlemug_judge_close_full, saddlemug_judge_open_into, saddlemug_judge_settled,
@@ -50,50 +52,49 @@ fn tells_lines(rt: HostRuntime) {
     assert!(rt; count == 29 && buffer.starts_with(b"answer 1 DEVICE_DATA_ERROR 0\n"));
 }
 
-/// Has the judge take a line, and compares the number and the sentence.
-fn takes(rt: &impl Abort, alloc: Global, cell: &mut Cell, line: &[u8], number: u32, words: &[u8]) {
+/// Has the judge take a line, and compares the sentence. Returns the number.
+fn takes(rt: &impl Abort, alloc: Global, cell: &mut Cell, line: &[u8], words: &[u8]) -> u32
+    requires { HoldsAnyJudge cell.old.held }
+    ensures { HoldsAnyJudge cell.new.held }
+{
     let mut buffer = [0; 64];
-    same(rt, &saddlemug_judge_take_line(alloc, cell, line), &number);
+    let number = saddlemug_judge_take_line(alloc, cell, line);
     let count = saddlemug_judge_words(alloc, cell, &mut buffer);
     same(rt, &count, &(words.len() as u64));
     assert!(rt; buffer.starts_with(words));
+    number
 }
+
+const ACT: &[u8] = b"act 1 a5*512";
+
+const NO_PIECE: &[u8] = b"piece 1 is not at the adapter";
+
+const START: &[u8] = b"start 1 tag 0 2a080000000200000100";
 
 #[test]
 fn judges_as_it_goes(rt: HostRuntime) {
     let alloc = rt.alloc();
     let mut cell = Cell::empty(alloc);
-    let refused = saddlemug_judge_open_into(alloc, &mut cell, b"[");
     if saddlemug_judge_open_into(alloc, &mut cell, SETTINGS) != 0 {
         panic!(rt; "no judge");
     }
-    same(&rt, &refused, &0xC000_000D);
+    let none = takes(&rt, alloc, &mut cell, b"", b"");
     let first = saddlemug_judge_settled(alloc, &mut cell);
-    same(
-        &rt,
-        &saddlemug_judge_take(alloc, &mut cell, &called(), &[0xA5; 512]),
-        &0,
-    );
-    let called = saddlemug_judge_settled(alloc, &mut cell);
-    takes(
-        &rt,
-        alloc,
-        &mut cell,
-        b"act 1 a5*512",
-        401,
-        b"piece 1 is not at the adapter",
-    );
-    takes(
-        &rt,
-        alloc,
-        &mut cell,
-        b"start 1 tag 0 2a080000000200000100",
-        0,
-        b"",
-    );
+    let call = saddlemug_judge_take(alloc, &mut cell, &called(), &[0xA5; 512]);
+    let unsettled = saddlemug_judge_settled(alloc, &mut cell);
+    let act = takes(&rt, alloc, &mut cell, ACT, NO_PIECE);
+    let start = takes(&rt, alloc, &mut cell, START, b"");
     let started = saddlemug_judge_settled(alloc, &mut cell);
-    takes(&rt, alloc, &mut cell, b"actt", 1, b"bad word in column 1");
-    takes(&rt, alloc, &mut cell, b"", 0, b"");
+    let bad = takes(&rt, alloc, &mut cell, b"actt", b"bad word in column 1");
     saddlemug_judge_close_full(alloc, &mut cell);
-    assert!(rt; first && !called && started);
+    same(&rt, &[none, call, act, start, bad], &[0, 0, 401, 0, 1]);
+    assert!(rt; first && !unsettled && started);
+}
+
+#[test]
+fn opens_no_judge_of_no_settings(rt: HostRuntime) {
+    let alloc = rt.alloc();
+    let mut cell = Cell::empty(alloc);
+    let refused = saddlemug_judge_open_into(alloc, &mut cell, b"[");
+    same(&rt, &refused, &0xC000_000D);
 }
