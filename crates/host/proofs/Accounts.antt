@@ -1,17 +1,9 @@
 -- What calls and answers do to an account.
 use Rattle.std.proofs.Common.{◌≡◌, ℕ, ◌+◌, ◌≤◌, List, [], ◌∷◌, ◌++◌, length, Option, Some, refl, sym, ap, ◌∙◌, subst, arith, length-append}
-use Rattle.std.specs.Prelude.{slice_get, slice_index_or}
-use Rattle.machine.specs.declared.ClientRequest.{ClientRequest}
-use Rattle.machine.specs.declared.Label.{Label}
+use Rattle.host.proofs.Common.{slice_get, slice_index_or, ClientRequest, Label, OpenHandle, TraceEntry, entry, IsOpenOn, ShareView, AccountKept, AccountView, EndsWithAnswer, IsTaken, HasCounted, Stands}
 use Rattle.machine.specs.declared.Label.TheVariants.{Call as CallLabel}
-use Rattle.io_manager.specs.declared.OpenHandle.{OpenHandle}
-use Rattle.traced.specs.declared.TraceEntry.{TraceEntry}
-use Rattle.traced.specs.Entries.{entry}
-use Rattle.traced.specs.Opening.{IsOpenOn}
-use Rattle.traced.specs.Shares.{ShareView}
 use Rattle.host.specs.Receipts.{Receipt, AreAnswers, AreBelow, AreCalls, AreRising, Answers, receipt}
-use Rattle.host.specs.Accounts.{AccountKept}
-use Rattle.host.specs.Calls.{HasCounted, Stands}
+use Rattle.host.specs.declared.call.Answered.{Answered}
 use Rattle.host.proofs.Keeping.{answers_snoc, below_more, calls_snoc, rising_snoc}
 
 some_same : {A : Type 0} {x y : A} → Some x ≡ Some y → x ≡ y
@@ -50,4 +42,15 @@ account_answered handles partitions share called answered claim place label kept
   rising = kept.rising;
   answers = subst (AreAnswers share.client) (sym (ap (λ c. answered ++ c) is)) (answers_snoc share.client answered place (entry label (Some share.client)) kept.answers (record { answers = answers; row = refl }));
   handle = kept.handle;
+}
+
+-- the receipt of an answer that was taken is the last
+pub ends_with_taken : (old : AccountView) (number call : ℕ) (answered : Answered) (new : AccountView) (n : ℕ) → IsTaken old number call answered new → n ≡ number → EndsWithAnswer n new.answered.list
+ends_with_taken old number call answered new n taken is = record {
+  answer = answered.answer;
+  is_number = taken.number_is ∙ sym is;
+  place = answered.places.answer;
+  client = old.share.client;
+  before = old.answered.list;
+  is = taken.adds;
 }

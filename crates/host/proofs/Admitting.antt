@@ -1,30 +1,13 @@
 -- A request is not answered in the step that opens it.
 use Rattle.std.proofs.Common.{◌≡◌, ◌≢◌, ℕ, ◌+◌, ◌<◌, ◌==◌, Bool, true, false, if◌then◌else◌, List, [], ◌∷◌, ◌++◌, length, map, replicate, Option, Some, None, refl, sym, ap, ◌∙◌, subst, arith, append_assoc, length-append, inl, inr}
 use Rattle.std.specs.Prelude.{◌||◌, All, IsFalse, IsNone, drop, is_some, option_map, slice_index_or, take}
-use Rattle.std.specs.List.{list_any}
-use Rattle.std.proofs.lemmas.Bool.Decides.{nat_tests}
-use Rattle.std.proofs.lemmas.List.{length-replicate}
-use Rattle.std.proofs.lemmas.List.Elements.{All-append, All-cons, All-drop, All-head, All-nil, All-replicate, All-tail, All-take, All-weaker}
-use Rattle.std.proofs.lemmas.List.Sorted.{All-permutation, IsPermutation-sym}
-use Rattle.ntstatus.specs.declared.NtStatus.{NtStatus}
-use Rattle.sector.specs.declared.Extent.{Extent}
-use Rattle.srb.specs.declared.DeviceLabel.{DeviceLabel}
+use Rattle.host.proofs.Common.{list_any, nat_tests, length-replicate, All-append, All-cons, All-drop, All-head, All-nil, All-replicate, All-tail, All-take, All-weaker, All-permutation, IsPermutation-sym, NtStatus, Extent, DeviceLabel, ClientRequest, Label, Rules, place_count, AreDistinct, IsGiven, Admits, Opens, new_request, refusal, IsStart, Starts, new_piece, sent, Run, Step, as_label, some_places, taken_in, Holder, ManagerView, open_at}
 use Rattle.srb.specs.declared.DeviceLabel.TheVariants.{Start, Act, Fault, Return}
-use Rattle.machine.specs.declared.ClientRequest.{ClientRequest}
-use Rattle.machine.specs.declared.Label.{Label}
 use Rattle.machine.specs.declared.Label.TheVariants.{Call as CallLabel, Device, Answer as AnswerLabel}
-use Rattle.machine.specs.Rules.{Rules, place_count}
 use Rattle.machine.specs.State.{Mark, Untouched, Out, Done, Failed, Back, OpenRequest, Owed, State, IsSame}
-use Rattle.machine.specs.Numbers.{AreDistinct, IsGiven}
-use Rattle.machine.specs.Calling.{Admits, Opens, new_request, refusal}
-use Rattle.machine.specs.Sending.{IsStart, Starts, new_piece, sent}
 use Rattle.machine.specs.Answering.{Answers, HasEnded}
-use Rattle.machine.specs.Step.{Run, Step, as_label}
-use Rattle.machine.proofs.Places.{some_places, taken_in}
 use Rattle.io_manager.specs.declared.Answer.{Answer}
 use Rattle.io_manager.specs.Right.{IsOfAnother, IsRightBy, Told, as_answer, end_labels, is_answer_of, labels_of, unless_answered}
-use Rattle.io_manager.specs.Shown.{Holder, ManagerView}
-use Rattle.traced.specs.Serving.{open_at}
 
 apart : {A : Type 0} (b : Bool) → b ≡ true → b ≡ false → A
 apart b e f = absurd (cc)

@@ -2,23 +2,12 @@
 use Rattle.std.proofs.Common.{◌≡◌, ◌≢◌, ℕ, zero, suc, ◌<◌, List, [], ◌∷◌, ◌++◌, length, Option, Some, None, refl, sym, ap, ◌∙◌, subst, arith}
 use Rattle.std.specs.Prelude.{All, Contains, IsNone, MatchOption, eqb, slice_get, slice_index_or}
 use Rattle.std.specs.List.{IsDistinct}
-use Rattle.std.proofs.lemmas.List.Elements.{All-nil}
+use Rattle.host.proofs.Common.{All-nil, ClientRequest, Label, Rules, State, Run, AreDistinct, IsNoAnswerOf, IsNoCallOf, awaited, call_numbers, as_answer, TraceEntry, AnswerLaws, Stands, IsOpening}
 use mathlib.Core.Logic.{dite}
 use native.Mathlib.Decide.{ℕ_discrete}
-use Rattle.machine.specs.declared.ClientRequest.{ClientRequest}
-use Rattle.machine.specs.declared.Label.{Label}
 use Rattle.machine.specs.declared.Label.TheVariants.{Call, Device, Answer as AnswerLabel, Cancel, Pause, Resume, Remove, Surprise, Removed}
-use Rattle.machine.specs.Rules.{Rules}
-use Rattle.machine.specs.State.{State}
-use Rattle.machine.specs.Step.{Run}
-use Rattle.machine.specs.Numbers.{AreDistinct}
-use Rattle.machine_laws.specs.NumberLaws.{IsNoAnswerOf, IsNoCallOf, awaited, call_numbers}
 use Rattle.io_manager.specs.declared.Answer.{Answer}
-use Rattle.io_manager.specs.Right.{as_answer}
-use Rattle.traced.specs.declared.TraceEntry.{TraceEntry}
 use Rattle.traced.specs.Entries.{AreRowed, IsAnswerAt, IsAnswerTo, IsNoAnswerTo, entry, labels_of, row_of}
-use Rattle.host.specs.Calls.{AnswerLaws, Stands}
-use Rattle.host.specs.Opening.{IsOpening}
 
 -- LISTS
 

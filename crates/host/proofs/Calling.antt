@@ -1,36 +1,14 @@
 -- What the trace tells of a client's call.
 use Rattle.std.proofs.Common.{◌≡◌, ℕ, zero, suc, ◌+◌, ◌-◌, ◌<◌, ◌≤◌, ◌==◌, Bool, true, false, if◌then◌else◌, List, [], ◌∷◌, ◌++◌, length, map, Option, Some, None, refl, sym, ap, ◌∙◌, subst, arith, append_assoc, length-append, inl, inr}
 use Rattle.std.specs.Prelude.{◌⊎◌, ◌^◌, slice_get, slice_index_or}
-use Rattle.std.proofs.lemmas.Bool.Decides.{nat_tests}
-use Rattle.ntstatus.specs.declared.NtStatus.{NtStatus}
-use Rattle.ntstatus.specs.declared.NtStatus.TheVariants.{Success}
-use Rattle.machine.specs.declared.ClientRequest.{ClientRequest}
-use Rattle.srb.specs.declared.Kind.{Kind}
+use Rattle.host.proofs.Common.{nat_tests, NtStatus, Success, ClientRequest, Kind, Label, AreDistinct, Rules, as_label, OpenHandle, InvalidHandle, InvalidParameter, DeletePending, DeviceBusy, InsufficientResources, InvalidDeviceRequest, NotFound, Event, Reply, are_used_up, bytes_called, call_on, partition_at, partition_of, status_of_refusal, without_bytes, IsWant, ManagerView, TraceEntry, entry, is_call, owner_of, row_of, PagesView, noted, noted_all, AreNoCalls, open_at, ShareView, IsOpenOn, bytes_of}
 use Rattle.srb.specs.declared.Kind.TheVariants.{Read as ReadKind, Write as WriteKind, Flush as FlushKind}
-use Rattle.machine.specs.declared.Label.{Label}
 use Rattle.machine.specs.declared.Label.TheVariants.{Call as CallLabel, Answer as AnswerLabel}
-use Rattle.machine.specs.Numbers.{AreDistinct}
-use Rattle.machine.specs.Rules.{Rules}
-use Rattle.machine.specs.Step.{as_label}
 use Rattle.io_manager.specs.declared.Handle.{Handle}
-use Rattle.io_manager.specs.declared.OpenHandle.{OpenHandle}
 use Rattle.io_manager.specs.declared.Refusal.{Refusal}
-use Rattle.io_manager.specs.declared.Refusal.TheVariants.{InvalidHandle, InvalidParameter, DeletePending, DeviceBusy, InsufficientResources, InvalidDeviceRequest, NotFound}
-use Rattle.compose.specs.declared.Event.{Event}
 use Rattle.compose.specs.declared.Event.TheVariants.{Read as ReadEvent, Write as WriteEvent, Flush as FlushEvent}
-use Rattle.io_manager.specs.declared.Reply.{Reply}
 use Rattle.io_manager.specs.declared.Reply.TheVariants.{Handle as HandleReply, Ok as OkReply, Request as Requested, Answered, Refused, Ignored}
-use Rattle.io_manager.specs.Calls.{are_used_up, bytes_called, call_on, partition_at, partition_of, status_of_refusal, without_bytes, IsWant}
 use Rattle.io_manager.specs.Right.{IsRight, IsRightBy, CallReplies, IsAdmitted, IsAnsweredAtOnce as AnswersAtOnce, IsSlotOf, IsTurnedAway, Told, TransferReplies, as_answer, end_labels, labels_of}
-use Rattle.io_manager.specs.Shown.{ManagerView}
-use Rattle.traced.specs.declared.TraceEntry.{TraceEntry}
-use Rattle.traced.specs.Entries.{entry, is_call, owner_of, row_of}
-use Rattle.traced.specs.Pages.{PagesView, noted, noted_all}
-use Rattle.traced.specs.Told.{AreNoCalls}
-use Rattle.traced.specs.Serving.{open_at}
-use Rattle.traced.specs.Shares.{ShareView}
-use Rattle.traced.specs.Opening.{IsOpenOn}
-use Rattle.asking.specs.Asking.{bytes_of}
 use Rattle.traced.specs.Traced.{TracedView, HasCounted as Counts, IsServed, IsWanting, pages_of}
 use Rattle.host.specs.declared.call.Call.{Call}
 use Rattle.host.specs.declared.call.Call.TheVariants.{Read, Write, Flush}

@@ -1,12 +1,9 @@
 -- One client more was checked.
 use Rattle.std.proofs.Common.{◌≡◌, ◌≢◌, ℕ, ◌+◌, ◌<◌, List, [], ◌∷◌, ◌++◌, length, sym, ap, ◌∙◌, subst, arith, length-append}
-use Rattle.std.proofs.lemmas.List.{get_or_append_left}
-use Rattle.std.proofs.Math.Seq.{get_or-append_seam}
+use Rattle.host.proofs.Common.{get_or_append_left, get_or-append_seam, TraceEntry, total, IsBorneOut, AreBorneOut}
 use mathlib.Core.Logic.{dite}
 use native.Mathlib.Decide.{ℕ_discrete}
-use Rattle.traced.specs.declared.TraceEntry.{TraceEntry}
 use Rattle.host.specs.Clients.{ClientView, fresh, client_at}
-use Rattle.host.specs.Closing.{total, IsBorneOut, AreBorneOut}
 use Rattle.host.proofs.Counting.{total_next, total_same}
 
 pub longer : (ys : List ClientView) (x : ClientView) → length (ys ++ x ∷ []) ≡ length ys + 1

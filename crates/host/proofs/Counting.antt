@@ -1,18 +1,8 @@
 -- A client claims as many calls as it made, and all clients together as many as there are: so each claims just its row's.
-use Rattle.std.proofs.Common.{◌≡◌, ◌≢◌, ℕ, zero, suc, ◌+◌, ◌-◌, ◌<◌, ◌≤◌, ◌==◌, ◌&&◌, if◌then◌else◌, Bool, true, false, List, [], ◌∷◌, length, Option, Some, refl, sym, ap, ◌∙◌, subst, arith}
-use Rattle.std.specs.Prelude.{slice_get, slice_index_or}
-use Rattle.std.proofs.lemmas.Option.{slice_get-get_or}
-use Rattle.std.proofs.lemmas.Bool.Decides.{nat_tests}
+use Rattle.host.proofs.Common.{◌≡◌, ◌≢◌, ℕ, zero, suc, ◌+◌, ◌-◌, ◌<◌, ◌≤◌, ◌==◌, ◌&&◌, if◌then◌else◌, Bool, true, false, List, [], ◌∷◌, length, Option, Some, refl, sym, ap, ◌∙◌, subst, arith, slice_get, slice_index_or, slice_get-get_or, nat_tests, Label, AllStand, TraceEntry, AreRowed, HasOwner, calls, is_call, is_row, owner_of, row_of, Receipt, AreCalls, AreRising, places_of, ClientView, client_at, AreBorneOut, call_places, total}
 use mathlib.Core.Logic.{dite}
 use native.Mathlib.Decide.{ℕ_discrete}
-use Rattle.machine.specs.declared.Label.{Label}
 use Rattle.machine.specs.declared.Label.TheVariants.{Call, Device, Answer, Cancel, Pause, Resume, Remove, Surprise, Removed}
-use Rattle.chronicle.specs.Claims.{AllStand}
-use Rattle.traced.specs.declared.TraceEntry.{TraceEntry}
-use Rattle.traced.specs.Entries.{AreRowed, HasOwner, calls, is_call, is_row, owner_of, row_of}
-use Rattle.host.specs.Receipts.{Receipt, AreCalls, AreRising, places_of}
-use Rattle.host.specs.Clients.{ClientView, client_at}
-use Rattle.host.specs.Closing.{AreBorneOut, call_places, total}
 
 -- SUMS
 

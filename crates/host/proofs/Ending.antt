@@ -1,14 +1,6 @@
 -- What a host gives when it is closed.
-use Rattle.std.proofs.Common.{◌≡◌, ◌<◌, ℕ, List, length, sym, ap, ◌∙◌, subst}
-use Rattle.machine.specs.Rules.{Rules}
-use Rattle.machine.specs.State.{State}
-use Rattle.machine.specs.Step.{Run}
-use Rattle.traced.specs.declared.TraceEntry.{TraceEntry}
-use Rattle.traced.specs.Traced.{AreRowsOf, TracedView}
+use Rattle.host.proofs.Common.{◌≡◌, ◌<◌, ℕ, List, length, sym, ap, ◌∙◌, subst, Rules, State, Run, TraceEntry, AreRowsOf, TracedView, RowView, AreNumbered, ClientView, client_at, AreBorneOut, IsClosed, total}
 use Rattle.traced.specs.Entries.{calls, labels_of}
-use Rattle.traced.specs.Rows.{RowView}
-use Rattle.host.specs.Clients.{AreNumbered, ClientView, client_at}
-use Rattle.host.specs.Closing.{AreBorneOut, IsClosed, total}
 use Rattle.host.proofs.Counting.{just}
 
 pub closed_is : (rules : Rules) (opening last : State) (n : ℕ) (v : TracedView) (clients : List ClientView) (trace : List TraceEntry) (rows : List RowView)

@@ -1,22 +1,7 @@
 -- A call that was taken in, and its receipt.
-use Rattle.std.proofs.Common.{◌≡◌, ℕ, ◌-◌, ◌<◌, ◌≤◌, List, [], ◌∷◌, ◌++◌, length, Option, Some, sym, ap, ◌∙◌, subst}
-use Rattle.std.specs.Prelude.{IfOk, Result, Ok, Err, slice_get, slice_index_or}
-use Rattle.std.proofs.lemmas.Option.{slice_get_within}
-use Rattle.machine.specs.declared.ClientRequest.{ClientRequest}
-use Rattle.machine.specs.declared.Label.{Label}
+use Rattle.host.proofs.Common.{◌≡◌, ℕ, ◌-◌, ◌<◌, ◌≤◌, List, [], ◌∷◌, ◌++◌, length, Option, Some, sym, ap, ◌∙◌, subst, IfOk, Result, Ok, Err, slice_get, slice_index_or, slice_get_within, ClientRequest, Label, Rules, State, OpenHandle, BookView, AllStand, TraceEntry, ShareView, TracedView, IsTraced, AccountKept, AccountView, IsCalled, HasCounted, Stands, HoldsRequest, TicketView, WasOpen}
 use Rattle.machine.specs.declared.Label.TheVariants.{Call as CallLabel}
-use Rattle.machine.specs.Rules.{Rules}
-use Rattle.machine.specs.State.{State}
-use Rattle.io_manager.specs.declared.OpenHandle.{OpenHandle}
-use Rattle.book.specs.Book.{BookView}
-use Rattle.chronicle.specs.Claims.{AllStand}
-use Rattle.traced.specs.declared.TraceEntry.{TraceEntry}
-use Rattle.traced.specs.Shares.{ShareView}
-use Rattle.traced.specs.Traced.{TracedView, IsTraced}
 use Rattle.host.specs.Receipts.{Receipt, ReceiptsView, AreBelow, Answers, receipt}
-use Rattle.host.specs.Accounts.{AccountKept, AccountView, IsCalled}
-use Rattle.host.specs.Calls.{HasCounted, Stands}
-use Rattle.host.specs.Tickets.{HoldsRequest, TicketView, WasOpen}
 use Rattle.host.specs.declared.call.Call.{Call}
 use Rattle.host.specs.declared.call.Refusal.{Refusal}
 use Rattle.host.proofs.Keeping.{below_more, below_stand}

@@ -1,8 +1,5 @@
 -- One receipt more.
-use Rattle.std.proofs.Common.{ℕ, suc, ◌≤◌, List, [], ◌∷◌, ◌++◌, length, arith}
-use Rattle.std.proofs.lemmas.Option.{slice_get_within}
-use Rattle.chronicle.specs.Claims.{AllStand}
-use Rattle.traced.specs.declared.TraceEntry.{TraceEntry}
+use Rattle.host.proofs.Common.{ℕ, suc, ◌≤◌, List, [], ◌∷◌, ◌++◌, length, arith, slice_get_within, AllStand, TraceEntry}
 use Rattle.host.specs.Receipts.{Receipt, IsCallOf, AreCalls, IsAnswerTo, AreAnswers, AreRising, AreBelow}
 
 pub below_stand : (es : List TraceEntry) (cs : List Receipt) → AllStand es cs → AreBelow (length es) cs

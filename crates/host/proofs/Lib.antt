@@ -9,8 +9,10 @@ pub mod Ending
 pub mod Settling
 pub mod Accounts
 pub mod Issuing
+pub mod Holding
 pub mod Opening
 pub mod Making
 pub mod Noticing
 pub mod Replying
 pub mod Lifted
+mod Common

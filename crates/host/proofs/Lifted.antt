@@ -1,26 +1,9 @@
 -- The closed trace is a run of the machine whose acts read and write the sectors.
-use Rattle.std.proofs.Common.{◌≡◌, ◌≤◌, ℕ, suc, ◌+◌, List, [], ◌∷◌, ◌++◌, length, sym, ap, subst, ◌∙◌, arith}
+use Rattle.host.proofs.Common.{◌≡◌, ◌≤◌, ℕ, suc, ◌+◌, List, [], ◌∷◌, ◌++◌, length, sym, ap, subst, ◌∙◌, arith, All-head, Entry, Replays, IsSector, Label, IsMap, Rules, State, opening, Run, AreOfActs, JournalsCloseRuns, Entered, JournalView, entries_in, entries_of, replays_first, ActsAreOf, BeginsWith, numbered_from, AreFirst, IsFaithfulRun, act_count, IsDiskOf, IsJournalFor}
 use Rattle.std.specs.Prelude.{All}
 use Rattle.std.proofs.lemmas.List.{length-append, length-map, map-append}
-use Rattle.std.proofs.lemmas.List.Elements.{All-head}
-use Rattle.srb.specs.declared.Entry.{Entry}
-use Rattle.srb.specs.Replaying.{Replays}
-use Rattle.sector.specs.Extents.{IsSector}
-use Rattle.machine.specs.declared.Label.{Label}
 use Rattle.machine.specs.declared.Label.TheVariants.{Call, Device, Answer, Cancel, Pause, Resume, Remove, Surprise, Removed}
 use Rattle.srb.specs.declared.DeviceLabel.TheVariants.{Start, Act, Fault, Return}
-use Rattle.machine.specs.Map.{IsMap}
-use Rattle.machine.specs.Rules.{Rules}
-use Rattle.machine.specs.State.{State, opening}
-use Rattle.machine.specs.Step.{Run}
-use Rattle.machine_laws.specs.Booked.{AreOfActs, JournalsCloseRuns}
-use Rattle.sector_journal.specs.declared.acted.Entered.{Entered}
-use Rattle.sector_journal.specs.Journal.{JournalView, entries_in, entries_of}
-use Rattle.sector_journal.proofs.Kept.{replays_first}
-use Rattle.book.specs.Book.{ActsAreOf}
-use Rattle.book.specs.Taken.{BeginsWith, numbered_from}
-use Rattle.host.specs.Closing.{AreFirst, IsFaithfulRun, act_count}
-use Rattle.host.specs.Opening.{IsDiskOf, IsJournalFor}
 
 -- sectors have one length
 same_size : (disk : List (List ℕ)) (size size' : ℕ) → 1 ≤ length disk → All (IsSector size) disk → All (IsSector size') disk → size ≡ size'

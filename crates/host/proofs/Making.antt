@@ -1,21 +1,15 @@
 -- Clients that are made one by one.
 use Rattle.std.proofs.Common.{◌≡◌, ◌≢◌, ℕ, ◌+◌, ◌<◌, List, [], ◌∷◌, ◌++◌, length, Option, Some, sym, ap, ◌∙◌, subst, arith, length-append}
 use Rattle.std.specs.Prelude.{All, option_to_list}
-use Rattle.std.proofs.lemmas.List.{get_or_append_left}
-use Rattle.std.proofs.lemmas.List.Elements.{All-nil, All-cons, All-head, All-tail}
-use Rattle.std.proofs.Math.Seq.{get_or-append_seam}
+use Rattle.host.proofs.Common.{get_or_append_left, All-nil, All-cons, All-head, All-tail, get_or-append_seam, TableId, none_yet, AccountView, IsClientPass}
 use mathlib.Core.Logic.{dite}
 use native.Mathlib.Decide.{ℕ_discrete}
-use Rattle.atomic_table.specs.Seated.{TableId}
 use Rattle.io_manager.specs.declared.Handle.{Handle}
 use Rattle.remove_lock.specs.declared.rule.View.{View as PassView}
 use Rattle.remove_lock.specs.Gate.{Standing as PassStanding, fresh as fresh_pass}
 use Rattle.cancel_marks.specs.declared.rule.View.{View as SeatView}
 use Rattle.cancel_marks.specs.Marks.{Standing as SeatStanding, IsOther}
-use Rattle.host.specs.Receipts.{none_yet}
-use Rattle.host.specs.Accounts.{AccountView}
 use Rattle.host.specs.Clients.{ClientKept, ClientView, client_at, fresh, ticket_limit}
-use Rattle.host.specs.Opening.{IsClientPass}
 
 module _ {A : Type 0} (P : A → Type 0) where
   last_of : (ys : List A) (y : A) → All P (ys ++ y ∷ []) → P y × All P ys
@@ -31,7 +25,7 @@ module _ {A : Type 0} (P : A → Type 0) where
 pub one_less : {A : Type 0} (old new : List A) (o : Option A) (x : A) → o ≡ Some x → old ≡ new ++ option_to_list o → length old ≡ length new + 1
 one_less old new o x is items = ap length (items ∙ ap (λ p. new ++ option_to_list p) is) ∙ length-append new (x ∷ [])
 
-pub new_client : (gate marks : TableId) (account : AccountView) (pass : PassStanding) (seat : SeatStanding) → IsClientPass gate pass → seat.table ≡ marks → ClientKept gate marks account pass seat 0
+pub new_client : (gate marks : TableId) (account : AccountView) (pass : PassStanding) (seat : SeatStanding) → IsClientPass gate pass → seat.table ≡ marks → ClientKept gate marks account (record { pass = pass; out = 0 }) seat
 new_client gate marks account pass seat is table = record {
   gate_is = ap (λ p. p.gate) is;
   quota = ap (λ p. p.view.quota) is;

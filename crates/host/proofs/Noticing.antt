@@ -1,29 +1,12 @@
 -- What a keeper notices.
 use Rattle.std.proofs.Common.{◌≡◌, ℕ, ◌+◌, ◌<◌, ◌≤◌, true, false, List, [], ◌∷◌, ◌++◌, length, map, Some, None, refl, sym, ap, ◌∙◌, subst, arith, append_assoc, length-append, inl, inr}
-use Rattle.std.specs.Prelude.{slice_get}
-use Rattle.machine.specs.declared.Label.{Label}
+use Rattle.host.proofs.Common.{slice_get, Label, as_label, InsufficientResources, Reply, ManagerView, Event, IsNoAct, call_handle, TraceEntry, AreRowed, entry, row_of, noted, noted_all, owners_after, is_handle_event, AreNoCalls, TracedView, IsServed, pages_of, Notice, Minor, Receipt, AreBelow}
 use Rattle.machine.specs.declared.Label.TheVariants.{Call, Device, Answer, Cancel, Pause as PauseLabel, Resume, Remove as RemoveLabel, Surprise as SurpriseLabel, Removed as RemovedLabel}
-use Rattle.machine.specs.Step.{as_label}
-use Rattle.io_manager.specs.declared.Refusal.TheVariants.{InsufficientResources}
-use Rattle.io_manager.specs.declared.Reply.{Reply}
 use Rattle.io_manager.specs.declared.Reply.TheVariants.{Ok as OkReply, Refused}
 use Rattle.io_manager.specs.Right.{QueryReplies, RemoveReplies, SurpriseReplies, Told, as_answer, end_labels, labels_of}
-use Rattle.io_manager.specs.Shown.{ManagerView}
-use Rattle.compose.specs.declared.Event.{Event}
-use Rattle.compose.specs.Journaled.{IsNoAct}
-use Rattle.book.specs.Book.{call_handle}
-use Rattle.traced.specs.declared.TraceEntry.{TraceEntry}
-use Rattle.traced.specs.Entries.{AreRowed, entry, row_of}
-use Rattle.traced.specs.Pages.{noted, noted_all, owners_after}
-use Rattle.traced.specs.Serving.{is_handle_event}
-use Rattle.traced.specs.Told.{AreNoCalls}
-use Rattle.traced.specs.Traced.{TracedView, IsServed, pages_of}
-use Rattle.host.specs.declared.notice.Notice.{Notice}
 use Rattle.host.specs.declared.notice.Notice.TheVariants.{Pause, Remove as RemoveNotice, Surprise as SurpriseNotice, Removed}
-use Rattle.host.specs.declared.notice.Minor.{Minor}
 use Rattle.host.specs.declared.notice.Minor.TheVariants.{QueryRemove, Remove as RemoveDevice, SurpriseRemove}
 use Rattle.host.specs.Keepers.{HasNone, HasNoted, HasRemoved, IsNoticed, event_of, is_notice, label_of, notice_of}
-use Rattle.host.specs.Receipts.{Receipt, AreBelow}
 use Rattle.host.proofs.Answering.{rowed_at, some_same}
 use Rattle.host.proofs.Calling.{get_behind}
 use Rattle.host.proofs.Keeping.{below_more}

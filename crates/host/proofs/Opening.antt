@@ -1,18 +1,9 @@
 -- What a host is opened with.
-use Rattle.std.proofs.Common.{◌≡◌, ℕ, zero, suc, ◌+◌, ◌≤◌, List, length, map, replicate, Some, refl, sym, ap, ◌∙◌, subst, arith}
+use Rattle.host.proofs.Common.{◌≡◌, ℕ, zero, suc, ◌+◌, ◌≤◌, List, length, map, replicate, Some, refl, sym, ap, ◌∙◌, subst, arith, All-nil, All-cons, slice_get-get_or, slice_get_within, TableId, ManagerView, StackSizes, AreOpened, IsNew, AreSizes, sizes_of, IsClientPass, IsOpening, IsReady, client_limit, ticket_limit}
 use Rattle.std.specs.Prelude.{All, IsFalse, max, slice_index_or}
-use Rattle.std.proofs.lemmas.List.Elements.{All-nil, All-cons}
-use Rattle.std.proofs.lemmas.Option.{slice_get-get_or, slice_get_within}
-use Rattle.atomic_table.specs.Seated.{TableId}
 use Rattle.io_manager.specs.declared.Handle.{Handle}
-use Rattle.io_manager.specs.Shown.{ManagerView}
 use Rattle.remove_lock.specs.Gate.{Standing, issued, standing, fresh}
 use Rattle.cancel_marks.specs.Marks.{Standing as SeatStanding, standing as seat_of, starting, IsOther}
-use Rattle.traced.specs.declared.sizes.StackSizes.{StackSizes}
-use Rattle.traced.specs.Opening.{AreOpened, IsNew}
-use Rattle.traced.specs.Sizes.{AreSizes, sizes_of}
-use Rattle.host.specs.Opening.{IsClientPass, IsOpening, IsReady, client_limit}
-use Rattle.host.specs.Clients.{ticket_limit}
 
 -- PASSES
 

@@ -1,30 +1,13 @@
 -- Steps that tell of no call.
 use Rattle.std.proofs.Common.{◌≡◌, ℕ, zero, suc, Bool, true, false, if◌then◌else◌, List, [], ◌∷◌, ◌++◌, length, map, Option, Some, None, refl, sym, ap, ◌∙◌, subst, arith, append_assoc, inl, inr}
 use Rattle.std.specs.Prelude.{◌⊎◌}
-use Rattle.std.proofs.lemmas.List.{append-nil}
-use Rattle.srb.specs.declared.DeviceLabel.{DeviceLabel}
-use Rattle.machine.specs.declared.Label.{Label}
+use Rattle.host.proofs.Common.{append-nil, DeviceLabel, Label, AreDistinct, as_label, AreDistinct-Run, CallsCount, call_numbers, Reply, ManagerView, Event, IsNoAct, ActsEntry, BookView, AreBooked, HoldsFailure, IsLastAct, ServesAfter, ServesEvent, TraceEntry, entry, is_call, row_of, PagesView, noted, noted_all, owners_after, AreNoCalls, TracedView, AreLooked, CarriesSeen, IsCarried, IsLooked, IsServed, pages_of}
 use Rattle.machine.specs.declared.Label.TheVariants.{Call, Device, Answer as AnswerLabel, Cancel, Pause, Resume, Remove, Surprise, Removed}
-use Rattle.machine.specs.Numbers.{AreDistinct}
-use Rattle.machine.specs.Step.{as_label}
-use Rattle.machine.proofs.Numbers.{AreDistinct-Run}
-use Rattle.machine_laws.specs.NumberLaws.{CallsCount, call_numbers}
 use Rattle.io_manager.specs.declared.Answer.{Answer}
-use Rattle.io_manager.specs.declared.Reply.{Reply}
 use Rattle.io_manager.specs.declared.Reply.TheVariants.{Handle, Ok as OkReply, Request, Answered, Refused, Ignored}
 use Rattle.io_manager.specs.Right.{MarkReplies, Told, CancelsOne, as_answer, end_labels, labels_of}
-use Rattle.io_manager.specs.Shown.{ManagerView}
 use Rattle.srb.specs.declared.Entry.{Entry as Booked}
-use Rattle.compose.specs.declared.Event.{Event}
 use Rattle.compose.specs.declared.Event.TheVariants.{Mark}
-use Rattle.compose.specs.Journaled.{IsNoAct}
-use Rattle.book.specs.Acting.{ActsEntry}
-use Rattle.book.specs.Book.{BookView, AreBooked, HoldsFailure, IsLastAct, ServesAfter, ServesEvent}
-use Rattle.traced.specs.declared.TraceEntry.{TraceEntry}
-use Rattle.traced.specs.Entries.{entry, is_call, row_of}
-use Rattle.traced.specs.Pages.{PagesView, noted, noted_all, owners_after}
-use Rattle.traced.specs.Told.{AreNoCalls}
-use Rattle.traced.specs.Traced.{TracedView, AreLooked, CarriesSeen, IsCarried, IsLooked, IsServed, pages_of}
 
 -- LABELS
 

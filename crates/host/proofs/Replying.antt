@@ -1,20 +1,10 @@
 -- What a step that is no client's replies.
 use Rattle.std.proofs.Common.{◌≡◌, ◌⊎◌, ℕ, true, List, [], Option, Some, None, refl, inl, inr, sym, subst}
-use Rattle.std.specs.Borrow.{MutBor}
+use Rattle.host.proofs.Common.{MutBor, InsufficientResources, InvalidDeviceRequest, Reply, ManagerView, Told, PnpReplies, RecallReplies, ActReplies, FinishReplies, RefusesAlone, Event, ShareView, bytes_of, TracedView, IsServed, may_want, BookView, IsLastAct, IsStepped, ServesAfter, ServesEvent, IsPnpReply, IsReplyTo, IsTagReply}
 use Rattle.io_manager.specs.declared.Refusal.{Refusal}
-use Rattle.io_manager.specs.declared.Refusal.TheVariants.{InsufficientResources, InvalidDeviceRequest}
-use Rattle.io_manager.specs.declared.Reply.{Reply}
 use Rattle.io_manager.specs.declared.Reply.TheVariants.{Handle as HandleReply, Ok as OkReply, Request as Requested, Answered, Refused, Ignored}
-use Rattle.io_manager.specs.Shown.{ManagerView}
-use Rattle.io_manager.specs.Right.{Told, PnpReplies, RecallReplies, ActReplies, FinishReplies, RefusesAlone}
-use Rattle.compose.specs.declared.Event.{Event}
 use Rattle.compose.specs.declared.Event.TheVariants.{Open, Close, Read, Write, Flush, CancelIoEx, Mark, QueryRemove, CancelRemove, Remove, SurpriseRemove, Act, Finish, Reset}
 use Rattle.compose.specs.Right.{IsRight}
-use Rattle.traced.specs.Shares.{ShareView}
-use Rattle.asking.specs.Asking.{bytes_of}
-use Rattle.traced.specs.Traced.{TracedView, IsServed, may_want}
-use Rattle.book.specs.Book.{BookView, IsLastAct, IsStepped, ServesAfter, ServesEvent}
-use Rattle.host.specs.Replies.{IsPnpReply, IsReplyTo, IsTagReply}
 
 invalid : (old : ManagerView) (reason : Refusal) (bytes : List ℕ) (new : ManagerView) (told : Told) → RefusesAlone old reason InvalidDeviceRequest bytes new told → IsPnpReply (Refused reason bytes)
 invalid old reason bytes new told r =

@@ -1,19 +1,7 @@
 -- From the end of a removal on nothing is open or out.
-use Rattle.std.proofs.Common.{◌≡◌, ℕ, zero, suc, ◌<◌, List, [], ◌∷◌, ◌++◌, Some, sym, ap, subst, arith}
-use Rattle.std.specs.Prelude.{drop, slice_get, take}
-use Rattle.std.proofs.lemmas.List.{take-append-drop}
-use Rattle.machine.specs.declared.Label.{Label}
+use Rattle.host.proofs.Common.{◌≡◌, ℕ, zero, suc, ◌<◌, List, [], ◌∷◌, ◌++◌, Some, sym, ap, subst, arith, drop, slice_get, take, take-append-drop, Label, Rules, State, opening, Run, Always, IsEmpty, RemovedAreEmpty, RunsSplit, TraceEntry, SettledAtRemoved, IsOpening}
 use Rattle.machine.specs.declared.Label.TheVariants.{Removed}
-use Rattle.machine.specs.Rules.{Rules}
-use Rattle.machine.specs.State.{State, opening}
-use Rattle.machine.specs.Step.{Run}
-use Rattle.machine_laws.specs.Along.{Always}
-use Rattle.machine_laws.specs.EndLaws.{IsEmpty, RemovedAreEmpty}
-use Rattle.machine_laws.specs.Reached.{RunsSplit}
-use Rattle.traced.specs.declared.TraceEntry.{TraceEntry}
 use Rattle.traced.specs.Entries.{labels_of}
-use Rattle.host.specs.Closing.{SettledAtRemoved}
-use Rattle.host.specs.Opening.{IsOpening}
 use Rattle.host.proofs.Answering.{some_same}
 
 label_at : (es : List TraceEntry) (k : ℕ) (e : TraceEntry) (l : Label) → slice_get es k ≡ Some e → e.label ≡ l → slice_get (labels_of es) k ≡ Some l

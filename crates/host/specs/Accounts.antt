@@ -2,6 +2,7 @@
 use Rattle.std.specs.Prelude.{◌≡◌, ◌≤◌, ◌<◌, ℕ, ◌+◌, List, [], ◌++◌, Option, Some, None, length, slice_index_or}
 use Rattle.machine.specs.declared.ClientRequest.{ClientRequest}
 use Rattle.machine.specs.declared.Label.TheVariants.{Call as CallLabel, Answer as AnswerLabel}
+use Rattle.io_manager.specs.declared.Answer.{Answer}
 use Rattle.io_manager.specs.declared.OpenHandle.{OpenHandle}
 use Rattle.io_manager.specs.declared.Refusal.{Refusal as Why}
 use Rattle.io_manager.specs.Calls.{status_of_refusal, without_bytes, IsWant}
@@ -18,6 +19,10 @@ use Rattle.host.specs.Receipts.{Receipt, ReceiptsView, AreBelow, AreCalls, AreAn
 use Rattle.host.specs.Calls.{buffer_of, request_of}
 use Rattle.host.specs.Tickets.{TicketView}
 
+-- the partition of a client
+abbrev pub partition_of : List ℕ → ℕ → ℕ
+partition_of partitions client = slice_index_or partitions client 0
+
 pub record AccountView : Type 0 where
   pub share : ShareView
   pub called : ReceiptsView
@@ -30,9 +35,9 @@ pub record AccountKept (handles : List (Option OpenHandle)) (partitions : List �
   pub calls : AreCalls share.client called
   pub rising : AreRising 0 called
   pub answers : AreAnswers share.client answered
-  pub handle : IsOpenOn handles share.handle (slice_index_or partitions share.client 0)
+  pub handle : IsOpenOn handles share.handle (partition_of partitions share.client)
 
--- the label of a call has the bytes where it opened a request
+-- the label of a call has the bytes where it opened a request, which has a slot; a call that was answered at once has none
 abbrev pub told_request : Option ℕ → ClientRequest → ClientRequest
 told_request None q = without_bytes q
 told_request (Some slot) q = q
@@ -67,6 +72,15 @@ pub record IsTurnedDown (partition : ℕ) (old : AccountView) (call : Call) (ref
   pub same_client : new.share.client ≡ old.share.client
   pub room : old.answered.room ≤ new.answered.room + 1
   pub labels : HasLabels partition old call refusal.reason refusal.places new
+
+-- the last receipt is of the answer to the request of this number
+pub record EndsWithAnswer (number : ℕ) (answered : List Receipt) : Type 0 where
+  pub answer : Answer
+  pub is_number : answer.number ≡ number
+  pub place : ℕ
+  pub client : ℕ
+  pub before : List Receipt
+  pub is : answered ≡ before ++ receipt place (as_answer answer) client
 
 -- the answer to a ticket's request was taken; it stands behind its call
 pub record IsTaken (old : AccountView) (number call : ℕ) (answered : Answered) (new : AccountView) : Type 0 where

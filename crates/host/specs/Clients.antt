@@ -54,15 +54,20 @@ pub record AreFresh (count : ℕ) (clients : List ClientView) : Type 0 where
 
 -- WHAT A CLIENT KEEPS
 
+-- a pass of the gate, and how many of its holds are those of tickets that are out
+pub record HoldsView : Type 0 where
+  pub pass : PassStanding
+  pub out : ℕ
+
 -- the client has a pass of the gate with a hold for each ticket that is out, a seat at the marks, and room for the
 -- answers to all tickets
-pub record ClientKept (gate marks : TableId) (account : AccountView) (pass : PassStanding) (seat : SeatStanding) (out : ℕ) : Type 0 where
-  pub gate_is : pass.gate ≡ gate
-  pub quota : pass.view.quota ≡ ticket_limit
-  pub out_is : out ≡ pass.view.holds
-  pub few : out ≤ ticket_limit
+pub record ClientKept (gate marks : TableId) (account : AccountView) (holds : HoldsView) (seat : SeatStanding) : Type 0 where
+  pub gate_is : holds.pass.gate ≡ gate
+  pub quota : holds.pass.view.quota ≡ ticket_limit
+  pub out_is : holds.out ≡ holds.pass.view.holds
+  pub few : holds.out ≤ ticket_limit
   pub seat_is : seat.table ≡ marks
-  pub room : out ≤ account.answered.room
+  pub room : holds.out ≤ account.answered.room
 
 -- ISSUING
 

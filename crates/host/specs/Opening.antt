@@ -1,5 +1,5 @@
 -- What a host is opened with.
-use Rattle.std.specs.Prelude.{◌≡◌, ◌<◌, ◌≤◌, ℕ, ◌+◌, List, [], Option, Some, IsFalse, All, length, max, slice_get, slice_index_or}
+use Rattle.std.specs.Prelude.{◌≡◌, ◌<◌, ◌≤◌, ℕ, ◌+◌, List, [], Option, None, Some, IsFalse, All, length, max, replicate, slice_get}
 use Rattle.atomic_table.specs.Seated.{TableId}
 use Rattle.sector.specs.Extents.{IsSector}
 use Rattle.disk.specs.Medium.{MediumView}
@@ -18,6 +18,7 @@ use Rattle.traced.specs.Opening.{AreClientsOf, IsFirst, IsOpenOn, NamesNone}
 use Rattle.host.specs.declared.opened.Gear.{Gear}
 use Rattle.host.specs.declared.opened.HostFault.{HostFault}
 use Rattle.host.specs.declared.opened.HostFault.TheVariants.{TooManyClients, NoPartition, NoMemory}
+use Rattle.host.specs.Accounts.{partition_of}
 use Rattle.host.specs.Clients.{ticket_limit}
 
 -- how many clients there may be
@@ -48,7 +49,7 @@ IsClientPass gate pass = pass ≡ pass_of gate (fresh_pass ticket_limit)
 
 -- a handle that is open for client c, on its partition
 abbrev pub IsHandleFor : List ℕ → List (Option OpenHandle) → ℕ → Handle → Type 0
-IsHandleFor partitions open' c handle = (handle.number ≡ c + 1) × IsOpenOn open' handle (slice_index_or partitions c 0)
+IsHandleFor partitions open' c handle = (handle.number ≡ c + 1) × IsOpenOn open' handle (partition_of partitions c)
 
 -- there is one handle for each client
 pub record AreHandlesFor (partitions : List ℕ) (open' : List (Option OpenHandle)) (handles : List Handle) : Type 0 where
@@ -94,10 +95,11 @@ pub record IsDiskFor (rules : Rules) (medium : MediumView) : Type 0 where
   pub some : 1 ≤ length medium.sectors
   pub map : IsMap rules.disk_sectors rules.partitions
 
--- a journal of such a medium's sectors, in which nothing was entered
+-- a journal of such a medium's sectors, of the stack's depth, in which nothing was entered or armed
 pub record IsJournalFor (rules : Rules) (journal : JournalView) : Type 0 where
   pub disk : IsDiskFor rules journal.medium
   pub no_entry : journal.entered ≡ []
+  pub none_armed : journal.slots ≡ replicate rules.depth None
 
 -- whole sectors of a stack's disk, in which the partitions lie
 pub record IsDiskOf (rules : Rules) (disk : List (List ℕ)) : Type 0 where

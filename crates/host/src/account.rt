@@ -1,20 +1,20 @@
 //! What a client has called and was answered.
 
-ghost use Rattle.std.specs.Prelude.{◌≡◌, ◌<◌, ◌≤◌, ◌+◌, ◌-◌, ◌^◌, ◌++◌, ◌↔◌, ℕ, [], IfErr, IfOk, IfSome, IfNone, IsTrue, OnOk, length, slice_index_or};
+ghost use Rattle.std.specs.Prelude.{◌≡◌, ◌<◌, ◌≤◌, ◌+◌, ◌-◌, ◌^◌, ◌++◌, ◌↔◌, ℕ, [], IfErr, IfOk, IfSome, IfNone, IsTrue, OnOk, length};
 ghost use Rattle.chronicle.specs.Claims.{AllStand};
 ghost use Rattle.machine.specs.declared.ClientRequest.{ClientRequest};
 ghost use Rattle.machine.specs.declared.Label.TheVariants.{Call as CallLabel};
 ghost use Rattle.machine_laws.specs.NumberLaws.{CallsCount};
 ghost use Rattle.io_manager.specs.Right.{as_answer};
 ghost use Rattle.traced.specs.Opening.{IsOpenOn};
-ghost use Rattle.host.specs.Accounts.{IsCalled, IsTaken, IsTurnedDown};
+ghost use Rattle.host.specs.Accounts.{IsCalled, IsTaken, IsTurnedDown, partition_of};
 ghost use Rattle.host.specs.Calls.{AnswerLaws, FindsCall, IsTold, Stands, buffer_of, request_of};
 ghost use Rattle.host.specs.Receipts.{none_yet, receipt};
 ghost use Rattle.host.specs.Tickets.{HoldsRequest, WasOpen};
 ghost use Rattle.host.specs.Opening.{IsHandleFor};
 
-use crate::bells::Concerned;
 use crate::call::{Answered, Call, Places, Refusal};
+use crate::condvars::Concerned;
 use crate::host::Host;
 use crate::name::Naming;
 use crate::receipts::Receipts;
@@ -93,10 +93,10 @@ fn carry_call<M: Medium, N: Naming, R: Wait>(
     share: &mut Share<N>,
     call: Call,
 ) -> (Reply, Option<usize>)
-    requires open { IsOpenOn N.handles share.old.handle (slice_index_or N.partitions share.old.client 0) }
+    requires open { IsOpenOn N.handles share.old.handle (partition_of N.partitions share.old.client) }
     ensures late { IfSome result.1 (λ place. length book.old.traced.entries ≤ place) }
     ensures fits { IfSome result.1 (λ place. place + 1 < 2 ^ 64) }
-    ensures told { IsTold N.slots share.old share.new (request_of (slice_index_or N.partitions share.old.client 0) call) (buffer_of call) book.new.traced result.0 result.1 }
+    ensures told { IsTold N.slots share.old share.new (request_of (partition_of N.partitions share.old.client) call) (buffer_of call) book.new.traced result.0 result.1 }
 {
     laws_of_numbers();
     host.table.shows_opening();
@@ -204,10 +204,10 @@ impl<N: Naming> Account<N> {
         call: Call,
     ) -> Result<Ticket<N>, Refusal>
         requires room { (0 < self.old.called.room) × (0 < self.old.answered.room) }
-        ensures issued { IfOk result (λ t. IsCalled (slice_index_or N.partitions self.old.share.client 0) self.old t call self.new) }
+        ensures issued { IfOk result (λ t. IsCalled (partition_of N.partitions self.old.share.client) self.old t call self.new) }
         ensures stands { IfOk result (λ t. AllStand book.new.traced.entries t.call) }
         ensures held { IfOk result (λ t. HoldsRequest book.new.traced.stack t.slot t.number) }
-        ensures refused { IfErr result (λ r. IsTurnedDown (slice_index_or N.partitions self.old.share.client 0) self.old call r self.new) }
+        ensures refused { IfErr result (λ r. IsTurnedDown (partition_of N.partitions self.old.share.client) self.old call r self.new) }
     {
         self.called.check(&host.history, book);
         self.answered.check(&host.history, book);
@@ -259,9 +259,9 @@ impl<N: Naming> Account<N> {
         call: Call,
     ) -> (Result<Ticket<N>, Refusal>, Concerned)
         requires room { (0 < self.old.called.room) × (0 < self.old.answered.room) }
-        ensures issued { IfOk result.0 (λ t. IsCalled (slice_index_or N.partitions self.old.share.client 0) self.old t call self.new) }
+        ensures issued { IfOk result.0 (λ t. IsCalled (partition_of N.partitions self.old.share.client) self.old t call self.new) }
         ensures was_open { IfOk result.0 (λ t. WasOpen N.rules N.start N.partitions N.handles t) }
-        ensures refused { IfErr result.0 (λ r. IsTurnedDown (slice_index_or N.partitions self.old.share.client 0) self.old call r self.new) }
+        ensures refused { IfErr result.0 (λ r. IsTurnedDown (partition_of N.partitions self.old.share.client) self.old call r self.new) }
     {
         let from = book.len();
         let issued = self.issue_in(rt, host, book, call);
@@ -301,7 +301,7 @@ impl<N: Naming> Account<N> {
             if let Some(answered) = self.answer_in(host, &mut book, &mut awaited) {
                 return answered;
             }
-            book = host.bells.client(client).wait(rt, book);
+            book = host.condvars.client(client).wait(rt, book);
         }
         unreachable!()
     }

@@ -1,20 +1,20 @@
 //! A client of a host.
 
-ghost use Rattle.std.specs.Prelude.{◌≡◌, ◌-◌, IfErr, IfOk, slice_index_or};
-ghost use Rattle.remove_lock.specs.Answers.{IsHeld};
-ghost use Rattle.host.specs.Clients.{HasNoHold, IsIssued, IsMarked, IsRefused, IsWaited};
+ghost use Rattle.std.specs.Prelude.{◌≡◌, IfErr, IfOk};
+ghost use Rattle.host.specs.Accounts.{partition_of};
+ghost use Rattle.host.specs.Clients.{IsIssued, IsMarked, IsRefused, IsWaited};
 ghost use Rattle.host.specs.Receipts.{places_of};
 ghost use Rattle.host.specs.Tickets.{WasOpen};
 
 use crate::account::Account;
 use crate::call::{Answered, Call, Reason, Refusal};
+use crate::holds::Holds;
 use crate::host::Host;
 use crate::name::Naming;
 use crate::ticket::Ticket;
 use cancel_marks::{Marking, Seat};
 use compose::Refusal as Why;
 use disk::Medium;
-use remove_lock::{AcquireFault, Pass};
 use std::marker::Model;
 use std::sync::Wait;
 
@@ -22,10 +22,8 @@ use std::sync::Wait;
 #[derive(Drop)]
 pub struct Client<N: Naming> {
     pub(crate) account: Account<N>,
-    pub(crate) pass: Pass,
+    pub(crate) holds: Holds,
     pub(crate) seat: Seat,
-    // how many of its tickets are not waited for yet
-    pub(crate) out: usize,
 }
 
 impl<N: Naming> Model for Client<N> {
@@ -37,41 +35,11 @@ impl<N: Naming> Model for Client<N> {
       client = c.account.share.client;
       called = c.account.called.list;
       answered = c.account.answered.list;
-      pass = c.pass.view;
+      pass = c.holds.pass.view;
       seat = c.seat.view;
     } };
 
-    ghost invariant = { λ c. ClientKept N.gate N.marks c.account c.pass c.seat c.out };
-}
-
-// Takes a hold on the gate for a ticket.
-fn take_hold<M: Medium, N: Naming>(host: &Host<M, N>, pass: &mut Pass) -> Result<(), Reason>
-    requires gate { pass.old.gate ≡ N.gate }
-    ensures gate { pass.new.gate ≡ N.gate }
-    ensures held { IfOk result (λ _. IsHeld pass.old.view pass.new.view) }
-    ensures refused { IfErr result (λ reason. HasNoHold reason pass.old.view pass.new.view) }
-{
-    match host.door.gate.acquire(pass) {
-        Ok(()) => Ok(()),
-        Err(AcquireFault::DeletePending) => Err(Reason::Refused(Why::DeletePending)),
-        Err(AcquireFault::TooManyHolds) => Err(Reason::TooManyTickets),
-    }
-}
-
-// Gives back the hold of a ticket, of those that are out. Returns how many are left.
-fn give_back<M: Medium, N: Naming>(host: &Host<M, N>, pass: &mut Pass, out: usize) -> usize
-    requires gate { pass.old.gate ≡ N.gate }
-    requires out { out ≡ pass.old.view.holds }
-    ensures gate { pass.new.gate ≡ N.gate }
-    ensures quota { pass.new.view.quota ≡ pass.old.view.quota }
-    ensures holds { (result ≡ pass.new.view.holds) × (result ≡ out - 1) }
-    ensures closed { pass.new.view.closed ≡ pass.old.view.closed }
-{
-    if out == 0 {
-        return 0;
-    }
-    host.door.gate.release(pass);
-    out - 1
+    ghost invariant = { λ c. ClientKept N.gate N.marks c.account c.holds c.seat };
 }
 
 impl<N: Naming> Client<N> {
@@ -119,28 +87,28 @@ impl<N: Naming> Client<N> {
         host: &Host<M, N>,
         call: Call,
     ) -> Result<Ticket<N>, Refusal>
-        ensures issued { IfOk result (λ t. IsIssued (slice_index_or N.partitions self.old.client 0) self.old t call self.new) }
+        ensures issued { IfOk result (λ t. IsIssued (partition_of N.partitions self.old.client) self.old t call self.new) }
         ensures was_open { IfOk result (λ t. WasOpen N.rules N.start N.partitions N.handles t) }
-        ensures refused { IfErr result (λ r. IsRefused (slice_index_or N.partitions self.old.client 0) self.old call r self.new) }
+        ensures refused { IfErr result (λ r. IsRefused (partition_of N.partitions self.old.client) self.old call r self.new) }
     {
-        let Ok(()) = self.account.make_places(self.out) else {
+        let Ok(()) = self.account.make_places(self.holds.out()) else {
             return Err(call.refused(host.alloc, Reason::Refused(Why::InsufficientResources)));
         };
-        match take_hold(host, &mut self.pass) {
+        match self.holds.take(&host.gate) {
             Ok(()) => {}
             Err(reason) => return Err(call.refused(host.alloc, reason)),
         }
         let (issued, concerned) = self
             .account
             .issue_and_note(rt, host, &mut host.book.lock(rt), call);
-        host.bells.ring(rt, concerned);
+        host.condvars.notify(rt, concerned);
         match issued {
             Ok(ticket) => {
-                self.out += 1;
+                self.holds.give_out();
                 Ok(ticket)
             }
             Err(refusal) => {
-                host.door.gate.release(&mut self.pass);
+                self.holds.take_back(&host.gate);
                 Err(refusal)
             }
         }
@@ -156,9 +124,10 @@ impl<N: Naming> Client<N> {
         requires ticket { ticket.client ≡ self.old.client }
         ensures waited { IsWaited self.old ticket result self.new }
     {
+        let number = ticket.number();
         self.account.await_place(rt);
         let answered = self.account.answer_of(rt, host, ticket);
-        self.out = give_back(host, &mut self.pass, self.out);
+        self.holds.give_back(&host.gate, &self.account, number);
         answered
     }
 

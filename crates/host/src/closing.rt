@@ -22,13 +22,14 @@ use std::sync::ledger::Share as Part;
 use traced::{Row, TraceEntry};
 
 /// What is left of a host: the trace, for each client the places of its calls and of their answers, what acts did to
-/// the sectors, in their order, and the receipts of the entries of the trace's acts, numbered from 0.
+/// the sectors, in their order, the receipts of the entries of the trace's acts, numbered from 0, and the medium.
 #[derive(Drop)]
-pub struct Closed<N: Naming> {
+pub struct Closed<M: Medium, N: Naming> {
     pub trace: Vec<TraceEntry>,
     pub rows: Vec<Row>,
     pub entries: Vec<Entered>,
     pub receipts: Claims<Entered, OfEntries<N>>,
+    pub medium: M,
 }
 
 // Checks all receipts against the book, and takes the parts of the ledger back.
@@ -89,15 +90,14 @@ impl<M: Medium, N: Naming> Host<M, N> {
     /// from the sectors that the journal was opened with, give the sectors of the medium. So the trace is a run whose
     /// acts read and write sectors, from those that the journal was opened with on, to those of the medium where the trace
     /// has as many acts as there are entries.
-    pub fn close(self, keeper: Keeper<N>, clients: Vec<Client<N>>) -> (Closed<N>, M)
-        requires parts { N.parts ≡ length N.partitions + 1 }
+    pub fn close(self, keeper: Keeper<N>, clients: Vec<Client<N>>) -> Closed<M, N>
         requires all { AreNumbered (length N.partitions) clients.items }
-        ensures told { AllStand result.0.trace.items keeper.told }
-        ensures closed { IsClosed N.rules N.start clients.items result.0.trace.items result.0.rows.items }
-        ensures settled_at_removed { SettledAtRemoved N.rules N.start result.0.trace.items }
-        ensures acts { AreFirst (labels_of result.0.trace.items) result.0.entries.items result.0.receipts }
-        ensures replays { Replays (M.view result.1).sector_size N.opening (entries_in result.0.entries.items) (M.view result.1).sectors }
-        ensures run { IsFaithfulRun N.rules N.opening (labels_of result.0.trace.items) result.0.entries.items (M.view result.1).sectors }
+        ensures told { AllStand result.trace.items keeper.told }
+        ensures closed { IsClosed N.rules N.start clients.items result.trace.items result.rows.items }
+        ensures settled_at_removed { SettledAtRemoved N.rules N.start result.trace.items }
+        ensures acts { AreFirst (labels_of result.trace.items) result.entries.items result.receipts }
+        ensures replays { Replays (M.view result.medium).sector_size N.opening (entries_in result.entries.items) (M.view result.medium).sectors }
+        ensures run { IsFaithfulRun N.rules N.opening (labels_of result.trace.items) result.entries.items (M.view result.medium).sectors }
     {
         laws_of_removals();
         machine_laws::journals_close_runs();
@@ -127,12 +127,12 @@ impl<M: Medium, N: Naming> Host<M, N> {
         book.audit(&mut all);
         let (trace, rows, receipts) = book.into_rows();
         let (medium, entries) = journal.into_parts();
-        let closed = Closed {
+        Closed {
             trace,
             rows,
             entries,
             receipts,
-        };
-        (closed, medium)
+            medium,
+        }
     }
 }

@@ -4,7 +4,7 @@ ghost use Rattle.std.specs.Prelude.{◌≡◌, IfSome};
 ghost use Rattle.srb.specs.declared.Class.TheVariants.{Bad};
 ghost use Rattle.srb.specs.Fate.{class_of};
 
-use crate::bells::Concerned;
+use crate::condvars::Concerned;
 use crate::host::Host;
 use crate::name::Naming;
 use book::Book;
@@ -62,14 +62,14 @@ impl Tags {
 
 /// The tags, under a lock that only a holder of the book's lock takes.
 #[derive(Drop)]
-pub(crate) struct Board {
+pub(crate) struct SharedTags {
     tags: Mutex<Tags>,
 }
 
-impl Board {
-    /// The board of a book with no label.
-    pub(crate) fn blank() -> Board {
-        Board {
+impl SharedTags {
+    /// The tags of a trace with no label.
+    pub(crate) fn blank() -> SharedTags {
+        SharedTags {
             tags: Mutex::new(Tags {
                 seen: 0,
                 started: [false; 32],
@@ -103,7 +103,7 @@ impl<M: Medium, N: Naming> Host<M, N> {
         requires { class_of completion ≡ Bad completion }
     {
         let concerned = self.fail_in(rt, &mut self.book.lock(rt), tag, completion);
-        self.bells.ring(rt, concerned);
+        self.condvars.notify(rt, concerned);
     }
 
     fn fail_in<R: Wait>(
@@ -125,10 +125,10 @@ impl<M: Medium, N: Naming> Desk for Host<M, N> {
     fn next<R: Wait>(&self, rt: &R, tag: u8) -> Step {
         let mut book = self.book.lock(rt);
         for _ in rt.forever() {
-            if let Some(step) = self.board.take(rt, &book, tag) {
+            if let Some(step) = self.tags.take(rt, &book, tag) {
                 return step;
             }
-            book = self.bells.lane(tag).wait(rt, book);
+            book = self.condvars.lane(tag).wait(rt, book);
         }
         unreachable!()
     }
@@ -147,10 +147,10 @@ impl<M: Medium, N: Naming> Desk for Host<M, N> {
     }
 
     fn ring<R: Wait>(&self, rt: &R) {
-        self.bells.ring_worker(rt);
+        self.condvars.notify_worker(rt);
     }
 
     fn rest<R: Wait>(&self, rt: &R, heard: u64) -> Woken {
-        self.bells.rest(rt, heard)
+        self.condvars.rest(rt, heard)
     }
 }

@@ -13,12 +13,13 @@ ghost use Rattle.host.specs.Replies.{IsReplyTo};
 ghost use Rattle.compose.specs.declared.Event.TheVariants.{Act, Finish, Reset};
 
 use crate::account::Account;
-use crate::bells::{Bells, Concerned};
 use crate::client::Client;
-use crate::desk::Board;
+use crate::condvars::{Concerned, Condvars};
+use crate::desk::SharedTags;
+use crate::holds::Holds;
 use crate::name::Naming;
 use crate::opened::{HostFault, Opened, Supplies};
-use crate::shared::{Disk, Door, Table};
+use crate::shared::{Disk, HostGate, Table};
 use book::{Beside, Book, Records};
 use chronicle::{Claims, History, Whole};
 use compose::{Event, Reply};
@@ -42,12 +43,12 @@ where
     // Where both locks are held, the book's was taken first.
     pub(crate) journal: Mutex<Journal<M, N>>,
     pub(crate) words: sector_journal::History<N>,
-    pub(crate) bells: Bells,
+    pub(crate) condvars: Condvars,
     pub(crate) history: History<TraceEntry, N>,
     pub(crate) table: Table<N>,
-    pub(crate) door: Door<N>,
+    pub(crate) gate: HostGate<N>,
     pub(crate) disk: Disk<N>,
-    pub(crate) board: Board,
+    pub(crate) tags: SharedTags,
     pub(crate) alloc: Global,
 }
 
@@ -108,11 +109,11 @@ fn make_clients<N: Naming>(
             whole.no_claims(history),
             whole.no_claims(history),
         );
+        let holds = Holds::new(pass);
         clients.push_reserved(Client {
             account,
-            pass,
+            holds,
             seat,
-            out: 0,
         });
     }
     Ok((clients, passes))
@@ -151,8 +152,9 @@ fn hand_out<N: Naming>(
 }
 
 impl<M: Medium, N: Naming> Host<M, N> {
-    /// A host of a stack and of the journal of its disk, in which nothing was entered, with its keeper and its clients,
-    /// client c over the partition that was given as number c. None of them has made a step: the gate is open to all.
+    /// A host of a stack and of the journal of its disk, of the stack's depth, in which nothing was entered or armed, with
+    /// its keeper and its clients, client c over the partition that was given as number c. None of them has made a step:
+    /// the gate is open to all.
     ///
     /// # Errors
     ///
@@ -194,7 +196,7 @@ impl<M: Medium, N: Naming> Host<M, N> {
         let disk = Disk::of(&journal);
         let (history, mut whole) = history.named::<N>();
         let (tally, all) = ledger.open::<N>();
-        let bells = Bells::new(alloc, partitions.len())?;
+        let condvars = Condvars::new(alloc, partitions.len())?;
         let (clients, keeper) = hand_out(alloc, &history, &mut whole, all, supplies)?;
         let owned = Owned {
             whole,
@@ -205,17 +207,17 @@ impl<M: Medium, N: Naming> Host<M, N> {
         let traced = Traced::new(alloc, stack, owned, partitions.len(), sizes)?;
         let book = Book::new(alloc, traced, &mut journal, &words)?;
         let table = Table::new(marks);
-        let door = Door::new(gate);
+        let host_gate = HostGate::new(gate);
         let host = Host {
             book: Mutex::new(book),
             journal: Mutex::new(journal),
             words,
-            bells,
+            condvars,
             history,
             table,
-            door,
+            gate: host_gate,
             disk,
-            board: Board::blank(),
+            tags: SharedTags::blank(),
             alloc,
         };
         Ok((host, keeper, clients))
@@ -276,7 +278,7 @@ impl<M: Medium, N: Naming> Host<M, N> {
         ensures reply { IsReplyTo event result }
     {
         let (reply, concerned) = self.step_and_note(rt, &mut self.book.lock(rt), event);
-        self.bells.ring(rt, concerned);
+        self.condvars.notify(rt, concerned);
         reply
     }
 }

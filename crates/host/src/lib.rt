@@ -12,7 +12,7 @@
 //! `Opened::new` and `Host::new` are refused only for their causes (`fault`). At first the gate is open (`fresh`,
 //! `keeper`). `issue` gives a ticket, takes one hold, and adds its call's receipt (`issued`); there was a moment when
 //! the ticket's slot held its request (`was_open`). Or it gives the bytes back and takes no hold, with both receipts or
-//! none (`refused`). `wait` gives the answer and its receipt, and the hold back (`waited`). Neither closes the gate
+//! none (`refused`). `wait` gives the answer and its receipt, and then the hold back (`waited`). Neither closes the gate
 //! (`closes_nothing`). `mark_cancel` marks the ticket's request alone (`marked`). `query_remove` adds a receipt of its
 //! pause (`told`), `remove` and `surprise_remove` add two, of the removal and its end (`told`), once the gate is seen
 //! drained (`drained`); one that is refused leaves the gate (`refused`). `close` gives the trace, a run with all
@@ -24,11 +24,12 @@
 #![tactic(auto)]
 
 mod account;
-mod bells;
 mod call;
 mod client;
 mod closing;
+mod condvars;
 mod desk;
+mod holds;
 mod host;
 mod name;
 mod notice;

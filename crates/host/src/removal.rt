@@ -11,11 +11,11 @@ ghost use Rattle.host.specs.Replies.{IsReplyTo};
 ghost use Rattle.compose.specs.declared.Event.TheVariants.{CancelRemove, QueryRemove, Remove, SurpriseRemove};
 
 use crate::account::laws_of_numbers;
-use crate::bells::Concerned;
+use crate::condvars::Concerned;
 use crate::host::{Host, Keeper};
 use crate::name::Naming;
 use crate::notice::{Minor, Notice, claim_notice};
-use crate::shared::Door;
+use crate::shared::HostGate;
 use book::Book;
 use chronicle::Claims;
 use compose::{Event, Reply};
@@ -26,14 +26,14 @@ use std::thread;
 use traced::TraceEntry;
 
 // Closes the gate, and returns once it was seen drained.
-fn close_and_drain<N: Naming, R: Wait>(rt: &R, door: &Door<N>, pass: &mut Pass)
+fn close_and_drain<N: Naming, R: Wait>(rt: &R, gate: &HostGate<N>, pass: &mut Pass)
     requires gate { pass.old.gate ≡ N.gate }
     ensures gate { pass.new.gate ≡ N.gate }
     ensures drained { pass.new.view.saw_drained ≡ true }
 {
-    door.gate.close_gate(pass);
+    gate.lock.close_gate(pass);
     for _ in rt.forever() {
-        if door.gate.drained(pass) {
+        if gate.lock.drained(pass) {
             return;
         }
         thread::yield_now();
@@ -43,11 +43,11 @@ fn close_and_drain<N: Naming, R: Wait>(rt: &R, door: &Door<N>, pass: &mut Pass)
 
 impl<N: Naming> Keeper<N> {
     // Waits until no ticket is out.
-    fn drain<R: Wait>(&mut self, rt: &R, door: &Door<N>)
+    fn drain<R: Wait>(&mut self, rt: &R, gate: &HostGate<N>)
         ensures drained { self.new.pass.saw_drained ≡ true }
         ensures told { self.new.told ≡ self.old.told }
     {
-        close_and_drain(rt, door, &mut self.pass);
+        close_and_drain(rt, gate, &mut self.pass);
     }
 }
 
@@ -127,7 +127,7 @@ impl<M: Medium, N: Naming> Host<M, N> {
                 return claim;
             }
             from = from.max(book.len());
-            book = self.bells.keeper().wait(rt, book);
+            book = self.condvars.keeper().wait(rt, book);
         }
         unreachable!()
     }
@@ -138,7 +138,7 @@ impl<M: Medium, N: Naming> Host<M, N> {
         ensures drained { keeper.new.pass.saw_drained ≡ true }
         ensures told { HasNoted RemovedLabel keeper.old.told keeper.new.told }
     {
-        keeper.drain(rt, &self.door);
+        keeper.drain(rt, &self.gate);
         let claim = self.await_removed(rt, from);
         keeper.told.join(&self.history, claim);
     }
@@ -156,7 +156,7 @@ impl<M: Medium, N: Naming> Host<M, N> {
             &mut keeper.told,
             minor,
         );
-        self.bells.ring(rt, concerned);
+        self.condvars.notify(rt, concerned);
         if let Reply::Ok = reply {
             self.end_removal(rt, keeper, above);
         }
@@ -177,7 +177,7 @@ impl<M: Medium, N: Naming> Host<M, N> {
             &mut keeper.told,
             Minor::QueryRemove,
         );
-        self.bells.ring(rt, concerned);
+        self.condvars.notify(rt, concerned);
         reply
     }
 

@@ -1,6 +1,6 @@
 //! What the threads of a host share beside the locks: the table of marks, the gate, and what is known of the disk.
 
-ghost use Rattle.std.specs.Prelude.{◌≡◌, ◌<◌, Some};
+ghost use Rattle.std.specs.Prelude.{◌≡◌, ◌<◌, ◌+◌, Some, length};
 ghost use Rattle.host.specs.Opening.{IsDiskOf, IsJournalFor, IsOpening};
 
 use crate::name::Naming;
@@ -19,14 +19,15 @@ pub(crate) struct Table<N: Naming> {
     pub ghost slots: { N.rules.open_requests ≡ Some N.slots },
     pub ghost bytes: { 0 < N.rules.sector_size },
     pub ghost opening: { IsOpening N.start },
+    pub ghost parts: { N.parts ≡ length N.partitions + 1 },
 }
 
 /// The gate that tickets hold.
 #[derive(Drop)]
-pub(crate) struct Door<N: Naming> {
-    pub gate: Gate,
+pub(crate) struct HostGate<N: Naming> {
+    pub lock: Gate,
     pub of: PhantomData<N>,
-    pub ghost is: { gate ≡ N.gate },
+    pub ghost is: { lock ≡ N.gate },
 }
 
 impl<N: Naming> Table<N> {
@@ -36,6 +37,7 @@ impl<N: Naming> Table<N> {
         requires slots { N.rules.open_requests ≡ Some N.slots }
         requires bytes { 0 < N.rules.sector_size }
         requires opening { IsOpening N.start }
+        requires parts { N.parts ≡ length N.partitions + 1 }
     {
         Table {
             marks,
@@ -48,16 +50,17 @@ impl<N: Naming> Table<N> {
         ensures slots { N.rules.open_requests ≡ Some N.slots }
         ensures bytes { 0 < N.rules.sector_size }
         ensures opening { IsOpening N.start }
+        ensures parts { N.parts ≡ length N.partitions + 1 }
     {}
 }
 
-impl<N: Naming> Door<N> {
+impl<N: Naming> HostGate<N> {
     /// The gate that is named.
-    pub(crate) fn new(gate: Gate) -> Door<N>
+    pub(crate) fn new(gate: Gate) -> HostGate<N>
         requires named { gate ≡ N.gate }
     {
-        Door {
-            gate,
+        HostGate {
+            lock: gate,
             of: PhantomData,
         }
     }

@@ -76,7 +76,7 @@ impl<'a, M: Medium, C: Clock, W: Wait> Medium for HoldsReads<'a, M, C, W> {
 }
 
 // A client reads the sector at an offset.
-fn read_at<M: Medium, N: Naming, R: Wait>(
+pub(crate) fn read_at<M: Medium, N: Naming, R: Wait>(
     bench: &Bench<M, N, R>,
     client: &mut Client<N>,
     offset: u64,
@@ -196,7 +196,7 @@ fn beside_turnstile<M: Medium, N: Naming, R: Wait, C: Clock>(
 }
 
 // Waits for the answer to a read, where it was issued.
-fn answer_to<M: Medium, N: Naming, R: Wait>(
+pub(crate) fn answer_to<M: Medium, N: Naming, R: Wait>(
     bench: &Bench<M, N, R>,
     client: &mut Client<N>,
     issued: Result<Ticket<N>, AllocError>,

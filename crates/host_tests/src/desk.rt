@@ -1,6 +1,6 @@
 //! A host of two clients, and what is asked of it.
 
-ghost use Rattle.std.specs.Prelude.{◌≡◌, ◌≤◌, ◌∷◌, [], ◌+◌, IfOk, length, vec_capacity};
+ghost use Rattle.std.specs.Prelude.{◌≡◌, ◌≤◌, ◌∷◌, [], IfOk, length, vec_capacity};
 ghost use Rattle.host.specs.Clients.{AreNumbered};
 ghost use Rattle.host.specs.Opening.{IsDiskFor};
 
@@ -234,14 +234,14 @@ fn play_and_close<M: Medium, N: Naming, R: Wait + Abort>(
     alloc: Global,
     ready: Ready<M>,
     run: &Run,
-) -> Result<(Closed<N>, M, [Told; 2]), AllocError>
+) -> Result<(Closed<M, N>, [Told; 2]), AllocError>
     requires named { ready.opened ≡ record { rules = N.rules; opening = N.start; partitions = N.partitions; handles = N.handles; marks = N.marks; slots = N.slots; table = N.table; name = N.name; parts = N.parts; gate = N.gate } }
     requires histories { ready.histories ≡ record { armings = N.armings; entries = N.entries } }
     requires sectors { (M.view ready.medium).sectors ≡ N.opening }
     requires unfailed { (M.view ready.medium).failures ≡ 0 }
     requires disk { IsDiskFor N.rules (M.view ready.medium) }
+    requires depth { N.rules.depth ≡ 2 }
     requires partitions { length N.partitions ≡ 2 }
-    requires parts { N.parts ≡ length N.partitions + 1 }
 {
     let (host, keeper, clients) = open_host::<M, N>(alloc, ready, 2)?;
     let mut keeper = keeper;
@@ -251,8 +251,7 @@ fn play_and_close<M: Medium, N: Naming, R: Wait + Abort>(
         host: &host,
     };
     let (back, told) = play_by_two(&bench, &mut keeper, clients, run)?;
-    let (closed, medium) = host.close(keeper, back);
-    Ok((closed, medium, told))
+    Ok((host.close(keeper, back), told))
 }
 
 // The places of the calls in a trace that a client made, and of the answers to them.
@@ -288,15 +287,16 @@ pub(crate) fn carry_out<M: Medium, N: Naming, R: Wait + Abort>(
     requires sectors { (M.view ready.medium).sectors ≡ N.opening }
     requires unfailed { (M.view ready.medium).failures ≡ 0 }
     requires disk { IsDiskFor N.rules (M.view ready.medium) }
+    requires depth { N.rules.depth ≡ 2 }
     requires partitions { length N.partitions ≡ 2 }
-    requires parts { N.parts ≡ length N.partitions + 1 }
 {
-    let (closed, medium, told) = play_and_close::<M, N, R>(rt, alloc, ready, run)?;
+    let (closed, told) = play_and_close::<M, N, R>(rt, alloc, ready, run)?;
     let Closed {
         trace,
         rows,
         entries,
         receipts: _,
+        medium,
     } = closed;
     replay(rt, alloc, medium, entries.as_slice())?;
     compare_acts(rt, trace.as_slice(), entries.as_slice());

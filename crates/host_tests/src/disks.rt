@@ -51,6 +51,7 @@ fn adapter(alloc: Global, depth: u8) -> Result<BookedAdapter, AllocError>
     requires shallow { depth ≤ 32 }
     ensures idle { IfOk result (λ a. IsIdle a.shown) }
     ensures unasked { IfOk result (λ a. a.shown.accepted ≡ 0) }
+    ensures depth { IfOk result (λ a. a.shown.depth ≡ depth) }
 {
     let first = Vec::from_slice(alloc, &sector_0())?;
     BookedAdapter::new(alloc, first, SECTORS, 64, depth).map_err(no_memory)
@@ -71,6 +72,7 @@ fn start_over<A: Adapter>(
     ensures apart { IfOk result (λ r. IsFalse r.0.adapter.faithful) }
     ensures sizes { IfOk result (λ r. (r.1 ≡ sizes_of r.0.rules) × AreSizes r.1) }
     ensures slots { IfOk result (λ r. r.0.rules.open_requests ≡ Some 64) }
+    ensures depth { IfOk result (λ r. r.0.rules.depth ≡ (A.view adapter).depth) }
     ensures map { IfOk result (λ r. IsMap r.0.rules.disk_sectors r.0.rules.partitions) }
 {
     let sizes = StackSizes {
@@ -110,6 +112,7 @@ pub(crate) fn start(
     ensures apart { IfOk result (λ r. IsFalse r.0.adapter.faithful) }
     ensures sizes { IfOk result (λ r. (r.1 ≡ sizes_of r.0.rules) × AreSizes r.1) }
     ensures slots { IfOk result (λ r. r.0.rules.open_requests ≡ Some 64) }
+    ensures depth { IfOk result (λ r. r.0.rules.depth ≡ depth) }
     ensures map { IfOk result (λ r. IsMap r.0.rules.disk_sectors r.0.rules.partitions) }
 {
     let adapter = adapter(alloc, depth)?;
@@ -129,6 +132,7 @@ pub(crate) fn start_for<M: Medium>(
     ensures apart { IfOk result (λ r. IsFalse r.0.adapter.faithful) }
     ensures sizes { IfOk result (λ r. (r.1 ≡ sizes_of r.0.rules) × AreSizes r.1) }
     ensures slots { IfOk result (λ r. r.0.rules.open_requests ≡ Some 64) }
+    ensures depth { IfOk result (λ r. r.0.rules.depth ≡ depth) }
     ensures unfailed { IfOk result (λ _. (M.view medium.now).failures ≡ 0) }
     ensures disk { IfOk result (λ r. IsDiskFor r.0.rules (M.view medium.now)) }
 {

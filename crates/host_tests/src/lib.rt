@@ -27,6 +27,8 @@ mod opening;
 #[cfg(test)]
 mod orders;
 #[cfg(test)]
+mod removing;
+#[cfg(test)]
 mod replaying;
 #[cfg(test)]
 mod rows;

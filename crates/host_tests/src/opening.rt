@@ -34,6 +34,7 @@ pub(crate) fn ready_over<M: Medium>(
     ensures parts { IfOk result (λ r. r.opened.parts ≡ length partitions.now + 1) }
     ensures unfailed { IfOk result (λ r. (M.view r.medium).failures ≡ 0) }
     ensures disk { IfOk result (λ r. IsDiskFor r.opened.rules (M.view r.medium)) }
+    ensures depth { IfOk result (λ r. r.opened.rules.depth ≡ depth) }
 {
     let (stack, sizes) = start_for(rt, alloc, &medium, depth)?;
     match Opened::new(alloc, stack, sizes, 64, partitions) {
@@ -64,6 +65,7 @@ pub(crate) fn open_host<M: Medium, N: Naming>(
     requires sectors { (M.view ready.medium).sectors ≡ N.opening }
     requires unfailed { (M.view ready.medium).failures ≡ 0 }
     requires disk { IsDiskFor N.rules (M.view ready.medium) }
+    requires depth { N.rules.depth ≡ depth }
     ensures { IfOk result (λ r. AreNumbered (length N.partitions) r.2.items) }
 {
     let Ready {

@@ -1,6 +1,6 @@
 //! A host of two clients on one partition, over lanes and a worker of their own.
 
-ghost use Rattle.std.specs.Prelude.{◌≡◌, ◌≤◌, ◌+◌, IfOk, length};
+ghost use Rattle.std.specs.Prelude.{◌≡◌, ◌≤◌, IfOk, length};
 ghost use Rattle.lanes.specs.Queue.{issued};
 ghost use Rattle.host.specs.Clients.{AreNumbered};
 ghost use Rattle.host.specs.Opening.{IsDiskFor};
@@ -199,11 +199,10 @@ fn play_and_close<
     host: Host<M, N>,
     company: Company<N>,
     setting: &Setting<'_, C>,
-) -> Result<(String, Closed<N>, M), AllocError>
+) -> Result<(String, Closed<M, N>), AllocError>
     requires first { company.first.client ≡ 0 }
     requires second { company.second.client ≡ 1 }
     requires partitions { length N.partitions ≡ 2 }
-    requires parts { N.parts ≡ length N.partitions + 1 }
 {
     let back = Vec::with_capacity(alloc, 2)?;
     let Ok((completions, passes)) = Completions::new(alloc, 1, 4) else {
@@ -225,8 +224,8 @@ fn play_and_close<
         second,
     } = company;
     let back = given_back(back, first, second);
-    let (closed, medium) = host.close(keeper, back);
-    Ok((seen?, closed, medium))
+    let closed = host.close(keeper, back);
+    Ok((seen?, closed))
 }
 
 /// What is wanted of a scene: what its clients see, the trace where threads don't race, and the number of entries.
@@ -264,8 +263,8 @@ pub(crate) fn play_scene<
     requires sectors { (M.view ready.medium).sectors ≡ N.opening }
     requires unfailed { (M.view ready.medium).failures ≡ 0 }
     requires disk { IsDiskFor N.rules (M.view ready.medium) }
+    requires depth { N.rules.depth ≡ 4 }
     requires partitions { length N.partitions ≡ 2 }
-    requires parts { N.parts ≡ length N.partitions + 1 }
 {
     let (host, keeper, clients) = open_host::<M, N>(alloc, ready, 4)?;
     let (first, second) = two_of(rt, clients);
@@ -274,14 +273,14 @@ pub(crate) fn play_scene<
         first,
         second,
     };
-    let (seen, closed, medium) = play_and_close(rt, alloc, host, company, setting)?;
+    let (seen, closed) = play_and_close(rt, alloc, host, company, setting)?;
     let trace = trace_of(alloc, closed.trace.as_slice())?;
     same(rt, &seen.as_str(), &want.seen);
     if let Some(wanted) = want.trace {
         same(rt, &trace.as_str(), &wanted);
     }
     same(rt, &closed.entries.len(), &want.entries);
-    replay(rt, alloc, medium, closed.entries.as_slice())?;
     compare_acts(rt, closed.trace.as_slice(), closed.entries.as_slice());
+    replay(rt, alloc, closed.medium, closed.entries.as_slice())?;
     Ok(())
 }

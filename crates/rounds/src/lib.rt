@@ -102,6 +102,7 @@ pub fn run<M: Medium + Send, R: Threads + Wait + Sync>(
     requires disk { IsDiskFor stack.rules (M.view medium) }
     requires sizes { (sizes ≡ sizes_of stack.rules) × AreSizes sizes }
     requires slots { stack.rules.open_requests ≡ Some slots }
+    requires depth { plan.depth ≡ stack.rules.depth }
     requires plan { (1 ≤ plan.clients) × (plan.clients ≤ 32) × (1 ≤ plan.depth) × (plan.depth ≤ 32) }
     ensures most { IfOk result (λ done. done.tally.answered ≤ 2 * (plan.clients * plan.rounds)) }
     ensures replays { IfOk result (λ done. Replays (M.view done.medium).sector_size (M.view medium).sectors (entries_in done.entries.items) (M.view done.medium).sectors) }

@@ -1,6 +1,6 @@
 //! The threads: lanes, a completion worker, and clients.
 
-ghost use Rattle.std.specs.Prelude.{◌≡◌, ◌≤◌, ◌<◌, ◌+◌, ◌*◌, ℕ, suc, IfErr, IfOk, IfSome, MatchBool, get_or, length};
+ghost use Rattle.std.specs.Prelude.{◌≡◌, ◌≤◌, ◌<◌, ◌*◌, ℕ, suc, IfErr, IfOk, IfSome, MatchBool, get_or, length};
 ghost use Rattle.lanes.specs.Queue.{fresh_lane, issued, lanes_of, standing};
 ghost use Rattle.host.specs.Clients.{AreNumbered};
 ghost use Rattle.host.specs.Closing.{IsFaithfulRun};
@@ -270,8 +270,8 @@ pub(crate) fn serve<M: Medium + Send, N: Naming + Send + Sync, R: Threads + Wait
     requires sectors { (M.view blank.medium).sectors ≡ N.opening }
     requires unfailed { (M.view blank.medium).failures ≡ 0 }
     requires disk { IsDiskFor N.rules (M.view blank.medium) }
-    requires parts { N.parts ≡ length N.partitions + 1 }
     requires clients { length N.partitions ≡ plan.clients }
+    requires depth { plan.depth ≡ N.rules.depth }
     requires plan { (plan.clients ≤ 32) × (1 ≤ plan.depth) × (plan.depth ≤ 32) }
     ensures most { IfOk result (λ done. done.tally.answered ≤ 2 * (plan.clients * plan.rounds)) }
     ensures replays { IfOk result (λ done. Replays (M.view done.medium).sector_size N.opening (entries_in done.entries.items) (M.view done.medium).sectors) }
@@ -306,11 +306,11 @@ pub(crate) fn serve<M: Medium + Send, N: Naming + Send + Sync, R: Threads + Wait
     let Ok((tally, clients)) = served else {
         return Err(RoundsFault::NoMemory);
     };
-    let (closed, medium) = host.close(keeper, clients);
+    let closed = host.close(keeper, clients);
     Ok(Done {
         tally,
         trace: closed.trace,
         entries: closed.entries,
-        medium,
+        medium: closed.medium,
     })
 }

@@ -1,5 +1,6 @@
-use Rattle.std.proofs.Common.{◌≡◌, Err, false, rules, true}
+use Rattle.std.proofs.Common.{◌≡◌, Err, ap, false, rules, sym, true}
 use Rattle.disk.specs.SparseDisk.{shown}
+use Rattle.machine.specs.Rules.{Rules}
 use Rattle.startup.specs.declared.faults.Error.TheVariants.{Start}
 use Rattle.commands.specs.declared.faults.Error.TheVariants.{Startup}
 use Rattle.commands.proofs.Beside.{disk_beside}
@@ -29,3 +30,6 @@ returns-in-Err-clause-fault g c =
 pub run-requires-clause-disk : goal.run-requires-clause-disk
 run-requires-clause-disk g c κs within =
     disk_beside c.in_ok-config.config c.in_ok-stack.stack (shown c.in_ok-stack.disk) c.in_ok-config.ensures.in_range c.in_ok-stack.ensures.stack c.in_ok-stack.ensures.disk c.in_ok-stack.ensures.count
+
+pub run-requires-clause-depth : goal.run-requires-clause-depth
+run-requires-clause-depth g c κs within = sym (ap (λ (r : Rules). r.depth) c.in_ok-stack.ensures.stack.rules)

@@ -1,12 +1,5 @@
-use Rattle.std.proofs.Common.{◌≡◌, ◌<◌, ℕ, List, Option, Some, sym, ap, ◌∙◌, subst}
-use Rattle.std.specs.Prelude.{slice_index_or}
-use Rattle.machine.specs.Numbers.{AreDistinct}
-use Rattle.machine.specs.Rules.{Rules}
-use Rattle.machine.proofs.Numbers.{AreDistinct-Run}
-use Rattle.io_manager.specs.declared.OpenHandle.{OpenHandle}
+use Rattle.host.proofs.Common.{◌≡◌, ◌<◌, ℕ, List, Option, Some, sym, ap, ◌∙◌, subst, slice_index_or, AreDistinct, Rules, AreDistinct-Run, OpenHandle, IsOpenOn, TracedView, IsServed}
 use Rattle.traced.specs.Entries.{labels_of}
-use Rattle.traced.specs.Opening.{IsOpenOn}
-use Rattle.traced.specs.Traced.{TracedView, IsServed}
 use Rattle.host.specs.Calls.{FindsCall, event_of}
 use Rattle.host.proofs.Answering.{distinct_at_first}
 use Rattle.host.proofs.Calling.{told_call}

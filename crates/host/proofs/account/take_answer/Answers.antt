@@ -1,5 +1,4 @@
-use Rattle.std.proofs.Common.{◌≡◌}
-use Rattle.traced.specs.Traced.{TracedView}
+use Rattle.host.proofs.Common.{◌≡◌, TracedView}
 use Rattle.host.proofs.Answering.{found_at, is_found}
 use Rattle.host.proofs.account.take_answer.Goals as goal
 

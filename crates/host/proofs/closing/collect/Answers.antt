@@ -1,9 +1,4 @@
-use Rattle.std.proofs.Common.{◌≡◌, List, [], ◌∷◌, length, ap, ◌∙◌, subst, arith, append_assoc}
-use Rattle.std.specs.Vec.Iter.{into_iter_items}
-use Rattle.traced.specs.declared.TraceEntry.{TraceEntry}
-use Rattle.book.specs.Book.{BookView}
-use Rattle.host.specs.Clients.{ClientView}
-use Rattle.host.specs.Closing.{HasReceiptsIn, IsBorneOut}
+use Rattle.host.proofs.Common.{◌≡◌, List, [], ◌∷◌, length, ap, ◌∙◌, subst, arith, append_assoc, into_iter_items, TraceEntry, BookView, ClientView, HasReceiptsIn, IsBorneOut}
 use Rattle.host.proofs.Collecting.{longer, borne_snoc, total_snoc}
 use Rattle.host.proofs.closing.collect.Goals as goal
 

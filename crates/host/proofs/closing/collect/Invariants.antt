@@ -1,7 +1,4 @@
-use Rattle.std.proofs.Common.{◌≡◌, ◌+◌, ◌++◌, length}
-use Rattle.std.specs.Vec.Iter.{into_iter_items, into_iter_len}
-use Rattle.host.specs.Clients.{client_at}
-use Rattle.host.specs.Closing.{AreBorneOut, total}
+use Rattle.host.proofs.Common.{◌≡◌, ◌+◌, ◌++◌, length, into_iter_items, into_iter_len, client_at, AreBorneOut, total}
 use Rattle.host.proofs.closing.collect.Given as goal
 
 abbrev pub invariant-loop-client : goal.invariant-loop-client

@@ -1,7 +1,6 @@
 use Rattle.std.proofs.Common.{◌≡◌, ◌+◌, ◌<◌, ℕ, length, All}
-use Rattle.cancel_marks.specs.Marks.{IsOther}
+use Rattle.host.proofs.Common.{IsOther, IsClientPass}
 use Rattle.host.specs.Clients.{client_at, fresh}
-use Rattle.host.specs.Opening.{IsClientPass}
 use Rattle.host.proofs.host.make_clients.Given as goal
 
 abbrev pub invariant-loop-c : goal.invariant-loop-c

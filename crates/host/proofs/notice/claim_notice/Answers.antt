@@ -1,5 +1,4 @@
-use Rattle.std.proofs.Common.{◌+◌, sym, subst, arith}
-use Rattle.host.specs.Receipts.{AreBelow}
+use Rattle.host.proofs.Common.{◌+◌, sym, subst, arith, AreBelow}
 use Rattle.host.proofs.Noticing.{noticed}
 use Rattle.host.proofs.notice.claim_notice.Goals as goal
 

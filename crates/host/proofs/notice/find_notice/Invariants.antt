@@ -1,7 +1,4 @@
-use Rattle.std.proofs.Common.{◌≡◌, ◌<◌, ◌≤◌, ℕ, Some, false}
-use Rattle.std.specs.Prelude.{slice_get}
-use Rattle.traced.specs.declared.TraceEntry.{TraceEntry}
-use Rattle.host.specs.Keepers.{is_notice}
+use Rattle.host.proofs.Common.{◌≡◌, ◌<◌, ◌≤◌, ℕ, Some, false, slice_get, TraceEntry, is_notice}
 use Rattle.host.proofs.notice.find_notice.Given as goal
 
 abbrev pub invariant-loop-place : goal.invariant-loop-place

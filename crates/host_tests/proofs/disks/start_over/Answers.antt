@@ -1,4 +1,4 @@
-use Rattle.std.proofs.Common.{◌≡◌, ◌<◌, ℕ, false, true, inl, inr, ◌∙◌, sym, ap, subst, arith, rules}
+use Rattle.std.proofs.Common.{◌≡◌, ◌<◌, ℕ, false, inl, inr, ◌∙◌, sym, ap, subst, arith, rules}
 use Rattle.std.specs.Prelude.{◌⊎◌}
 use Rattle.machine.specs.Map.{IsMap}
 use Rattle.machine.specs.Rules.{Rules}
@@ -65,3 +65,6 @@ pub returns-in-Ok-clause-opens : goal.returns-in-Ok-clause-opens
 returns-in-Ok-clause-opens g c =
     let state = c.in-Ok.ensures.view.state in
     state ∙ ap opening (sym (ap (λ (s : State). s.arrays) state))
+
+pub returns-in-Ok-clause-depth : goal.returns-in-Ok-clause-depth
+returns-in-Ok-clause-depth g c = ap (λ (r : Rules). r.depth) c.in-Ok.ensures.view.rules

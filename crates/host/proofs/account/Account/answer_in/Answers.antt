@@ -1,10 +1,5 @@
-use Rattle.std.proofs.Common.{ℕ, sym, subst}
-use Rattle.machine.specs.declared.ClientRequest.{ClientRequest}
+use Rattle.host.proofs.Common.{ℕ, sym, subst, ClientRequest, as_answer, AllStand, BookView, Stands}
 use Rattle.machine.specs.declared.Label.TheVariants.{Call as CallLabel}
-use Rattle.io_manager.specs.Right.{as_answer}
-use Rattle.chronicle.specs.Claims.{AllStand}
-use Rattle.book.specs.Book.{BookView}
-use Rattle.host.specs.Calls.{Stands}
 use Rattle.host.proofs.Issuing.{stands_within}
 use Rattle.host.proofs.account.Account.answer_in.Goals as goal
 

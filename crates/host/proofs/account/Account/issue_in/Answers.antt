@@ -1,19 +1,8 @@
 use Rattle.std.proofs.Common.{◌≡◌, ◌+◌, ◌<◌, ◌≤◌, ◌++◌, ℕ, List, [], Option, Some, None, length, refl, sym, ap, ◌∙◌, subst, arith}
-use Rattle.std.specs.Prelude.{IfSome, slice_index_or}
-use Rattle.machine.specs.declared.ClientRequest.{ClientRequest}
-use Rattle.machine.specs.declared.Label.{Label}
+use Rattle.host.proofs.Common.{IfSome, slice_index_or, ClientRequest, Label, Reply, status_of_refusal, AllStand, open_at, BookView, ReceiptsView, receipt, AccountView, IsCalled, IsTurnedDown, told_request, HasCounted, IsAnsweredAtOnce, IsTold, Stands, buffer_of, request_of, Places}
 use Rattle.machine.specs.declared.Label.TheVariants.{Answer as AnswerLabel, Call as CallLabel}
 use Rattle.io_manager.specs.declared.Refusal.{Refusal as Why}
-use Rattle.io_manager.specs.declared.Reply.{Reply}
-use Rattle.io_manager.specs.Calls.{status_of_refusal}
-use Rattle.chronicle.specs.Claims.{AllStand}
-use Rattle.traced.specs.Serving.{open_at}
-use Rattle.book.specs.Book.{BookView}
-use Rattle.host.specs.Receipts.{ReceiptsView, receipt}
-use Rattle.host.specs.Accounts.{AccountView, IsCalled, IsTurnedDown, told_request}
-use Rattle.host.specs.Calls.{HasCounted, IsAnsweredAtOnce, IsTold, Stands, buffer_of, request_of}
 use Rattle.host.specs.declared.call.Reason.TheVariants.{Refused}
-use Rattle.host.specs.declared.call.Places.{Places}
 use Rattle.host.specs.declared.call.Refusal.{Refusal}
 use Rattle.host.proofs.Issuing.{IsAnswerReceived, IsReceived, answer_received, called_view, received, stands_noted, stands_within}
 use Rattle.host.proofs.account.Account.issue_in.Goals as goal

@@ -1,7 +1,4 @@
-use Rattle.std.proofs.Common.{sym, ◌∙◌, subst}
-use Rattle.io_manager.specs.Right.{as_answer}
-use Rattle.host.specs.Receipts.{ReceiptsView, receipt}
-use Rattle.host.specs.Accounts.{AccountKept}
+use Rattle.host.proofs.Common.{sym, ◌∙◌, subst, as_answer, ReceiptsView, receipt, AccountKept}
 use Rattle.host.proofs.Accounts.{account_answered}
 use Rattle.host.proofs.account.Account.keep_answer.Goals as goal
 

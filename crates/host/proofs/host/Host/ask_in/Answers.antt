@@ -1,8 +1,5 @@
-use Rattle.std.proofs.Common.{◌≡◌, ℕ, List, ◌++◌, refl, ap, ◌∙◌, subst}
-use Rattle.traced.specs.Traced.{TracedView}
-use Rattle.host.specs.declared.notice.Notice.{Notice}
+use Rattle.host.proofs.Common.{◌≡◌, ℕ, List, ◌++◌, refl, ap, ◌∙◌, subst, TracedView, Notice, Receipt}
 use Rattle.host.specs.Keepers.{HasNone, IsNoticed, event_of, label_of, notice_of}
-use Rattle.host.specs.Receipts.{Receipt}
 use Rattle.host.proofs.Noticing.{begun_stands, below_noted, is_keepers, noted_one}
 use Rattle.host.proofs.Quiet.{goes_before}
 use Rattle.host.proofs.host.Host.ask_in.Goals as goal

@@ -1,10 +1,6 @@
-use Rattle.std.proofs.Common.{◌≡◌, ℕ, length, ap, ◌∙◌, sym, subst}
-use Rattle.book.specs.Book.{BookView, IsStepped}
+use Rattle.host.proofs.Common.{◌≡◌, ℕ, length, ap, ◌∙◌, sym, subst, BookView, IsStepped, Event, AreBelow, IsReplyTo}
 use Rattle.std.specs.Prelude.{None}
 use mathlib.Core.Logic.{inl}
-use Rattle.compose.specs.declared.Event.{Event}
-use Rattle.host.specs.Receipts.{AreBelow}
-use Rattle.host.specs.Replies.{IsReplyTo}
 use Rattle.host.proofs.Keeping.{below_stand}
 use Rattle.host.proofs.Noticing.{is_keepers}
 use Rattle.host.proofs.host.Host.begin.Goals as goal

@@ -1,15 +1,4 @@
-use Rattle.std.proofs.Common.{◌≡◌, List, length, sym, ap, ◌∙◌, subst, arith}
-use Rattle.chronicle.specs.Claims.{AllStand}
-use Rattle.traced.specs.declared.TraceEntry.{TraceEntry}
-use Rattle.traced.specs.Traced.{TracedView}
-use Rattle.traced.specs.Entries.{calls}
-use Rattle.sector_journal.specs.declared.acted.Entered.{Entered}
-use Rattle.sector_journal.specs.Journal.{JournalView}
-use Rattle.book.specs.Book.{BookView}
-use Rattle.book.specs.Taken.{BeginsWith}
-use Rattle.host.specs.Clients.{ClientView, client_at}
-use Rattle.host.specs.Closing.{AreBorneOut, total}
-use Rattle.host.specs.Keepers.{KeeperView}
+use Rattle.host.proofs.Common.{◌≡◌, List, length, sym, ap, ◌∙◌, subst, arith, AllStand, TraceEntry, TracedView, calls, Entered, JournalView, BookView, BeginsWith, ClientView, client_at, AreBorneOut, total, KeeperView}
 use Rattle.host.proofs.Ending.{closed_is}
 use Rattle.host.proofs.Lifted.{are_first, runs_faithfully}
 use Rattle.host.proofs.Settling.{settled}

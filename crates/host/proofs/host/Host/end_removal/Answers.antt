@@ -1,7 +1,5 @@
-use Rattle.std.proofs.Common.{◌≡◌, List, ◌++◌, ap, ◌∙◌}
+use Rattle.host.proofs.Common.{◌≡◌, List, ◌++◌, ap, ◌∙◌, KeeperView, Receipt}
 use Rattle.machine.specs.declared.Label.TheVariants.{Removed as RemovedLabel}
-use Rattle.host.specs.Keepers.{KeeperView}
-use Rattle.host.specs.Receipts.{Receipt}
 use Rattle.host.proofs.Noticing.{noted_one}
 use Rattle.host.proofs.host.Host.end_removal.Goals as goal
 

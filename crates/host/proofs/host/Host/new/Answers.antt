@@ -1,7 +1,4 @@
-use Rattle.std.proofs.Common.{◌≡◌, ◌<◌, ap, sym, ◌∙◌, Some, subst}
-use Rattle.machine.specs.Rules.{Rules}
-use Rattle.traced.specs.declared.sizes.StackSizes.{StackSizes}
-use Rattle.host.specs.Opening.{IsOpening, Names}
+use Rattle.host.proofs.Common.{◌≡◌, ◌<◌, ◌+◌, ap, sym, ◌∙◌, Some, length, subst, Rules, StackSizes, IsOpening, Names}
 use Rattle.host.proofs.Opening.{marks_are}
 use Rattle.host.proofs.host.Host.new.Goals as goal
 
@@ -24,5 +21,10 @@ new-table-requires-clause-bytes g c =
 pub new-table-requires-clause-opening : goal.new-table-requires-clause-opening
 new-table-requires-clause-opening g c = subst IsOpening (ap (λ (v : Names). v.opening) (c.opened.view_is ∙ c.requires.named)) c.opened.invariant.opens
 
-pub new-door-requires : goal.new-door-requires
-new-door-requires g c = record { named = ap (λ (v : Names). v.gate) (c.opened.view_is ∙ c.requires.named) }
+pub new-table-requires-clause-parts : goal.new-table-requires-clause-parts
+new-table-requires-clause-parts g c =
+    let named = c.opened.view_is ∙ c.requires.named in
+    ap (λ (v : Names). v.parts) (sym named) ∙ c.opened.invariant.parts_is ∙ ap (λ (v : Names). length v.partitions + 1) named
+
+pub new-host_gate-requires : goal.new-host_gate-requires
+new-host_gate-requires g c = record { named = ap (λ (v : Names). v.gate) (c.opened.view_is ∙ c.requires.named) }

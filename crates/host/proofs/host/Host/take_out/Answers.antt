@@ -1,7 +1,4 @@
-use Rattle.std.proofs.Common.{◌≡◌, List, ap, subst}
-use Rattle.machine.specs.declared.Label.{Label}
-use Rattle.host.specs.Keepers.{HasNoted, KeeperView, label_of, notice_of}
-use Rattle.host.specs.Receipts.{Receipt}
+use Rattle.host.proofs.Common.{◌≡◌, List, ap, subst, Label, HasNoted, KeeperView, label_of, notice_of, Receipt}
 use Rattle.host.proofs.Noticing.{removed_after}
 use Rattle.host.proofs.host.Host.take_out.Goals as goal
 

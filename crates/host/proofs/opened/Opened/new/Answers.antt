@@ -1,5 +1,4 @@
-use Rattle.std.proofs.Common.{ℕ, List, sym, subst}
-use Rattle.host.specs.Opening.{IsReady}
+use Rattle.host.proofs.Common.{ℕ, List, sym, subst, IsReady}
 use Rattle.host.proofs.Opening.{is_ready}
 use Rattle.host.proofs.opened.Opened.new.Goals as goal
 

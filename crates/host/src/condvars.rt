@@ -1,5 +1,5 @@
-//! Who is woken by a step. Each lane, each client, the worker and the keeper sleep on a condition of their own, which
-//! is rung where a label concerns them and at no other time.
+//! Who is woken by a step. Each lane, each client, the worker and the keeper sleep on a condition variable of their own,
+//! which is notified where a label concerns them and at no other time.
 
 use crate::name::Naming;
 use book::Book;
@@ -57,22 +57,22 @@ impl Concerned {
     }
 }
 
-/// How often the worker was rung, and whether the removal has ended.
+/// How often the worker was signalled, and whether the removal has ended.
 #[derive(Debug, Clone, Copy, Drop)]
-struct Rung {
+struct Signals {
     count: u64,
     is_removed: bool,
 }
 
-/// The conditions.
+/// The condition variables.
 #[derive(Drop)]
-pub(crate) struct Bells {
+pub(crate) struct Condvars {
     /// The conditions of lanes, by tags.
     lanes: Vec<Condvar>,
     /// The conditions of clients, by their numbers.
     clients: Vec<Condvar>,
     keeper: Condvar,
-    rung: Mutex<Rung>,
+    signals: Mutex<Signals>,
     worker: Condvar,
 }
 
@@ -85,20 +85,20 @@ fn conditions(alloc: Global, count: usize) -> Result<Vec<Condvar>, AllocError> {
     Ok(all)
 }
 
-impl Bells {
-    /// The bells of this many clients.
+impl Condvars {
+    /// The conditions of this many clients.
     ///
     /// # Errors
     ///
     /// Where memory was refused.
-    pub(crate) fn new(alloc: Global, clients: usize) -> Result<Bells, AllocError> {
+    pub(crate) fn new(alloc: Global, clients: usize) -> Result<Condvars, AllocError> {
         let lanes = conditions(alloc, TAGS)?;
         let clients = conditions(alloc, clients)?;
-        Ok(Bells {
+        Ok(Condvars {
             lanes,
             clients,
             keeper: Condvar::new(),
-            rung: Mutex::new(Rung {
+            signals: Mutex::new(Signals {
                 count: 0,
                 is_removed: false,
             }),
@@ -106,68 +106,68 @@ impl Bells {
         })
     }
 
-    /// The bell of a tag's lane.
+    /// The condition of a tag's lane.
     pub(crate) fn lane(&self, tag: u8) -> &Condvar {
         self.lanes.get(usize::from(tag)).unwrap_or(&self.keeper)
     }
 
-    /// The bell of a client.
+    /// The condition of a client.
     pub(crate) fn client(&self, client: usize) -> &Condvar {
         self.clients.get(client).unwrap_or(&self.keeper)
     }
 
-    /// The bell of the keeper.
+    /// The condition of the keeper.
     pub(crate) fn keeper(&self) -> &Condvar {
         &self.keeper
     }
 
     /// Wakes those whom a step concerns. The caller no longer holds the book's lock.
-    pub(crate) fn ring<R: Wait>(&self, rt: &R, concerned: Concerned) {
+    pub(crate) fn notify<R: Wait>(&self, rt: &R, concerned: Concerned) {
         if concerned.is_removed {
-            return self.ring_all(rt);
+            return self.notify_everybody(rt);
         }
-        ring_some(&self.lanes, concerned.lanes);
-        ring_some(&self.clients, concerned.clients);
+        notify_some(&self.lanes, concerned.lanes);
+        notify_some(&self.clients, concerned.clients);
     }
 
-    fn ring_all<R: Wait>(&self, rt: &R) {
-        ring_some(&self.lanes, u64::MAX);
-        ring_some(&self.clients, u64::MAX);
+    fn notify_everybody<R: Wait>(&self, rt: &R) {
+        notify_some(&self.lanes, u64::MAX);
+        notify_some(&self.clients, u64::MAX);
         self.keeper.notify_all();
-        self.rung.lock(rt).is_removed = true;
+        self.signals.lock(rt).is_removed = true;
         self.worker.notify_all();
     }
 
     /// Wakes the worker.
-    pub(crate) fn ring_worker<R: Wait>(&self, rt: &R) {
-        self.count_ring(rt);
+    pub(crate) fn notify_worker<R: Wait>(&self, rt: &R) {
+        self.count_signal(rt);
         self.worker.notify_all();
     }
 
-    fn count_ring<R: Wait>(&self, rt: &R) {
-        let mut rung = self.rung.lock(rt);
-        rung.count = rung.count.wrapping_add(1);
+    fn count_signal<R: Wait>(&self, rt: &R) {
+        let mut signals = self.signals.lock(rt);
+        signals.count = signals.count.wrapping_add(1);
     }
 
-    /// Has the worker sleep until it was rung more often than it heard, or the removal has ended.
+    /// Has the worker sleep until it was signalled more often than it heard, or the removal has ended.
     pub(crate) fn rest<R: Wait>(&self, rt: &R, heard: u64) -> Woken {
-        let mut rung = self.rung.lock(rt);
+        let mut signals = self.signals.lock(rt);
         for _ in rt.forever() {
-            let Rung { count, is_removed } = *rung;
+            let Signals { count, is_removed } = *signals;
             if is_removed || count != heard {
                 return Woken {
                     heard: count,
                     is_removed,
                 };
             }
-            rung = self.worker.wait(rt, rung);
+            signals = self.worker.wait(rt, signals);
         }
         unreachable!()
     }
 }
 
-/// Rings those whose bit is set.
-fn ring_some(conditions: &[Condvar], which: u64) {
+/// Notifies those whose bit is set.
+fn notify_some(conditions: &[Condvar], which: u64) {
     if which == 0 {
         return;
     }
