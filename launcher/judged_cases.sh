@@ -205,6 +205,21 @@ END
     run_case cuts.watched check --progress --any-cut "$folder/config.toml" "$folder/cut_elsewhere.trace"
 }
 
+# Has the judge cut down a trace of 10,000 labels, of which a read brings zeros in place of what was written. What is left is
+# refused in its last line. A trace that is a run is not cut.
+run_cut() {
+    local folder=$top/examples/judged/cut
+    "$top/bench/judge_trace" 10000 8 > "$scratch/trace"
+    sed '9007s/92[*]512$/00*512/' "$scratch/trace" > "$scratch/lost"
+    want cut.lost 0 < "$folder/lost_write"
+    run_case cut.lost cut "$folder/config.toml" "$scratch/lost"
+    want cut.refused 1 <<< "line $(wc -l < "$folder/lost_write"): of the bytes of the disk's sectors, byte 0 is 00, and 92 is due"
+    run_case cut.refused check "$folder/config.toml" "$folder/lost_write"
+    keep_wanted_lines cut.refused
+    want cut.legal 1 <<< '# The trace is legal.'
+    run_case cut.legal cut "$folder/config.toml" "$scratch/trace"
+}
+
 # Runs all cases of the judge, and compares them.
 run_judge_cases() {
     local folder it
@@ -221,6 +236,7 @@ run_judge_cases() {
     run_picture
     for it in "$top"/examples/judged/pictures/*/{picture,events}; do run_drawing "${it%/*}" "${it##*/}"; done
     run_cuts
+    run_cut
     for it in "$top"/examples/history/*/history; do run_history "${it%/*}"; done
     run_refused_words
     run_answered_at_once "$top/launcher/judged_at_once"
@@ -234,6 +250,7 @@ run_judge_cases() {
     count_cases "stackjudge, told before its end" told.
     count_cases "stackjudge, pictures" picture.
     count_cases "stackjudge, cuts of another stack" cuts.
+    count_cases "stackjudge, traces cut down" cut.
     count_cases "stackjudge, histories" history.
     count_cases "stackjudge, words refused" refused.
     count_cases "stackjudge, words answered at once" words.

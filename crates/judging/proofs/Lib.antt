@@ -6,3 +6,4 @@ mod Standards
 mod Flags
 mod Trying
 mod Names
+mod Cuts

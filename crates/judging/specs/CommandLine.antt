@@ -6,17 +6,29 @@ use Rattle.clap.proofs.OnLiterals.{clap_on_literals}
 use Rattle.command_line.specs.Grammar.{flag_rule, word_rule}
 use Rattle.judging.specs.declared.words.asked.Asked.{Asked}
 use Rattle.judging.specs.declared.words.asked.Command.{Command}
-use Rattle.judging.specs.declared.words.asked.Command.TheVariants.{Check, History, Picture, Record}
+use Rattle.judging.specs.declared.words.asked.Command.TheVariants.{Check, Cut, History, Picture, Record}
 
--- what is asked of a trace: [--any-cut] [--any-tag] [--any-read] [--many] [--whole-disk] [--settled] [--ended] [--json]
+-- how a trace is judged: [--any-cut] [--any-tag] [--any-read] [--many] [--whole-disk]
+abbrev pub judged_words : App → App
+judged_words app =
+    with_rule (with_rule (with_rule (with_rule (with_rule app (flag_rule (codes "any-cut"))) (flag_rule (codes "any-tag"))) (flag_rule (codes "any-read"))) (flag_rule (codes "many")))
+    (flag_rule (codes "whole-disk"))
+
+-- what is asked of a trace: how it is judged, [--settled] [--ended] [--json]
 abbrev pub asked_words : App → App
-asked_words app =
-    with_rule (with_rule (with_rule (with_rule (with_rule (with_rule (with_rule (with_rule app (flag_rule (codes "any-cut"))) (flag_rule (codes "any-tag"))) (flag_rule (codes "any-read")))
-    (flag_rule (codes "many"))) (flag_rule (codes "whole-disk"))) (flag_rule (codes "settled"))) (flag_rule (codes "ended"))) (flag_rule (codes "json"))
+asked_words app = with_rule (with_rule (with_rule (judged_words app) (flag_rule (codes "settled"))) (flag_rule (codes "ended"))) (flag_rule (codes "json"))
+
+-- a command of this name for CONFIG TRACE
+abbrev pub traced_words : Text → App
+traced_words name = with_rule (with_rule (new_app name) (word_rule (codes "CONFIG") true)) (word_rule (codes "TRACE") true)
 
 -- check, what is asked, [--progress] CONFIG TRACE
 abbrev pub check_words : App
-check_words = with_rule (asked_words (with_rule (with_rule (new_app (codes "check")) (word_rule (codes "CONFIG") true)) (word_rule (codes "TRACE") true))) (flag_rule (codes "progress"))
+check_words = with_rule (asked_words (traced_words (codes "check"))) (flag_rule (codes "progress"))
+
+-- cut, how it is judged, CONFIG TRACE
+abbrev pub cut_words : App
+cut_words = judged_words (traced_words (codes "cut"))
 
 -- record CONFIG SCRIPT
 abbrev pub record_words : App
@@ -30,9 +42,11 @@ history_words = with_rule (with_rule (new_app (codes "history")) (word_rule (cod
 abbrev pub picture_words : App
 picture_words = with_rule (with_rule (new_app (codes "picture")) (word_rule (codes "TRACE") true)) (flag_rule (codes "events"))
 
--- the program, with its four subcommands
+-- the program, with its five subcommands
 abbrev pub program : App
-program = with_subcommand (with_subcommand (with_subcommand (with_subcommand (new_app (codes "stackjudge")) check_words.top) record_words.top) history_words.top) picture_words.top
+program =
+    with_subcommand (with_subcommand (with_subcommand (with_subcommand (with_subcommand (new_app (codes "stackjudge")) check_words.top) cut_words.top) record_words.top) history_words.top)
+    picture_words.top
 
 pub is_simple_program : is_simple program ≡ true
 unfolding clap_on_literals
@@ -62,6 +76,7 @@ pub record HasFlags (rows : List Row) (asked : Asked) : Type 0 where
 abbrev pub HasWords : List Row → Command → Type 0
 HasWords rows (Check config trace asked progress) = (first_of (codes "CONFIG") rows ≡ Some config.now) × (first_of (codes "TRACE") rows ≡ Some trace.now)
     × HasFlags rows asked × IsRead rows (codes "progress") progress
+HasWords rows (Cut config trace asked) = (first_of (codes "CONFIG") rows ≡ Some config.now) × (first_of (codes "TRACE") rows ≡ Some trace.now) × HasFlags rows asked
 HasWords rows (Record config script) = (first_of (codes "CONFIG") rows ≡ Some config.now) × (first_of (codes "SCRIPT") rows ≡ Some script.now)
 HasWords rows (History config history) = (first_of (codes "CONFIG") rows ≡ Some config.now) × (first_of (codes "HISTORY") rows ≡ Some history.now)
 HasWords rows (Picture trace events) = (first_of (codes "TRACE") rows ≡ Some trace.now) × IsFlag (one_of (codes "events") rows) events
@@ -69,6 +84,7 @@ HasWords rows (Picture trace events) = (first_of (codes "TRACE") rows ≡ Some t
 -- the first word of a command
 abbrev pub name_of : Command → Text
 name_of (Check config trace asked progress) = codes "check"
+name_of (Cut config trace asked) = codes "cut"
 name_of (Record config script) = codes "record"
 name_of (History config history) = codes "history"
 name_of (Picture trace events) = codes "picture"

@@ -1,5 +1,6 @@
 pub mod Checked
 pub mod CommandLine
+pub mod Cutting
 pub mod Histories
 pub mod Recorded
 pub mod Standards

@@ -55,7 +55,7 @@ pub fn check<T: Read + Drop, O: Write, W: Write>(
 }
 
 /// Returns what the lines of an input come to. One line at a time is held.
-fn course_of<B: BufRead, O: Write, W: Write>(
+pub(crate) fn course_of<B: BufRead, O: Write, W: Write>(
     alloc: Global,
     standard: &Standard,
     input: &mut B,

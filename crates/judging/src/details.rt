@@ -95,7 +95,7 @@ fn held_at(hindrance: Hindrance) -> Option<u64> {
 }
 
 /// The first byte in which bytes differ that a rule compares.
-fn difference_of(rule: Rule) -> Option<Difference> {
+pub(crate) fn difference_of(rule: Rule) -> Option<Difference> {
     match rule {
         Rule::Act(ActRule::Write(difference) | ActRule::Disk(difference))
         | Rule::Answer(AnswerRule::Bytes(difference))

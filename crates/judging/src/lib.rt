@@ -1,20 +1,22 @@
 //! What the program `stackjudge` can be asked to do, but for its files and its output: whether a trace that was
-//! recorded is a run of the machine that some settings describe, the trace of a script, a picture of a trace, and whether
-//! each sector of a history has a schedule.
+//! recorded is a run of the machine that some settings describe, what it can be cut down to where it is none, the trace
+//! of a script, a picture of a trace, and whether each sector of a history has a schedule.
 //!
 //! # Promises
 //!
 //! `read_standard`: an input's settings, whose partitions are a map (`read`), or why not (`fault`). `check` prints
 //! `legal` exactly for a run of the settings' machine, and passes exactly where some state that it leads to has what is
 //! asked for (`IsLegal`, `Meets`); else it prints the first line that is refused, and for what (`IsFirstRefused`,
-//! `printed`). Without a verdict: why (`fault`), and what was written before (`told`). `record_script`: `text`,
-//! `fault`. `command`: `asked`, `fault`. A history is judged as one of the settings' stack, from sectors of zeros
+//! `printed`). Without a verdict: why (`fault`), and what was written before (`told`). `cut`: a text is written that is
+//! refused for the same as the trace, but for numbers, or only a remark where the trace is a run (`printed`); that it is
+//! small is only tested. `record_script`: `text`, `fault`. `command`: `asked`, `fault`. A history is judged as one of the settings' stack, from sectors of zeros
 //! (`IsJudged`); how `judge_history` reads it, and what it writes, is only tested, and so are a rule's words, pictures
 //! and progress.
 #![tactic(auto)]
 
 pub mod checking;
 mod course;
+pub mod cutting;
 mod details;
 pub mod drawing;
 mod faults;
@@ -25,7 +27,9 @@ mod misstep;
 pub mod opened;
 mod past;
 pub mod progress;
+mod pruning;
 mod reading;
+mod renumbering;
 pub mod scripts;
 mod told;
 pub mod words;

@@ -52,6 +52,14 @@ impl<'a> Parser<'a> for Command<'a> {
             .arg(flag(alloc, "ended"))?
             .arg(flag(alloc, "json"))?
             .arg(flag(alloc, "progress"))?;
+        let cuts = clap::Command::new(alloc, "cut")
+            .arg(word(alloc, "CONFIG", true))?
+            .arg(word(alloc, "TRACE", true))?
+            .arg(flag(alloc, "any-cut"))?
+            .arg(flag(alloc, "any-tag"))?
+            .arg(flag(alloc, "any-read"))?
+            .arg(flag(alloc, "many"))?
+            .arg(flag(alloc, "whole-disk"))?;
         let records = clap::Command::new(alloc, "record")
             .arg(word(alloc, "CONFIG", true))?
             .arg(word(alloc, "SCRIPT", true))?;
@@ -63,6 +71,7 @@ impl<'a> Parser<'a> for Command<'a> {
             .arg(flag(alloc, "events"))?;
         clap::Command::new(alloc, "stackjudge")
             .subcommand(checks)?
+            .subcommand(cuts)?
             .subcommand(records)?
             .subcommand(histories)?
             .subcommand(pictures)
@@ -71,6 +80,9 @@ impl<'a> Parser<'a> for Command<'a> {
     fn found_in(matches: &ArgMatches<'a>) -> Option<Command<'a>> {
         if let Some(words) = subcommand(matches, "check") {
             return check_of(words);
+        }
+        if let Some(words) = subcommand(matches, "cut") {
+            return cut_of(words);
         }
         if let Some(words) = subcommand(matches, "record") {
             return record_of(words);
@@ -120,6 +132,23 @@ fn asked_of(words: &ArgMatches<'_>) -> Asked
         ended: words.get_flag("ended"),
         json: words.get_flag("json"),
     }
+}
+
+fn cut_of<'a>(words: &ArgMatches<'a>) -> Option<Command<'a>>
+    ensures { MatchOption result ((command : Command) → name_of command ≡ codes "cut" → ¬ (HasWords (rows_of (found_of words.now)) command)) (λ command. (name_of command ≡ codes "cut") × HasWords (rows_of (found_of words.now)) command) }
+{
+    let Some(config) = words.get_str("CONFIG") else {
+        return None;
+    };
+    let Some(trace) = words.get_str("TRACE") else {
+        return None;
+    };
+    let asked = asked_of(words);
+    Some(Command::Cut {
+        config,
+        trace,
+        asked,
+    })
 }
 
 fn record_of<'a>(words: &ArgMatches<'a>) -> Option<Command<'a>>

@@ -1,5 +1,5 @@
 //! This program says whether a trace is a run of the machine that some settings describe, and whether each sector of a
-//! history has a schedule; it writes the trace of a script, or draws a trace.
+//! history has a schedule; it cuts a refused trace down, writes the trace of a script, or draws a trace.
 //!
 //! # Promises
 //!
@@ -8,6 +8,7 @@
 
 use judging::Error;
 use judging::checking::check;
+use judging::cutting::cut;
 use judging::drawing::draw;
 use judging::histories::judge_history;
 use judging::opened::{Standard, read_standard};
@@ -47,6 +48,14 @@ fn run(rt: &HostRuntime) -> Result<Verdict, Error> {
             let standard = read_standard(alloc, open_input(rt, config), asked)?;
             judge(rt, &standard, trace, &mut progress)
         }
+        Command::Cut {
+            config,
+            trace,
+            asked,
+        } => {
+            let standard = read_standard(alloc, open_input(rt, config), asked)?;
+            cut_trace(rt, &standard, trace)
+        }
         Command::Record { config, script } => write_trace(rt, config, script),
         Command::History { config, history } => judge_history_at(rt, config, history),
         Command::Picture { trace, events } => draw_trace(rt, trace, events),
@@ -66,6 +75,15 @@ fn judge<W: Write>(
     }
     let trace = open_input(rt, trace);
     check(alloc, standard, trace, &mut rt.stdout(), progress)
+}
+
+/// Writes what the trace at a path, or the one on standard input, is cut down to.
+fn cut_trace(rt: &HostRuntime, standard: &Standard, trace: &str) -> Result<Verdict, Error> {
+    let alloc = rt.alloc();
+    if trace == "-" {
+        return cut(alloc, standard, rt.stdin(), &mut rt.stdout());
+    }
+    cut(alloc, standard, open_input(rt, trace), &mut rt.stdout())
 }
 
 /// Writes the trace of the script at a path, or of the one on standard input.

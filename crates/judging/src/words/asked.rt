@@ -11,6 +11,12 @@ pub enum Command<'a> {
         asked: Asked,
         progress: bool,
     },
+    /// Cuts a trace down, given the paths of the settings and of the trace, by what is asked of it.
+    Cut {
+        config: &'a str,
+        trace: &'a str,
+        asked: Asked,
+    },
     /// Writes the trace of a script, given the paths of the settings and of the script.
     Record {
         config: &'a str,

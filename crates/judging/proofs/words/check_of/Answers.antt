@@ -5,7 +5,7 @@ use Rattle.clap.proofs.WalkLemmas.{first_value-rows}
 use Rattle.judging.proofs.Flags.{flag_is}
 use Rattle.judging.specs.CommandLine.{HasWords, name_of}
 use Rattle.judging.specs.declared.words.asked.Command.{Command}
-use Rattle.judging.specs.declared.words.asked.Command.TheVariants.{Check, History, Picture, Record}
+use Rattle.judging.specs.declared.words.asked.Command.TheVariants.{Check, Cut, History, Picture, Record}
 use Rattle.judging.proofs.words.check_of.Goals as goal
 
 pub returns : goal.returns
@@ -24,6 +24,7 @@ no_config : (rows : List Row) (command : Command) → name_of command ≡ codes 
 no_config rows (Check config trace asked progress) name none has =
     let both : ◌≡◌ {A = Option Text} None (Some config.now) = none ∙ has.0 in
     absurd (cc)
+no_config rows (Cut config other asked) name none has = absurd (cc (name))
 no_config rows (Record config script) name none has =
     let both : ◌≡◌ {A = Option Text} None (Some config.now) = none ∙ has.0 in
     absurd (cc)
@@ -34,6 +35,7 @@ no_trace : (rows : List Row) (command : Command) → name_of command ≡ codes "
 no_trace rows (Check config trace asked progress) name none has =
     let both : ◌≡◌ {A = Option Text} None (Some trace.now) = none ∙ has.1 in
     absurd (cc)
+no_trace rows (Cut config other asked) name none has = absurd (cc (name))
 no_trace rows (Record config other) name none has = absurd (cc (name))
 no_trace rows (History config other) name none has = absurd (cc (name))
 no_trace rows (Picture other events) name none has = absurd (cc (name))

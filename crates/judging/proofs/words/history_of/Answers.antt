@@ -5,7 +5,7 @@ use Rattle.clap.proofs.WalkLemmas.{first_value-rows}
 use Rattle.judging.proofs.Names.{history_is_no_picture}
 use Rattle.judging.specs.CommandLine.{HasWords, name_of}
 use Rattle.judging.specs.declared.words.asked.Command.{Command}
-use Rattle.judging.specs.declared.words.asked.Command.TheVariants.{Check, History, Picture, Record}
+use Rattle.judging.specs.declared.words.asked.Command.TheVariants.{Check, Cut, History, Picture, Record}
 use Rattle.judging.proofs.words.history_of.Goals as goal
 
 pub returns : goal.returns
@@ -17,6 +17,7 @@ returns c =
 
 no_config : (rows : List Row) (command : Command) → name_of command ≡ codes "history" → ◌≡◌ {A = Option Text} None (first_of (codes "CONFIG") rows) → HasWords rows command → ⊥
 no_config rows (Check config trace asked progress) name none has = absurd (cc (name))
+no_config rows (Cut config other asked) name none has = absurd (cc (name))
 no_config rows (Record config script) name none has = absurd (cc (name))
 no_config rows (History config history) name none has =
     let both : ◌≡◌ {A = Option Text} None (Some config.now) = none ∙ has.0 in
@@ -25,6 +26,7 @@ no_config rows (Picture trace events) name none has = history_is_no_picture (sym
 
 no_history : (rows : List Row) (command : Command) → name_of command ≡ codes "history" → ◌≡◌ {A = Option Text} None (first_of (codes "HISTORY") rows) → HasWords rows command → ⊥
 no_history rows (Check config other asked progress) name none has = absurd (cc (name))
+no_history rows (Cut config other asked) name none has = absurd (cc (name))
 no_history rows (Record config other) name none has = absurd (cc (name))
 no_history rows (History config history) name none has =
     let both : ◌≡◌ {A = Option Text} None (Some history.now) = none ∙ has.1 in

@@ -6,7 +6,7 @@ use Rattle.judging.proofs.Names.{history_is_no_picture}
 use Rattle.judging.proofs.Flags.{flag_is}
 use Rattle.judging.specs.CommandLine.{HasWords, name_of}
 use Rattle.judging.specs.declared.words.asked.Command.{Command}
-use Rattle.judging.specs.declared.words.asked.Command.TheVariants.{Check, History, Picture, Record}
+use Rattle.judging.specs.declared.words.asked.Command.TheVariants.{Check, Cut, History, Picture, Record}
 use Rattle.judging.proofs.words.picture_of.Goals as goal
 
 pub returns-in-Some : goal.returns-in-Some
@@ -21,6 +21,7 @@ returns-in-Some c =
 
 no_trace : (rows : List Row) (command : Command) → name_of command ≡ codes "picture" → ◌≡◌ {A = Option Text} None (first_of (codes "TRACE") rows) → HasWords rows command → ⊥
 no_trace rows (Check config other asked progress) name none has = absurd (cc (name))
+no_trace rows (Cut config other asked) name none has = absurd (cc (name))
 no_trace rows (Record config other) name none has = absurd (cc (name))
 no_trace rows (History config other) name none has = history_is_no_picture name
 no_trace rows (Picture trace events) name none has =

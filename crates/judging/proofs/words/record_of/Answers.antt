@@ -4,7 +4,7 @@ use Rattle.clap.specs.Walk.{first_of, rows_of}
 use Rattle.clap.proofs.WalkLemmas.{first_value-rows}
 use Rattle.judging.specs.CommandLine.{HasWords, name_of}
 use Rattle.judging.specs.declared.words.asked.Command.{Command}
-use Rattle.judging.specs.declared.words.asked.Command.TheVariants.{Check, History, Picture, Record}
+use Rattle.judging.specs.declared.words.asked.Command.TheVariants.{Check, Cut, History, Picture, Record}
 use Rattle.judging.proofs.words.record_of.Goals as goal
 
 pub returns : goal.returns
@@ -18,6 +18,7 @@ no_config : (rows : List Row) (command : Command) → name_of command ≡ codes 
 no_config rows (Check config trace asked progress) name none has =
     let both : ◌≡◌ {A = Option Text} None (Some config.now) = none ∙ has.0 in
     absurd (cc)
+no_config rows (Cut config other asked) name none has = absurd (cc (name))
 no_config rows (Record config script) name none has =
     let both : ◌≡◌ {A = Option Text} None (Some config.now) = none ∙ has.0 in
     absurd (cc)
@@ -28,6 +29,7 @@ no_script : (rows : List Row) (command : Command) → name_of command ≡ codes 
 no_script rows (Check config other asked progress) name none has = absurd (cc (name))
 no_script rows (History config other) name none has = absurd (cc (name))
 no_script rows (Picture other events) name none has = absurd (cc (name))
+no_script rows (Cut config other asked) name none has = absurd (cc (name))
 no_script rows (Record config script) name none has =
     let both : ◌≡◌ {A = Option Text} None (Some script.now) = none ∙ has.1 in
     absurd (cc)

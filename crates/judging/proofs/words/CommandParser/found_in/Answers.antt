@@ -31,24 +31,32 @@ returns-in-Some-clause-none c = not_of_found (subcommand_rows_of c.args.matches.
 
 pub returns-in-Some-subcommand-clause-some : goal.returns-in-Some-subcommand-clause-some
 returns-in-Some-subcommand-clause-some c =
-    of_found (subcommand_rows_of c.args.matches.now) _ (rows_of (found_of c.in-Some-subcommand.words.now)) c.record_of.result c.in-Some-subcommand.ensures.some c.record_of.ensures
+    of_found (subcommand_rows_of c.args.matches.now) _ (rows_of (found_of c.in-Some-subcommand.words.now)) c.cut_of.result c.in-Some-subcommand.ensures.some c.cut_of.ensures
 
 pub returns-in-Some-subcommand-clause-none : goal.returns-in-Some-subcommand-clause-none
 returns-in-Some-subcommand-clause-none c =
-    not_of_found (subcommand_rows_of c.args.matches.now) _ (rows_of (found_of c.in-Some-subcommand.words.now)) c.record_of.result c.in-Some-subcommand.ensures.some c.record_of.ensures
+    not_of_found (subcommand_rows_of c.args.matches.now) _ (rows_of (found_of c.in-Some-subcommand.words.now)) c.cut_of.result c.in-Some-subcommand.ensures.some c.cut_of.ensures
 
 pub returns-in-Some-subcommand-2-clause-some : goal.returns-in-Some-subcommand-2-clause-some
 returns-in-Some-subcommand-2-clause-some c =
-    of_found (subcommand_rows_of c.args.matches.now) _ (rows_of (found_of c.in-Some-subcommand-2.words.now)) c.history_of.result c.in-Some-subcommand-2.ensures.some c.history_of.ensures
+    of_found (subcommand_rows_of c.args.matches.now) _ (rows_of (found_of c.in-Some-subcommand-2.words.now)) c.record_of.result c.in-Some-subcommand-2.ensures.some c.record_of.ensures
 
 pub returns-in-Some-subcommand-2-clause-none : goal.returns-in-Some-subcommand-2-clause-none
 returns-in-Some-subcommand-2-clause-none c =
-    not_of_found (subcommand_rows_of c.args.matches.now) _ (rows_of (found_of c.in-Some-subcommand-2.words.now)) c.history_of.result c.in-Some-subcommand-2.ensures.some c.history_of.ensures
+    not_of_found (subcommand_rows_of c.args.matches.now) _ (rows_of (found_of c.in-Some-subcommand-2.words.now)) c.record_of.result c.in-Some-subcommand-2.ensures.some c.record_of.ensures
 
 pub returns-in-Some-subcommand-3-clause-some : goal.returns-in-Some-subcommand-3-clause-some
 returns-in-Some-subcommand-3-clause-some c =
-    of_found (subcommand_rows_of c.args.matches.now) _ (rows_of (found_of c.in-Some-subcommand-3.words.now)) c.picture_of.result c.in-Some-subcommand-3.ensures.some c.picture_of.ensures
+    of_found (subcommand_rows_of c.args.matches.now) _ (rows_of (found_of c.in-Some-subcommand-3.words.now)) c.history_of.result c.in-Some-subcommand-3.ensures.some c.history_of.ensures
 
 pub returns-in-Some-subcommand-3-clause-none : goal.returns-in-Some-subcommand-3-clause-none
 returns-in-Some-subcommand-3-clause-none c =
-    not_of_found (subcommand_rows_of c.args.matches.now) _ (rows_of (found_of c.in-Some-subcommand-3.words.now)) c.picture_of.result c.in-Some-subcommand-3.ensures.some c.picture_of.ensures
+    not_of_found (subcommand_rows_of c.args.matches.now) _ (rows_of (found_of c.in-Some-subcommand-3.words.now)) c.history_of.result c.in-Some-subcommand-3.ensures.some c.history_of.ensures
+
+pub returns-in-Some-subcommand-4-clause-some : goal.returns-in-Some-subcommand-4-clause-some
+returns-in-Some-subcommand-4-clause-some c =
+    of_found (subcommand_rows_of c.args.matches.now) _ (rows_of (found_of c.in-Some-subcommand-4.words.now)) c.picture_of.result c.in-Some-subcommand-4.ensures.some c.picture_of.ensures
+
+pub returns-in-Some-subcommand-4-clause-none : goal.returns-in-Some-subcommand-4-clause-none
+returns-in-Some-subcommand-4-clause-none c =
+    not_of_found (subcommand_rows_of c.args.matches.now) _ (rows_of (found_of c.in-Some-subcommand-4.words.now)) c.picture_of.result c.in-Some-subcommand-4.ensures.some c.picture_of.ensures
