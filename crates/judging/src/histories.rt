@@ -247,7 +247,7 @@ fn write_verdict<O: Write>(
             let Place { partition, sector } = place;
             writeln!(
                 out,
-                "undecided: sector {sector} of partition {partition} has too many requests open at once"
+                "undecided: sector {sector} of partition {partition} may be in too many states"
             )
         }
     }
