@@ -7,3 +7,4 @@ mod Flags
 mod Trying
 mod Names
 mod Cuts
+mod SessionsJudged

@@ -22,9 +22,9 @@ asked_words app = with_rule (with_rule (with_rule (judged_words app) (flag_rule 
 abbrev pub traced_words : Text → App
 traced_words name = with_rule (with_rule (new_app name) (word_rule (codes "CONFIG") true)) (word_rule (codes "TRACE") true)
 
--- check, what is asked, [--progress] CONFIG TRACE
+-- check, what is asked, [--progress] [--sessions] CONFIG TRACE
 abbrev pub check_words : App
-check_words = with_rule (asked_words (traced_words (codes "check"))) (flag_rule (codes "progress"))
+check_words = with_rule (with_rule (asked_words (traced_words (codes "check"))) (flag_rule (codes "progress"))) (flag_rule (codes "sessions"))
 
 -- cut, how it is judged, CONFIG TRACE
 abbrev pub cut_words : App
@@ -74,8 +74,8 @@ pub record HasFlags (rows : List Row) (asked : Asked) : Type 0 where
 
 -- a command has what the parser found under the names of its words
 abbrev pub HasWords : List Row → Command → Type 0
-HasWords rows (Check config trace asked progress) = (first_of (codes "CONFIG") rows ≡ Some config.now) × (first_of (codes "TRACE") rows ≡ Some trace.now)
-    × HasFlags rows asked × IsRead rows (codes "progress") progress
+HasWords rows (Check config trace asked progress sessions) = (first_of (codes "CONFIG") rows ≡ Some config.now) × (first_of (codes "TRACE") rows ≡ Some trace.now)
+    × HasFlags rows asked × IsRead rows (codes "progress") progress × IsRead rows (codes "sessions") sessions
 HasWords rows (Cut config trace asked) = (first_of (codes "CONFIG") rows ≡ Some config.now) × (first_of (codes "TRACE") rows ≡ Some trace.now) × HasFlags rows asked
 HasWords rows (Record config script) = (first_of (codes "CONFIG") rows ≡ Some config.now) × (first_of (codes "SCRIPT") rows ≡ Some script.now)
 HasWords rows (History config history) = (first_of (codes "CONFIG") rows ≡ Some config.now) × (first_of (codes "HISTORY") rows ≡ Some history.now)
@@ -83,7 +83,7 @@ HasWords rows (Picture trace events) = (first_of (codes "TRACE") rows ≡ Some t
 
 -- the first word of a command
 abbrev pub name_of : Command → Text
-name_of (Check config trace asked progress) = codes "check"
+name_of (Check config trace asked progress sessions) = codes "check"
 name_of (Cut config trace asked) = codes "cut"
 name_of (Record config script) = codes "record"
 name_of (History config history) = codes "history"

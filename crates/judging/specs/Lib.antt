@@ -3,6 +3,7 @@ pub mod CommandLine
 pub mod Cutting
 pub mod Histories
 pub mod Recorded
+pub mod Sessions
 pub mod Standards
 pub mod Told
 pub mod inside

@@ -55,7 +55,7 @@ impl fmt::Display for Error {
         match self {
             Error::Usage => f.write_str(
                 "usage: stackjudge check [--any-cut] [--any-tag] [--any-read] [--many] [--whole-disk] [--settled] \
-                [--ended] [--json] CONFIG TRACE | stackjudge cut CONFIG TRACE | stackjudge record CONFIG SCRIPT \
+                [--ended] [--json] [--sessions] CONFIG TRACE | stackjudge cut CONFIG TRACE | stackjudge record CONFIG SCRIPT \
                 | stackjudge history CONFIG HISTORY | stackjudge picture [--events] TRACE",
             ),
             Error::Startup(fault) => write!(f, "stackjudge: {fault}"),

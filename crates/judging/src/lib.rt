@@ -10,7 +10,8 @@
 //! `printed`). Without a verdict: why (`fault`), and what was written before (`told`). `cut`: a text is written that is
 //! refused for the same as the trace, but for numbers, or only a remark where the trace is a run (`printed`); that it is
 //! small is only tested. `record_script`: `text`, `fault`. `command`: `asked`, `fault`. A history is judged as one of the settings' stack, from sectors of zeros
-//! (`IsJudged`); how `judge_history` reads it, and what it writes, is only tested, and so are a rule's words, pictures
+//! (`IsJudged`), and a trace of several sessions by the settings' rules, with its sectors apart (`AreJudged`); how
+//! `judge_history` and `check_sessions` read, and what they write, is only tested, and so are a rule's words, pictures
 //! and progress.
 #![tactic(auto)]
 
@@ -31,6 +32,7 @@ mod pruning;
 mod reading;
 mod renumbering;
 pub mod scripts;
+pub mod sessions;
 mod told;
 pub mod words;
 

@@ -51,7 +51,8 @@ impl<'a> Parser<'a> for Command<'a> {
             .arg(flag(alloc, "settled"))?
             .arg(flag(alloc, "ended"))?
             .arg(flag(alloc, "json"))?
-            .arg(flag(alloc, "progress"))?;
+            .arg(flag(alloc, "progress"))?
+            .arg(flag(alloc, "sessions"))?;
         let cuts = clap::Command::new(alloc, "cut")
             .arg(word(alloc, "CONFIG", true))?
             .arg(word(alloc, "TRACE", true))?
@@ -109,12 +110,14 @@ fn check_of<'a>(words: &ArgMatches<'a>) -> Option<Command<'a>>
         return None;
     };
     let progress = words.get_flag("progress");
+    let sessions = words.get_flag("sessions");
     let asked = asked_of(words);
     Some(Command::Check {
         config,
         trace,
         asked,
         progress,
+        sessions,
     })
 }
 

@@ -14,7 +14,8 @@ use judging::histories::judge_history;
 use judging::opened::{Standard, read_standard};
 use judging::progress::Progress;
 use judging::scripts::record_script;
-use judging::words::asked::Command;
+use judging::sessions::check_sessions;
+use judging::words::asked::{Asked, Command};
 use judging::words::command;
 use startup::{Verdict, ended, fault_of, hold_standard, open_input};
 use std::env;
@@ -40,7 +41,11 @@ fn run(rt: &HostRuntime) -> Result<Verdict, Error> {
             trace,
             asked,
             progress,
+            sessions,
         } => {
+            if sessions {
+                return judge_sessions(rt, config, trace, asked);
+            }
             let mut progress = Progress {
                 out: rt.stderr(),
                 every: if progress { EVERY } else { 0 },
@@ -84,6 +89,21 @@ fn cut_trace(rt: &HostRuntime, standard: &Standard, trace: &str) -> Result<Verdi
         return cut(alloc, standard, rt.stdin(), &mut rt.stdout());
     }
     cut(alloc, standard, open_input(rt, trace), &mut rt.stdout())
+}
+
+/// Judges the trace of several sessions at a path, or the one on standard input.
+fn judge_sessions(
+    rt: &HostRuntime,
+    config: &str,
+    trace: &str,
+    asked: Asked,
+) -> Result<Verdict, Error> {
+    let alloc = rt.alloc();
+    let standard = read_standard(alloc, open_input(rt, config), asked)?;
+    if trace == "-" {
+        return check_sessions(alloc, &standard, rt.stdin(), &mut rt.stdout());
+    }
+    check_sessions(alloc, &standard, open_input(rt, trace), &mut rt.stdout())
 }
 
 /// Writes the trace of the script at a path, or of the one on standard input.

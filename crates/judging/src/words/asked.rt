@@ -4,12 +4,13 @@
 #[derive(Debug, Clone, Copy, PartialEq, Eq)]
 pub enum Command<'a> {
     /// Judges a trace, given the paths of the settings and of the trace, by what is asked of it. With `progress` the
-    /// check tells how far it came.
+    /// check tells how far it came. With `sessions` the trace is one of several sessions.
     Check {
         config: &'a str,
         trace: &'a str,
         asked: Asked,
         progress: bool,
+        sessions: bool,
     },
     /// Cuts a trace down, given the paths of the settings and of the trace, by what is asked of it.
     Cut {

@@ -17,11 +17,12 @@ returns c =
         sym (c.in-Some-get_str.ensures ∙ first_value-rows found (codes "TRACE")),
         c.asked_of-asked.ensures,
         flag_is found (codes "progress") c.get_flag-progress.result c.get_flag-progress.ensures.none c.get_flag-progress.ensures.value c.get_flag-progress.ensures.other,
+        flag_is found (codes "sessions") c.get_flag-sessions.result c.get_flag-sessions.ensures.none c.get_flag-sessions.ensures.value c.get_flag-sessions.ensures.other,
       ),
     )
 
 no_config : (rows : List Row) (command : Command) → name_of command ≡ codes "check" → ◌≡◌ {A = Option Text} None (first_of (codes "CONFIG") rows) → HasWords rows command → ⊥
-no_config rows (Check config trace asked progress) name none has =
+no_config rows (Check config trace asked progress sessions) name none has =
     let both : ◌≡◌ {A = Option Text} None (Some config.now) = none ∙ has.0 in
     absurd (cc)
 no_config rows (Cut config other asked) name none has = absurd (cc (name))
@@ -32,7 +33,7 @@ no_config rows (History config history) name none has = absurd (cc (name))
 no_config rows (Picture trace events) name none has = absurd (cc (name))
 
 no_trace : (rows : List Row) (command : Command) → name_of command ≡ codes "check" → ◌≡◌ {A = Option Text} None (first_of (codes "TRACE") rows) → HasWords rows command → ⊥
-no_trace rows (Check config trace asked progress) name none has =
+no_trace rows (Check config trace asked progress sessions) name none has =
     let both : ◌≡◌ {A = Option Text} None (Some trace.now) = none ∙ has.1 in
     absurd (cc)
 no_trace rows (Cut config other asked) name none has = absurd (cc (name))

@@ -19,7 +19,7 @@ returns c =
     )
 
 no_config : (rows : List Row) (command : Command) → name_of command ≡ codes "cut" → ◌≡◌ {A = Option Text} None (first_of (codes "CONFIG") rows) → HasWords rows command → ⊥
-no_config rows (Check config trace asked progress) name none has = absurd (cc (name))
+no_config rows (Check config trace asked progress sessions) name none has = absurd (cc (name))
 no_config rows (Cut config trace asked) name none has =
     let both : ◌≡◌ {A = Option Text} None (Some config.now) = none ∙ has.0 in
     absurd (cc)

@@ -16,7 +16,7 @@ returns c =
     )
 
 no_config : (rows : List Row) (command : Command) → name_of command ≡ codes "history" → ◌≡◌ {A = Option Text} None (first_of (codes "CONFIG") rows) → HasWords rows command → ⊥
-no_config rows (Check config trace asked progress) name none has = absurd (cc (name))
+no_config rows (Check config trace asked progress sessions) name none has = absurd (cc (name))
 no_config rows (Cut config other asked) name none has = absurd (cc (name))
 no_config rows (Record config script) name none has = absurd (cc (name))
 no_config rows (History config history) name none has =

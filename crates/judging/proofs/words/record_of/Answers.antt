@@ -15,7 +15,7 @@ returns c =
     )
 
 no_config : (rows : List Row) (command : Command) → name_of command ≡ codes "record" → ◌≡◌ {A = Option Text} None (first_of (codes "CONFIG") rows) → HasWords rows command → ⊥
-no_config rows (Check config trace asked progress) name none has =
+no_config rows (Check config trace asked progress sessions) name none has =
     let both : ◌≡◌ {A = Option Text} None (Some config.now) = none ∙ has.0 in
     absurd (cc)
 no_config rows (Cut config other asked) name none has = absurd (cc (name))
