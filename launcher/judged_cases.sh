@@ -139,6 +139,7 @@ run_told_at_once() {
     exec 8>&-
     wait "$!" || true
     mv "$scratch/found/told_so_far" "$scratch/found/$it.stdout"
+    keep_wanted_lines "$it"
     echo 0 > "$scratch/found/$it.status"
 }
 
