@@ -28,7 +28,7 @@ no_config rows (History config history) name none has = absurd (cc (name))
 no_config rows (Picture trace events) name none has = absurd (cc (name))
 
 no_trace : (rows : List Row) (command : Command) → name_of command ≡ codes "cut" → ◌≡◌ {A = Option Text} None (first_of (codes "TRACE") rows) → HasWords rows command → ⊥
-no_trace rows (Check config other asked progress) name none has = absurd (cc (name))
+no_trace rows (Check config other asked progress sessions) name none has = absurd (cc (name))
 no_trace rows (Cut config trace asked) name none has =
     let both : ◌≡◌ {A = Option Text} None (Some trace.now) = none ∙ has.1 in
     absurd (cc)

@@ -25,7 +25,7 @@ no_config rows (History config history) name none has =
 no_config rows (Picture trace events) name none has = history_is_no_picture (sym name)
 
 no_history : (rows : List Row) (command : Command) → name_of command ≡ codes "history" → ◌≡◌ {A = Option Text} None (first_of (codes "HISTORY") rows) → HasWords rows command → ⊥
-no_history rows (Check config other asked progress) name none has = absurd (cc (name))
+no_history rows (Check config other asked progress sessions) name none has = absurd (cc (name))
 no_history rows (Cut config other asked) name none has = absurd (cc (name))
 no_history rows (Record config other) name none has = absurd (cc (name))
 no_history rows (History config history) name none has =

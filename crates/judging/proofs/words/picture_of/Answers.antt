@@ -20,7 +20,7 @@ returns-in-Some c =
     )
 
 no_trace : (rows : List Row) (command : Command) → name_of command ≡ codes "picture" → ◌≡◌ {A = Option Text} None (first_of (codes "TRACE") rows) → HasWords rows command → ⊥
-no_trace rows (Check config other asked progress) name none has = absurd (cc (name))
+no_trace rows (Check config other asked progress sessions) name none has = absurd (cc (name))
 no_trace rows (Cut config other asked) name none has = absurd (cc (name))
 no_trace rows (Record config other) name none has = absurd (cc (name))
 no_trace rows (History config other) name none has = history_is_no_picture name

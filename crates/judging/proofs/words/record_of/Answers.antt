@@ -26,7 +26,7 @@ no_config rows (History config history) name none has = absurd (cc (name))
 no_config rows (Picture trace events) name none has = absurd (cc (name))
 
 no_script : (rows : List Row) (command : Command) → name_of command ≡ codes "record" → ◌≡◌ {A = Option Text} None (first_of (codes "SCRIPT") rows) → HasWords rows command → ⊥
-no_script rows (Check config other asked progress) name none has = absurd (cc (name))
+no_script rows (Check config other asked progress sessions) name none has = absurd (cc (name))
 no_script rows (History config other) name none has = absurd (cc (name))
 no_script rows (Picture other events) name none has = absurd (cc (name))
 no_script rows (Cut config other asked) name none has = absurd (cc (name))
