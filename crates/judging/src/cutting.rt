@@ -177,7 +177,7 @@ fn is_same(alloc: Global, a: Misstep, b: Misstep) -> Result<bool, AllocError>
 
 impl Goal<'_> {
     /// The text, if it breaks the rule that is sought in its line of this number.
-    pub fn met_by(&self, text: Vec<u8>, last: u64) -> Result<Option<Remnant>, Error>
+    pub(crate) fn met_by(&self, text: Vec<u8>, last: u64) -> Result<Option<Remnant>, Error>
         ensures { IfOk result (λ found. IfSome found (IsCut self.now.standard.now self.now.sought)) }
     {
         let Some(stop) = refusal_of(self.alloc, self.standard, text.as_slice())? else {
