@@ -38,8 +38,9 @@ REFUSED = 'refused E5'
 # How a test that ended for want of memory says so: by the name of its error.
 WANT_OF_MEMORY = re.compile(r'AllocError|AllocFailed|NoMemory')
 
-# A test of a disk in a file, which fails a piece that it has no memory for, as it then sees.
-NOT_REFUSED = ('files::each_command_is_carried_out_or_fails',)
+# A test of a disk in a file, which fails a piece that it has no memory for, as it then sees; and one of a hundred removals,
+# which asks for nothing that the others of its crate don't ask for.
+NOT_REFUSED = ('files::each_command_is_carried_out_or_fails', 'removing::goes_beside_a_held_read')
 
 
 class Wrong(Exception):
