@@ -2,9 +2,9 @@
 //!
 //! # Promises
 //!
-//! `read`: just what a program's grammar finds in the words (`asked`); only words that ask for nothing are refused
-//! (`fault`). `word`, `option`, `flag`: the grammar's rules (`rule`). `subcommand`: which one was found (`some`,
-//! `none`).
+//! `read`: just what a program's grammar finds in the words (`asked`); words are refused where they ask for nothing,
+//! or memory was refused (`fault`). `word`, `option`, `flag`: the grammar's rules (`rule`). `subcommand`: which one
+//! was found (`some`, `none`).
 #![tactic(auto)]
 
 mod grammar;

@@ -4,8 +4,9 @@
 //!
 //! # Promises
 //!
-//! `trace` printed its script's run (`text`), or `fault`; `clients` a tally (`printed`), or `fault`. Blaming settings
-//! or lines writes nothing (`untold`). `command`: `asked`, `fault`. Status 2 for the usage line alone (`usage`;
+//! `trace` printed its script's run (`text`); `clients` a tally of at most two calls a round, with the verdict on it
+//! (`printed`); or why not (`fault`), and then nothing but behind a failed output or refused memory (`untold`).
+//! `command`: what the words ask for (`asked`, `fault`). The usage line alone is told with status 2 (`usage`;
 //! `output`, `from_gives`).
 #![tactic(auto)]
 

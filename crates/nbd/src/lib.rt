@@ -7,7 +7,7 @@
 //!
 //! `serve` is a session (`IsSession`): the handshake tells write protection (NBD_FLAG_READ_ONLY), then come just the
 //! replies to the requests read, in order; the array moved by just these, failures within their bytes. In bounds only
-//! the array or memory fails (`Fails`), and a flush never for memory (`Flushes`). `serve_over`: the same over a
+//! the array or memory fails (`Fails`), a flush by the array alone (`Flushes`). `serve_over`: the same over a
 //! storage's own relation (`Backing`, `IsSessionOver`). `parse_request`, `command_of`, `parse_option`, `write_reply`,
 //! `write_replies` are exact, with one spelling a request (`one_spelling`). Only tested: that a flush and a write past
 //! caches reach the array as such.

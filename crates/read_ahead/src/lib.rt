@@ -3,8 +3,8 @@
 //!
 //! # Promises
 //!
-//! `ReadAhead` gives just its input's bytes, in order (`given`; `Ahead`). What failed is told as UnexpectedEof, and
-//! just the payload of the write that comes is taken ahead, at most 32 MiB (`lost`, `brings`, `few`).
+//! `ReadAhead` gives just its input's bytes, in order (`given`; `Ahead`). Inside: just the payload of the write that
+//! comes is taken ahead, at most 32 MiB, and what failed is told as UnexpectedEof (`brings`, `few`, `lost`).
 #![tactic(auto)]
 
 ghost use Rattle.std.specs.Prelude.{◌≡◌, ◌≤◌, IfErr, IfSome, length};

@@ -3,13 +3,13 @@
 //!
 //! # Promises
 //!
-//! - [`Referee::open`]: the machine is that of the stack that the settings start, before its first label
-//!   (`IsOpened`); else no disk has their partitions, or memory was refused (`fault`).
-//! - [`Referee::take_told`] (`goes`, `zero`): 0 is returned just where a line is taken: the lines before and this one
-//!   are a run then. Else the number is that of why it isn't: of a rule that it breaks, so that no run goes on by it,
-//!   and then nothing has changed. [`told_by`]: a text is the one line whose text it is (`Tells`).
-//! - [`Why`]: its sentence is `why_text`, and its number `number_of`.
-//! - [`Referee::is_settled`]: whether the lines leave nothing undone (`LeavesNothing`).
+//! [`Referee::open`]: the machine is that of the stack that the settings start, before its first label (`IsOpened`);
+//! else why no stack of theirs starts (`fault`). [`Referee::take_told`] returns 0 just where what is told is taken:
+//! the lines before and this one are a run then (`goes`, `zero`). Else the number says why it isn't (`IsWhy`): a rule
+//! that it breaks, so that no run goes on by it, or no such partition, and then nothing has changed; a bad line; or no
+//! verdict, for want of memory or too many readings. [`told_by`]: a text is the one line whose text it is (`Tells`).
+//! [`Why`]: its sentence is `why_text`, its number `number_of`. [`Referee::is_settled`]: whether the lines leave
+//! nothing undone (`LeavesNothing`).
 #![tactic(auto)]
 
 mod numbers;

@@ -2,9 +2,10 @@
 //!
 //! # Promises
 //!
-//! `lines`: the orders that the text spells (`events`), or its first bad line (`fault`). `play` wrote, as a transcript,
-//! each line, its reply and a right step's labels, or as a trace those labels alone (`text`); a trace wants a stack whose
-//! labels keep their bytes (`bytes`). `write_reply` writes a reply's line.
+//! `lines`: the orders that the text spells (`events`), or its first bad line, or want of memory (`fault`). `play`,
+//! over a stack with nothing left to be taken (`taken`), wrote as a transcript each line, its reply and a right step's
+//! labels, or as a trace those labels alone (`text`); a trace wants a stack whose labels keep their bytes (`bytes`).
+//! `event`: what an order asks for, or the reply to one that asks for no event. `write_reply` writes a reply's line.
 #![tactic(auto)]
 
 ghost use Rattle.script.specs.Faults.{IsOfWrite};

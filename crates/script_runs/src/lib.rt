@@ -4,7 +4,7 @@
 //! # Promises
 //!
 //! `run`: the texts of the script's lines, from the stack that its settings start (`text`), or why not all, settings
-//! first (`fault`); blaming settings or lines writes nothing (`untold`).
+//! first (`fault`); only behind a failed output or refused memory may something be written then (`untold`).
 #![tactic(auto)]
 
 mod faults;

@@ -5,11 +5,12 @@
 //!
 //! `serve_disk`: nothing read, or a session over the partition's zeros, with its fault (`served`). `open_file`: sector
 //! 0 alone was read and fits the settings, whose limits the stack has (`IsOpened`), or why not, after which calls
-//! (`IsOpenFault`). `serve_file`: the stack answered each request that it called, or refused it at once (`HasOneCall`);
-//! the file got just the calls of its pieces (`IsFileSession`); a write for which it had no room is ENOSPC
-//! (`status_error`). `put_table`: the table written and synced, or the last call failed (`synced`, `IsPutFault`).
-//! `check_apart` refuses an image that is CONFIG or the output. `command`: `--create` as found (`IsFoundIn`). All for
-//! readers and writers that tell their bytes.
+//! (`IsOpenFault`). `serve_file`: the stack answered each request that it called, or refused it at once
+//! (`HasOneCall`); the file got just the calls of its pieces (`IsFileSession`); a write is ENOSPC where the storage
+//! had no room for the newest that it refused (`status_error`). `put_table`: the table written and synced, or the last
+//! call failed, or none was made (`synced`, `IsPutFault`). `check_apart` refuses an image that is known to be CONFIG
+//! or the output. `command`: paths, partition and `--create` as found (`IsFoundIn`). All for readers and writers that
+//! tell their bytes.
 #![tactic(auto)]
 
 mod faults;

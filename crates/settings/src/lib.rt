@@ -3,9 +3,10 @@
 //!
 //! # Promises
 //!
-//! `document::config`: the settings of a document without a fault (`settings`), else its first fault, or want of memory
-//! (`fault`). `new_disk` and `new_adapter` give zeros with a table that says the settings' partitions, and a fresh
-//! adapter over them (`new`, `says`, `extents`, `blank`); `table_sector` is that sector 0 (`bytes`, `says`).
+//! `document::config`: the settings of a document without a fault (`settings`), each in its range (`in_range`), else
+//! its first fault, or want of memory (`fault`). `new_disk` gives zeros behind a table that says the settings'
+//! partitions, with their bad sectors, and `new_adapter` a fresh adapter over them (`new`, `says`, `extents`,
+//! `blank`); `table_sector` is that sector 0 (`bytes`, `says`).
 #![tactic(auto)]
 
 pub mod document;
