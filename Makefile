@@ -1,8 +1,10 @@
 # make install: the programs, proved, and their manual pages, below $(DESTDIR)$(PREFIX). One that isn't built is proved and
-# built first, in an hour or two of processor time. The C library has a Makefile of its own, in clients/.
+# built first, in an hour or two of processor time. `stackjudge` is a script over its program, which makes pages by python3.
+# The C library has a Makefile of its own, in clients/.
 PREFIX = /usr/local
 DESTDIR =
 BINDIR = $(PREFIX)/bin
+PARTDIR = $(PREFIX)/libexec/saddlemug
 MANDIR = $(PREFIX)/share/man/man1
 VERSION = $(shell sed -n '/^\#\# /{s///;s/ .*//;p;q}' CHANGELOG.md)
 INSTALL = install
@@ -25,8 +27,15 @@ launcher/out/%.1: launcher/man_page.sh launcher/help.txt launcher/judge_help.txt
 	mv $@.part $@
 
 install: all
-	$(INSTALL) -d $(DESTDIR)$(BINDIR) $(DESTDIR)$(MANDIR)
-	$(INSTALL) -m 755 $(BUILT) $(DESTDIR)$(BINDIR)
+	$(INSTALL) -d $(DESTDIR)$(BINDIR) $(DESTDIR)$(PARTDIR) $(DESTDIR)$(MANDIR)
+	$(INSTALL) -m 755 crates/stackrun/out/stackrun crates/nbd_disk/out/nbd_disk $(DESTDIR)$(BINDIR)
+	$(INSTALL) -m 755 launcher/installed_judge $(DESTDIR)$(BINDIR)/stackjudge
+	$(INSTALL) -m 755 crates/stackjudge/out/stackjudge clients/run_page/run_page $(DESTDIR)$(PARTDIR)
+	$(INSTALL) -m 644 launcher/page.sh clients/run_page/template.html $(DESTDIR)$(PARTDIR)
 	$(INSTALL) -m 644 $(PAGES) $(DESTDIR)$(MANDIR)
 
-.PHONY: all install
+uninstall:
+	rm -f $(PROGRAMS:%=$(DESTDIR)$(BINDIR)/%) $(PROGRAMS:%=$(DESTDIR)$(MANDIR)/%.1)
+	rm -rf $(DESTDIR)$(PARTDIR)
+
+.PHONY: all install uninstall

@@ -221,6 +221,43 @@ run_cut() {
     run_case cut.legal cut "$folder/config.toml" "$scratch/trace"
 }
 
+# Runs the launcher, over nothing that is built, on words of a page: it refuses them at once, with this status and line.
+refuse_page() {
+    want "$1" "$2" "$3"$'\n' < /dev/null
+    words_of_line "picture --html $4"
+    (cd "$scratch/files" && PATH=$scratch/bin:$PATH note_run "$scratch/found/$1" /dev/null "$scratch/fresh/$name" "${words[@]}")
+}
+
+# Has a page made of a trace that is refused: what it has of the judge is compared. Words that nothing can be made of are refused.
+run_page() {
+    local it=page.states folder=$top/examples/judged words usage
+    usage=$(. "$top/launcher/page.sh" && echo "$page_usage")
+    want "$it" 0 << 'END'
+"broken": 6
+"states": [{"open": [{"request": 1, "line": 2, "begun": false}], "out": []}
+{"open": [{"request": 1, "line": 2, "begun": true}], "out": [{"piece": 1, "request": 1, "tag": 0}]}
+{"open": [{"request": 1, "line": 2, "begun": true}], "out": [{"piece": 1, "request": 1, "tag": 0}]}
+{"open": [{"request": 1, "line": 2, "begun": true}], "out": [{"piece": 1, "request": 1, "tag": 0}]}]
+"sector_size": 512
+"firsts": [2048]
+END
+    STACKJUDGE=$program note_run "$scratch/found/$it" /dev/null \
+        "$top/clients/run_page/run_page" "$folder/config.toml" "$folder/answered_too_soon.trace"
+    sed -n 's/.*\("broken": .*\), "trace".*/\1/; s/, "\(states\|sector_size\|firsts\)/\n"\1/g; s/}, {"open/}\n{"open/gp' \
+        "$scratch/found/$it.stdout" > "$scratch/page"
+    mv "$scratch/page" "$scratch/found/$it.stdout"
+    each_row page /dev/stdin refuse_page << END
+2 | $usage | --html
+2 | $usage | settings
+2 | $usage | settings trace more
+2 | $usage | --events settings trace
+2 | $usage | --json settings trace
+1 | stackjudge: cannot read CONFIG | nothing trace
+1 | stackjudge: cannot read CONFIG | - trace
+1 | stackjudge: cannot read TRACE | settings folder
+END
+}
+
 # Runs all cases of the judge, and compares them.
 run_judge_cases() {
     local folder it
@@ -241,6 +278,7 @@ run_judge_cases() {
     for it in "$top"/examples/history/*/history; do run_history "${it%/*}"; done
     run_refused_words
     run_answered_at_once "$top/launcher/judged_at_once"
+    run_page
     count_cases "stackjudge, scripts recorded" record.
     count_cases "stackjudge, labels of their traces" labels.
     count_cases "stackjudge, their traces judged" check.
@@ -250,6 +288,7 @@ run_judge_cases() {
     count_cases "stackjudge, starts of many readings" readings.
     count_cases "stackjudge, told before its end" told.
     count_cases "stackjudge, pictures" picture.
+    count_cases "stackjudge, pages" page.
     count_cases "stackjudge, cuts of another stack" cuts.
     count_cases "stackjudge, traces cut down" cut.
     count_cases "stackjudge, histories" history.

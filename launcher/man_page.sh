@@ -16,5 +16,8 @@ awk -v name="$name" '
     NR == 1, /^$/ { next }
     /^    \.\// { left_out = $0 ~ "^    \\./" name " (build|test|fmt|lint|help)" }
     !/^     / && !/^    \.\// { left_out = 0 }
-    !left_out { gsub("\\./" name, name); gsub(/\\/, "\\e"); sub(/^\./, "\\\\\\&."); print }' "$page"
+    !left_out {
+        if (/^    \.\//) sub(/[^ ]  +/, "&  ")
+        gsub("\\./" name, name); gsub(/\\/, "\\e"); sub(/^\./, "\\\\\\&."); print
+    }' "$page"
 printf '.fi\n'
