@@ -1,21 +1,26 @@
 #!/usr/bin/env python3
-"""Runs each example of the pages: the indented lines that begin with `./` or `$ `, from the top of the repository.
+"""Runs each example of the pages: the indented lines that begin with `./` or `$ `, from the top of the repository, by the
+programs that were built, or where there are none by unproved builds.
 
 A command has to end with status 0, or with that of the text behind its block ('status 1'). What stands behind it in its
-block is all that it prints; so is the next block where the text before that ends with 'It prints:', and 'It begins:' gives
-the first lines alone. Lines with a word in capitals show a form and are not run; nor are those of
-`./stackrun` that build, test or look over the crates, nor one that creates an image."""
+block is all that it prints; so is what stands in backticks where the text behind begins 'prints `', and the next block where
+the text before that ends with 'It prints:', while 'It begins:' gives the first lines alone. Lines with a word in capitals show
+a form and are not run; nor are those of `./stackrun` that build, test or look over the crates, nor one that creates an image.
+A page that a command makes (`> NAME.html`) has to have a whole document, and goes."""
 
 import glob
 import os
 import re
 import subprocess
 import sys
+import tempfile
 
 TOP = os.path.dirname(os.path.dirname(os.path.realpath(__file__)))
 PAGES = ["*.md", "docs/*.md", "clients/*.md", "examples/*.md", "examples/*/*.md"]
 FORM = re.compile(r"\b[A-Z]{3,}\b|\[")
 STATUS = re.compile(r"\bstatus (\d)\b")
+PRINTS = re.compile(r"prints `([^`]+)`")
+PAGE = re.compile(r"> (\w+\.html)$")
 LEFT_OUT = re.compile(r"\./stackrun (build|test|fmt|lint)\b|--create\b")
 
 
@@ -57,14 +62,34 @@ def examples(page):
             command, printed = command_of(lines[k]), lines[k + 1 : after]
             if FORM.search(re.sub(r"\$\w+", "", command)) or LEFT_OUT.search(command):
                 continue
+            told = PRINTS.match(behind) if after == len(lines) and not printed else None
+            printed = [told[1]] if told else printed
             found.append((command, status, printed, bool(printed)))
             open_command = (command, status)
     return found
 
 
+def without_page(command, folder):
+    """Returns a command that makes its page in a folder, and the path of that, or None where it makes none."""
+    made = PAGE.search(command)
+    path = made and f"{folder}/{made[1]}"
+    return (PAGE.sub(f"> {path}", command) if made else command), path
+
+
+def is_document(path):
+    """Returns whether a file is a whole HTML document."""
+    with open(path, encoding="utf-8") as it:
+        text = it.read()
+    return text.startswith("<!DOCTYPE html>") and text.rstrip().endswith("</html>")
+
+
 def tries(command, status, printed, is_all):
     """Returns what is wrong with an example, or None."""
-    ran = subprocess.run(["bash", "-c", command], cwd=TOP, capture_output=True, text=True, check=False)
+    with tempfile.TemporaryDirectory() as folder:
+        command, page = without_page(command, folder)
+        ran = subprocess.run(["bash", "-c", command], cwd=TOP, capture_output=True, text=True, check=False)
+        if page and not is_document(page):
+            return "it makes no page"
     lines = ran.stdout.split("\n")[:-1]
     if ran.returncode != status:
         return f"status {ran.returncode}: {ran.stderr.strip()}"

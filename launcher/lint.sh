@@ -1,11 +1,10 @@
 # Lays out the sources, and looks over them and the scripts. What isn't installed is said and left out.
 
-# The files of the repository that are scripts of this kind, by their first line.
+# The files of the repository that are scripts of this kind, by their first line, or by the end of their names.
 scripts() {
-    local it
-    git -C "$top" ls-files | while IFS= read -r it; do
-        [[ ! -f $top/$it || $(head -n 1 "$top/$it" | tr -d '\0') != '#!'*"$1"* ]] || printf '%s\n' "$top/$it"
-    done
+    git -C "$top" ls-files -z | (cd "$top" && xargs -0 awk -v kind="$1" -v ending="[.]$2\$" -v top="$top" '
+        FNR == 1 && (/^#!/ && index($0, kind) || FILENAME ~ ending) { print top "/" FILENAME }
+        { nextfile }')
 }
 
 # Lays out the sources of all crates.
@@ -36,11 +35,11 @@ look_over() {
 # The parts of the launchers set and read each other's variables, and are found as they run; an assignment expands no `?`.
 lint() {
     local shell=() python=() status=0
-    mapfile -t shell < <(scripts bash)
-    mapfile -t python < <(scripts python3)
+    mapfile -t shell < <(scripts bash sh)
+    mapfile -t python < <(scripts python3 py)
     check_layout || status=1
     look_over shellcheck shellcheck -s bash -S warning -e SC1090,SC1091,SC2034,SC2125,SC2154 \
-        "${shell[@]}" "$top"/launcher/*.sh || status=1
+        "${shell[@]}" || status=1
     if command -v ruff > /dev/null; then
         ruff check -q "${python[@]}" || status=1
     else
