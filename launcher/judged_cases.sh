@@ -239,11 +239,11 @@ run_page() {
 {"open": [{"request": 1, "line": 2, "begun": true}], "out": [{"piece": 1, "request": 1, "tag": 0}]}
 {"open": [{"request": 1, "line": 2, "begun": true}], "out": [{"piece": 1, "request": 1, "tag": 0}]}]
 "sector_size": 512
-"firsts": [2048]
+"zeros": true, "firsts": [2048]
 END
     STACKJUDGE=$program note_run "$scratch/found/$it" /dev/null \
         "$top/clients/run_page/run_page" "$folder/config.toml" "$folder/answered_too_soon.trace"
-    sed -n 's/.*\("broken": .*\), "trace".*/\1/; s/, "\(states\|sector_size\|firsts\)/\n"\1/g; s/}, {"open/}\n{"open/gp' \
+    sed -n 's/.*\("broken": .*\), "trace".*/\1/; s/, "\(states\|sector_size\|zeros\)/\n"\1/g; s/}, {"open/}\n{"open/gp' \
         "$scratch/found/$it.stdout" > "$scratch/page"
     mv "$scratch/page" "$scratch/found/$it.stdout"
     each_row page /dev/stdin refuse_page << END
