@@ -7,9 +7,10 @@
  *
  * LOSING_FILE: the end of the path of the file, which has 32 MiB at most. LOSING_SEED. LOSING_EARLY: of 1000 calls,
  * how many bring a sector early. LOSING_DELAY: microseconds that a call takes; LOSING_NOTHING=1: and that is all,
- * the file has what is written at once. LOSING_LIE=1: a sync does nothing (a disk that lies). LOSING_FAIL=N: sync
- * number N fails with EIO. As Linux does, what was not synced counts as synced from then on: it is read until it is
- * dropped from memory, and need not reach the file. */
+ * the file has what is written at once. LOSING_LINGER: microseconds at most that a sync takes before, and a write
+ * behind, what it does. LOSING_LIE=1: a sync does nothing (a disk that lies). LOSING_FAIL=N: each Nth sync fails with
+ * EIO. As Linux does, what was not synced counts as synced from then on: it is read until it is dropped from memory,
+ * which is not before the next sync, and need not reach the file. */
 #define _GNU_SOURCE
 #include <dlfcn.h>
 #include <errno.h>
@@ -35,8 +36,8 @@ static unsigned held[SECTORS], count;
 static pthread_mutex_t lock = PTHREAD_MUTEX_INITIALIZER;
 static pthread_once_t once = PTHREAD_ONCE_INIT;
 static int file = -1;
-static unsigned long state = 88172645463325252ul, early = 300, delay, failing, syncs;
-static bool lies, loses_nothing;
+static unsigned long state = 88172645463325252ul, early = 300, delay, linger, failing, syncs;
+static bool lies, loses_nothing, failed_last;
 
 static ssize_t (*real_pread)(int, void *, size_t, off_t);
 static ssize_t (*real_pwrite)(int, const void *, size_t, off_t);
@@ -71,6 +72,7 @@ start(void)
 	state += 2654435761ul * setting("LOSING_SEED", 0);
 	early = setting("LOSING_EARLY", early);
 	delay = setting("LOSING_DELAY", 0);
+	linger = setting("LOSING_LINGER", 0);
 	failing = setting("LOSING_FAIL", 0);
 	lies = setting("LOSING_LIE", 0) != 0;
 	loses_nothing = setting("LOSING_NOTHING", 0) != 0;
@@ -116,9 +118,21 @@ age(void)
 		unsigned sector = held[below(count)];
 		if (sectors[sector].dirty)
 			bring(sector);
-		else
+		else if (!failed_last)
 			drop(sector);
 	}
+}
+
+/* Without the lock. */
+static void
+wait_a_little(void)
+{
+	if (linger == 0)
+		return;
+	pthread_mutex_lock(&lock);
+	unsigned long microseconds = below(linger);
+	pthread_mutex_unlock(&lock);
+	usleep(microseconds);
 }
 
 /* Is this call of the file, and to be kept off it? */
@@ -176,6 +190,7 @@ pwrite(int descriptor, const void *buffer, size_t length, off_t offset)
 		age();
 	}
 	pthread_mutex_unlock(&lock);
+	wait_a_little();
 	return length;
 }
 
@@ -206,7 +221,12 @@ fdatasync(int descriptor)
 	if (lies)
 		return 0;
 	pthread_mutex_lock(&lock);
-	bool fails = ++syncs == failing;
+	failed_last = false;
+	pthread_mutex_unlock(&lock);
+	wait_a_little();
+	pthread_mutex_lock(&lock);
+	bool fails = failing != 0 && ++syncs % failing == 0;
+	failed_last = fails;
 	for (unsigned i = 0; i < count; i++) {
 		if (!fails || below(2) == 0)
 			bring(held[i]);

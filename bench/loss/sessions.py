@@ -1,7 +1,8 @@
 #!/usr/bin/env python3
 """Sessions over a file below a volatile cache (losing.c), each ended by SIGKILL at a random moment.
 
-usage: sessions.py [--lie | --fail N [--careless] | --plain] [--out REQUESTS] [--seed N] KILLS FOLDER SERVER..
+usage: sessions.py [--lie | --fail N [--careless] | --plain] [--linger N] [--out REQUESTS] [--seed N] [--first SECTOR]
+    [--trace] KILLS FOLDER SERVER..
 
 SERVER.. is a program that serves the file FOLDER/disk.img, which is there, to one NBD client on its standard input
 and output, as `nbdkit -s saddlemug.so file=FOLDER/disk.img` does; FOLDER/losing.so is the cache. --first SECTOR: where
@@ -9,8 +10,13 @@ in the file the client's first sector stands.
 
 Of each sector it is known which values a read may give (now), and which a loss of power may leave (left). Each read is
 held against the first, and the file after each kill against the second. Of several requests that are out no two have a
-sector in common. --plain: no cache; then what a read may give is left. --lie: a sync does nothing, and --careless: a
+sector in common. --plain: no cache; then what a read may give is left. --fail N: each Nth sync fails. --linger: how
+many microseconds a sync may take before, and a write behind, what it does. --lie: a sync does nothing, and --careless: a
 failed sync is taken for one that was not made. Both have to be caught.
+
+--trace: the server writes a trace to FOLDER/trace. Those of all sessions are joined in FOLDER/traces, each up to its last
+whole line, by `lost` or, with --plain, by `ended`. Each session begins by reading all sectors, and one that only does so
+is the last.
 
 Prints how many sectors could have had several values, and what was found; its status is 0 where nothing was wrong."""
 
@@ -72,10 +78,13 @@ class Sessions:
         self.words, self.chosen = words, chosen
         self.random = random.Random(chosen.seed)
         self.image = os.path.join(chosen.folder, "disk.img")
+        self.traces = os.path.join(chosen.folder, "traces")
         self.table = Table(self.on_file())
         self.uncertain = self.older = 0
         self.wrong = []
         self.stamp = 0
+        if chosen.trace:
+            open(self.traces, "wb").close()
 
     def on_file(self):
         with open(self.image, "rb") as it:
@@ -89,6 +98,7 @@ class Sessions:
             env |= {"LD_PRELOAD": os.path.join(self.chosen.folder, "losing.so"), "LOSING_FILE": "disk.img"}
             env |= {"LOSING_SEED": str(self.chosen.seed * 10000 + number), "LOSING_FAIL": str(self.chosen.fail)}
             env |= {"LOSING_LIE": "1"} if self.chosen.lie else {}
+            env |= {"LOSING_LINGER": str(self.chosen.linger)}
         return env
 
     def batch(self, near):
@@ -108,7 +118,13 @@ class Sessions:
 
     def value(self, sector):
         self.stamp += 1
-        return (b"%d of %d|" % (self.stamp, sector) * SECTOR)[:SECTOR] if self.random.randrange(8) else bytes(SECTOR)
+        if self.random.randrange(8) == 0:
+            return bytes(SECTOR)
+        if self.chosen.trace:
+            # A short text of a trace, and the same at both ends.
+            ends = b"%x of %x" % (self.stamp, sector)
+            return ends.ljust(SECTOR - len(ends), b"|") + ends
+        return (b"%d of %d|" % (self.stamp, sector) * SECTOR)[:SECTOR]
 
     def carry(self, client, batch, dies):
         """Sends them all and takes the replies. Where the server dies, those that come."""
@@ -153,8 +169,31 @@ class Sessions:
                 self.wrong.append(f"sector {sector} has {value[:20]}, and not {wanted}")
             self.table.now[sector], self.table.left[sector] = [value], [value]
 
+    def read_all(self, client):
+        """Reads all sectors, as the file has them."""
+        batch = [Request(READ, at, [b""] * 64) for at in range(0, SECTORS, 64)]
+        self.carry(client, batch, False)
+        self.note(batch)
+
+    def join(self):
+        """Puts the trace of a session behind those before it."""
+        with open(os.path.join(self.chosen.folder, "trace"), "rb") as it:
+            data = it.read()
+        with open(self.traces, "ab") as it:
+            it.write(data[: data.rfind(b"\n") + 1] + (b"ended\n" if self.chosen.plain else b"lost\n"))
+
+    def last(self, number):
+        """Reads all, so that what the last session left is in the traces."""
+        client = Client(self.words, self.env(number))
+        self.read_all(client)
+        client.kill()
+        client.server.communicate()
+        self.join()
+
     def session(self, number):
         client = Client(self.words, self.env(number))
+        if self.chosen.trace:
+            self.read_all(client)
         near = self.random.randrange(SECTORS - NEAR)
         for steps in range(self.random.randrange(2, max(4, 120 // self.chosen.out)), -1, -1):
             batch = self.batch(near)
@@ -162,6 +201,8 @@ class Sessions:
             self.note(batch)
         client.kill()
         client.server.communicate()
+        if self.chosen.trace:
+            self.join()
         self.compare()
 
 
@@ -174,6 +215,8 @@ def main():
     parser.add_argument("--out", type=int, default=1)
     parser.add_argument("--seed", type=int, default=1)
     parser.add_argument("--first", type=int, default=0)
+    parser.add_argument("--linger", type=int, default=0)
+    parser.add_argument("--trace", action="store_true")
     parser.add_argument("kills", type=int)
     parser.add_argument("folder")
     parser.add_argument("server", nargs=argparse.REMAINDER)
@@ -181,6 +224,8 @@ def main():
     sessions = Sessions(chosen.server, chosen)
     for number in range(chosen.kills):
         sessions.session(number)
+    if chosen.trace:
+        sessions.last(chosen.kills)
     print(f"{chosen.kills} kills, {sessions.uncertain} uncertain sectors, {sessions.older} not at their newest", end="")
     print(f", {len(sessions.wrong)} wrong")
     print(*sessions.wrong[:3], sep="\n", end="")

@@ -1,8 +1,8 @@
 /* An nbdkit plugin over the static library: nbdkit ./saddlemug.so size=256M [sector=512] [transfer=128], or nbdkit
  * ./saddlemug.so settings=FILE [partition=0], for a disk in memory; or nbdkit ./saddlemug.so file=IMAGE
  * [partition=0] [sector=512] [transfer=2048], for a raw image file or a block device. Or nbdkit ./saddlemug.so
- * iscsi=URL [partition=0] [transfer=2048], for a target. Partitions count from 0. Over a file requests run side by
- * side. */
+ * iscsi=URL [partition=0] [transfer=2048], for a target. Partitions count from 0. Over a file or a target requests run
+ * side by side, and trace=FILE has the labels of the stack. */
 #include <errno.h>
 #include <inttypes.h>
 #include <malloc.h>
@@ -25,7 +25,7 @@
 /* What was given; 0 or NULL: nothing. */
 static int64_t size;
 static uint32_t sector, transfer;
-static char *settings_file, *image_file;
+static char *settings_file, *image_file, *trace_file;
 static uint8_t partition;
 static bool has_partition, is_target;
 
@@ -85,6 +85,11 @@ config(const char *key, const char *value)
 		is_target = true;
 		return image_file == NULL ? -1 : 0;
 	}
+	if (strcmp(key, "trace") == 0) {
+		free(trace_file);
+		trace_file = nbdkit_absolute_path(value);
+		return trace_file == NULL ? -1 : 0;
+	}
 	if (strcmp(key, "partition") == 0) {
 		has_partition = true;
 		return nbdkit_parse_uint8_t(key, value, &partition);
@@ -108,6 +113,10 @@ config_complete(void)
 	}
 	if (has_partition && image_file == NULL && settings_file == NULL) {
 		nbdkit_error("partition is for a disk with file or settings");
+		return -1;
+	}
+	if (trace_file != NULL && image_file == NULL) {
+		nbdkit_error("trace is for a disk with file or iscsi");
 		return -1;
 	}
 	if (sector == 0)
@@ -181,7 +190,7 @@ static int
 open_image(void)
 {
 	struct own_disk_options options = {.sector_size = sector, .transfer = transfer != 0 ? transfer : 2048,
-		.depth = OWN_DISK_TAGS, .partition = has_partition ? partition : -1};
+		.depth = OWN_DISK_TAGS, .partition = has_partition ? partition : -1, .trace = trace_file};
 	const char *why = own_disk_open(&image, image_file, &options);
 	if (why != NULL) {
 		nbdkit_error("%s: %s", image_file, why);
@@ -225,6 +234,7 @@ unload(void)
 	own_disk_close(&image);
 	free(settings_file);
 	free(image_file);
+	free(trace_file);
 }
 
 static void *
@@ -355,8 +365,8 @@ static struct nbdkit_plugin plugin = {
 	.config = config,
 	.config_complete = config_complete,
 	.config_help = "size=SIZE [sector=512|4096] [transfer=SECTORS], or settings=FILE [partition=NUMBER], or\n"
-		"file=IMAGE [partition=NUMBER] [sector=512|4096] [transfer=SECTORS], or\n"
-		"iscsi=URL [partition=NUMBER] [transfer=SECTORS]\n"
+		"file=IMAGE [partition=NUMBER] [sector=512|4096] [transfer=SECTORS] [trace=FILE], or\n"
+		"iscsi=URL [partition=NUMBER] [transfer=SECTORS] [trace=FILE]\n"
 		"Partitions count from 0, unused entries of the table left out; a file with no partition named is one as a whole.",
 	.dump_plugin = dump_plugin,
 	.thread_model = thread_model,

@@ -120,18 +120,18 @@ write_sparse(int file, const uint8_t *at, uint64_t length, uint64_t offset)
 }
 
 uint64_t
-own_disk_synced(struct own_disk *disk)
+own_disk_failed(struct own_disk *disk)
 {
 	pthread_mutex_lock(&disk->syncs.lock);
-	uint64_t finished = disk->syncs.finished;
+	uint64_t failed = disk->syncs.failed;
 	pthread_mutex_unlock(&disk->syncs.lock);
-	return finished;
+	return failed;
 }
 
 /* Syncs the file: by a sync that begins behind this call, one for all who wait. The system tells an error once, to
- * whoever syncs: so any sync that failed since the command went out is also its own. */
+ * whoever syncs: so each sync that failed is also this command's own, unless it was told before the command went out. */
 static bool
-sync_file(struct own_disk *disk, const struct own_disk_move *move)
+sync_file(struct own_disk *disk, struct own_disk_move *move)
 {
 	struct own_disk_syncs *syncs = &disk->syncs;
 	pthread_mutex_lock(&syncs->lock);
@@ -150,9 +150,9 @@ sync_file(struct own_disk *disk, const struct own_disk_move *move)
 			syncs->failed = syncs->finished;
 		pthread_cond_broadcast(&syncs->ended);
 	}
-	bool good = syncs->failed <= move->synced;
+	move->failed_by = syncs->failed > move->failure ? syncs->failed : 0;
 	pthread_mutex_unlock(&syncs->lock);
-	return good;
+	return move->failed_by == 0;
 }
 
 static void
@@ -162,6 +162,7 @@ write_bytes(struct own_disk *disk, struct own_disk_move *move, uint64_t offset)
 		fail(move, 7, 0x27, 0); /* WRITE PROTECTED */
 		return;
 	}
+	move->began = own_disk_failed(disk);
 	int error = write_sparse(disk->file, move->armed.bytes, move->armed.length, offset);
 	if (error == ENOSPC || error == EDQUOT)
 		fail(move, 7, 0x27, 7); /* SPACE ALLOCATION FAILED WRITE PROTECT */

@@ -170,7 +170,7 @@ own_disk_open(struct own_disk *disk, const char *path, const struct own_disk_opt
 	const char *why;
 
 	*disk = (struct own_disk){.file = -1, .sector_size = options->sector_size, .depth = options->depth,
-		.lock = PTHREAD_ADAPTIVE_MUTEX_INITIALIZER_NP, .room = PTHREAD_COND_INITIALIZER,
+		.lock = PTHREAD_ADAPTIVE_MUTEX_INITIALIZER_NP, .room = PTHREAD_COND_INITIALIZER, .telling = PTHREAD_COND_INITIALIZER,
 		.syncs = {.lock = PTHREAD_MUTEX_INITIALIZER, .ended = PTHREAD_COND_INITIALIZER}};
 	if (disk->sector_size != 512 && disk->sector_size != 4096)
 		return "a sector has 512 or 4096 bytes";
@@ -185,6 +185,8 @@ own_disk_open(struct own_disk *disk, const char *path, const struct own_disk_opt
 		if (why == NULL)
 			why = look_at(disk, options->partition, first, &sectors);
 	}
+	if (why == NULL && options->trace != NULL)
+		why = own_disk_trace_open(&disk->trace, options->trace);
 	if (why == NULL)
 		why = open_stack(disk, options, first, sectors);
 	if (why != NULL)
@@ -201,6 +203,7 @@ own_disk_close(struct own_disk *disk)
 	if (disk->target != NULL)
 		target_close(disk->target);
 	disk->target = NULL;
+	own_disk_trace_close(&disk->trace);
 	if (disk->file >= 0)
 		close(disk->file);
 	disk->file = -1;

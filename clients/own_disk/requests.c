@@ -29,7 +29,7 @@ static void
 make_ready(struct own_disk *disk, uint8_t tag)
 {
 	struct own_disk_move *move = &disk->moves[tag];
-	*move = (struct own_disk_move){.state = OWN_DISK_READY, .synced = own_disk_synced(disk)};
+	*move = (struct own_disk_move){.state = OWN_DISK_READY, .failure = disk->told};
 	move->told = saddlemug_stack_armed(&disk->stack, tag, &move->armed) == SADDLEMUG_SUCCESS;
 	move->booking = (struct saddlemug_booking){.piece_low = move->armed.piece_low, .piece_high = move->armed.piece_high,
 		.length = move->armed.length, .tag = tag};
@@ -75,13 +75,26 @@ let_go(struct own_disk *disk)
 	}
 }
 
-/* What the last step did: commands that went out, and requests that ended. */
+/* Takes a label, with its bytes where they are traced. */
+static bool
+take_label(struct own_disk *disk, struct saddlemug_label *label)
+{
+	uint8_t none = 0;
+	if (disk->trace.file == NULL)
+		return saddlemug_stack_take_label(&disk->stack, label, &none, 0);
+	bool takes = saddlemug_stack_take_label(&disk->stack, label, disk->trace.bytes, disk->trace.room);
+	if (takes)
+		own_disk_trace_note(&disk->trace, label);
+	return takes;
+}
+
+/* What the last step did: commands that went out, and requests that ended. It stands in the trace before any byte is
+ * moved, and before a client hears of it. */
 static void
 take_labels(struct own_disk *disk)
 {
 	struct saddlemug_label label;
-	uint8_t none = 0;
-	while (saddlemug_stack_take_label(&disk->stack, &label, &none, 0)) {
+	while (take_label(disk, &label)) {
 		if (label.kind == SADDLEMUG_STARTED)
 			make_ready(disk, label.tag);
 		if (label.kind != SADDLEMUG_ANSWERED)
@@ -89,6 +102,7 @@ take_labels(struct own_disk *disk)
 		for (struct own_disk_request *it = disk->open; it != NULL; it = it->next)
 			it->ended = it->ended || it->number == label.number;
 	}
+	own_disk_trace_flush(&disk->trace);
 	hand_out(disk);
 }
 
@@ -180,6 +194,10 @@ static void
 hand_back(struct own_disk *disk, struct own_disk_move *move)
 {
 	uint8_t tag = move - disk->moves;
+	if (move->failed_by > disk->told) {
+		disk->told = move->failed_by;
+		pthread_cond_broadcast(&disk->telling);
+	}
 	if (move->told)
 		saddlemug_stack_book(&disk->stack, &move->booking);
 	move->state = OWN_DISK_NONE;
@@ -187,13 +205,28 @@ hand_back(struct own_disk *disk, struct own_disk_move *move)
 	step(disk, SADDLEMUG_FINISH, tag);
 }
 
-/* Moves a command's bytes, and hands it back. */
+/* May a failed sync have lost what was written meanwhile, and was told already? Then what is written counts as synced
+ * by the next one. */
+static bool
+was_lost(const struct own_disk *disk, const struct own_disk_move *move)
+{
+	const struct saddlemug_asked *asked = &move->armed.asked;
+	return asked->kind == SADDLEMUG_ASKS_TO_WRITE && !asked->through && !move->booking.failed
+		&& disk->told > move->began;
+}
+
+/* Moves a command's bytes, and hands it back. A read may have seen what a failed sync lost, which is told first. */
 static void
 serve(struct own_disk *disk, struct own_disk_move *move)
 {
 	move->state = OWN_DISK_MOVING;
-	if (move->told)
-		move_bytes(disk, move);
+	if (move->told) {
+		do {
+			move_bytes(disk, move);
+		} while (was_lost(disk, move));
+	}
+	while (move->armed.asked.kind == SADDLEMUG_ASKS_TO_READ && own_disk_failed(disk) > disk->told)
+		pthread_cond_wait(&disk->telling, &disk->lock);
 	hand_back(disk, move);
 }
 
@@ -267,6 +300,10 @@ call(struct own_disk *disk, const struct saddlemug_event *event, const uint8_t *
 	struct own_disk_request *mine)
 {
 	struct saddlemug_reply reply;
+	if (disk->trace.file != NULL && !own_disk_trace_reserve(&disk->trace, length + mine->room)) {
+		mine->status = SADDLEMUG_INSUFFICIENT_RESOURCES;
+		return false;
+	}
 	mine->status = saddlemug_stack_step(&disk->stack, event, bytes, length, &reply);
 	if (mine->status != SADDLEMUG_SUCCESS)
 		return false;

@@ -373,7 +373,25 @@ saddlemug_stack_close(struct saddlemug_stack *stack)
  * booked, another command on its tag was told, or the stack is closed; no other call touches it. So a thread that moves the bytes
  * has to have ended before one of these three. The calls themselves are made as all others: one at a time on a room.
  *
- * The last two answer INVALID_HANDLE where the room is empty. */
+ * The last two answer INVALID_HANDLE where the room is empty.
+ *
+ * LOSS OF POWER. Where the program's storage keeps the promises below, docs/DEFINITIONS.md ("Loss of power") says what a loss leaves:
+ * a write that was answered SUCCESS stays until its sectors are written again, if it was write-through, or if a flush that was
+ * called behind its answer was answered SUCCESS, and no flush or write-through failed between. Nothing in the library checks them.
+ * A sync is what brings to the medium all that was written before it began; a command has started once its label SADDLEMUG_STARTED
+ * came, and is told by its SADDLEMUG_ACT.
+ *
+ * - Each sector is whole: it has what it had, or all that one write has for it. A write that fails, or is out when the process ends,
+ *   may have written any of its sectors.
+ * - Of two commands that share a sector, one of them a write, the second is moved once the first was told.
+ * - A flush is booked as done where a sync that began behind its start succeeded; a write-through where its bytes were moved, and then
+ *   such a sync succeeded. So a flush makes certain what had acted when it started, and perhaps no more.
+ * - Where a sync fails, what it was to bring may be gone, at once or later, and later syncs don't bring it. A system may say so once,
+ *   to one caller (Linux: once for each open file). That failure concerns each piece that it may have lost. So each flush and
+ *   write-through that started before the failure was told, and whose own sync ended behind it, is booked as failed (HARDWARE ERROR),
+ *   whatever that sync said; a plain write whose bytes were moved before the failed sync ended, and that is not told yet, is moved once
+ *   more; and a read is told behind the failure.
+ * - Until a sync said that it failed, a read brings what was written last. At an end of the process alone, all that was moved stays. */
 
 struct saddlemug_disk {
 	uint64_t sectors;       /* of the disk, 1 to 2^40 */
