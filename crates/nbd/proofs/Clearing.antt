@@ -1,7 +1,8 @@
 -- Bytes written in pieces, one behind the other.
-use Rattle.std.proofs.Common.{◌≡◌, ◌≤◌, ◌<◌, inl, inr, ℕ, ◌+◌, ◌-◌, ◌%◌, min, List, ◌++◌, length, take, drop, replicate, length-append, length-take, length-drop, append_assoc, refl, sym, subst, ◌∙◌, ap, arith}
+use Rattle.std.proofs.Common.{◌≡◌, ◌≤◌, ◌<◌, inl, inr, ℕ, ◌+◌, ◌-◌, ◌%◌, min, List, ◌++◌, length, take, drop, slice_range, replicate, Bool, true, false, length-append, length-take, length-drop, append_assoc, refl, sym, subst, ◌∙◌, ap, arith}
+use Rattle.std.specs.Bool.{OnTrue}
 use Rattle.std.proofs.Math.Seq.{take-append-add, take-append_seam, drop-append-add}
-use Rattle.std.proofs.lemmas.List.{take-take, drop-drop, length-take-le, length-replicate, replicate-append-replicate}
+use Rattle.std.proofs.lemmas.List.{take-take, drop-drop, take-append-drop, length-take-le, length-replicate, replicate-append-replicate}
 use Rattle.nbd.specs.Content.{Content, AreInBounds, IsBlockSize, IsSameOutside, splice, written}
 use Rattle.nbd.specs.declared.requests.ReplyError.{ReplyError}
 use Rattle.nbd.specs.Replies.{failure}
@@ -126,3 +127,28 @@ written_inside c o more fits = record {
   behind = behind_of c.bytes o (length more) more (omega arith) (omega arith);
   told = refl;
 }
+
+-- bytes that stand there already change nothing
+pub standing : (c : Content) (o : ℕ) (bytes : List ℕ) → o + length bytes ≤ length c.bytes → slice_range c.bytes o (o + length bytes) ≡ bytes → c ≡ written c o bytes
+standing c o bytes fits there =
+    let n : ℕ = length bytes in
+    let count : o + n - o ≡ n = omega arith in
+    let part : take n (drop o c.bytes) ≡ bytes = ap (λ (m : ℕ). take m (drop o c.bytes)) (sym count) ∙ there in
+    let rest : take n (drop o c.bytes) ++ drop (o + n) c.bytes ≡ drop o c.bytes =
+    ap (λ (l : List ℕ). take n (drop o c.bytes) ++ l) (sym (drop-drop n o c.bytes)) ∙ take-append-drop n (drop o c.bytes) in
+    let all : c.bytes ≡ splice c.bytes o bytes =
+    sym (take-append-drop o c.bytes) ∙ ap (λ (l : List ℕ). take o c.bytes ++ l) (sym rest)
+    ∙ ap (λ (l : List ℕ). take o c.bytes ++ (l ++ drop (o + n) c.bytes)) part in
+    ap (λ (l : List ℕ). record c { bytes = l }) all
+
+-- bytes that were read, and are these
+pub found_there : (all : List ℕ) (o : ℕ) (bytes buffer found shown : List ℕ) (same : Bool) → length buffer ≡ length bytes
+    → found ≡ slice_range all o (o + length buffer) → shown ≡ found → OnTrue same (shown ≡ bytes) → OnTrue same (slice_range all o (o + length bytes) ≡ bytes)
+found_there all o bytes buffer found shown true long reads is told =
+    ap (λ (n : ℕ). slice_range all o (o + n)) (sym long) ∙ sym reads ∙ sym is ∙ told
+found_there all o bytes buffer found shown false long reads is told = told
+
+pub standing_if : (c : Content) (o : ℕ) (bytes : List ℕ) (there : Bool) → o + length bytes ≤ length c.bytes
+    → OnTrue there (slice_range c.bytes o (o + length bytes) ≡ bytes) → OnTrue there (c ≡ written c o bytes)
+standing_if c o bytes true fits is = standing c o bytes fits is
+standing_if c o bytes false fits is = is

@@ -5,3 +5,4 @@ pub mod Options
 pub mod Over
 pub mod Session
 pub mod Streams
+pub mod Standing

@@ -1,6 +1,7 @@
 //! What requests do to an array.
 
 ghost use Rattle.std.specs.Prelude.{◌≡◌, ◌≤◌, ◌<◌, ◌^◌, length, replicate, IfErr, IfOk, MatchResult};
+ghost use Rattle.std.specs.Bool.{OnTrue};
 ghost use Rattle.nbd.specs.Content.{AreInBounds, IsBlockSize, IsSameOutside, written};
 ghost use Rattle.nbd.specs.Replies.{outcome_of};
 ghost use Rattle.nbd.specs.Carrying.{Clears, Flushes, Gets, IsFailure, Puts, error_of};
@@ -12,6 +13,7 @@ use crate::arrays::{Array, ArrayFault};
 use crate::constants::LONGEST;
 use crate::replies::Answer;
 use crate::requests::{Command, ReplyError, Request, command_of, payload_count};
+use crate::standing::{are_zeros, may_leave_out, stand_there};
 use crate::streams::{skip, take_all, zeros};
 use std::alloc::Global;
 use std::io::Read;
@@ -123,6 +125,9 @@ fn put<A: Array>(alloc: Global, array: &mut A, offset: u64, bytes: Vec<u8>, thro
     requires short { length bytes.items ≤ LONGEST }
     ensures { Puts A.fails (A.content array.old) offset bytes.items (outcome_of result) (A.content array.new) }
 {
+    if needs_no_write(alloc, array, offset, bytes.as_slice(), through) {
+        return Answer::Done;
+    }
     match array.write(alloc, offset, bytes, through) {
         Ok(()) => Answer::Done,
         Err(fault) => Answer::Refused(error_of(fault)),
@@ -167,10 +172,32 @@ fn clear_piece<A: Array>(
     let Some(zeros) = zeros(alloc, count) else {
         return Err(ReplyError::Enomem);
     };
+    if needs_no_write(alloc, array, offset, zeros.as_slice(), through) {
+        return Ok(());
+    }
     match array.write(alloc, offset, zeros, through) {
         Ok(()) => Ok(()),
         Err(fault) => Err(error_of(fault)),
     }
+}
+
+/// Whether the bytes are zeros that stand there already, so that a write would only take memory for them.
+fn needs_no_write<A: Array>(
+    alloc: Global,
+    array: &mut A,
+    offset: u64,
+    bytes: &[u8],
+    through: bool,
+) -> bool
+    requires in_bounds { AreInBounds (A.content array.old).block (length (A.content array.old).bytes) offset (length bytes.now) }
+    requires short { length bytes.now ≤ LONGEST }
+    ensures there { OnTrue result (A.content array.old ≡ written (A.content array.old) offset bytes.now) }
+    ensures same { A.content array.new ≡ A.content array.old }
+{
+    if !may_leave_out(array, through) || !are_zeros(bytes) {
+        return false;
+    }
+    stand_there(alloc, array, offset, bytes)
 }
 
 /// Brings what was written past volatile caches.

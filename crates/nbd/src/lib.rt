@@ -25,6 +25,7 @@ mod over;
 mod replies;
 mod requests;
 mod session;
+mod standing;
 mod streams;
 mod waiting;
 
