@@ -1,7 +1,6 @@
 """Runs the programs, and prints what it took: `trace STACKRUN` on scripts that it makes, `clients STACKRUN` with threads,
-`layers LAYER_BENCH` on both layers, `labels STACKJUDGE` on a long trace."""
+`labels STACKJUDGE` on a long trace."""
 import os
-import statistics
 import subprocess
 import sys
 import tempfile
@@ -144,37 +143,6 @@ def clients(program):
             'by trace', CALLS, seconds, CALLS / seconds))
 
 
-# Requests of a run of `layer_bench`, and how often each layer is run.
-REQUESTS = 200_000
-RUNS = 15
-
-
-def nanoseconds(program, layer):
-    """Processor time for each request of one run through a layer."""
-    child = subprocess.Popen([program, layer, str(REQUESTS)], stdout=subprocess.PIPE, text=True)
-    with child.stdout:
-        said = child.stdout.read()
-    _, status, used = os.wait4(child.pid, 0)
-    want = '%s: %d of %d succeeded\n' % (layer, REQUESTS, REQUESTS)
-    if status != 0 or said != want:
-        sys.exit('%s %s: status %d, %r' % (program, layer, os.waitstatus_to_exitcode(status), said))
-    return (used.ru_utime + used.ru_stime) / REQUESTS * 1e9
-
-
-def spread(values):
-    return '%5.0f ns (%.0f to %.0f)' % (statistics.median(values), min(values), max(values))
-
-
-def layers(program):
-    """Both layers in turn, so that other work on the machine meets both; what one request takes, at the median."""
-    pairs = [(nanoseconds(program, 'port'), nanoseconds(program, 'disk')) for _ in range(RUNS)]
-    print('%-12s %7d requests of one sector, %d runs, processor time of one: port %s, class driver over it %s, more %s' % (
-        'layers', REQUESTS, RUNS,
-        spread([port for port, _ in pairs]),
-        spread([disk for _, disk in pairs]),
-        spread([disk - port for port, disk in pairs])))
-
-
 def trace(program):
     disk = dict(size=512, sectors=4096, transfer=64, count=1024)
     one, eight, most = ({'depth': n, 'window': n, **disk} for n in (1, 8, 32))
@@ -222,7 +190,7 @@ def labels(judge):
 
 
 def main():
-    {'trace': trace, 'clients': clients, 'layers': layers, 'labels': labels}[sys.argv[1]](sys.argv[2])
+    {'trace': trace, 'clients': clients, 'labels': labels}[sys.argv[1]](sys.argv[2])
 
 
 if __name__ == '__main__':

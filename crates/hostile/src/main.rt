@@ -5,8 +5,7 @@
 //! The program asks of each run whether its labels are a run of the sector machine, from sectors of zeros on (`judge`).
 //! It asks whether the machine is settled where the labels end, and whether the answers that were taken after each step
 //! are those of its labels. Where all that was out came back and nothing is held, it asks whether each request was
-//! answered. Each label of a few random runs is then changed in each of its fields, and judged. It is refused where the
-//! labels before leave it no such value, and the judge of a whole list stops where the judge of single labels does.
+//! answered. Of a few random runs it asks whether the judge of a whole list stops where the judge of single labels does.
 //!
 //! `hostile` takes a fixed seed, and `hostile SEED RUNS` makes this many random runs. Run n has the seed SEED + n, so a
 //! wrong one is made again by its own seed and 1. A line is printed for each sweep, and one for the first wrong run of
@@ -17,8 +16,7 @@
 //! Nothing: it is a test.
 #![tactic(auto)]
 
-mod changed;
-mod changes;
+mod agreeing;
 mod dice;
 mod fault;
 mod layout;
@@ -30,7 +28,6 @@ mod sweeps;
 mod tally;
 mod verdicts;
 
-use crate::changes::changes;
 use crate::fault::HostileFault;
 use crate::random::random_runs;
 use crate::rows::{ROWS, Row};
@@ -44,9 +41,6 @@ const SEED: u64 = 7;
 
 /// The number of random runs where none is given.
 const RUNS: u64 = 5000;
-
-/// The number of random runs of which each label is changed, where as many are asked for.
-const CHANGED_RUNS: u64 = 10;
 
 /// Returns what the command line asks for: a seed, and a number of runs.
 fn asked(rt: &HostRuntime) -> Result<(u64, u64), HostileFault> {
@@ -93,7 +87,7 @@ fn sweep(rt: &HostRuntime, row: &Row) -> Result<bool, HostileFault> {
     Ok(inserted || failing)
 }
 
-/// Makes all sweeps, the random runs, and changes of a few of their labels; returns whether anything was wrong.
+/// Makes all sweeps and the random runs; returns whether anything was wrong.
 fn run(rt: &HostRuntime) -> Result<bool, HostileFault> {
     let (seed, runs) = asked(rt)?;
     let mut any = false;
@@ -104,19 +98,6 @@ fn run(rt: &HostRuntime) -> Result<bool, HostileFault> {
     println!(rt;
         "random: seed {seed}, {} runs, {} started, {} labels, {} wrong",
         all.runs, all.started, all.labels, all.wrong
-    )?;
-    any |= is_wrong(rt, &all)?;
-    let runs = runs.min(CHANGED_RUNS);
-    let all = changes(rt.alloc(), seed, runs)?;
-    let refused = all.there.saturating_add(all.later);
-    println!(rt;
-        "changed: seed {seed}, {runs} runs, {} labels, {} changes, {} refused there, {} later, {} legal, {} wrong",
-        all.labels,
-        all.runs,
-        all.there,
-        all.later,
-        all.runs.saturating_sub(refused),
-        all.wrong
     )?;
     any |= is_wrong(rt, &all)?;
     Ok(any)

@@ -1,5 +1,6 @@
 //! Runs of random settings and events.
 
+use crate::agreeing::judges_agree;
 use crate::dice::Dice;
 use crate::fault::HostileFault;
 use crate::layout::{Layout, NONE_BAD, Partition, SECTOR, adapter};
@@ -7,9 +8,12 @@ use crate::playing::{Told, play};
 use crate::steps::{On, Step, Target};
 use crate::sweeps::push_round;
 use crate::tally::{Case, Tally};
-use crate::verdicts::{Goes, wrong_of};
+use crate::verdicts::{Goes, Wrong, wrong_of};
 use compose::{Handle, Id};
 use std::alloc::{AllocError, Global};
+
+/// The number of runs that both judges are asked of, where as many are made.
+const AGREEING: u64 = 10;
 
 /// Makes this many runs, from this seed on.
 pub fn random_runs(alloc: Global, seed: u64, runs: u64) -> Result<Tally, HostileFault> {
@@ -17,7 +21,10 @@ pub fn random_runs(alloc: Global, seed: u64, runs: u64) -> Result<Tally, Hostile
     for n in 0..runs {
         let seed = seed.wrapping_add(n);
         let run = run_of(alloc, seed)?;
-        let wrong = wrong_of(alloc, &run.layout, run.goes, &run.told)?;
+        let mut wrong = wrong_of(alloc, &run.layout, run.goes, &run.told)?;
+        if n < AGREEING && wrong.is_none() && !judges_agree(alloc, &run)? {
+            wrong = Some(Wrong::Judges);
+        }
         tally.add_run(Case::Seeded { seed }, &run.told, wrong);
     }
     Ok(tally)

@@ -1,4 +1,4 @@
-//! How many runs were made or changed, and how many were wrong.
+//! How many runs were made, and how many were wrong.
 
 use crate::playing::Told;
 use crate::verdicts::Wrong;
@@ -13,8 +13,6 @@ pub enum Case {
     Failing { act: u64 },
     /// The random run of this seed.
     Seeded { seed: u64 },
-    /// The random run of this seed, with this change of the label of this place. Both count from 0.
-    Changed { seed: u64, at: usize, change: usize },
 }
 
 impl fmt::Display for Case {
@@ -23,9 +21,6 @@ impl fmt::Display for Case {
             Case::Inserted { what, before } => write!(f, "{what} before step {before}"),
             Case::Failing { act } => write!(f, "act {act} fails"),
             Case::Seeded { seed } => write!(f, "seed {seed}"),
-            Case::Changed { seed, at, change } => {
-                write!(f, "seed {seed}, change {change} of label {at}")
-            }
         }
     }
 }
@@ -33,15 +28,10 @@ impl fmt::Display for Case {
 /// What a sweep has counted so far.
 #[derive(Clone, Copy)]
 pub struct Tally {
-    /// Runs, or changes of a label.
     pub runs: u64,
     /// How many runs had a stack that started.
     pub started: u64,
     pub labels: u64,
-    /// How many changes had the changed label refused.
-    pub there: u64,
-    /// How many changes had a later label refused.
-    pub later: u64,
     pub wrong: u64,
     /// The first wrong run.
     pub first: Option<(Case, Wrong)>,
@@ -54,8 +44,6 @@ impl Tally {
             runs: 0,
             started: 0,
             labels: 0,
-            there: 0,
-            later: 0,
             wrong: 0,
             first: None,
         }
@@ -65,22 +53,6 @@ impl Tally {
     pub fn add_run(&mut self, case: Case, told: &Told, wrong: Option<Wrong>) {
         self.started = self.started.saturating_add(told.is_started as u64);
         self.labels = self.labels.saturating_add(told.labels.len() as u64);
-        self.add(case, wrong);
-    }
-
-    /// Counts one change more, of the label of this place.
-    pub fn add_change(
-        &mut self,
-        case: Case,
-        at: usize,
-        stops: Option<usize>,
-        wrong: Option<Wrong>,
-    ) {
-        match stops {
-            Some(stop) if stop == at => self.there = self.there.saturating_add(1),
-            Some(_) => self.later = self.later.saturating_add(1),
-            None => {}
-        }
         self.add(case, wrong);
     }
 

@@ -21,13 +21,8 @@ pub enum Wrong {
     Unsettled,
     /// All pieces came back, and a request is still open.
     Unanswered,
-    /// The two judges of a changed run stop at different places: the judge of a list, and the one that takes single
-    /// labels.
+    /// The judge of a whole list and the one of single labels stop at different places.
     Judges,
-    /// A label before the one that was changed was refused.
-    Before,
-    /// The labels before the changed one leave it no such value, and it was taken.
-    Taken,
 }
 
 impl fmt::Display for Wrong {
@@ -38,8 +33,6 @@ impl fmt::Display for Wrong {
             Wrong::Unsettled => f.write_str("not settled at the end"),
             Wrong::Unanswered => f.write_str("a request has no answer"),
             Wrong::Judges => f.write_str("the two judges stop at different labels"),
-            Wrong::Before => f.write_str("a label before the changed one is refused"),
-            Wrong::Taken => f.write_str("a label that none may follow is taken"),
         }
     }
 }

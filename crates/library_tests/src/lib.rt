@@ -1,14 +1,12 @@
 //! Tests of the libraries beside the stack and over it, by those of their public calls that no program makes, or only
 //! where something fails: the judge by other rules, labels that no run has, readers and writers that fail, a second
-//! thread, volumes, and what settings give. What the programs print and say is compared by the cases in `examples/`.
+//! thread, and volumes. What the programs print and say is compared by the cases in `examples/`.
 //!
 //! # Promises
 //!
 //! Nothing.
 #![tactic(auto)]
 
-#[cfg(test)]
-mod documents;
 #[cfg(test)]
 mod expect;
 #[cfg(test)]
@@ -29,7 +27,5 @@ mod runs;
 mod served;
 #[cfg(test)]
 mod sessions;
-#[cfg(test)]
-mod starts;
 #[cfg(test)]
 mod volumes;

@@ -9,7 +9,7 @@ use nbd::{Ahead, take_in_two};
 use read_ahead::{Naming, ReadAhead};
 use std::alloc::{AllocError, Global};
 use std::io;
-use std::io::{BufReader, ErrorKind, Read};
+use std::io::{BufReader, Read};
 use std::marker::Brand;
 use std::process::Abort;
 use std::sync::Wait;
@@ -141,27 +141,7 @@ fn take_in_pieces<
     Ok(())
 }
 
-/// Finds that the bytes of the second write never come.
-fn take_none<
-    J: Naming + Send + Sync + 'static,
-    H: Abort + Threads + Wait + Copy + Send + 'static,
-    I: Ahead + Send + Drop + 'static,
->(rt: H, alloc: Global, input: I) -> Result<(), Fail>
-    requires { I.remaining input ≡ J.given }
-{
-    let mut input: ReadAhead<J, H, I> = ReadAhead::new(alloc, rt, input);
-    take_first(&rt, alloc, &mut input)?;
-    take_same(&rt, alloc, &mut input, &SECOND)?;
-    let Err(_) = input.take_whole(Vec::new(alloc), 40_000) else {
-        return Err(Fail::from("the bytes didn't come"));
-    };
-    let Err(error) = input.read(&mut [0; 8]) else {
-        return Err(Fail::from("the input ended"));
-    };
-    same(&rt, &error.kind(), &ErrorKind::UnexpectedEof);
-    Ok(())
-}
-
+// An end in the bytes of a write is a session of `examples/`.
 #[test]
 fn fetches_the_bytes_of_a_write(rt: HostRuntime) -> Result<(), Fail> {
     let alloc = rt.alloc();
@@ -174,12 +154,4 @@ fn gives_fetched_bytes_in_pieces(rt: HostRuntime) -> Result<(), Fail> {
     let alloc = rt.alloc();
     let input = BufReader::with_capacity(alloc, 8_192, both_writes(alloc, &WHOLE)?)?;
     take_in_pieces::<Brand, _, _>(rt, alloc, input)
-}
-
-#[test]
-fn tells_an_end_in_the_bytes_of_a_write(rt: HostRuntime) -> Result<(), Fail> {
-    let alloc = rt.alloc();
-    let sent = both_writes(alloc, &[Fill(0xB2, 39_000)])?;
-    let input = BufReader::with_capacity(alloc, 8_192, sent)?;
-    take_none::<Brand, _, _>(rt, alloc, input)
 }
