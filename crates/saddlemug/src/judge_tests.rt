@@ -90,11 +90,3 @@ fn judges_as_it_goes(rt: HostRuntime) {
     same(&rt, &[none, call, act, start, bad], &[0, 0, 401, 0, 1]);
     assert!(rt; first && !unsettled && started);
 }
-
-#[test]
-fn opens_no_judge_of_no_settings(rt: HostRuntime) {
-    let alloc = rt.alloc();
-    let mut cell = Cell::empty(alloc);
-    let refused = saddlemug_judge_open_into(alloc, &mut cell, b"[");
-    same(&rt, &refused, &0xC000_000D);
-}

@@ -11,22 +11,13 @@ use crate::labels::StackAnswer;
 use crate::opening_over::StackDisk;
 use crate::over_calls::{saddlemug_over_armed, saddlemug_over_book, saddlemug_over_open};
 use crate::stack_calls::{
-    saddlemug_stack_close_full, saddlemug_stack_open_into, saddlemug_stack_step,
-    saddlemug_stack_take_answer,
+    saddlemug_stack_close_full, saddlemug_stack_step, saddlemug_stack_take_answer,
 };
-use crate::tests::{SETTINGS, event, same};
+use crate::tests::{event, same};
 use std::alloc::Global;
 use std::process::Abort;
 
 const NOT_FOUND: u32 = 0xC000_0225;
-
-const INVALID_PARAMETER: u32 = 0xC000_000D;
-
-const INVALID_DEVICE_REQUEST: u32 = 0xC000_0010;
-
-const DEVICE_DATA_ERROR: u32 = 0xC000_009C;
-
-const IO_DEVICE_ERROR: u32 = 0xC000_0185;
 
 const NOBODY: StackId = StackId { number: 0, slot: 0 };
 
@@ -74,18 +65,6 @@ fn success() -> StackCompletion {
         has_sense: false,
         key: 0,
         asc: 0,
-        ascq: 0,
-    }
-}
-
-/// ERROR with CHECK CONDITION and this sense.
-fn error(key: u8, asc: u8) -> StackCompletion {
-    StackCompletion {
-        srb_status: 0x84,
-        scsi_status: 2,
-        has_sense: true,
-        key,
-        asc,
         ascq: 0,
     }
 }
@@ -175,117 +154,4 @@ fn books_what_c_moved(rt: HostRuntime) {
     same(&rt, &again.piece_low, &piece.piece_low);
     same(&rt, &[booked, twice, late], &[0, NOT_FOUND, NOT_FOUND]);
     same(&rt, &answer, &(0, 512));
-}
-
-#[test]
-fn refuses_what_is_not_of_the_piece(rt: HostRuntime) {
-    let alloc = rt.alloc();
-    let mut cell = Cell::empty(alloc);
-    requested(&rt, alloc, &mut cell, 3);
-    let piece = armed(&rt, alloc, &mut cell);
-    let booking = moved(&piece);
-    let short = StackBooking {
-        length: 511,
-        ..booking
-    };
-    let other_tag = StackBooking { tag: 1, ..booking };
-    let other_piece = StackBooking {
-        piece_high: 1,
-        ..booking
-    };
-    let no_failure = StackBooking {
-        failed: true,
-        ..booking
-    };
-    let short = saddlemug_over_book(alloc, &mut cell, &short);
-    let other_tag = saddlemug_over_book(alloc, &mut cell, &other_tag);
-    let other_piece = saddlemug_over_book(alloc, &mut cell, &other_piece);
-    let no_failure = saddlemug_over_book(alloc, &mut cell, &no_failure);
-    let mut none = no_piece();
-    let free = saddlemug_over_armed(alloc, &mut cell, 1, &mut none);
-    saddlemug_stack_close_full(alloc, &mut cell);
-    same(
-        &rt,
-        &[short, no_failure],
-        &[INVALID_PARAMETER, INVALID_PARAMETER],
-    );
-    same(
-        &rt,
-        &[other_tag, other_piece, free],
-        &[NOT_FOUND, NOT_FOUND, NOT_FOUND],
-    );
-}
-
-/// The status of a read whose piece failed like this, or of which nothing was booked.
-fn read_failed(rt: &impl Abort, alloc: Global, failure: Option<StackCompletion>) -> u32 {
-    let mut cell = Cell::empty(alloc);
-    requested(rt, alloc, &mut cell, 2);
-    let piece = armed(rt, alloc, &mut cell);
-    if let Some(completion) = failure {
-        let booking = StackBooking {
-            failed: true,
-            completion,
-            ..moved(&piece)
-        };
-        let booked = saddlemug_over_book(alloc, &mut cell, &booking);
-        same(rt, &booked, &0);
-    }
-    let (status, _) = answered(alloc, &mut cell);
-    saddlemug_stack_close_full(alloc, &mut cell);
-    status
-}
-
-#[test]
-fn failures_come_up(rt: HostRuntime) {
-    let alloc = rt.alloc();
-    // MEDIUM ERROR, HARDWARE ERROR, and HARDWARE ERROR where nothing was booked.
-    let medium = read_failed(&rt, alloc, Some(error(3, 0x11)));
-    let hardware = read_failed(&rt, alloc, Some(error(4, 0)));
-    let unbooked = read_failed(&rt, alloc, None);
-    same(
-        &rt,
-        &[medium, hardware, unbooked],
-        &[DEVICE_DATA_ERROR, IO_DEVICE_ERROR, IO_DEVICE_ERROR],
-    );
-}
-
-/// Returns what is answered where these are a disk's sizes and its first sector.
-fn refused(alloc: Global, disk: &StackDisk, first: &[u8]) -> u32 {
-    let mut cell = Cell::empty(alloc);
-    saddlemug_over_open(alloc, &mut cell, disk, first)
-}
-
-#[test]
-fn refuses_what_is_no_disk(rt: HostRuntime) {
-    let alloc = rt.alloc();
-    let first = table();
-    let none = StackDisk { sectors: 0, ..DISK };
-    let deep = StackDisk { depth: 33, ..DISK };
-    let empty = StackDisk { window: 0, ..DISK };
-    let got = [
-        refused(alloc, &DISK, &[0; 512]),
-        refused(alloc, &DISK, &[0; 511]),
-        refused(alloc, &none, &first),
-        refused(alloc, &deep, &first),
-        refused(alloc, &empty, &first),
-    ];
-    same(&rt, &got, &[INVALID_PARAMETER; 5]);
-}
-
-#[test]
-fn a_disk_in_memory_moves_by_itself(rt: HostRuntime) {
-    let alloc = rt.alloc();
-    let mut cell = Cell::empty(alloc);
-    if saddlemug_stack_open_into(alloc, &mut cell, SETTINGS) != 0 {
-        panic!(rt; "no stack");
-    }
-    let mut armed = no_piece();
-    let told = saddlemug_over_armed(alloc, &mut cell, 0, &mut armed);
-    let booked = saddlemug_over_book(alloc, &mut cell, &moved(&armed));
-    saddlemug_stack_close_full(alloc, &mut cell);
-    same(
-        &rt,
-        &[told, booked],
-        &[INVALID_DEVICE_REQUEST, INVALID_DEVICE_REQUEST],
-    );
 }

@@ -59,17 +59,6 @@ fn writes_and_reads(rt: HostRuntime) {
     same(&rt, &buffer[512], &0xA5);
 }
 
-#[test]
-fn refuses_what_it_cannot_open(rt: HostRuntime) {
-    let alloc = rt.alloc();
-    let rows: [(&[u8], u8); 4] = [(b"\xFF", 0), (b"sectors = 9", 0), (b"[", 0), (SETTINGS, 1)];
-    for (text, partition) in rows {
-        let mut cell = Cell::empty(alloc);
-        let status = saddlemug_open_into(alloc, &mut cell, text, partition);
-        same(&rt, &status, &0xC000_000D);
-    }
-}
-
 /// An event of a kind.
 pub(crate) fn event(kind: u32, handle: StackId) -> StackEvent {
     StackEvent {
