@@ -258,6 +258,20 @@ END
 END
 }
 
+# Runs the judge on a trace whose refused calls bring their bytes and are answered late, and on what is reordered of it.
+run_refused_late() {
+    local folder=$top/examples/judged/refused_late
+    want late.recorded 1 <<< 'line 2: the call is refused with INVALID_PARAMETER, and takes none of its 512 bytes in'
+    run_case late.recorded check "$folder/config.toml" "$folder/recorded"
+    keep_wanted_lines late.recorded
+    want late.reordered 0 < "$folder/trace"
+    python3 "$top/clients/traces/refused_first.py" "$folder/config.toml" "$folder/recorded" > "$scratch/found/late.reordered.stdout"
+    : > "$scratch/found/late.reordered.stderr"
+    echo 0 > "$scratch/found/late.reordered.status"
+    legal_line <(grep -v '^#' "$folder/trace") | want late.judged 0
+    run_case late.judged check "$folder/config.toml" "$folder/trace"
+}
+
 # Runs all cases of the judge, and compares them.
 run_judge_cases() {
     local folder it
@@ -275,6 +289,7 @@ run_judge_cases() {
     for it in "$top"/examples/judged/pictures/*/{picture,events}; do run_drawing "${it%/*}" "${it##*/}"; done
     run_cuts
     run_cut
+    run_refused_late
     for it in "$top"/examples/history/*/history; do run_history "${it%/*}"; done
     run_refused_words
     run_answered_at_once "$top/launcher/judged_at_once"
@@ -291,6 +306,7 @@ run_judge_cases() {
     count_cases "stackjudge, pages" page.
     count_cases "stackjudge, cuts of another stack" cuts.
     count_cases "stackjudge, traces cut down" cut.
+    count_cases "stackjudge, refused calls answered late" late.
     count_cases "stackjudge, histories" history.
     count_cases "stackjudge, words refused" refused.
     count_cases "stackjudge, words answered at once" words.
