@@ -19,7 +19,9 @@ WHOLE = {
 }
 OPTIONAL = ("open_requests", "type")
 OF_PARTITION = {"first": range(2**32), "count": range(2**32), "type": range(1, 255 + 1)}
-KEYS = (*WHOLE, "write_protected", "bad_sectors", "partition")
+OF_RULE = {"every": range(1, 2**63), "times": range(1, 2**63), "first": range(2**63), "count": range(2**63)}
+KINDS = ("medium_error", "hardware_error", "not_ready", "aborted_command")
+KEYS = (*WHOLE, "write_protected", "bad_sectors", "fault", "partition")
 
 
 def shown(value):
@@ -40,15 +42,21 @@ def is_whole(value):
     return isinstance(value, int) and not isinstance(value, bool)
 
 
-def numbers(table, ranges, where):
+def numbers(table, ranges, where, optional=OPTIONAL):
     """The first key of a table that is missing or out of range."""
     for key, values in ranges.items():
         if key not in table:
-            if key not in OPTIONAL:
+            if key not in optional:
                 return f"{where}{key} is missing: {of_range(values)}"
         elif not is_whole(table[key]) or table[key] not in values:
             return f"{where}{key} = {shown(table[key])}, and {of_range(values)}"
     return None
+
+
+def listed(settings, key):
+    """The values of a list, none where no list is."""
+    found = settings.get(key, [])
+    return found if isinstance(found, list) else []
 
 
 def unknown(settings, partitions):
@@ -56,6 +64,10 @@ def unknown(settings, partitions):
     for key in settings:
         if key not in KEYS:
             return f"{shown(key)} is no key: there are {', '.join(KEYS)}"
+    for at, rule in enumerate(listed(settings, "fault")):
+        for key in rule if isinstance(rule, dict) else ():
+            if key != "kind" and key not in OF_RULE:
+                return f"fault {at}: {shown(key)} is no key: there are kind, {', '.join(OF_RULE)}"
     for at, partition in enumerate(partitions):
         for key in partition if isinstance(partition, dict) else ():
             if key not in OF_PARTITION:
@@ -63,8 +75,24 @@ def unknown(settings, partitions):
     return None
 
 
+def in_rules(settings):
+    """The first fault of the rules by which commands fail."""
+    if not isinstance(settings.get("fault", []), list):
+        return "fault is no list of tables: write fault = [{ kind = ... }]"
+    for at, rule in enumerate(listed(settings, "fault")):
+        if not isinstance(rule, dict):
+            return f"fault {at} is no table"
+        if "kind" not in rule:
+            return f"fault {at}: kind is missing: it is {' or '.join(KINDS)}"
+        if rule["kind"] not in KINDS:
+            return f"fault {at}: kind = {shown(rule['kind'])}, and it is {' or '.join(KINDS)}"
+        if fault := numbers(rule, OF_RULE, f"fault {at}: ", OF_RULE):
+            return fault
+    return None
+
+
 def in_lists(settings, partitions):
-    """The first fault of `write_protected`, `bad_sectors` and the partitions."""
+    """The first fault of `write_protected`, the lists and the partitions."""
     if not isinstance(settings.get("write_protected", False), bool):
         return f"write_protected = {shown(settings['write_protected'])}, and it is true or false"
     bad = settings.get("bad_sectors", [])
@@ -73,6 +101,8 @@ def in_lists(settings, partitions):
     for sector in bad:
         if not is_whole(sector) or sector not in range(settings["sectors"]):
             return f"bad_sectors has {shown(sector)}, and each is a sector of the disk, 0 to {settings['sectors'] - 1}"
+    if fault := in_rules(settings):
+        return fault
     if not isinstance(settings.get("partition", []), list):
         return "partition is no list of tables: write [[partition]]"
     for at, partition in enumerate(partitions):

@@ -11,7 +11,7 @@ use crate::steps::Step;
 use crate::tally::{Case, Tally};
 use crate::verdicts::{Goes, wrong_of};
 use machine::Label;
-use miniport::{Adapter, OnceAdapter};
+use miniport::{Adapter, PlannedAdapter};
 use srb::DeviceLabel;
 use std::alloc::{AllocError, Global};
 
@@ -68,7 +68,7 @@ pub fn failures(alloc: Global, row: &Row) -> Result<Tally, HostileFault> {
     let mut tally = Tally::new();
     let steps = row.steps(alloc)?;
     for act in 0..MOST_ACTS {
-        let adapter = OnceAdapter::new(adapter(alloc, &row.layout())?, act);
+        let adapter = PlannedAdapter::failing_once(alloc, adapter(alloc, &row.layout())?, act)?;
         let told = play_row(alloc, row, adapter, &[steps.as_slice()])?;
         let wrong = wrong_of(alloc, &row.layout(), Goes::ToItsEnd, &told)?;
         tally.add_run(Case::Failing { act }, &told, wrong);

@@ -33,7 +33,7 @@ use Rattle.miniport.specs.inside.Apart.{EndsFailed, EndsUnbooked, EndsAsBooked, 
 use Rattle.miniport.specs.Carrying.{disk_of}
 use Rattle.miniport.specs.Faults.{Disk, fault_of, fault_of_command, is_execute, is_past_end, is_write, fits, invalid_request, error}
 use Rattle.miniport.specs.Moving.{moved_by}
-use Rattle.miniport.specs.Once.{hardware_error}
+use Rattle.miniport.specs.Planned.{hardware_error}
 use Rattle.miniport.specs.inside.Slots.{Table, piece_at, in_use_of, tags_of, has_bytes, with_slot, with_moved, with_failed}
 use Rattle.miniport.specs.Memory.{MemView, shown_of, view_of}
 use Rattle.miniport.specs.inside.Memory.{AdapterKept, HasBooked, PutsBack, ActsNotIn}

@@ -4,3 +4,4 @@ pub mod Memory
 pub mod Recorded
 pub mod Slots
 pub mod Suiting
+pub mod Planned

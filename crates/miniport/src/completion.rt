@@ -72,8 +72,12 @@ pub(crate) fn not_decoded(fault: CdbFault) -> Completion
 /// The sense key MEDIUM ERROR (SPC).
 pub const MEDIUM_ERROR: u8 = 3;
 
+pub(crate) const NOT_READY: u8 = 2;
+
 pub(crate) const HARDWARE_ERROR: u8 = 4;
 
 pub(crate) const ILLEGAL_REQUEST: u8 = 5;
 
 pub(crate) const DATA_PROTECT: u8 = 7;
+
+pub(crate) const ABORTED_COMMAND: u8 = 11;

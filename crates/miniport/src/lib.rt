@@ -4,18 +4,19 @@
 //!
 //! `MemAdapter` keeps [`Adapter`], faithfully, over any medium. It faults exactly where its table or a reset says
 //! (`by_table`, `completion`, `due`); failures stay within twice the pieces (`twice`). [`MemAdapter::noting`] keeps no
-//! label's bytes. `OnceAdapter` fails one act more (`once`, `before`). `BookedAdapter` acts as was booked; how a booked
-//! failure comes back, and what `Taken` leaves, is only tested.
+//! label's bytes. `PlannedAdapter` is that adapter, but acts fail by rules (`planned`). `BookedAdapter`
+//! acts as was booked; how a booked failure comes back, and what `Taken` leaves, is only tested.
 #![tactic(auto)]
 
 mod booked;
 mod carrying;
 mod check;
 mod completion;
+mod fault_rule;
 mod first_sector;
 mod memory;
 mod on_tag;
-mod once;
+mod planned;
 mod recorded;
 mod suiting;
 mod table;
@@ -24,5 +25,6 @@ pub use adapter::Adapter;
 pub use booked::BookedAdapter;
 pub use carrying::{Outcome, carry_out, check_on};
 pub use completion::{MEDIUM_ERROR, failed_with};
+pub use fault_rule::{FaultKind, FaultRule};
 pub use memory::MemAdapter;
-pub use once::OnceAdapter;
+pub use planned::PlannedAdapter;

@@ -7,7 +7,7 @@ use crate::steps::Told::{Acts, Bad, Faults, Starts};
 use crate::steps::{Told, is_told};
 use arrayvec::ArrayVec;
 use disk::VecDisk;
-use miniport::{Adapter, MemAdapter, OnceAdapter};
+use miniport::{Adapter, MemAdapter, PlannedAdapter};
 use ntstatus::Sense;
 use sector::{Bytes, Extent, LabelRoom};
 use srb::{CommandBlock, Completion, DeviceLabel, Srb, SrbFlags, SrbFunction};
@@ -444,7 +444,7 @@ const SECOND_ACT_FAILS: [Row; 13] = [
 fn tags_serve_at_once_and_resets_are_met(rt: HostRuntime) -> Result<(), Fail> {
     let alloc = rt.alloc();
     run(&rt, alloc, disk_of(alloc, 3, false)?, &THREE_TAGS)?;
-    let once = OnceAdapter::new(disk_of(alloc, 2, false)?, 1);
+    let once = PlannedAdapter::failing_once(alloc, disk_of(alloc, 2, false)?, 1)?;
     same(&rt, &once.sector_size(), &512);
     same(&rt, &once.max_transfer(), &64);
     assert!(rt; once.is_faithful() && once.failures() == 0);

@@ -7,7 +7,7 @@ use crate::expect::{prints, same};
 use crate::tables::{extent, table};
 use disk::{Medium, NoMemory, SparseDisk, VecDisk};
 use mbr::MbrFault;
-use miniport::{Adapter, MemAdapter, OnceAdapter};
+use miniport::{Adapter, MemAdapter, PlannedAdapter};
 use ntstatus::NtStatus;
 use probe::{ProbeFault, probe};
 use sector::Extent;
@@ -90,7 +90,11 @@ fn a_disk_is_probed_or_a_command_fails(rt: HostRuntime) -> Result<(), Fail> {
     let failed = Err(ProbeFault::Device(NtStatus::IoDeviceError));
     for (sectors, commands) in [(4096, 2), (FAR - 1, 2), (FAR, 3), (1 << 40, 3)] {
         for before in 0..4 {
-            let once = OnceAdapter::new(partitioned(&rt, alloc, sectors, &[])?, before);
+            let once = PlannedAdapter::failing_once(
+                alloc,
+                partitioned(&rt, alloc, sectors, &[])?,
+                before,
+            )?;
             if before < commands {
                 tells(&rt, alloc, once, failed, 1)?;
             } else {

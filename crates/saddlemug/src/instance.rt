@@ -21,7 +21,7 @@ use crate::over::Over;
 use adapter::Adapter;
 use compose::Refusal;
 use disk::SparseDisk;
-use miniport::MemAdapter;
+use miniport::PlannedAdapter;
 use ntstatus::NtStatus;
 use referee::Referee;
 use std::alloc::Global;
@@ -31,7 +31,7 @@ use volume::{Error, Sizes, Volume};
 #[derive(Drop)]
 pub enum Instance {
     /// One partition as an array of bytes, over a stack of its own.
-    Volume(Volume<MemAdapter<SparseDisk>>),
+    Volume(Volume<PlannedAdapter<SparseDisk>>),
     /// A whole stack, event by event.
     Stack(MemoryStack),
     /// A stack over storage of C's own.

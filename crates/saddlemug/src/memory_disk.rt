@@ -9,7 +9,7 @@ ghost use Rattle.saddlemug.specs.InMemory.{AreTold, IsDisk, IsDiskStatus, IsInRa
 use crate::memory_stack::MemoryStack;
 use crate::opening::{stack_of, volume_of};
 use disk::SparseDisk;
-use miniport::MemAdapter;
+use miniport::PlannedAdapter;
 use ntstatus::NtStatus;
 use settings::{Config, Partition};
 use std::alloc::{AllocError, Global};
@@ -101,7 +101,7 @@ pub(crate) fn told_volume(
     disk: &MemoryDisk,
     bad: &[u64],
     partition: u8,
-) -> Result<Volume<MemAdapter<SparseDisk>>, NtStatus>
+) -> Result<Volume<PlannedAdapter<SparseDisk>>, NtStatus>
     ensures volume { IfOk result (IsToldVolume disk.now bad.now partition) }
     ensures fault { IfErr result (λ status. status ≢ Success) }
     ensures why { IfErr result (IsToldVolumeStatus disk.now bad.now partition) }
@@ -170,6 +170,7 @@ fn filled(alloc: Global, disk: &MemoryDisk, bad: &[u64]) -> Result<Config, Alloc
         open_requests: disk.open_requests,
         write_protected: disk.write_protected,
         bad_sectors,
+        faults: Vec::new(alloc),
         partitions,
     })
 }

@@ -9,7 +9,7 @@ use crate::labels::{StackAnswer, StackLabel};
 use crate::stepping::{first_answer, step_as_told, tell_answer, tell_answer_of, tell_label};
 use compose::Stack;
 use disk::SparseDisk;
-use miniport::MemAdapter;
+use miniport::PlannedAdapter;
 use ntstatus::NtStatus;
 use std::alloc::Global;
 use std::marker::Model;
@@ -17,7 +17,7 @@ use std::marker::Model;
 /// A stack over a disk in memory, whose labels keep their bytes.
 #[derive(Drop)]
 pub struct MemoryStack {
-    stack: Stack<MemAdapter<SparseDisk>>,
+    stack: Stack<PlannedAdapter<SparseDisk>>,
 }
 
 impl Model for MemoryStack {
@@ -33,7 +33,7 @@ impl Model for MemoryStack {
 
 impl MemoryStack {
     /// A stack whose labels keep their bytes.
-    pub(crate) fn new(stack: Stack<MemAdapter<SparseDisk>>) -> MemoryStack
+    pub(crate) fn new(stack: Stack<PlannedAdapter<SparseDisk>>) -> MemoryStack
         requires { IsTrue stack.rules.keeps_bytes }
         ensures { result ≡ stack }
     {

@@ -12,7 +12,7 @@ use crate::memory_stack::MemoryStack;
 use crate::status::{refusal_status, start_status};
 use compose::StartFault;
 use disk::SparseDisk;
-use miniport::MemAdapter;
+use miniport::PlannedAdapter;
 use ntstatus::NtStatus;
 use settings::{Config, ConfigFault};
 use startup::{open, settings_of, start};
@@ -28,7 +28,7 @@ pub(crate) fn new_volume(
     alloc: Global,
     text: &[u8],
     partition: u8,
-) -> Result<Volume<MemAdapter<SparseDisk>>, NtStatus>
+) -> Result<Volume<PlannedAdapter<SparseDisk>>, NtStatus>
     ensures volume { IfOk result (IsNewVolume text.now partition) }
     ensures fault { IfErr result (λ status. status ≢ Success) }
     ensures why { IfErr result (IsVolumeStatus text.now partition) }
@@ -79,7 +79,7 @@ pub(crate) fn volume_of(
     alloc: Global,
     config: Config,
     partition: u8,
-) -> Result<Volume<MemAdapter<SparseDisk>>, NtStatus>
+) -> Result<Volume<PlannedAdapter<SparseDisk>>, NtStatus>
     requires { AreInRange config }
     ensures volume { IfOk result (IsVolumeOf config partition) }
     ensures fault { IfErr result (λ status. status ≢ Success) }

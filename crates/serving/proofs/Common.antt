@@ -63,7 +63,7 @@ pub use Rattle.serving.specs.OnDisk.{Differs, DiffersFrom, IsFirstOther, IsStart
 pub use Rattle.serving.specs.Serving.{IsServed, IsStartFault, array_of, fault_of_end, fault_of_open, may_fail, new_array}
 pub use Rattle.serving.specs.declared.faults.Difference.{Difference}
 pub use Rattle.serving.specs.declared.faults.Difference.TheVariants.{BadTable}
-pub use Rattle.serving.specs.declared.faults.DiskFault.TheVariants.{BadSectors, InUse, IsConfig, IsOutput, NotCreated, NotOpened, OtherSize, OtherTable, Unreadable}
+pub use Rattle.serving.specs.declared.faults.DiskFault.TheVariants.{HasFaults, InUse, IsConfig, IsOutput, NotCreated, NotOpened, OtherSize, OtherTable, Unreadable}
 pub use Rattle.serving.specs.declared.faults.Error.{Error}
 pub use Rattle.serving.specs.declared.faults.Error.TheVariants.{Disk, InputEnded, Malformed, NoMemory, NoPartition, OutputFailed, Startup, Usage}
 pub use Rattle.settings.specs.Medium.{extent_of, extents_of}

@@ -1,10 +1,10 @@
 -- Why no partition of a disk in a storage was opened.
-use Rattle.serving.proofs.Common.{◌≡◌, ◌<◌, ◌≤◌, ◌⊎◌, inl, inr, ℕ, Bool, true, false, List, ◌∷◌, [], Some, None, Result, Ok, Err, length, refl, sym, subst, arith, IfErr, count_by, is_some, nat_le, nat_tests, when, first_some, Rules, Config, extents_of, Handle, InvalidParameter, Reply, are_used_up, handle_limit, open_refusal, ManagerView, Open, IsRight, rules_over, Error, Usage, Startup, NoPartition, Disk, Malformed, InputEnded, OutputFailed, NoMemory, NotOpened, NotCreated, InUse, OtherSize, Unreadable, OtherTable, BadSectors, IsConfig, IsOutput}
+use Rattle.serving.proofs.Common.{◌≡◌, ◌<◌, ◌≤◌, ◌⊎◌, inl, inr, ℕ, Bool, true, false, List, ◌∷◌, [], Some, None, Result, Ok, Err, length, refl, sym, subst, arith, IfErr, count_by, is_some, nat_le, nat_tests, when, first_some, Rules, Config, extents_of, Handle, InvalidParameter, Reply, are_used_up, handle_limit, open_refusal, ManagerView, Open, IsRight, rules_over, Error, Usage, Startup, NoPartition, Disk, Malformed, InputEnded, OutputFailed, NoMemory, NotOpened, NotCreated, InUse, OtherSize, Unreadable, OtherTable, HasFaults, IsConfig, IsOutput}
 use Rattle.ntstatus.specs.declared.NtStatus.TheVariants.{InvalidParameter as ParameterStatus, DeletePending as PendingStatus, DeviceBusy as BusyStatus}
 use Rattle.io_manager.specs.declared.Reply.TheVariants.{Refused}
 use Rattle.startup.specs.declared.faults.Error.TheVariants.{ConfigUnreadable, Settings as WrongSettings, Start, NoMemory as LacksMemory}
 use Rattle.file_disk.specs.Calls.{Call}
-use Rattle.serving.specs.OnDisk.{AreServable, IsNotStarted, IsOpenFault, IsTableFault, ReadsTable}
+use Rattle.serving.specs.OnDisk.{AreServable, HasNoFaults, IsNotStarted, IsOpenFault, IsTableFault, ReadsTable}
 
 -- an open that is refused for its parameter is one of a partition that isn't there
 refused_past : (old : ManagerView) (partition : ℕ) → open_refusal old partition ≡ Some ParameterStatus → length old.rules.partitions ≤ partition
@@ -30,7 +30,7 @@ on_refused old new partition reply (Err fault) right (inr (none, (bytes, is))) =
 -- OPENING
 
 -- there is no such partition, and nothing was called
-pub no_partition : (c : Config) (p : ℕ) (calls : List Call) (fault : Error) → c.bad_sectors.items ≡ [] → (fault ≡ NoPartition) × (length (extents_of c) ≤ p) → IsOpenFault c p calls fault calls
+pub no_partition : (c : Config) (p : ℕ) (calls : List Call) (fault : Error) → HasNoFaults c → (fault ≡ NoPartition) × (length (extents_of c) ≤ p) → IsOpenFault c p calls fault calls
 no_partition c p calls fault none h = subst (λ (f : Error). IsOpenFault c p calls f calls) (sym h.0) (none, h.1, refl)
 
 module _ (c : Config) (p : ℕ) (before after : List Call) (servable : AreServable c p) where
@@ -43,7 +43,7 @@ module _ (c : Config) (p : ℕ) (before after : List Call) (servable : AreServab
   fault_of_table (Disk NotCreated) h = absurd h
   fault_of_table (Disk InUse) h = absurd h
   fault_of_table (Disk (OtherSize found wanted)) h = absurd h
-  fault_of_table (Disk BadSectors) h = absurd h
+  fault_of_table (Disk HasFaults) h = absurd h
   fault_of_table (Disk IsConfig) h = absurd h
   fault_of_table (Disk IsOutput) h = absurd h
   fault_of_table Usage h = absurd h

@@ -7,7 +7,7 @@ use Rattle.serving.specs.declared.faults.Error.{Error}
 use Rattle.serving.specs.declared.faults.Difference.{Difference}
 use Rattle.serving.specs.declared.faults.Difference.TheVariants.{BadTable, Count, Partition}
 use Rattle.serving.specs.declared.faults.DiskFault.{DiskFault}
-use Rattle.serving.specs.declared.faults.DiskFault.TheVariants.{NotOpened, NotCreated, InUse, OtherSize, Unreadable, OtherTable, BadSectors, IsConfig, IsOutput}
+use Rattle.serving.specs.declared.faults.DiskFault.TheVariants.{NotOpened, NotCreated, InUse, OtherSize, Unreadable, OtherTable, HasFaults, IsConfig, IsOutput}
 use Rattle.serving.specs.declared.faults.Error.TheVariants.{Usage, Startup, NoPartition, Disk, Malformed, InputEnded, OutputFailed, NoMemory}
 
 -- what a table has, and what the settings ask for
@@ -26,7 +26,7 @@ disk_text InUse = codes "FILE is in use"
 disk_text (OtherSize found wanted) = codes "FILE has " ++ (decimal found ++ (codes " bytes, the settings ask for " ++ decimal wanted))
 disk_text Unreadable = codes "cannot read FILE"
 disk_text (OtherTable difference) = difference_text difference
-disk_text BadSectors = codes "bad_sectors are not for a disk in FILE"
+disk_text HasFaults = codes "bad_sectors and fault are not for a disk in FILE"
 disk_text IsConfig = codes "FILE is CONFIG"
 disk_text IsOutput = codes "FILE is standard output"
 

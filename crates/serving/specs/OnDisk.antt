@@ -27,7 +27,7 @@ use Rattle.serving.specs.declared.faults.Difference.{Difference}
 use Rattle.serving.specs.declared.faults.Difference.TheVariants.{BadTable, Count, Partition as Differing}
 use Rattle.serving.specs.declared.faults.Error.{Error}
 use Rattle.serving.specs.declared.faults.Error.TheVariants.{Startup, NoPartition, Disk, NoMemory}
-use Rattle.serving.specs.declared.faults.DiskFault.TheVariants.{NotCreated, Unreadable, OtherTable, BadSectors}
+use Rattle.serving.specs.declared.faults.DiskFault.TheVariants.{NotCreated, Unreadable, OtherTable, HasFaults}
 use Rattle.serving.specs.Carried.{IsTold}
 use Rattle.serving.specs.Filed.{CarriesBy, FiledView}
 use Rattle.serving.specs.Serving.{fault_of_end}
@@ -120,9 +120,13 @@ IsNotStarted c first_sector _ = ⊥
 
 -- A PARTITION IS OPENED
 
+-- the settings have neither bad sectors nor rules by which commands fail
+abbrev pub HasNoFaults : Config → Type 0
+HasNoFaults c = (c.bad_sectors.items ≡ []) × (c.faults.items ≡ [])
+
 -- a partition of these settings, over a storage of which just its partition table was read
 pub record IsOpened (c : Config) (p : ℕ) (calls : List Call) (filed : FiledView) : Type 0 where
-  pub none_bad : c.bad_sectors.items ≡ []
+  pub no_faults : HasNoFaults c
   pub table : ReadsTable c calls filed.carried.disk.calls
   pub block : filed.sizes.block ≡ c.sector_size
   -- clients are told of write protection
@@ -139,9 +143,9 @@ pub record IsOpened (c : Config) (p : ℕ) (calls : List Call) (filed : FiledVie
   -- nor was anything called
   pub none_called : trace ≡ []
 
--- the settings have no bad sectors, and have this partition
+-- the settings have no faults, and have this partition
 abbrev pub AreServable : Config → ℕ → Type 0
-AreServable c p = (c.bad_sectors.items ≡ []) × (p < length (extents_of c))
+AreServable c p = HasNoFaults c × (p < length (extents_of c))
 
 -- sector 0 was read, and no stack could be started over it
 pub record StopsStarting (c : Config) (before : List Call) (fault : StartFault) (after : List Call) : Type 0 where
@@ -150,10 +154,10 @@ pub record StopsStarting (c : Config) (before : List Call) (fault : StartFault) 
 
 -- why a partition of these settings could not be opened, and what was called of the storage
 abbrev pub IsOpenFault : Config → ℕ → List Call → Error → List Call → Type 0
--- there are bad sectors
-IsOpenFault c p before (Disk BadSectors) after = (c.bad_sectors.items ≢ []) × (after ≡ before)
+-- there are faults
+IsOpenFault c p before (Disk HasFaults) after = (¬ HasNoFaults c) × (after ≡ before)
 -- there are none, and no such partition
-IsOpenFault c p before NoPartition after = (c.bad_sectors.items ≡ []) × (length (extents_of c) ≤ p) × (after ≡ before)
+IsOpenFault c p before NoPartition after = HasNoFaults c × (length (extents_of c) ≤ p) × (after ≡ before)
 -- a call of the table's read gave nothing
 IsOpenFault c p before (Disk Unreadable) after = AreServable c p × IsTableFault c before (Disk Unreadable) after
 -- the table was read, and is another

@@ -46,8 +46,8 @@ pub enum DiskFault {
     Unreadable,
     /// Sector 0 gives other partitions than the settings, or none.
     OtherTable(Difference),
-    /// The settings have bad sectors.
-    BadSectors,
+    /// The settings have bad sectors, or rules by which commands fail.
+    HasFaults,
     /// The file is the one that has the settings.
     IsConfig,
     /// The file is the one that takes the output.
@@ -121,7 +121,7 @@ impl fmt::Display for DiskFault {
             ),
             DiskFault::Unreadable => f.write_str("cannot read FILE"),
             DiskFault::OtherTable(difference) => write!(f, "{difference}"),
-            DiskFault::BadSectors => f.write_str("bad_sectors are not for a disk in FILE"),
+            DiskFault::HasFaults => f.write_str("bad_sectors and fault are not for a disk in FILE"),
             DiskFault::IsConfig => f.write_str("FILE is CONFIG"),
             DiskFault::IsOutput => f.write_str("FILE is standard output"),
         }

@@ -13,7 +13,7 @@ ghost use Rattle.volume.specs.Shown.{extent_at};
 ghost use Rattle.file_disk.specs.Calls.{ReadsAll, Since};
 ghost use Rattle.file_disk.specs.Transfers.{DiskView, SyncsAfter};
 ghost use Rattle.serving.specs.Carried.{StandsIn, TellsOn, quiet};
-ghost use Rattle.serving.specs.OnDisk.{Differs, DiffersFrom, IsFileSession, IsOpenFault, IsOpened, IsPutFault};
+ghost use Rattle.serving.specs.OnDisk.{Differs, DiffersFrom, HasNoFaults, IsFileSession, IsOpenFault, IsOpened, IsPutFault};
 ghost use Rattle.serving.specs.OnDisk.{IsNotStarted, IsStartedOver, IsTableFault, StopsPutting};
 ghost use Rattle.serving.specs.declared.faults.Error.TheVariants.{NoMemory, NoPartition};
 
@@ -199,8 +199,8 @@ fn are_same(one: Extent, other: Extent) -> bool
 ///
 /// # Errors
 ///
-/// The first of these that fits. [`DiskFault::BadSectors`] where the settings have bad sectors, since a storage has its
-/// own; [`Error::NoPartition`] where they have no such partition. Both come before any call.
+/// The first of these that fits. [`DiskFault::HasFaults`] where the settings have bad sectors, or rules by which commands
+/// fail, since a storage has its own faults; [`Error::NoPartition`] where they have no such partition. Both come before any call.
 /// [`DiskFault::Unreadable`] where a call failed as sector 0 was read; [`DiskFault::OtherTable`] where it gives other
 /// partitions than the settings, or none; [`Error::Startup`] where no stack could be started.
 /// [`Error::NoMemory`] may stand in place of any but the first two.
@@ -214,8 +214,8 @@ pub fn open_file<S: Storage + Drop>(
     ensures opened { IfOk result (IsOpened config partition (S.calls storage)) }
     ensures fault { IfErr result (λ fault. (spent : S) × IsOpenFault config partition (S.calls storage) fault (S.calls spent)) }
 {
-    if has_bad_sectors(&config) {
-        return Err(Error::Disk(DiskFault::BadSectors));
+    if has_faults(&config) {
+        return Err(Error::Disk(DiskFault::HasFaults));
     }
     let mut storage = storage;
     let sizes = sizes_of(&config, partition)?;
@@ -240,12 +240,14 @@ pub fn open_file<S: Storage + Drop>(
     })
 }
 
-/// Returns whether the settings have bad sectors.
-fn has_bad_sectors(config: &Config) -> bool
-    ensures some { IsTrue result → config.now.bad_sectors.items ≢ [] }
-    ensures none { IsFalse result → config.now.bad_sectors.items ≡ [] }
+/// Returns whether the settings have bad sectors, or rules by which commands fail.
+fn has_faults(config: &Config) -> bool
+    ensures some { IsTrue result → ¬ HasNoFaults config.now }
+    ensures none { IsFalse result → HasNoFaults config.now }
 {
-    !config.bad_sectors.as_slice().is_empty()
+    let bad = config.bad_sectors.as_slice();
+    let rules = config.faults.as_slice();
+    !(bad.is_empty() && rules.is_empty())
 }
 
 /// Returns the bytes of a sector and of a partition, and whether it can be written.

@@ -9,7 +9,7 @@ use crate::faults::Error;
 use crate::served::Served;
 use compose::Refusal;
 use disk::SparseDisk;
-use miniport::MemAdapter;
+use miniport::PlannedAdapter;
 use nbd::{End, serve};
 use settings::Config;
 use startup::{open, read_settings};
@@ -56,7 +56,7 @@ fn start(
     alloc: Global,
     config: Config,
     partition: u8,
-) -> Result<Served<MemAdapter<SparseDisk>>, Error>
+) -> Result<Served<PlannedAdapter<SparseDisk>>, Error>
     requires { AreInRange config }
     ensures content { IfOk result (λ disk. disk ≡ new_array config partition) }
     ensures fault { IfErr result (IsStartFault config partition) }

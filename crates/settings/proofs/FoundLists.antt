@@ -8,7 +8,7 @@ use Rattle.toml.specs.declared.value.Value.{Value}
 use Rattle.toml.specs.View.{view, items_of}
 use Rattle.settings.specs.declared.ConfigFault.TheVariants.{OutOfRange}
 use Rattle.ntstatus.specs.First.{first_some}
-use Rattle.settings.specs.Faults.{unless, optional_fault, is_list_of, partition_fault, partition_faults}
+use Rattle.settings.specs.Faults.{unless, optional_fault, is_list_of, partition_fault, partition_faults, rule_fault, rules_fault}
 use Rattle.settings.proofs.Keys.{list_of_items}
 
 -- a list is right where each value in it is
@@ -20,3 +20,8 @@ list_fault test values found same = rw (← same, list_of_items (map view values
 pub partitions_fault : (values : List Value) (found : Option Data) → Some (array (items_of (map view values))) ≡ found
     → first_some (map (λ value. partition_fault (view value)) values) ≡ first_some (partition_faults found)
 partitions_fault values found same = rw (← same, list_of_items (map view values), map-map)
+
+-- and so is that of rules
+pub rules_found_fault : (values : List Value) (found : Option Data) → Some (array (items_of (map view values))) ≡ found
+    → first_some (map (λ value. rule_fault (view value)) values) ≡ rules_fault found
+rules_found_fault values found same = rw (← same, list_of_items (map view values), map-map)

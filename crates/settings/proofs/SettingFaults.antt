@@ -5,7 +5,7 @@ use Rattle.toml.specs.Data.{Members, array, boolean, no_items, get_member}
 use Rattle.settings.specs.declared.ConfigFault.{ConfigFault}
 use Rattle.settings.specs.Settings.{whole, IsNumber, values_of, has_known_keys}
 use Rattle.ntstatus.specs.First.{first_some}
-use Rattle.settings.specs.Faults.{is_from, is_sector_size, is_number, is_truth, is_list_of, number_of, needed_fault, optional_fault, partition_faults, setting_faults, IsRefusedFor}
+use Rattle.settings.specs.Faults.{is_from, is_sector_size, is_number, is_truth, is_list_of, number_of, needed_fault, optional_fault, partition_faults, rules_fault, setting_faults, IsRefusedFor}
 use Rattle.settings.proofs.FirstFault.{ends}
 
 -- what stands before the lists has no fault
@@ -23,7 +23,8 @@ pub record HasNumbers (document : Members) (end : ℕ) : Type 0 where
 
 -- the first fault is then one of the lists
 pub at_lists : (document : Members) (sectors : ℕ) → HasNumbers document sectors → first_some (setting_faults document)
-    ≡ first_some (optional_fault (array no_items) (is_list_of (is_number (is_from 0 (sectors - 1)))) (get_member (codes "bad_sectors") document) ∷ partition_faults (get_member (codes "partition") document))
+    ≡ first_some (optional_fault (array no_items) (is_list_of (is_number (is_from 0 (sectors - 1)))) (get_member (codes "bad_sectors") document)
+    ∷ rules_fault (get_member (codes "fault") document) ∷ partition_faults (get_member (codes "partition") document))
 at_lists document sectors h =
     rw (h.known_keys, h.few_partitions, ← h.sector_size, ← h.sectors, ← h.max_transfer, ← h.depth, ← h.window, ← h.open_requests, ← h.write_protected, ap number_of h.sectors_is)
 

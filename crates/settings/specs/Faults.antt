@@ -8,6 +8,7 @@ use Rattle.toml.specs.Parse.{parse_document}
 use Rattle.ntstatus.specs.First.{first_some}
 use Rattle.settings.specs.declared.ConfigFault.{ConfigFault}
 use Rattle.settings.specs.declared.ConfigFault.TheVariants.{NotToml, UnknownKey, MissingKey, OutOfRange, TooManyPartitions, NoMemory}
+use Rattle.settings.specs.Kinds.{is_kind, most}
 use Rattle.settings.specs.Settings.{whole, list_of, values_of, has_known_keys}
 
 -- a number is in a range
@@ -56,6 +57,21 @@ needed_fault test (Some d) = unless (test d) OutOfRange
 abbrev pub optional_fault : Data → (Data → Bool) → Option Data → Option ConfigFault
 optional_fault default test found = unless (test (unwrap_or found default)) OutOfRange
 
+-- what is wrong with a rule
+abbrev pub rule_fault : Data → Option ConfigFault
+rule_fault (table settings) = first_some (
+    needed_fault is_kind (get_member (codes "kind") settings)
+    ∷ optional_fault (whole 1) (is_number (is_from 1 most)) (get_member (codes "every") settings)
+    ∷ optional_fault (whole most) (is_number (is_from 1 most)) (get_member (codes "times") settings)
+    ∷ optional_fault (whole 0) (is_number (is_from 0 most)) (get_member (codes "first") settings)
+    ∷ optional_fault (whole 0) (is_number (is_from 0 most)) (get_member (codes "count") settings)
+    ∷ [])
+rule_fault _ = Some OutOfRange
+
+-- what is wrong with the rules
+abbrev pub rules_fault : Option Data → Option ConfigFault
+rules_fault found = first_some (optional_fault (array no_items) is_list found ∷ map rule_fault (values_of found))
+
 -- what is wrong with a partition
 abbrev pub partition_fault : Data → Option ConfigFault
 partition_fault (table settings) = first_some (
@@ -83,6 +99,7 @@ setting_faults document =
     ∷ optional_fault (whole 64) (is_number (is_from 1 64)) (get_member (codes "open_requests") document)
     ∷ optional_fault (boolean false) is_truth (get_member (codes "write_protected") document)
     ∷ optional_fault (array no_items) (is_list_of (is_number (is_from 0 (sectors - 1)))) (get_member (codes "bad_sectors") document)
+    ∷ rules_fault (get_member (codes "fault") document)
     ∷ partition_faults (get_member (codes "partition") document)
 
 -- the first fault of a text that is to give settings

@@ -1,5 +1,6 @@
 pub mod Faults
 pub mod FaultTexts
 pub mod InRange
+pub mod Kinds
 pub mod Medium
 pub mod Settings

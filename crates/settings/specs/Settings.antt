@@ -1,13 +1,16 @@
 -- What a TOML document says of the settings.
-use Rattle.std.specs.Prelude.{◌≡◌, ℕ, pos, List, [], ◌∷◌, map, Bool, true, false, ◌&&◌, IsTrue, Option, Some, MatchOption, codes}
+use Rattle.std.specs.Prelude.{◌≡◌, ℕ, ◌-◌, pos, List, [], ◌∷◌, map, Bool, true, false, ◌&&◌, IsTrue, Option, None, Some, MatchOption, codes}
 use Rattle.std.specs.List.{AllZip, list_all, list_any}
 use Rattle.std.specs.Str.{bytes_eq}
 use Rattle.toml.specs.Data.{Data, integer, boolean, array, table, Items, no_items, item, Members, no_members, member, get_member}
 use Rattle.toml.specs.Parse.{parse_document}
 use Rattle.toml.specs.View.{items_of}
+use Rattle.miniport.specs.declared.fault_rule.FaultKind.{FaultKind}
+use Rattle.miniport.specs.declared.fault_rule.FaultRule.{FaultRule}
 use Rattle.settings.specs.declared.Config.{Config}
 use Rattle.settings.specs.declared.Partition.{Partition}
 use Rattle.settings.specs.InRange.{AreInRange, IsUsed}
+use Rattle.settings.specs.Kinds.{kind_in, most, range_of}
 
 -- a whole number, as a document gives it
 abbrev pub whole : ℕ → Data
@@ -44,6 +47,32 @@ GivesPartition d p = (settings : Members) × (d ≡ table settings) × IsPartiti
 abbrev pub ArePartitions : Option Data → List Partition → Type 0
 ArePartitions found ps = MatchOption found (ps ≡ []) (λ d. (tables : List Data) × (d ≡ array (items_of tables)) × AllZip GivesPartition tables ps)
 
+-- a value is there, and names this kind
+abbrev pub IsKind : Option Data → FaultKind → Type 0
+IsKind None kind = ⊥
+IsKind (Some d) kind = kind_in d ≡ Some kind
+
+-- the keys of a table say what a rule is
+pub record IsRule (settings : Members) (r : FaultRule) : Type 0 where
+  pub kind : IsKind (get_member (codes "kind") settings) r.kind
+  pub every : IsNumberOr 1 (get_member (codes "every") settings) r.every
+  pub times : IsNumberOr most (get_member (codes "times") settings) r.times
+  pub first : ℕ
+  pub count : ℕ
+  pub first_is : IsNumberOr 0 (get_member (codes "first") settings) first
+  pub count_is : IsNumberOr 0 (get_member (codes "count") settings) count
+  pub sectors : r.sectors ≡ range_of first count
+  -- it fails the last of so many
+  pub wait : r.wait ≡ r.every - 1
+
+-- a value is a table that gives a rule
+abbrev pub GivesRule : Data → FaultRule → Type 0
+GivesRule d r = (settings : Members) × (d ≡ table settings) × IsRule settings r
+
+-- the values of a list give the rules in order, and no list gives none
+abbrev pub AreRules : Option Data → List FaultRule → Type 0
+AreRules found rs = MatchOption found (rs ≡ []) (λ d. (tables : List Data) × (d ≡ array (items_of tables)) × AllZip GivesRule tables rs)
+
 -- the keys of a table
 abbrev pub keys_of : Members → List (List ℕ)
 keys_of no_members = []
@@ -52,11 +81,15 @@ keys_of (member key value rest) = key ∷ keys_of rest
 -- a key of the settings
 abbrev pub setting_keys : List (List ℕ)
 setting_keys = codes "sector_size" ∷ codes "sectors" ∷ codes "max_transfer" ∷ codes "depth" ∷ codes "window" ∷ codes "open_requests"
-    ∷ codes "write_protected" ∷ codes "bad_sectors" ∷ codes "partition" ∷ []
+    ∷ codes "write_protected" ∷ codes "bad_sectors" ∷ codes "fault" ∷ codes "partition" ∷ []
 
 -- a key of a partition
 abbrev pub partition_keys : List (List ℕ)
 partition_keys = codes "first" ∷ codes "count" ∷ codes "type" ∷ []
+
+-- a key of a rule by which commands fail
+abbrev pub rule_keys : List (List ℕ)
+rule_keys = codes "kind" ∷ codes "every" ∷ codes "times" ∷ codes "first" ∷ codes "count" ∷ []
 
 -- a table has no other keys than these
 abbrev pub has_only : List (List ℕ) → Members → Bool
@@ -66,6 +99,11 @@ has_only keys settings = list_all (λ key. list_any (bytes_eq key) keys) (keys_o
 abbrev pub has_partition_keys : Data → Bool
 has_partition_keys (table settings) = has_only partition_keys settings
 has_partition_keys _ = true
+
+-- the same of a rule
+abbrev pub has_rule_keys : Data → Bool
+has_rule_keys (table settings) = has_only rule_keys settings
+has_rule_keys _ = true
 
 -- the values of a list
 abbrev pub list_of : Items → List Data
@@ -79,7 +117,10 @@ values_of _ = []
 
 -- all keys, at the top and in partitions, are those that there are
 abbrev pub has_known_keys : Members → Bool
-has_known_keys document = has_only setting_keys document && list_all has_partition_keys (values_of (get_member (codes "partition") document))
+has_known_keys document =
+    has_only setting_keys document
+    && (list_all has_rule_keys (values_of (get_member (codes "fault") document))
+    && list_all has_partition_keys (values_of (get_member (codes "partition") document)))
 
 -- the settings of a document are these: each is the value at its key, in its range, or its default
 pub record AreSettings (document : Members) (c : Config) : Type 0 where
@@ -92,6 +133,7 @@ pub record AreSettings (document : Members) (c : Config) : Type 0 where
   pub open_requests : IsNumberOr 64 (get_member (codes "open_requests") document) c.open_requests
   pub write_protected : IsTruthOrFalse (get_member (codes "write_protected") document) c.write_protected
   pub bad_sectors : AreNumbers (get_member (codes "bad_sectors") document) c.bad_sectors.items
+  pub faults : AreRules (get_member (codes "fault") document) c.faults.items
   pub partitions : ArePartitions (get_member (codes "partition") document) c.partitions.items
   pub in_range : AreInRange c
 

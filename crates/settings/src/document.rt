@@ -7,7 +7,7 @@ ghost use Rattle.settings.specs.InRange.{AreInRange};
 ghost use Rattle.ntstatus.specs.First.{first_some};
 ghost use Rattle.settings.specs.Faults.{setting_faults, text_fault, IsRefusedFor};
 
-use crate::{Config, ConfigFault, table};
+use crate::{Config, ConfigFault, planned, table};
 use std::alloc::Global;
 use toml::Table;
 
@@ -15,9 +15,10 @@ use toml::Table;
 ///
 /// # Errors
 ///
-/// The first of these that fits: [`ConfigFault::NotToml`]; [`ConfigFault::UnknownKey`], at the top or in a partition;
-/// [`ConfigFault::TooManyPartitions`]; then key by key, in the order of [`Config`] and in a partition `first`, `count`,
-/// `type`, [`ConfigFault::MissingKey`] or [`ConfigFault::OutOfRange`], which a value of another kind is too.
+/// The first of these that fits: [`ConfigFault::NotToml`]; [`ConfigFault::UnknownKey`], at the top, in a rule or in a
+/// partition; [`ConfigFault::TooManyPartitions`]; then key by key, in the order of [`Config`], in a rule `kind`, `every`,
+/// `times`, `first`, `count`, and in a partition `first`, `count`, `type`, [`ConfigFault::MissingKey`] or
+/// [`ConfigFault::OutOfRange`], which a value of another kind is too.
 /// [`ConfigFault::NoMemory`] in place of any of them, where memory was refused.
 pub fn config(alloc: Global, text: &str) -> Result<Config, ConfigFault>
     ensures settings { IfOk result (AreSettingsOf text.now) }
@@ -51,6 +52,7 @@ fn of_table(alloc: Global, table: &Table) -> Result<Config, ConfigFault>
     let open_requests = table::number_or(table, "open_requests", 1, 64, 64)?;
     let write_protected = table::write_protected(table)?;
     let bad_sectors = table::bad_sectors(alloc, table, sectors)?;
+    let faults = planned::fault_rules(alloc, table)?;
     let partitions = table::partitions(alloc, table)?;
     Ok(Config {
         sector_size,
@@ -61,6 +63,7 @@ fn of_table(alloc: Global, table: &Table) -> Result<Config, ConfigFault>
         open_requests: open_requests as u32,
         write_protected,
         bad_sectors,
+        faults,
         partitions,
     })
 }

@@ -5,15 +5,17 @@
 //!
 //! `document::config`: the settings of a document without a fault (`settings`), each in its range (`in_range`), else
 //! its first fault, or want of memory (`fault`). `new_disk` gives zeros behind a table that says the settings'
-//! partitions, with their bad sectors, and `new_adapter` a fresh adapter over them (`new`, `says`, `extents`,
-//! `blank`); `table_sector` is that sector 0 (`bytes`, `says`).
+//! partitions, with their bad sectors, and `new_adapter` a fresh adapter over them, with their rules (`new`, `rules`,
+//! `says`, `extents`, `blank`); `table_sector` is that sector 0 (`bytes`, `says`).
 #![tactic(auto)]
 
 pub mod document;
 mod medium;
+mod planned;
 mod table;
 
 pub use medium::{new_adapter, new_disk, table_sector};
+use miniport::FaultRule;
 use std::error::Error;
 use std::fmt;
 
@@ -46,6 +48,8 @@ pub struct Config {
     pub write_protected: bool,
     /// Sectors that can't be read or written, each below `sectors`.
     pub bad_sectors: Vec<u64>,
+    /// The rules by which commands fail, the first first.
+    pub faults: Vec<FaultRule>,
     /// At most four, in the order of their entries in the partition table.
     pub partitions: Vec<Partition>,
 }

@@ -11,11 +11,12 @@ ghost use Rattle.settings.specs.Medium.{HasBlankPartitions, IsNewAdapter, IsNewD
 use crate::{Config, Partition};
 use arrayvec::ArrayVec;
 use disk::{Medium, NoMemory, SparseDisk};
-use miniport::MemAdapter;
+use miniport::{FaultRule, MemAdapter, PlannedAdapter};
 use sector::Extent;
 use std::alloc::{AllocError, Global};
 
 /// The adapter of the settings, of which nothing was asked yet, over a disk of zeros with their partition table in sector 0.
+/// Commands fail by the rules of the settings.
 /// No fault of a partition is looked for: the table says what is wrong with it. With `keeps_bytes` its labels keep their
 /// bytes in memory; without, contracts alone read these.
 ///
@@ -26,20 +27,31 @@ pub fn new_adapter(
     alloc: Global,
     config: Config,
     keeps_bytes: bool,
-) -> Result<MemAdapter<SparseDisk>, NoMemory>
+) -> Result<PlannedAdapter<SparseDisk>, NoMemory>
     requires { AreInRange config }
-    ensures new { IfOk result (IsNewAdapter config) }
-    ensures keeps { IfOk result (λ adapter. adapter.shown.keeps_bytes ≡ keeps_bytes) }
-    ensures says { IfOk result (λ adapter. told_by config.sectors (get_or adapter.shown.sectors 0 []) ≡ said_of config.sectors (entries_of config)) }
+    ensures new { IfOk result (λ adapter. IsNewAdapter config adapter.inner) }
+    ensures rules { IfOk result (λ adapter. adapter.rules ≡ config.faults.items) }
+    ensures keeps { IfOk result (λ adapter. adapter.inner.shown.keeps_bytes ≡ keeps_bytes) }
+    ensures says { IfOk result (λ adapter. told_by config.sectors (get_or adapter.inner.shown.sectors 0 []) ≡ said_of config.sectors (entries_of config)) }
     ensures extents { partitions_of (entries_of config) ≡ extents_of config }
-    ensures blank { IfOk result (λ adapter. HasBlankPartitions config adapter.shown.sectors) }
+    ensures blank { IfOk result (λ adapter. HasBlankPartitions config adapter.inner.shown.sectors) }
 {
+    let rules = copied(alloc, config.faults.as_slice())?;
     let max_transfer = config.max_transfer;
     let depth = config.depth;
     let write_protected = config.write_protected;
     let disk = new_disk(alloc, config)?;
     let adapter = MemAdapter::new(alloc, disk, max_transfer, depth, write_protected)?;
-    Ok(keeping(adapter, keeps_bytes))
+    let kept = keeping(adapter, keeps_bytes);
+    let planned = PlannedAdapter::new(kept, rules);
+    Ok(planned)
+}
+
+/// The same rules in memory of their own.
+fn copied(alloc: Global, rules: &[FaultRule]) -> Result<Vec<FaultRule>, AllocError>
+    ensures { IfOk result (λ copied. copied.items ≡ rules.now) }
+{
+    Vec::from_slice(alloc, rules)
 }
 
 /// The same adapter, whose labels keep their bytes in memory or not.

@@ -8,7 +8,7 @@ ghost use Rattle.toml.specs.Data.{array, boolean, no_items, get_member, table};
 ghost use Rattle.toml.specs.View.{items_of, view, table_view};
 ghost use Rattle.settings.specs.declared.ConfigFault.TheVariants.{OutOfRange};
 ghost use Rattle.settings.specs.InRange.{IsFrom};
-ghost use Rattle.settings.specs.Settings.{setting_keys, partition_keys, has_only, has_partition_keys, values_of, has_known_keys, whole, IsNumber, IsNumberOr, IsTruthOrFalse, AreNumbers, IsPartition, GivesPartition, ArePartitions};
+ghost use Rattle.settings.specs.Settings.{setting_keys, rule_keys, partition_keys, has_only, has_rule_keys, has_partition_keys, values_of, has_known_keys, whole, IsNumber, IsNumberOr, IsTruthOrFalse, AreNumbers, IsPartition, GivesPartition, ArePartitions};
 ghost use Rattle.ntstatus.specs.First.{first_some};
 ghost use Rattle.settings.specs.Faults.{is_from, is_sector_size, is_number, is_truth, is_list, is_list_of, unless, needed_fault, optional_fault, partition_fault, partition_faults, IsRefusedFor};
 
@@ -20,14 +20,14 @@ use toml::{Table, Value};
 const MOST: u64 = 4_294_967_295;
 
 /// The value at a key.
-fn value_at<'a>(table: &'a Table, key: &str) -> Option<&'a Value>
+pub(crate) fn value_at<'a>(table: &'a Table, key: &str) -> Option<&'a Value>
     ensures { option_map (λ value. view value.now) result ≡ get_member key.now (table_view table.now) }
 {
     table.get(key)
 }
 
 /// The items of the list at a key, if anything is there.
-fn list_at<'a>(table: &'a Table, key: &str) -> Result<Option<&'a [Value]>, ConfigFault>
+pub(crate) fn list_at<'a>(table: &'a Table, key: &str) -> Result<Option<&'a [Value]>, ConfigFault>
     ensures value { IfOk result (λ found. option_map (λ items. array (items_of (map view items.now))) found
         ≡ get_member key.now (table_view table.now)) }
     ensures fault { result_err result ≡ optional_fault (array no_items) is_list (get_member key.now (table_view table.now)) }
@@ -49,11 +49,13 @@ fn items_at<'a>(table: &'a Table, key: &str) -> &'a [Value]
     }
 }
 
-/// Whether all keys, at the top and in partitions, are those of the settings.
+/// Whether all keys, at the top, in rules and in partitions, are those of the settings.
 pub(crate) fn has_known_keys(table: &Table) -> bool
     ensures { result ≡ has_known_keys (table_view table.now) }
 {
-    has_setting_keys(table) && have_partition_keys(items_at(table, "partition"))
+    has_setting_keys(table)
+        && have_rule_keys(items_at(table, "fault"))
+        && have_partition_keys(items_at(table, "partition"))
 }
 
 /// Whether there are at most four partitions, for which a partition table has room.
@@ -83,8 +85,38 @@ fn is_setting_key(key: &str) -> bool
             | "open_requests"
             | "write_protected"
             | "bad_sectors"
+            | "fault"
             | "partition"
     )
+}
+
+/// Whether the tables of a list have no other keys than those of a rule by which commands fail.
+fn have_rule_keys(items: &[Value]) -> bool
+    ensures { result ≡ list_all has_rule_keys (map view items.now) }
+{
+    items.iter().all(|item| is_known_rule(item))
+}
+
+/// Whether a value, where it is a table, has no other keys than those of such a rule.
+fn is_known_rule(item: &Value) -> bool
+    ensures { result ≡ has_rule_keys (view item.now) }
+{
+    match item {
+        Value::Table(table) => has_rule_keys(table),
+        _ => true,
+    }
+}
+
+fn has_rule_keys(table: &Table) -> bool
+    ensures { result ≡ has_only rule_keys (table_view table.now) }
+{
+    table.keys().all(|key| is_rule_key(key.as_str()))
+}
+
+fn is_rule_key(key: &str) -> bool
+    ensures { result ≡ list_any (bytes_eq key.now) rule_keys }
+{
+    matches!(key, "kind" | "every" | "times" | "first" | "count")
 }
 
 /// Whether the tables of a list have no other keys than those of a partition.

@@ -9,7 +9,7 @@ use crate::expect::{same, same_text};
 use crate::playing::{play, run, stack_on};
 use adapter::Adapter;
 use compose::{Event, Handle, MbrFault, NotStarted, Settings, Stack, StartFault};
-use miniport::OnceAdapter;
+use miniport::PlannedAdapter;
 use ntstatus::NtStatus;
 use sector::Bytes;
 use std::alloc::{AllocError, Global};
@@ -153,7 +153,11 @@ const SECOND_PIECE_FAILED: &[u8] = b"> open 0\nhandle 1\n> write 1 0 131072 a5\n
 fn one_act_fails_in_a_cancelled_write(rt: HostRuntime) -> Result<(), Fail> {
     let alloc = rt.alloc();
     let medium = disk(alloc, TWO, &[])?;
-    let adapter = OnceAdapter::new(adapter(&rt, alloc, medium, 64, false)?, BEFORE);
+    let adapter = PlannedAdapter::failing_once(
+        alloc,
+        adapter(&rt, alloc, medium, 64, false)?,
+        BEFORE,
+    )?;
     let mut stack = stack_on(&rt, alloc, adapter)?;
     let shown = play(&rt, alloc, &mut stack, SECOND_PIECE_FAILS)?;
     same_text(&rt, shown.as_slice(), SECOND_PIECE_FAILED);

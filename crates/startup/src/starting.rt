@@ -6,12 +6,13 @@ ghost use Rattle.startup.specs.Started.{IsFirstOf, IsOpenFault, IsStartFault, Is
 
 use compose::{Settings, Stack, StartFault};
 use disk::SparseDisk;
-use miniport::MemAdapter;
+use miniport::PlannedAdapter;
 use settings::{Config, new_adapter};
 use std::alloc::Global;
 use volume::{OpenFault, Volume};
 
-/// Starts a stack over a disk that is zeros but for its partition table. With `keeps_bytes` its labels keep their bytes in
+/// Starts a stack over a disk that is zeros but for its partition table, whose commands fail by the rules of the settings,
+/// those of the start among them. With `keeps_bytes` its labels keep their bytes in
 /// memory; without, contracts alone read these.
 ///
 /// # Errors
@@ -22,7 +23,7 @@ pub fn start(
     alloc: Global,
     config: Config,
     keeps_bytes: bool,
-) -> Result<Stack<MemAdapter<SparseDisk>>, StartFault>
+) -> Result<Stack<PlannedAdapter<SparseDisk>>, StartFault>
     requires { AreInRange config }
     ensures view { IfOk result (IsStartOf keeps_bytes config) }
     ensures first { IfOk result (IsFirstOf config) }
@@ -45,7 +46,7 @@ pub fn open(
     alloc: Global,
     config: Config,
     partition: u8,
-) -> Result<Volume<MemAdapter<SparseDisk>>, OpenFault>
+) -> Result<Volume<PlannedAdapter<SparseDisk>>, OpenFault>
     requires { AreInRange config }
     ensures volume { IfOk result (IsVolumeOf config partition) }
     ensures fault { IfErr result (IsOpenFault config partition) }

@@ -12,7 +12,7 @@ use Rattle.miniport.specs.declared.on_tag.Booking.{Booking}
 use Rattle.miniport.specs.declared.on_tag.Booking.TheVariants.{Nothing, Bytes, Failure}
 use Rattle.miniport.specs.declared.on_tag.Progress.TheVariants.{Moved as Done, Failed as Refused}
 use Rattle.miniport.specs.inside.Memory.{PutsBack}
-use Rattle.miniport.specs.Once.{hardware_error}
+use Rattle.miniport.specs.Planned.{hardware_error}
 use Rattle.miniport.specs.inside.Slots.{Table, booked_with, piece_at, with_slot, with_moved, with_failed}
 use Rattle.miniport.specs.declared.carrying.Outcome.{Outcome}
 

@@ -18,7 +18,7 @@ invariant_of-result g c = record {
 
 pub returns-clause-opened : goal.returns-clause-opened
 returns-clause-opened g c = record {
-  none_bad = c.has_bad_sectors.ensures.none c.if-has_bad_sectors.false;
+  no_faults = c.has_faults.ensures.none c.if-has_faults.false;
   table = record {
     table = c.in_ok-first.first.items;
     long = c.in_ok-first.ensures.long;
@@ -44,13 +44,13 @@ returns-clause-opened g c = record {
 
 -- WHERE IT FAILS
 
-pub returns-then-has_bad_sectors-clause-fault : goal.returns-then-has_bad_sectors-clause-fault
-returns-then-has_bad_sectors-clause-fault g c = (c.args.storage, (c.has_bad_sectors.ensures.some c.if-has_bad_sectors.true, refl))
+pub returns-then-has_faults-clause-fault : goal.returns-then-has_faults-clause-fault
+returns-then-has_faults-clause-fault g c = (c.args.storage, (c.has_faults.ensures.some c.if-has_faults.true, refl))
 
 pub returns-in_err-sizes-clause-fault : goal.returns-in_err-sizes-clause-fault
 returns-in_err-sizes-clause-fault g c =
     let given : c.from_residual.result ≡ Err c.in_err-sizes.field-0.0 = search rules in
-    rw given (c.args.storage, no_partition c.args.config c.args.partition (g.S.Storage.calls c.args.storage) c.in_err-sizes.field-0.0 (c.has_bad_sectors.ensures.none c.if-has_bad_sectors.false) c.in_err-sizes.ensures.fault)
+    rw given (c.args.storage, no_partition c.args.config c.args.partition (g.S.Storage.calls c.args.storage) c.in_err-sizes.field-0.0 (c.has_faults.ensures.none c.if-has_faults.false) c.in_err-sizes.ensures.fault)
 
 pub returns-in_err-first-clause-fault : goal.returns-in_err-first-clause-fault
 returns-in_err-first-clause-fault g c =
@@ -58,16 +58,16 @@ returns-in_err-first-clause-fault g c =
     rw given (
       c.checked_table.new.storage,
       fault_of_table c.args.config c.args.partition (g.S.Storage.calls c.args.storage) (g.S.Storage.calls c.checked_table.new.storage)
-          (c.has_bad_sectors.ensures.none c.if-has_bad_sectors.false, c.in_ok-sizes.ensures.known) c.in_err-first.field-0.0 c.in_err-first.ensures.fault,
+          (c.has_faults.ensures.none c.if-has_faults.false, c.in_ok-sizes.ensures.known) c.in_err-first.field-0.0 c.in_err-first.ensures.fault,
     )
 
 pub returns-in_err-stack-clause-fault : goal.returns-in_err-stack-clause-fault
 returns-in_err-stack-clause-fault g c =
-    let given : c.from_residual-in_err-stack.result ≡ Err c.in_err-stack.field-0.0 = search rules in
+    let given : c.from_residual-in_err-stack.result ≡ Err c.in_err-stack.field-0.0 = search (rules, c.from_residual-in_err-stack.ensures, c.in_err-stack.was, c.in_err-stack.is) in
     rw given (
       c.checked_table.new.storage,
       fault_of_start c.args.config c.args.partition (g.S.Storage.calls c.args.storage) (g.S.Storage.calls c.checked_table.new.storage)
-          (c.has_bad_sectors.ensures.none c.if-has_bad_sectors.false, c.in_ok-sizes.ensures.known)
+          (c.has_faults.ensures.none c.if-has_faults.false, c.in_ok-sizes.ensures.known)
           (record { table = c.in_ok-first.first.items; long = c.in_ok-first.ensures.long; reads = c.in_ok-first.ensures.reads; told = c.in_ok-first.ensures.told }) c.in_err-stack.field-0.0 c.in_err-stack.ensures.fault,
     )
 
@@ -77,7 +77,7 @@ returns-in_err-handle-clause-fault g c =
     rw given (
       c.checked_table.new.storage,
       fault_of_handle c.args.config c.args.partition (g.S.Storage.calls c.args.storage) (g.S.Storage.calls c.checked_table.new.storage)
-          (c.has_bad_sectors.ensures.none c.if-has_bad_sectors.false, c.in_ok-sizes.ensures.known)
+          (c.has_faults.ensures.none c.if-has_faults.false, c.in_ok-sizes.ensures.known)
           (record { table = c.in_ok-first.first.items; long = c.in_ok-first.ensures.long; reads = c.in_ok-first.ensures.reads; told = c.in_ok-first.ensures.told }) c.in_ok-stack.stack.rules
           (rules_at_first c.args.config c.in_ok-first.first.items c.in_ok-stack.stack c.in_ok-stack.ensures.started c.in_ok-first.ensures.told) c.in_err-handle.field-0.0 c.in_err-handle.ensures.fault,
     )

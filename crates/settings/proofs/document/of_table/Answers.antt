@@ -30,6 +30,7 @@ returns-clause-settings c = record {
   open_requests = c.in_ok-open_requests.ensures.value;
   write_protected = c.in_ok-write_protected.ensures.value;
   bad_sectors = c.in_ok-bad_sectors.ensures.value;
+  faults = c.in_ok-faults.ensures.value;
   partitions = c.in_ok-partitions.ensures.value;
   in_range = returns-clause-in_range c;
 }
@@ -54,16 +55,25 @@ returns-in_err-bad_sectors-clause-fault c =
     let given : c.from_residual-in_err-bad_sectors.result ≡ Err c.in_err-bad_sectors.field-0.0 = search rules in
     rw before (refused_here _ _ _ _ _ c.in_err-bad_sectors.was given c.bad_sectors.ensures.fault)
 
+pub returns-in_err-faults-clause-fault : goal.returns-in_err-faults-clause-fault
+returns-in_err-faults-clause-fault c =
+    let before = at_lists _ _ (numbers (goal.at.returns-in_err-faults-clause-fault c).After-bad_sectors) in
+    let lists = none_here _ _ _ c.in_ok-bad_sectors.was c.bad_sectors.ensures.fault in
+    let given : c.from_residual-in_err-faults.result ≡ Err c.in_err-faults.field-0.0 = search rules in
+    rw (before, lists) (refused_here _ _ _ _ _ c.in_err-faults.was given c.fault_rules.ensures.fault)
+
 pub returns-in_err-partitions-clause-fault : goal.returns-in_err-partitions-clause-fault
 returns-in_err-partitions-clause-fault c =
     let before = at_lists _ _ (numbers (goal.at.returns-in_err-partitions-clause-fault c).After-bad_sectors) in
     let lists = none_here _ _ _ c.in_ok-bad_sectors.was c.bad_sectors.ensures.fault in
+    let rules_here = none_here _ _ _ c.in_ok-faults.was c.fault_rules.ensures.fault in
     let given : c.from_residual-in_err-partitions.result ≡ Err c.in_err-partitions.field-0.0 = search rules in
-    rw (before, lists) (refused _ _ _ _ c.in_err-partitions.was given c.partitions.ensures.fault)
+    rw (before, lists, rules_here) (refused _ _ _ _ c.in_err-partitions.was given c.partitions.ensures.fault)
 
 pub returns-clause-fault : goal.returns-clause-fault
 returns-clause-fault c =
     let before = at_lists _ _ (numbers (goal.at.returns-clause-fault c).After-bad_sectors) in
     let lists = none_here _ _ _ c.in_ok-bad_sectors.was c.bad_sectors.ensures.fault in
+    let rules_here = none_here _ _ _ c.in_ok-faults.was c.fault_rules.ensures.fault in
     let partitions = none_here _ _ _ c.in_ok-partitions.was c.partitions.ensures.fault in
-    inl (sym (before ∙ passed _ _ lists ∙ partitions))
+    inl (sym (before ∙ passed _ _ lists ∙ passed _ _ rules_here ∙ partitions))

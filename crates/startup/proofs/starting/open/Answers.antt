@@ -6,12 +6,12 @@ use Rattle.startup.proofs.starting.open.Goals as goal
 
 pub returns-clause-volume : goal.returns-clause-volume
 returns-clause-volume c =
-    opened c.args.config c.in-Ok.adapter c.in-Ok.ensures.new c.in-Ok.ensures.says c.new_adapter.ensures.extents c.args.partition c.in_ok-volume.volume c.in-Ok.ensures.blank
+    opened c.args.config c.in-Ok.adapter.inner c.in-Ok.ensures.new c.in-Ok.ensures.says c.new_adapter.ensures.extents c.args.partition c.in_ok-volume.volume c.in-Ok.ensures.blank
     c.in_ok-volume.ensures.content c.in_ok-volume.ensures.partition
 
 pub returns-in_err-volume-clause-fault : goal.returns-in_err-volume-clause-fault
 returns-in_err-volume-clause-fault c =
     let given : c.from_residual.result ≡ Err c.in_err-volume.field-0.0.fault = search rules in
-    rw given (not_opened c.args.config c.in-Ok.adapter c.in-Ok.ensures.new c.in-Ok.ensures.says c.new_adapter.ensures.extents c.requires c.in-Ok.ensures.blank c.args.partition
-    c.in_err-volume.field-0.0.fault c.in_err-volume.field-0.0.adapter.shown
-    (subst (λ (s : Settings). IsOpenFault c.in-Ok.adapter.shown s c.args.partition c.in_err-volume.field-0.0.fault c.in_err-volume.field-0.0.adapter.shown) c.limits_of-settings.ensures c.in_err-volume.ensures.fault))
+    rw given (not_opened c.args.config c.in-Ok.adapter.inner c.in-Ok.ensures.new c.in-Ok.ensures.says c.new_adapter.ensures.extents c.requires c.in-Ok.ensures.blank c.args.partition
+    c.in_err-volume.field-0.0.fault c.in_err-volume.field-0.0.adapter.inner.shown
+    (subst (λ (s : Settings). IsOpenFault c.in-Ok.adapter.inner.shown s c.args.partition c.in_err-volume.field-0.0.fault c.in_err-volume.field-0.0.adapter.inner.shown) c.limits_of-settings.ensures c.in_err-volume.ensures.fault))

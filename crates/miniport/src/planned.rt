@@ -1,60 +1,119 @@
-//! An adapter in memory that fails one act, whatever it asks for.
+//! An adapter in memory some of whose commands fail by a plan, whatever they ask for.
 
-ghost use Rattle.std.specs.Prelude.{◌≡◌, ◌≤◌, ◌<◌, ◌^◌, ◌+◌, ◌*◌, [], length, Some, None, Any, IsOk, OnOk, IfSome, IsTrue, MatchBool, MatchOption, get_or};
-ghost use Rattle.miniport.specs.Once.{OnceView};
+ghost use Rattle.std.specs.Prelude.{◌≡◌, ◌≤◌, ◌<◌, ◌^◌, ◌+◌, ◌*◌, [], ◌∷◌, IfOk, length, map, Some, None, Any, IsOk, OnOk, IfSome, IsTrue, MatchBool, MatchOption, get_or};
+ghost use Rattle.adapter.specs.View.{IsInOrder};
+ghost use Rattle.adapter.specs.Calls.{ActsOrFaults, ActsNot, HasNoneFresh};
+ghost use Rattle.miniport.specs.Planned.{PlannedView, EndsByPlan, completion_of as completion_for, once};
+ghost use Rattle.miniport.specs.inside.Planned.{AsksOn, IsAskedBy};
 
-use crate::completion::{HARDWARE_ERROR, failed_with};
+use crate::completion::{ABORTED_COMMAND, HARDWARE_ERROR, MEDIUM_ERROR, NOT_READY, failed_with};
+use crate::fault_rule::{FaultKind, FaultRule, named, turn};
 use crate::memory::MemAdapter;
 use adapter::Adapter;
+use cdb::decode;
 use disk::Medium;
 use sector::Extent;
 use srb::{Booked, Completion, DeviceLabel, Srb};
-use std::alloc::AllocError;
+use std::alloc::{AllocError, Global};
 use std::marker::Model;
 
-/// An adapter in memory of which one act fails with a hardware error (sense key 4, 00h/00h). In all else it is the
-/// adapter in memory. It is for tests that have a stack meet a failure at each place in turn.
-pub struct OnceAdapter<M: Medium> {
+/// An adapter in memory of which commands fail by rules. In all else it is the adapter in memory.
+pub struct PlannedAdapter<M: Medium> {
     inner: MemAdapter<M>,
-    before: Option<u64>,
+    rules: Vec<FaultRule>,
 }
 
 // By hand, so that no crate above proves it again, as it would a derived one.
-impl<M: Medium> Drop for OnceAdapter<M> {
+impl<M: Medium> Drop for PlannedAdapter<M> {
     fn drop(self) {
-        let OnceAdapter {
-            inner: _,
-            before: _,
-        } = self;
+        let PlannedAdapter { inner: _, rules: _ } = self;
     }
 }
 
-impl<M: Medium> Model for OnceAdapter<M> {
-    ghost Value = { OnceView };
+impl<M: Medium> Model for PlannedAdapter<M> {
+    ghost Value = { PlannedView };
 
-    ghost view = { λ a. record { inner = a.inner; before = a.before } };
+    ghost view = { λ a. record { inner = a.inner; rules = a.rules.items } };
 }
 
-impl<M: Medium> OnceAdapter<M> {
-    /// The adapter whose act number `before` fails, counted from 0. Each act of a piece that has done nothing yet
-    /// counts, whether it is carried out or fails.
-    pub fn new(inner: MemAdapter<M>, before: u64) -> OnceAdapter<M>
-        ensures { result ≡ record { inner = inner; before = Some before } }
+impl<M: Medium> PlannedAdapter<M> {
+    /// The adapter whose commands fail by these rules. Each act of a piece that has done nothing yet is a command, also
+    /// those by which a stack starts.
+    pub fn new(inner: MemAdapter<M>, rules: Vec<FaultRule>) -> PlannedAdapter<M>
+        ensures { result ≡ record { inner = inner; rules = rules.items } }
     {
-        OnceAdapter {
-            inner,
-            before: Some(before),
-        }
+        PlannedAdapter { inner, rules }
+    }
+
+    /// The adapter whose act number `before` fails with a hardware error, counted from 0, and no other by its rules. It is
+    /// for tests that have a stack meet a failure at each place in turn.
+    ///
+    /// # Errors
+    ///
+    /// [`AllocError`] where the memory for the rule was refused.
+    pub fn failing_once(
+        alloc: Global,
+        inner: MemAdapter<M>,
+        before: u64,
+    ) -> Result<PlannedAdapter<M>, AllocError>
+        ensures { IfOk result (λ a. a ≡ record { inner = inner; rules = once before ∷ [] }) }
+    {
+        let mut rules = Vec::new(alloc);
+        rules.push(FaultRule::once(before))?;
+        Ok(PlannedAdapter::new(inner, rules))
     }
 }
 
-impl<M: Medium> Adapter for OnceAdapter<M> {
+/// The completion of a command that fails by a rule, ASC 00h but for a unit that isn't ready (SPC: 04h/00h).
+fn completion_of(kind: FaultKind) -> Completion
+    ensures { result ≡ completion_for kind }
+{
+    match kind {
+        FaultKind::MediumError => failed_with(MEDIUM_ERROR, 0x00),
+        FaultKind::HardwareError => failed_with(HARDWARE_ERROR, 0x00),
+        FaultKind::NotReady => failed_with(NOT_READY, 0x04),
+        FaultKind::AbortedCommand => failed_with(ABORTED_COMMAND, 0x00),
+    }
+}
+
+/// The sectors that the tag's piece names, where it has neither acted nor failed; else `None`.
+fn asked_on<M: Medium>(inner: &MemAdapter<M>, tag: u8) -> Option<Extent>
+    ensures asks { MatchOption result (HasNoneFresh inner.now.shown tag) (AsksOn inner.now.shown tag) }
+    ensures order { IsInOrder inner.now.shown }
+{
+    match inner.armed(tag) {
+        None => None,
+        Some(found) => Some(asked_by(found.1)),
+    }
+}
+
+/// The sectors that an SRB names.
+fn asked_by(srb: &Srb) -> Extent
+    ensures { IsAskedBy srb.now result }
+{
+    named(decode(srb.block.as_slice()))
+}
+
+/// Fails the command of the tag's piece in this way, or ends it by its table.
+fn end_by<M: Medium>(inner: &mut MemAdapter<M>, tag: u8, failing: Option<FaultKind>) -> bool
+    requires { length inner.old.shown.labels < 64 }
+    ensures acts { MatchBool result (ActsOrFaults inner.old.shown tag inner.new.shown) (ActsNot inner.old.shown tag inner.new.shown) }
+    ensures order { IsInOrder inner.new.shown }
+    ensures ends { MatchBool result (EndsByPlan failing inner.old tag inner.new) (inner.new ≡ inner.old) }
+{
+    match failing {
+        None => inner.act(tag),
+        Some(kind) => inner.fail(tag, completion_of(kind)),
+    }
+}
+
+impl<M: Medium> Adapter for PlannedAdapter<M> {
     ghost use Rattle.adapter.specs.View.{HasTag, IsFree, IsInOrder, IsReserved, IsWritable, ReservesMore, ReservesNear, Accepts};
     ghost use Rattle.adapter.specs.Calls.{ActsOrFaults, ActsNot, Finishes, FinishesNot, Resets, LeavesFirst, HasNoLabel};
     ghost use Rattle.adapter.specs.Booking.{Books, handed};
     ghost use Rattle.miniport.specs.Faults.{busy};
     ghost use Rattle.miniport.specs.Memory.{Dues, SameDues, ResetsAll};
-    ghost use Rattle.miniport.specs.Once.{ActsOnce};
+    ghost use Rattle.miniport.specs.Planned.{ActsByPlan};
 
     ghost view = { λ a. a.inner.shown };
 
@@ -78,7 +137,7 @@ impl<M: Medium> Adapter for OnceAdapter<M> {
         self.inner.is_faithful()
     }
 
-    /// The failures counted so far, its own one among them; at most twice the pieces accepted.
+    /// The failures counted so far, those by the plan among them; at most twice the pieces accepted.
     fn failures(&self) -> u128
         ensures exact { result ≡ self.now.inner.shown.failures }
         ensures order { IsInOrder self.now.inner.shown }
@@ -95,7 +154,7 @@ impl<M: Medium> Adapter for OnceAdapter<M> {
         ensures near { ReservesNear self.old.inner.shown extent self.new.inner.shown }
         ensures order { IsInOrder self.new.inner.shown }
         ensures due { SameDues self.old.inner self.new.inner }
-        ensures before { self.new.before ≡ self.old.before }
+        ensures rules { self.new.rules ≡ self.old.rules }
     {
         self.inner.reserve(extent)
     }
@@ -118,7 +177,7 @@ impl<M: Medium> Adapter for OnceAdapter<M> {
         ensures accepts { Accepts self.old.inner.shown tag piece srb self.new.inner.shown }
         ensures order { IsInOrder self.new.inner.shown }
         ensures due { Dues tag (Some busy) self.old.inner self.new.inner }
-        ensures before { self.new.before ≡ self.old.before }
+        ensures rules { self.new.rules ≡ self.old.rules }
     {
         self.inner.accept(tag, piece, srb);
     }
@@ -127,16 +186,16 @@ impl<M: Medium> Adapter for OnceAdapter<M> {
         requires { length self.old.inner.shown.labels < 64 }
         ensures acts { MatchBool result (ActsOrFaults self.old.inner.shown tag self.new.inner.shown) (ActsNot self.old.inner.shown tag self.new.inner.shown) }
         ensures order { IsInOrder self.new.inner.shown }
-        ensures once { ActsOnce self.old tag result self.new }
+        ensures planned { MatchBool result (ActsByPlan self.old tag self.new) (self.new ≡ self.old) }
     {
-        let acts = match self.before {
-            Some(0) => self.inner.fail(tag, failed_with(HARDWARE_ERROR, 0x00)),
-            _ => self.inner.act(tag),
-        };
-        if acts {
-            self.before = self.before.and_then(|before| before.checked_sub(1));
+        if self.rules.is_empty() {
+            return self.inner.act(tag);
         }
-        acts
+        let Some(asked) = asked_on(&self.inner, tag) else {
+            return false;
+        };
+        let failing = turn(self.rules.as_mut_slice(), asked);
+        end_by(&mut self.inner, tag, failing)
     }
 
     fn armed(&self, tag: u8) -> Option<(u128, &Srb)> {
@@ -158,7 +217,7 @@ impl<M: Medium> Adapter for OnceAdapter<M> {
         ensures order { IsInOrder self.new.inner.shown }
         ensures completion { IfSome result (λ back. get_or self.old.inner.due tag None ≡ Some back.1) }
         ensures due { MatchOption result (self.new.inner ≡ self.old.inner) (λ back. Dues tag None self.old.inner self.new.inner) }
-        ensures before { self.new.before ≡ self.old.before }
+        ensures rules { self.new.rules ≡ self.old.rules }
     {
         self.inner.finish(tag)
     }
@@ -168,7 +227,7 @@ impl<M: Medium> Adapter for OnceAdapter<M> {
         ensures resets { Resets self.old.inner.shown self.new.inner.shown }
         ensures order { IsInOrder self.new.inner.shown }
         ensures due { ResetsAll self.old.inner self.new.inner }
-        ensures before { self.new.before ≡ self.old.before }
+        ensures rules { self.new.rules ≡ self.old.rules }
     {
         self.inner.reset();
     }
@@ -177,7 +236,7 @@ impl<M: Medium> Adapter for OnceAdapter<M> {
         ensures takes { MatchOption result (HasNoLabel self.old.inner.shown self.new.inner.shown) (λ label. LeavesFirst self.old.inner.shown label self.new.inner.shown) }
         ensures order { IsInOrder self.new.inner.shown }
         ensures due { SameDues self.old.inner self.new.inner }
-        ensures before { self.new.before ≡ self.old.before }
+        ensures rules { self.new.rules ≡ self.old.rules }
     {
         self.inner.take_label()
     }
@@ -186,7 +245,7 @@ impl<M: Medium> Adapter for OnceAdapter<M> {
         ensures forgets { self.new.inner.shown ≡ record self.old.inner.shown { labels = [] } }
         ensures order { IsInOrder self.new.inner.shown }
         ensures due { SameDues self.old.inner self.new.inner }
-        ensures before { self.new.before ≡ self.old.before }
+        ensures rules { self.new.rules ≡ self.old.rules }
     {
         self.inner.forget_labels();
     }

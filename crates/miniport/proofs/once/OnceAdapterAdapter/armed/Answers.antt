@@ -1,8 +1,0 @@
-use Rattle.std.proofs.Common.{MatchOption, subst}
-use Rattle.adapter.specs.Calls.{HasNoneFresh}
-use Rattle.adapter.specs.Booking.{IsArmed}
-use Rattle.miniport.specs.Once.{OnceView}
-use Rattle.miniport.proofs.once.OnceAdapterAdapter.armed.Goals as goal
-
-pub returns-clause-exact : goal.returns-clause-exact
-returns-clause-exact g c = subst (λ (v : OnceView). MatchOption c.armed.result (HasNoneFresh v.inner.shown c.args.tag) (λ found. IsArmed v.inner.shown c.args.tag found.0 found.1.now)) c.self.view_is c.armed.ensures.exact
