@@ -1,33 +1,8 @@
 -- What holds of a book at first, and while its tags or its answers change.
-use Rattle.std.proofs.Common.{◌≡◌, ℕ, zero, suc, IsFalse, ◌≤◌, List, [], ◌∷◌, length, map, Option, Some, None, replicate, refl, sym, ap, subst, ◌∙◌, arith}
+use Rattle.book.proofs.Common.{◌≡◌, ℕ, zero, suc, IsFalse, ◌≤◌, List, [], ◌∷◌, length, map, Option, Some, None, replicate, refl, sym, ap, subst, ◌∙◌, arith, Contains-permutation, IsPermutation-sym, All-nil, TagInUse, AdapterView, Label, Rules, sectors_of, array_at, Piece, State, opening, IsSame-refl, AreOfActs, AreWhole, IsReached, HaveSameLengths, RunsKeepLengths, piece_on_tag, use_on_tag, OpenHandle, FitsTogether, TakesAnswerOf, ManagerView, IsStartedUse, Entered, Armed, entries_in, TraceEntry, TracedView, IsTraced, claimed_at, ActsAreOf, IsBlank, IsKept, Claimed, AreOnTags}
 use Rattle.std.specs.Prelude.{All, Contains, IsPermutation}
-use Rattle.std.proofs.lemmas.List.Sorted.{Contains-permutation, IsPermutation-sym}
-use Rattle.std.proofs.lemmas.List.Elements.{All-nil}
-use Rattle.adapter.specs.View.{TagInUse, AdapterView}
-use Rattle.machine.specs.declared.Label.{Label}
-use Rattle.machine.specs.Rules.{Rules, sectors_of}
-use Rattle.machine.specs.Sending.{array_at}
-use Rattle.machine.specs.State.{Piece, State, opening}
-use Rattle.machine.proofs.Same.{IsSame-refl}
-use Rattle.machine_laws.specs.Booked.{AreOfActs}
-use Rattle.machine_laws.specs.Reached.{AreWhole, IsReached}
-use Rattle.machine_laws.specs.WriteLaws.{HaveSameLengths, RunsKeepLengths}
-use Rattle.device.specs.View.{piece_on_tag, use_on_tag}
-use Rattle.io_manager.specs.declared.OpenHandle.{OpenHandle}
-use Rattle.io_manager.specs.Right.{FitsTogether}
 use Rattle.io_manager.specs.declared.Answer.{Answer}
-use Rattle.io_manager.specs.Right.{TakesAnswerOf}
-use Rattle.io_manager.specs.Shown.{ManagerView}
-use Rattle.compose.specs.Journaled.{IsStartedUse}
-use Rattle.sector_journal.specs.declared.acted.Entered.{Entered}
-use Rattle.sector_journal.specs.declared.slots.Armed.{Armed}
-use Rattle.sector_journal.specs.Journal.{entries_in}
-use Rattle.traced.specs.declared.TraceEntry.{TraceEntry}
 use Rattle.traced.specs.Entries.{labels_of}
-use Rattle.traced.specs.Traced.{TracedView, IsTraced}
-use Rattle.book.specs.Arming.{claimed_at}
-use Rattle.book.specs.Book.{ActsAreOf, IsBlank, IsKept}
-use Rattle.book.specs.Staying.{Claimed, AreOnTags}
 
 none_claimed : (depth tag : ℕ) → claimed_at (replicate depth None) tag ≡ None
 none_claimed zero tag = refl

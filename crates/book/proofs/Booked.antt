@@ -1,6 +1,5 @@
 -- One more entry is booked.
-use Rattle.std.proofs.Common.{ℕ, suc, Option, Some, None, refl}
-use Rattle.book.specs.Book.{BookView, BooksOne, HasBooked}
+use Rattle.book.proofs.Common.{ℕ, suc, Option, Some, None, refl, BookView, BooksOne, HasBooked}
 
 pub booked_none : (old : BookView) → (count : ℕ) × HasBooked None count old old
 booked_none old = (0, record { books = refl; ends = tt })

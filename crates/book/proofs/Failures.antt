@@ -1,30 +1,7 @@
 -- The act of a piece of which no entry was made keeps what holds of a book.
-use Rattle.std.proofs.Common.{◌≡◌, inl, inr, ℕ, List, [], ◌++◌, Option, Some, Err, IsFalse, refl, sym, ap, subst}
-use Rattle.srb.specs.declared.Srb.{Srb}
-use Rattle.srb.specs.declared.Completion.{Completion}
-use Rattle.srb.specs.declared.Class.TheVariants.{Bad}
-use Rattle.srb.specs.Fate.{class_of}
-use Rattle.adapter.specs.View.{IsInOrder}
-use Rattle.adapter.specs.Booking.{IsArmed, IsBookable}
-use Rattle.adapter.specs.Calls.{HasNoneFresh}
-use Rattle.machine.specs.declared.Label.{Label}
-use Rattle.machine.specs.Rules.{Rules}
-use Rattle.machine.specs.State.{State, opening}
-use Rattle.machine.specs.Step.{Run}
-use Rattle.machine_laws.specs.Reached.{IsReached}
-use Rattle.io_manager.specs.declared.OpenHandle.{OpenHandle}
-use Rattle.io_manager.specs.declared.Reply.{Reply}
-use Rattle.io_manager.specs.Shown.{ManagerView}
-use Rattle.io_manager.specs.Right.{FitsTogether}
+use Rattle.book.proofs.Common.{◌≡◌, inl, inr, ℕ, List, [], ◌++◌, Option, Some, Err, IsFalse, refl, sym, ap, subst, Srb, Completion, Bad, class_of, IsInOrder, IsArmed, IsBookable, HasNoneFresh, Label, Rules, State, opening, Run, IsReached, OpenHandle, Reply, ManagerView, FitsTogether, ArmedMayBeBooked, BookedActsAddEntries, IdleActsKeepEntries, StepsStayApart, IsJournaled, Entered, entries_in, TracedView, IsCarried, IsServed, IsTraced, BooksFailure, HoldsBooked, HoldsFailure, IsKept, StaysKept, Claimed, AreOnTags, HaveNotedAll, ArmedStays}
 use Rattle.compose.specs.declared.Event.TheVariants.{Act}
-use Rattle.compose.specs.Journaled.{ArmedMayBeBooked, BookedActsAddEntries, IdleActsKeepEntries, StepsStayApart, IsJournaled}
-use Rattle.sector_journal.specs.declared.acted.Entered.{Entered}
-use Rattle.sector_journal.specs.Journal.{entries_in}
 use Rattle.traced.specs.Entries.{labels_of}
-use Rattle.traced.specs.Traced.{TracedView, IsCarried, IsServed, IsTraced}
-use Rattle.book.specs.Acting.{BooksFailure, HoldsBooked}
-use Rattle.book.specs.Book.{HoldsFailure, IsKept, StaysKept}
-use Rattle.book.specs.Staying.{Claimed, AreOnTags, HaveNotedAll, ArmedStays}
 use Rattle.book.proofs.Going.{labels_carried, act_carried, tags_booked, tags_kept}
 use Rattle.book.proofs.Telling.{apart_still}
 

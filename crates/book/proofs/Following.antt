@@ -1,15 +1,8 @@
 -- The journal follows labels one by one.
-use Rattle.std.proofs.Common.{◌≡◌, ◌≢◌, inl, inr, ℕ, suc, ◌+◌, ◌-◌, ◌<◌, ◌≤◌, List, length, Option, Some, None, refl, sym, ap, subst, ◌∙◌, arith, get_or-set_same, get_or-set_other}
+use Rattle.book.proofs.Common.{◌≡◌, ◌≢◌, inl, inr, ℕ, suc, ◌+◌, ◌-◌, ◌<◌, ◌≤◌, List, length, Option, Some, None, refl, sym, ap, subst, ◌∙◌, arith, get_or-set_same, get_or-set_other, get_or_past, length-set, AdapterView, Armed, Disarms, JournalView, HasNone, armed_at, TraceEntry, Follows, FollowsFrom, FollowsOn, IsDisarmed, IsDisarmedOn}
 use Rattle.std.specs.Prelude.{◌⊎◌, slice_get, slice_set}
-use Rattle.std.proofs.lemmas.List.{get_or_past, length-set}
 use mathlib.Core.Logic.{dite}
 use native.Mathlib.Decide.{ℕ_discrete}
-use Rattle.adapter.specs.View.{AdapterView}
-use Rattle.sector_journal.specs.declared.slots.Armed.{Armed}
-use Rattle.sector_journal.specs.Journal.{Disarms, JournalView}
-use Rattle.sector_journal.specs.Slots.{HasNone, armed_at}
-use Rattle.traced.specs.declared.TraceEntry.{TraceEntry}
-use Rattle.book.specs.Rooms.{Follows, FollowsFrom, FollowsOn, IsDisarmed, IsDisarmedOn}
 
 -- A PIECE IS DISARMED
 

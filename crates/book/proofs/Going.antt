@@ -1,35 +1,16 @@
 -- A step goes on with the trace of a book, its entries and its tags.
-use Rattle.std.proofs.Common.{◌≡◌, inl, inr, ℕ, Bool, true, false, List, ◌++◌, Ok, Err, Result, refl, sym, ap, subst, ◌∙◌, if◌then◌else◌, ◌==◌}
+use Rattle.book.proofs.Common.{◌≡◌, inl, inr, ℕ, Bool, true, false, List, ◌++◌, Ok, Err, Result, refl, sym, ap, subst, ◌∙◌, if◌then◌else◌, ◌==◌, All-contains, Decides-eqb, AsksToWrite, Srb, Completion, TagInUse, AdapterView, IsInOrder, IsSpoiled, Books, booked_on, with_booked, with_booking, all_spoiled, unspoiled, Reply, ManagerView, Event, IsRight, there_mapped, Armed, AskTheSame, TracedView, IsCarried, IsServed, log_of, labels_noted, Claimed, IsClaimed, IsOnTag, AreOnTags, HaveNotedAll, Leaves, ArmedStays}
 use Rattle.std.specs.Prelude.{All}
-use Rattle.std.proofs.lemmas.List.Elements.{All-contains}
-use Rattle.std.proofs.lemmas.Bool.Decides.{Decides-eqb}
-use Rattle.cdb.specs.Meaning.{AsksToWrite}
-use Rattle.srb.specs.declared.Srb.{Srb}
 use Rattle.srb.specs.declared.Entry.{Entry as Booked}
-use Rattle.srb.specs.declared.Completion.{Completion}
-use Rattle.adapter.specs.View.{TagInUse, AdapterView, IsInOrder, IsSpoiled}
-use Rattle.adapter.specs.Booking.{Books, booked_on, with_booked, with_booking}
-use Rattle.adapter.proofs.Booked.{all_spoiled}
-use Rattle.adapter.proofs.Joining.{unspoiled}
-use Rattle.io_manager.specs.declared.Reply.{Reply}
-use Rattle.io_manager.specs.Shown.{ManagerView}
-use Rattle.compose.specs.declared.Event.{Event}
 use Rattle.compose.specs.declared.Event.TheVariants.{Act}
-use Rattle.compose.specs.Right.{IsRight}
-use Rattle.compose.proofs.JournaledStep.{there_mapped}
-use Rattle.sector_journal.specs.declared.slots.Armed.{Armed}
-use Rattle.sector_journal.specs.Arming.{AskTheSame}
 use Rattle.traced.specs.Entries.{labels_of}
-use Rattle.traced.specs.Traced.{TracedView, IsCarried, IsServed, pages_of}
-use Rattle.traced.proofs.Telling.{labels_noted}
-use Rattle.book.specs.Staying.{Claimed, IsClaimed, IsOnTag, AreOnTags, HaveNotedAll, Leaves, ArmedStays}
 use Rattle.book.proofs.Staying.{IsIn, is_in, is_armed}
 
 -- THE TRACE
 
 pub labels_carried : (client : ℕ) (old : TracedView) (event : Event) (reply : Reply) (new : TracedView) (carried : IsCarried client old event reply new)
     → labels_of new.entries ≡ labels_of old.entries ++ carried.stepped.labels
-labels_carried client old event reply new carried = ap labels_of carried.entries ∙ labels_noted client (pages_of old) carried.stepped.labels
+labels_carried client old event reply new carried = ap labels_of carried.entries ∙ labels_noted client (log_of old) carried.stepped.labels
 
 -- an act takes no memory
 pub act_carried : (client : ℕ) (old : TracedView) (tag : ℕ) (reply : Reply) (new : TracedView) → IsServed client old (Act tag) reply new → IsCarried client old (Act tag) reply new
@@ -49,9 +30,9 @@ record IsButBooked (u v : TagInUse) : Type 0 where
   spoiled : IsSpoiled u.srb v.srb
 
 but_booked : (b : Bool) (what : Result Booked Completion) (u : TagInUse) → (b ≡ true → IsSpoiled u.srb (with_booked what u).srb) → IsButBooked u (if b then with_booked what u else u)
+but_booked false what u h = record { tag = refl; piece = refl; fate = refl; spoiled = unspoiled u.srb }
 but_booked true (Ok entry) u h = record { tag = refl; piece = refl; fate = refl; spoiled = h refl }
 but_booked true (Err completion) u h = record { tag = refl; piece = refl; fate = refl; spoiled = h refl }
-but_booked false what u h = record { tag = refl; piece = refl; fate = refl; spoiled = unspoiled u.srb }
 
 asks_still : (armed : Armed) (srb other : Srb) → IsSpoiled srb other → AskTheSame armed.srb srb → AskTheSame armed.srb other
 asks_still armed srb other spoiled same = record {

@@ -1,28 +1,10 @@
 -- Steps with no entry keep what holds of a book.
 use Rattle.std.proofs.Common.{◌≡◌, inl, inr, ℕ, zero, suc, ◌<◌, ◌≤◌, true, false, List, [], ◌∷◌, ◌++◌, length, Option, Some, None, IsFalse, refl, sym, ap, subst, ◌∙◌, arith, append_assoc}
 use Rattle.std.specs.Prelude.{◌⊎◌, All, slice_get, drop}
-use Rattle.std.proofs.lemmas.List.{append-nil}
-use Rattle.std.proofs.lemmas.Option.{slice_get_within}
-use Rattle.std.proofs.lemmas.List.Elements.{All-head, All-tail, All-cons, All-nil}
-use Rattle.srb.specs.declared.Srb.{Srb}
+use Rattle.book.proofs.Common.{append-nil, slice_get_within, All-head, All-tail, All-cons, All-nil, Srb, IsArmed, Label, Rules, State, Reply, ManagerView, Event, IsNoAct, IsJournaled, StepsKeepEntries, StepsStayApart, Armed, entries_in, TraceEntry, is_call_event, TracedView, AreLooked, CarriesSeen, IsCarried, IsLooked, IsServed, StaysKept, Claimed, IsClaimed, IsOnTag, HaveNoted, HaveNotedAll, Leaves, ArmedStays}
 use Rattle.srb.specs.declared.Entry.{Entry as Booked}
-use Rattle.adapter.specs.Booking.{IsArmed}
-use Rattle.machine.specs.declared.Label.{Label}
-use Rattle.machine.specs.Rules.{Rules}
-use Rattle.machine.specs.State.{State}
-use Rattle.io_manager.specs.declared.Reply.{Reply}
-use Rattle.io_manager.specs.Shown.{ManagerView}
-use Rattle.compose.specs.declared.Event.{Event}
 use Rattle.compose.specs.declared.Event.TheVariants.{Open, Close, Read, Write, Flush, CancelIoEx, Mark, QueryRemove, CancelRemove, Remove, SurpriseRemove, Act, Finish, Reset}
-use Rattle.compose.specs.Journaled.{IsNoAct, IsJournaled, StepsKeepEntries, StepsStayApart}
-use Rattle.sector_journal.specs.declared.slots.Armed.{Armed}
-use Rattle.sector_journal.specs.Journal.{entries_in}
-use Rattle.traced.specs.declared.TraceEntry.{TraceEntry}
 use Rattle.traced.specs.Entries.{labels_of}
-use Rattle.traced.specs.Serving.{is_call_event}
-use Rattle.traced.specs.Traced.{TracedView, AreLooked, CarriesSeen, IsCarried, IsLooked, IsServed}
-use Rattle.book.specs.Book.{StaysKept}
-use Rattle.book.specs.Staying.{Claimed, IsClaimed, IsOnTag, HaveNoted, HaveNotedAll, Leaves, ArmedStays}
 use Rattle.book.proofs.Going.{labels_carried}
 
 -- LISTS
@@ -136,23 +118,11 @@ module _ (keep : StepsKeepEntries) (apart : StepsStayApart) (stays : ArmedStays)
 
 -- a call is no act
 pub call_is_no_act : (event : Event) → is_call_event event ≡ true → IsNoAct event
-call_is_no_act (Open partition) is = tt
-call_is_no_act (Close handle) is = tt
-call_is_no_act (Read handle offset buffer) is = tt
-call_is_no_act (Write handle offset bytes through) is = tt
-call_is_no_act (Flush handle) is = tt
-call_is_no_act (CancelIoEx handle target) is = tt
-call_is_no_act (Mark number) is = tt
-call_is_no_act QueryRemove is = tt
-call_is_no_act CancelRemove is = tt
-call_is_no_act Remove is = tt
-call_is_no_act SurpriseRemove is = tt
 call_is_no_act (Act tag) is = absurd (differ is)
   where
     differ : false ≡ true → ⊥
     differ e = absurd (cc (e))
-call_is_no_act (Finish tag) is = tt
-call_is_no_act Reset is = tt
+call_is_no_act _ is = tt
 
 -- LABELS ARE NOTED ONE BY ONE
 

@@ -12,3 +12,4 @@ pub mod Settled
 pub mod Staying
 pub mod Stepping
 pub mod Telling
+mod Common

@@ -1,12 +1,8 @@
 -- A label that was told takes off what was armed for its piece.
-use Rattle.std.proofs.Common.{◌≡◌, ◌≢◌, inl, inr, ℕ, ◌<◌, ◌≤◌, List, [], ◌∷◌, length, zero, suc, Some, None, refl, sym, subst, ◌∙◌, arith}
+use Rattle.book.proofs.Common.{◌≡◌, ◌≢◌, inl, inr, ℕ, ◌<◌, ◌≤◌, List, [], ◌∷◌, length, zero, suc, Some, None, refl, sym, subst, ◌∙◌, arith, Label, Armed, Forgets, IsFreeOf, claimed_at, Claimed, HaveNoted, IsClaimed, Leaves, piece_told}
 use Rattle.std.specs.Prelude.{◌⊎◌}
 use Rattle.srb.specs.declared.DeviceLabel.TheVariants.{Start, Act, Fault, Return}
-use Rattle.machine.specs.declared.Label.{Label}
 use Rattle.machine.specs.declared.Label.TheVariants.{Call, Device, Answer, Cancel, Pause, Resume, Remove, Surprise, Removed}
-use Rattle.sector_journal.specs.declared.slots.Armed.{Armed}
-use Rattle.book.specs.Arming.{Forgets, IsFreeOf, claimed_at}
-use Rattle.book.specs.Staying.{Claimed, HaveNoted, IsClaimed, Leaves, piece_told}
 
 -- nothing is claimed beyond the tags
 none_beyond : (tags : Claimed) (tag : ℕ) → length tags ≤ tag → claimed_at tags tag ≡ None
@@ -21,35 +17,19 @@ some_same : {x y : ℕ} → Some x ≡ Some y → x ≡ y
 some_same {x} {y} e = cc
 
 leaves_all : (piece : ℕ) (label : Label) → piece_told label ≡ None → Leaves piece label
-leaves_all piece (Device (Start other tag block)) none = tt
 leaves_all piece (Device (Act other bytes)) none = absurd (cc (none))
 leaves_all piece (Device (Fault other)) none = absurd (cc (none))
 leaves_all piece (Device (Return other class)) none = absurd (cc (none))
-leaves_all piece (Call number q) none = tt
-leaves_all piece (Answer number status informed bytes) none = tt
-leaves_all piece (Cancel number) none = tt
-leaves_all piece Pause none = tt
-leaves_all piece Resume none = tt
-leaves_all piece Remove none = tt
-leaves_all piece Surprise none = tt
-leaves_all piece Removed none = tt
+leaves_all piece _ none = tt
 
 other_than : (piece told other : ℕ) → Some other ≡ Some told → piece ≢ told → other ≢ piece
 other_than piece told other is apart e = apart (sym e ∙ some_same is)
 
 leaves_other : (piece told : ℕ) (label : Label) → piece_told label ≡ Some told → piece ≢ told → Leaves piece label
-leaves_other piece told (Device (Start other tag block)) is apart = tt
 leaves_other piece told (Device (Act other bytes)) is apart = other_than piece told other is apart
 leaves_other piece told (Device (Fault other)) is apart = other_than piece told other is apart
 leaves_other piece told (Device (Return other class)) is apart = other_than piece told other is apart
-leaves_other piece told (Call number q) is apart = tt
-leaves_other piece told (Answer number status informed bytes) is apart = tt
-leaves_other piece told (Cancel number) is apart = tt
-leaves_other piece told Pause is apart = tt
-leaves_other piece told Resume is apart = tt
-leaves_other piece told Remove is apart = tt
-leaves_other piece told Surprise is apart = tt
-leaves_other piece told Removed is apart = tt
+leaves_other piece told _ is apart = tt
 
 pub nothing_noted : (label : Label) (tags : Claimed) → piece_told label ≡ None → HaveNoted label tags tags
 nothing_noted label tags none tag number armed claimed = (claimed, leaves_all armed.piece label none)

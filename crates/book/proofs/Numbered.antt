@@ -1,9 +1,7 @@
 -- Numbered entries that stand at their numbers are the first ones.
 use Rattle.std.proofs.Common.{◌≡◌, ℕ, suc, ◌+◌, List, [], ◌∷◌, ◌++◌, length, Some, slice_get, refl, sym, ap, subst, ◌∙◌, arith, length-append}
 use Rattle.std.proofs.lemmas.List.{map_push, append_assoc}
-use Rattle.chronicle.specs.Claims.{AllStand}
-use Rattle.sector_journal.specs.declared.acted.Entered.{Entered}
-use Rattle.book.specs.Taken.{BeginsWith, entries_claimed, numbered_from}
+use Rattle.book.proofs.Common.{AllStand, Entered, BeginsWith, entries_claimed, numbered_from}
 
 -- the entry behind these
 abbrev Behind : {A : Type 0} → List A → A → List A → Type 0

@@ -1,21 +1,5 @@
 -- Room in the journal, and a piece that made no entry.
-use Rattle.std.proofs.Common.{◌≡◌, inl, inr, ℕ, Option, Some, None, Result, Ok, Err, refl, sym, ap, subst}
-use Rattle.std.specs.Prelude.{MatchBool, MatchOption}
-use Rattle.sector.specs.declared.Extent.{Extent}
-use Rattle.srb.specs.declared.Completion.{Completion}
-use Rattle.srb.specs.declared.Kind.{Kind}
-use Rattle.srb.specs.declared.Srb.{Srb}
-use Rattle.adapter.specs.Booking.{IsArmed}
-use Rattle.adapter.specs.View.{AdapterView}
-use Rattle.compose.specs.declared.Event.{Event}
-use Rattle.asking.specs.Asking.{bytes_of, kind_asked}
-use Rattle.io_manager.specs.declared.Refusal.TheVariants.{InsufficientResources}
-use Rattle.io_manager.specs.declared.Reply.{Reply}
-use Rattle.io_manager.specs.declared.Reply.TheVariants.{Refused}
-use Rattle.sector_journal.specs.Journal.{Acts, Admits, GainsRoom, JournalView, Releases}
-use Rattle.sector_journal.specs.Slots.{HasNone}
-use Rattle.journaled.specs.Right.{is_opened}
-use Rattle.book.specs.Rooms.{IsLeft, KeepsRoom, MakesRoom, Transfers}
+use Rattle.book.proofs.Common.{◌≡◌, inl, inr, ℕ, Option, Some, None, Result, Ok, Err, refl, sym, ap, subst, MatchBool, MatchOption, Extent, Completion, Kind, Srb, IsArmed, AdapterView, Event, bytes_of, kind_asked, InsufficientResources, Reply, Refused, Acts, Admits, GainsRoom, JournalView, Releases, HasNone, is_opened, IsLeft, KeepsRoom, MakesRoom, Transfers}
 
 module _ (number : ℕ) (event : Event) (extent : Extent) (max_transfer : ℕ) (old : JournalView) where
   pub none_made : kind_asked event ≡ None → MakesRoom number event extent max_transfer old old

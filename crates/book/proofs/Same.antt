@@ -1,11 +1,6 @@
 -- Two armings of one number are one.
 use Rattle.std.proofs.Common.{◌≡◌, ◌≢◌, ℕ, zero, suc, List, [], ◌∷◌, length, All, Some, slice_get, sym, ap, subst, ◌∙◌}
-use Rattle.std.proofs.lemmas.List.Elements.{All-head, All-tail}
-use Rattle.chronicle.specs.Claims.{AllStand}
-use Rattle.sector_journal.specs.declared.acted.Entered.{Entered}
-use Rattle.sector_journal.specs.declared.slots.Armed.{Armed}
-use Rattle.sector_journal.specs.Journal.{JournalView, AreOfArmings, IsOfArming}
-use Rattle.book.specs.Arming.{IsReceipt, IsOfOther, IsOfThis}
+use Rattle.book.proofs.Common.{All-head, All-tail, AllStand, Entered, Armed, JournalView, AreOfArmings, IsOfArming, IsReceipt, IsOfOther, IsOfThis}
 
 all_get : {A : Type 0} (P : A → Type 0) (xs : List A) (k : ℕ) (x : A) → All P xs → slice_get xs k ≡ Some x → P x
 all_get P [] k x all there = absurd (cc (there))

@@ -1,15 +1,7 @@
 -- What was armed in the journal is claimed on its tag.
-use Rattle.std.proofs.Common.{◌≡◌, ◌≢◌, ℕ, ◌<◌, List, [], ◌∷◌, length, Some, None, sym, ap, subst, ◌∙◌, get_or-set_same, get_or-set_other}
-use Rattle.std.specs.Prelude.{slice_set}
+use Rattle.book.proofs.Common.{◌≡◌, ◌≢◌, ℕ, ◌<◌, List, [], ◌∷◌, length, Some, None, sym, ap, subst, ◌∙◌, get_or-set_same, get_or-set_other, slice_set, Srb, AdapterView, IsArmed, Armed, JournalView, MayArm, Arms, armed_at, Claimed, IsClaimed, IsOnTag, AreOnTags}
 use mathlib.Core.Logic.{dite}
 use native.Mathlib.Decide.{ℕ_discrete}
-use Rattle.srb.specs.declared.Srb.{Srb}
-use Rattle.adapter.specs.View.{AdapterView}
-use Rattle.adapter.specs.Booking.{IsArmed}
-use Rattle.sector_journal.specs.declared.slots.Armed.{Armed}
-use Rattle.sector_journal.specs.Journal.{JournalView, MayArm, Arms}
-use Rattle.sector_journal.specs.Slots.{armed_at}
-use Rattle.book.specs.Staying.{Claimed, IsClaimed, IsOnTag, AreOnTags}
 
 some_same : {A : Type 0} {x y : A} → Some x ≡ Some y → x ≡ y
 some_same {A} {x} {y} e = cc

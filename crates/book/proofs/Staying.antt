@@ -1,24 +1,9 @@
 -- A tag's piece stays as it is, until a label tells of it.
 use Rattle.std.proofs.Common.{◌≡◌, ◌≢◌, ◌⊎◌, inl, inr, ℕ, zero, suc, Bool, true, false, List, [], ◌∷◌, ◌++◌, map, IsPermutation, sym, ap, subst, ◌∙◌, arith}
 use Rattle.std.specs.Prelude.{All, Contains}
-use Rattle.std.specs.List.{remove}
-use Rattle.std.proofs.lemmas.List.Elements.{All-head, All-tail, All-weaker, All-contains, All-contains_itself, Contains-append_left, Contains-append_right}
-use Rattle.std.proofs.lemmas.List.Sorted.{IsPermutation-sym, IsPermutation-remove, Contains-permutation}
-use Rattle.srb.specs.declared.Srb.{Srb}
-use Rattle.srb.specs.declared.DeviceLabel.{DeviceLabel}
+use Rattle.book.proofs.Common.{remove, All-head, All-tail, All-weaker, All-contains, All-contains_itself, Contains-append_left, Contains-append_right, IsPermutation-sym, IsPermutation-remove, Contains-permutation, Srb, DeviceLabel, Fresh, TagInUse, AdapterView, ReservesMore, MovesOn, MovesByAll, acted, faulted, met_by_reset, in_use_from, IsArmed, is_there, Label, as_label, ManagerView, reserves_more, there_mapped, IsLed, led, LeavesPiece, Leaves, ArmedStays}
 use Rattle.srb.specs.declared.DeviceLabel.TheVariants.{Start, Act, Fault, Return}
-use Rattle.srb.specs.Fate.{Fresh}
-use Rattle.adapter.specs.View.{TagInUse, AdapterView, ReservesMore, MovesOn, MovesByAll, acted, faulted, met_by_reset, in_use_from}
-use Rattle.adapter.specs.Booking.{IsArmed}
-use Rattle.adapter.proofs.Booked.{is_there}
-use Rattle.machine.specs.declared.Label.{Label}
-use Rattle.machine.specs.Step.{as_label}
-use Rattle.io_manager.specs.Shown.{ManagerView}
 use Rattle.io_manager.specs.Right.{Told, IsRightBy, MovesWith, labels_of, end_labels, as_answer}
-use Rattle.io_manager.proofs.AdapterJoins.{reserves_more}
-use Rattle.compose.proofs.JournaledStep.{there_mapped}
-use Rattle.compose.proofs.JournaledKept.{IsLed, led}
-use Rattle.book.specs.Staying.{LeavesPiece, Leaves, ArmedStays}
 
 -- LISTS
 

@@ -1,14 +1,7 @@
 -- A step of a book is refused for want of memory where its event may be.
 use Rattle.std.proofs.Common.{◌≡◌, ◌⊎◌, inl, inr, ℕ, List, None, Some, sym, ◌∙◌, true}
-use Rattle.io_manager.specs.declared.Refusal.TheVariants.{InsufficientResources}
-use Rattle.io_manager.specs.declared.Reply.{Reply}
+use Rattle.book.proofs.Common.{InsufficientResources, Reply, Event, StepsTakeNoMemory, Completion, TracedView, may_want, served_wants, BookView, HoldsFailure, IsLastAct, ServesAfter, ServesEvent}
 use Rattle.io_manager.specs.declared.Reply.TheVariants.{Ok as OkReply, Refused}
-use Rattle.compose.specs.declared.Event.{Event}
-use Rattle.compose.specs.StepLaws.{StepsTakeNoMemory}
-use Rattle.srb.specs.declared.Completion.{Completion}
-use Rattle.traced.specs.Traced.{TracedView, may_want}
-use Rattle.traced.proofs.Booking.{served_wants}
-use Rattle.book.specs.Book.{BookView, HoldsFailure, IsLastAct, ServesAfter, ServesEvent}
 
 pub after_wants : StepsTakeNoMemory → (old : BookView) (event : Event) (reply : Reply) (new : BookView) (bytes : List ℕ) → ServesAfter None old event reply new → reply ≡ Refused InsufficientResources bytes → may_want event ≡ true
 after_wants law old event reply new bytes after is = go after.serves

@@ -1,37 +1,9 @@
 -- The act of an entry that was booked goes on with what was told.
-use Rattle.std.proofs.Common.{◌≡◌, ℕ, Bool, true, false, List, [], ◌∷◌, ◌++◌, length, Option, Some, None, Ok, Result, IsFalse, refl, sym, ap, subst, ◌∙◌, if◌then◌else◌}
+use Rattle.book.proofs.Common.{◌≡◌, ℕ, Bool, true, false, List, [], ◌∷◌, ◌++◌, length, Option, Some, None, Ok, Result, IsFalse, refl, sym, ap, subst, ◌∙◌, if◌then◌else◌, map_push, Entry, Completion, AdapterView, IsInOrder, IsOfSrb, IsBookable, Books, with_booking, Label, Rules, State, opening, Run, AreDistinct-Run, AreDistinct-opening, IsReached, OpenHandle, Reply, ManagerView, FitsTogether, IsRight, ArmedMayBeBooked, BookedActsAddEntries, StepsStayApart, IsJournaled, ActsAsBooked, booked_step, Entered, Armed, JournalView, entries_in, of_srb, TracedView, IsCarried, IsServed, IsTraced, MayBook, HoldsBooked, IsOfThis, IsOfTag, claimed_at, BooksOne, IsKept, book_of, Claimed, IsOnTag, AreOnTags, HaveNotedAll, ArmedStays, TakesNext}
 use Rattle.std.specs.Prelude.{slice_get}
-use Rattle.std.proofs.lemmas.List.{map_push}
-use Rattle.srb.specs.declared.Entry.{Entry}
-use Rattle.srb.specs.declared.Completion.{Completion}
-use Rattle.adapter.specs.View.{AdapterView, IsInOrder}
-use Rattle.adapter.specs.Booking.{IsOfSrb, IsBookable, Books, with_booking}
-use Rattle.machine.specs.declared.Label.{Label}
-use Rattle.machine.specs.Rules.{Rules}
-use Rattle.machine.specs.State.{State, opening}
-use Rattle.machine.specs.Step.{Run}
-use Rattle.machine.proofs.Numbers.{AreDistinct-Run, AreDistinct-opening}
-use Rattle.machine_laws.specs.Reached.{IsReached}
-use Rattle.io_manager.specs.declared.OpenHandle.{OpenHandle}
-use Rattle.io_manager.specs.declared.Reply.{Reply}
 use Rattle.io_manager.specs.declared.Reply.TheVariants.{Ok as OkReply}
-use Rattle.io_manager.specs.Shown.{ManagerView}
-use Rattle.io_manager.specs.Right.{FitsTogether}
 use Rattle.compose.specs.declared.Event.TheVariants.{Act}
-use Rattle.compose.specs.Right.{IsRight}
-use Rattle.compose.specs.Journaled.{ArmedMayBeBooked, BookedActsAddEntries, StepsStayApart, IsJournaled}
-use Rattle.compose.proofs.JournaledStep.{ActsAsBooked, booked_step}
-use Rattle.sector_journal.specs.declared.acted.Entered.{Entered}
-use Rattle.sector_journal.specs.declared.slots.Armed.{Armed}
-use Rattle.sector_journal.specs.Journal.{JournalView, entries_in}
-use Rattle.sector_journal.proofs.Bookable.{of_srb}
 use Rattle.traced.specs.Entries.{labels_of}
-use Rattle.traced.specs.Traced.{TracedView, IsCarried, IsServed, IsTraced}
-use Rattle.book.specs.Acting.{MayBook, HoldsBooked}
-use Rattle.book.specs.Arming.{IsOfThis, IsOfTag, claimed_at}
-use Rattle.book.specs.Book.{BooksOne, IsKept, book_of}
-use Rattle.book.specs.Staying.{Claimed, IsOnTag, AreOnTags, HaveNotedAll, ArmedStays}
-use Rattle.book.specs.Taken.{TakesNext}
 use Rattle.book.proofs.Going.{labels_carried, act_carried, tags_booked, tags_kept}
 
 some_entered : {x y : Entered} → Some x ≡ Some y → x ≡ y

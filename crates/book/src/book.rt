@@ -21,7 +21,7 @@ ghost use Rattle.book.specs.Taken.{BeginsWith, numbered_from};
 use crate::booking::{book_all, has_acted};
 use crate::failing::{fail, failure, transfer};
 use crate::journal_room::{next_request, reserve};
-use crate::name::Naming;
+use crate::name::BookNaming;
 use crate::noting;
 use crate::records::{Beside, Records};
 use crate::settling::{arm_tag, settle_all};
@@ -42,8 +42,7 @@ use std::sync::{Wait, ledger};
 use traced::{Row, Share, TraceEntry, Traced};
 
 /// A stack that many threads share under a lock, with its trace, and what was booked of the journal's entries.
-#[derive(Drop)]
-pub struct Book<N: Naming> {
+pub struct Book<N: BookNaming> {
     traced: Traced<BookedAdapter, N>,
     taken: Taken<N>,
     tags: Tags<N>,
@@ -51,7 +50,19 @@ pub struct Book<N: Naming> {
     seen: usize,
 }
 
-impl<N: Naming> Model for Book<N> {
+// By hand, so that no crate above proves it again, as it would a derived one.
+impl<N: BookNaming> Drop for Book<N> {
+    fn drop(self) {
+        let Book {
+            traced: _,
+            taken: _,
+            tags: _,
+            seen: _,
+        } = self;
+    }
+}
+
+impl<N: BookNaming> Model for Book<N> {
     ghost use Rattle.book.specs.Book.{BookView, IsKept, book_of};
 
     ghost Value = { BookView };
@@ -76,7 +87,7 @@ fn moves_pieces(event: &Event) -> bool {
     }
 }
 
-impl<N: Naming> Book<N> {
+impl<N: BookNaming> Book<N> {
     /// A book of a stack of which nothing was told yet, beside a journal, whose tags it has. Where the journal's
     /// sectors aren't as many and as long as the disk's, nothing is ever booked.
     ///
@@ -183,7 +194,7 @@ impl<N: Naming> Book<N> {
 }
 
 // Steps. Each of these is called with the book's lock held, and those that are handed a journal with its lock too.
-impl<N: Naming> Book<N> {
+impl<N: BookNaming> Book<N> {
     fn look(&mut self, records: &Records<N>)
         ensures looked { AreLooked N.slots self.old.traced self.new.traced }
         ensures taken { self.new.taken ≡ self.old.taken }
@@ -268,7 +279,7 @@ impl<N: Naming> Book<N> {
         let number = next_request(&self.traced);
         let max_transfer = self.traced.sizes().max_transfer;
         if reserve(journal, number, &event, extent, max_transfer).is_err() {
-            return refused(records.alloc, event);
+            return refused(records.context.alloc(), event);
         }
         let reply = self.call_alone(records, share, event);
         give_back(journal, number, &reply);

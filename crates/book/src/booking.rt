@@ -7,7 +7,7 @@ ghost use Rattle.book.specs.Book.{BooksOne, HasBooked, IsKept, IsSameBook, book_
 ghost use Rattle.book.specs.Rooms.{HasActed};
 
 use crate::laws::laws_of_entries;
-use crate::name::Naming;
+use crate::name::BookNaming;
 use crate::noting::serve;
 use crate::records::Records;
 use crate::tags::Tags;
@@ -20,7 +20,7 @@ use srb::Booked;
 use traced::Traced;
 
 /// Whether the journal has as many sectors as the stack's disk, of the same size.
-fn is_as_large<M: Medium, N: Naming>(
+fn is_as_large<M: Medium, N: BookNaming>(
     traced: &Traced<BookedAdapter, N>,
     journal: &Journal<M, N>,
 ) -> bool
@@ -31,7 +31,7 @@ fn is_as_large<M: Medium, N: Naming>(
 }
 
 /// The tag of the entry of a number.
-fn tag_of<M: Medium, N: Naming>(journal: &Journal<M, N>, number: u64) -> u8
+fn tag_of<M: Medium, N: BookNaming>(journal: &Journal<M, N>, number: u64) -> u8
     requires { number < length journal.now.entered }
     ensures { (entered : Entered) × (slice_get journal.now.entered number ≡ Some entered) × (result ≡ entered.entry.tag) }
 {
@@ -39,7 +39,11 @@ fn tag_of<M: Medium, N: Naming>(journal: &Journal<M, N>, number: u64) -> u8
 }
 
 /// Whether the last entry of the journal is of this tag, and is not among the first ones, which were booked.
-pub(crate) fn has_acted<M: Medium, N: Naming>(journal: &Journal<M, N>, booked: u64, tag: u8) -> bool
+pub(crate) fn has_acted<M: Medium, N: BookNaming>(
+    journal: &Journal<M, N>,
+    booked: u64,
+    tag: u8,
+) -> bool
     ensures { result ≡ true → HasActed journal.now booked tag }
 {
     let entries = journal.entries();
@@ -50,7 +54,7 @@ pub(crate) fn has_acted<M: Medium, N: Naming>(journal: &Journal<M, N>, booked: u
 }
 
 /// Whether there is an entry of a number, and it is of what was armed on its tag.
-fn may_book<M: Medium, N: Naming>(
+fn may_book<M: Medium, N: BookNaming>(
     traced: &Traced<BookedAdapter, N>,
     tags: &mut Tags<N>,
     journal: &mut Journal<M, N>,
@@ -69,7 +73,7 @@ fn may_book<M: Medium, N: Naming>(
 }
 
 /// Books the entry of a number, and gives its tag.
-fn book_entry<M: Medium, N: Naming>(
+fn book_entry<M: Medium, N: BookNaming>(
     traced: &mut Traced<BookedAdapter, N>,
     journal: &Journal<M, N>,
     number: u64,
@@ -84,7 +88,7 @@ fn book_entry<M: Medium, N: Naming>(
 }
 
 /// Books the next entry, if it is there and of what was armed on its tag, and makes its act. Returns the tag.
-pub(crate) fn book_next<M: Medium, N: Naming>(
+pub(crate) fn book_next<M: Medium, N: BookNaming>(
     traced: &mut Traced<BookedAdapter, N>,
     taken: &mut Taken<N>,
     tags: &mut Tags<N>,
@@ -112,7 +116,7 @@ pub(crate) fn book_next<M: Medium, N: Naming>(
 }
 
 /// Books all entries that are there. Returns the tag of the last, if there was one.
-pub(crate) fn book_all<M: Medium, N: Naming>(
+pub(crate) fn book_all<M: Medium, N: BookNaming>(
     traced: &mut Traced<BookedAdapter, N>,
     taken: &mut Taken<N>,
     tags: &mut Tags<N>,

@@ -14,7 +14,7 @@ ghost use Rattle.book.specs.Book.{HoldsFailure, StaysKept};
 ghost use Rattle.book.specs.Rooms.{Transfers};
 
 use crate::laws::laws_of_entries;
-use crate::name::Naming;
+use crate::name::BookNaming;
 use crate::noting::serve;
 use crate::records::Records;
 use crate::tags::Tags;
@@ -27,7 +27,7 @@ use srb::{Booked, Completion};
 use traced::Traced;
 
 /// The piece on a tag that could act.
-fn armed_piece<N: Naming>(traced: &Traced<BookedAdapter, N>, tag: u8) -> Option<u128>
+fn armed_piece<N: BookNaming>(traced: &Traced<BookedAdapter, N>, tag: u8) -> Option<u128>
     ensures { MatchOption result (HasNoneFresh traced.now.stack.adapter tag) (λ piece. (srb : SrbView) × IsArmed traced.now.stack.adapter tag piece srb) }
 {
     let (piece, _) = traced.armed(tag)?;
@@ -35,7 +35,7 @@ fn armed_piece<N: Naming>(traced: &Traced<BookedAdapter, N>, tag: u8) -> Option<
 }
 
 /// Lets the piece of a tag act in the journal, if it may. Returns how it failed, where it did.
-pub(crate) fn transfer<M: Medium, N: Naming>(
+pub(crate) fn transfer<M: Medium, N: BookNaming>(
     traced: &Traced<BookedAdapter, N>,
     journal: &mut Journal<M, N>,
     words: &sector_journal::History<N>,
@@ -52,7 +52,11 @@ pub(crate) fn transfer<M: Medium, N: Naming>(
 }
 
 /// Books that the piece of a tag failed, if one could act.
-fn book_failure<N: Naming>(traced: &mut Traced<BookedAdapter, N>, tag: u8, completion: Completion)
+fn book_failure<N: BookNaming>(
+    traced: &mut Traced<BookedAdapter, N>,
+    tag: u8,
+    completion: Completion,
+)
     ensures { BooksFailure traced.old tag completion traced.new }
 {
     if let Some(piece) = armed_piece(traced, tag) {
@@ -61,7 +65,7 @@ fn book_failure<N: Naming>(traced: &mut Traced<BookedAdapter, N>, tag: u8, compl
 }
 
 /// Fails the piece of a tag, if one could act, and makes its act.
-pub(crate) fn fail<N: Naming>(
+pub(crate) fn fail<N: BookNaming>(
     traced: &mut Traced<BookedAdapter, N>,
     tags: &mut Tags<N>,
     records: &Records<N>,

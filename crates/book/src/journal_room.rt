@@ -3,7 +3,7 @@
 ghost use Rattle.std.specs.Prelude.{◌≡◌, ◌≤◌, ◌<◌, ◌+◌, ◌-◌, ◌^◌, OnErr, OnOk, length, min};
 ghost use Rattle.book.specs.Rooms.{IsLeft, MakesRoom, next_number};
 
-use crate::name::Naming;
+use crate::name::BookNaming;
 use asking::kind_of;
 use compose::Event;
 use disk::Medium;
@@ -14,7 +14,7 @@ use std::alloc::AllocError;
 use traced::Traced;
 
 /// The number of the next request.
-pub(crate) fn next_request<N: Naming>(traced: &Traced<BookedAdapter, N>) -> u64
+pub(crate) fn next_request<N: BookNaming>(traced: &Traced<BookedAdapter, N>) -> u64
     ensures { result ≡ next_number traced.now.owners }
 {
     traced.calls().saturating_add(1)
@@ -22,7 +22,7 @@ pub(crate) fn next_request<N: Naming>(traced: &Traced<BookedAdapter, N>) -> u64
 
 /// Makes room in the journal for the acts of the request that an event asks for, on this extent and under this number.
 /// Its pieces have `max_transfer` sectors at most.
-pub(crate) fn reserve<M: Medium, N: Naming>(
+pub(crate) fn reserve<M: Medium, N: BookNaming>(
     journal: &mut Journal<M, N>,
     number: u64,
     event: &Event,

@@ -31,7 +31,7 @@ mod taken;
 pub use arming::Arming;
 pub use book::Book;
 pub use laws::armed_stays;
-pub use name::Naming;
+pub use name::BookNaming;
 pub use records::{Beside, Records};
 pub use tags::Tags;
 pub use taken::Taken;

@@ -11,7 +11,7 @@ ghost use Rattle.book.specs.Book.{IsKept, StaysKept};
 ghost use Rattle.book.specs.Staying.{HaveNotedAll};
 
 use crate::laws::laws_of_entries;
-use crate::name::Naming;
+use crate::name::BookNaming;
 use crate::records::Records;
 use crate::tags::Tags;
 use compose::{Event, Reply};
@@ -20,7 +20,7 @@ use traced::{Share, Traced};
 
 /// Notes the labels of the trace from a place on. Where one tells that a piece acted, failed or came back, what was
 /// armed for it is let go.
-pub(crate) fn catch_up<N: Naming>(
+pub(crate) fn catch_up<N: BookNaming>(
     traced: &Traced<BookedAdapter, N>,
     tags: &mut Tags<N>,
     from: usize,
@@ -33,7 +33,7 @@ pub(crate) fn catch_up<N: Naming>(
 }
 
 /// Carries out each mark that is seen at an open request.
-pub(crate) fn look<N: Naming>(
+pub(crate) fn look<N: BookNaming>(
     traced: &mut Traced<BookedAdapter, N>,
     tags: &mut Tags<N>,
     records: &Records<N>,
@@ -43,12 +43,12 @@ pub(crate) fn look<N: Naming>(
 {
     laws_of_entries();
     let from = traced.len();
-    traced.look(records.alloc, records.history, records.marks);
+    traced.look(&records.context);
     catch_up(traced, tags, from);
 }
 
 /// Carries out an event that is no call.
-pub(crate) fn serve<N: Naming>(
+pub(crate) fn serve<N: BookNaming>(
     traced: &mut Traced<BookedAdapter, N>,
     tags: &mut Tags<N>,
     records: &Records<N>,
@@ -62,13 +62,13 @@ pub(crate) fn serve<N: Naming>(
 {
     laws_of_entries();
     let from = traced.len();
-    let reply = traced.serve(records.alloc, records.history, records.marks, event);
+    let reply = traced.serve(&records.context, event);
     catch_up(traced, tags, from);
     reply
 }
 
 /// Carries out a call, with the share of its handle's client.
-pub(crate) fn call<N: Naming>(
+pub(crate) fn call<N: BookNaming>(
     traced: &mut Traced<BookedAdapter, N>,
     tags: &mut Tags<N>,
     records: &Records<N>,
@@ -82,7 +82,7 @@ pub(crate) fn call<N: Naming>(
 {
     laws_of_entries();
     let from = traced.len();
-    let reply = traced.call(records.alloc, records.history, records.marks, share, event);
+    let reply = traced.call(&records.context, share, event);
     catch_up(traced, tags, from);
     reply
 }

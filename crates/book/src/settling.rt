@@ -6,7 +6,7 @@ ghost use Rattle.book.specs.Rooms.{ArmsTag, Follows, FollowsDevice, FollowsOn, I
 ghost use Rattle.book.specs.Staying.{AreOnTags};
 
 use crate::arming::Arming;
-use crate::name::Naming;
+use crate::name::BookNaming;
 use crate::tags::Tags;
 use disk::Medium;
 use machine::Label;
@@ -17,7 +17,7 @@ use traced::Traced;
 
 /// Lets the piece of a tag act in the journal, where it could act in the stack and wasn't armed yet. Lets no piece of
 /// the tag act there, where none could act in the stack.
-pub(crate) fn arm_tag<M: Medium, N: Naming>(
+pub(crate) fn arm_tag<M: Medium, N: BookNaming>(
     traced: &Traced<BookedAdapter, N>,
     tags: &mut Tags<N>,
     journal: &mut Journal<M, N>,
@@ -41,7 +41,7 @@ pub(crate) fn arm_tag<M: Medium, N: Naming>(
 }
 
 /// Whether the piece that may act on a tag is this one.
-fn is_armed_for<M: Medium, N: Naming>(journal: &Journal<M, N>, tag: u8, piece: u128) -> bool
+fn is_armed_for<M: Medium, N: BookNaming>(journal: &Journal<M, N>, tag: u8, piece: u128) -> bool
     ensures { result ≡ false → HasNone journal.now.slots tag piece }
 {
     match journal.armed(tag) {
@@ -51,7 +51,7 @@ fn is_armed_for<M: Medium, N: Naming>(journal: &Journal<M, N>, tag: u8, piece: u
 }
 
 /// Lets a piece not act on a tag any more.
-fn disarm_on<M: Medium, N: Naming>(journal: &mut Journal<M, N>, tag: u8, piece: u128)
+fn disarm_on<M: Medium, N: BookNaming>(journal: &mut Journal<M, N>, tag: u8, piece: u128)
     requires { tag < length journal.old.slots }
     ensures { IsDisarmedOn tag piece journal.old journal.new }
 {
@@ -61,7 +61,7 @@ fn disarm_on<M: Medium, N: Naming>(journal: &mut Journal<M, N>, tag: u8, piece: 
 }
 
 /// Lets a piece that failed or came back not act any more.
-fn disarm_piece<M: Medium, N: Naming>(journal: &mut Journal<M, N>, piece: u128)
+fn disarm_piece<M: Medium, N: BookNaming>(journal: &mut Journal<M, N>, piece: u128)
     ensures { IsDisarmed piece journal.old journal.new }
 {
     for tag in 0..journal.depth() {
@@ -70,7 +70,7 @@ fn disarm_piece<M: Medium, N: Naming>(journal: &mut Journal<M, N>, piece: u128)
 }
 
 /// Has the journal follow a label of the device: a piece that was started may act, one that failed or came back may not.
-fn settle_device<M: Medium, N: Naming>(
+fn settle_device<M: Medium, N: BookNaming>(
     traced: &Traced<BookedAdapter, N>,
     tags: &mut Tags<N>,
     journal: &mut Journal<M, N>,
@@ -90,7 +90,7 @@ fn settle_device<M: Medium, N: Naming>(
 }
 
 /// Has the journal follow a label. What was reserved for a request that was answered is given back.
-fn settle_label<M: Medium, N: Naming>(
+fn settle_label<M: Medium, N: BookNaming>(
     traced: &Traced<BookedAdapter, N>,
     tags: &mut Tags<N>,
     journal: &mut Journal<M, N>,
@@ -109,7 +109,7 @@ fn settle_label<M: Medium, N: Naming>(
 }
 
 /// Has the journal follow the labels of the trace from a place on.
-pub(crate) fn settle_all<M: Medium, N: Naming>(
+pub(crate) fn settle_all<M: Medium, N: BookNaming>(
     traced: &Traced<BookedAdapter, N>,
     tags: &mut Tags<N>,
     journal: &mut Journal<M, N>,

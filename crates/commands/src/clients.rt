@@ -12,7 +12,7 @@ ghost use Rattle.startup.specs.Started.{rules_over};
 
 use crate::faults::Error;
 use compose::{LAST_BUSY_RETURN, LONGEST_REQUEST};
-use rounds::{Plan, RoundsFault, Tally, run};
+use rounds::{Disk, Plan, RoundsFault, Tally, run};
 use script::ScriptFault;
 use settings::{Config, ConfigFault};
 use startup::{Verdict, fault_of, read_settings, start_apart};
@@ -53,7 +53,6 @@ pub fn clients<C: Read + Drop, O: Write, R: Threads + Wait + Sync>(
     let plan = Plan {
         clients: threads,
         rounds,
-        sector_size: config.sector_size,
         depth: config.depth,
         write_protected: config.write_protected,
     };
@@ -61,7 +60,13 @@ pub fn clients<C: Read + Drop, O: Write, R: Threads + Wait + Sync>(
     if !has_room {
         return Err(out_of_range());
     }
-    let tally = match run(rt, alloc, stack, disk, sizes, slots, plan) {
+    let over = Disk {
+        stack,
+        medium: disk,
+        sizes,
+        slots,
+    };
+    let tally = match run(rt, alloc, over, plan) {
         Ok(done) => done.tally,
         Err(RoundsFault::NoMemory) => return Err(Error::NoMemory),
         Err(RoundsFault::NoPartition) => return Err(out_of_range()),

@@ -16,9 +16,7 @@ apart b e f = absurd (cc)
 abbrev IsGoing : Mark → Type 0
 IsGoing Untouched = Unit {0}
 IsGoing Out = Unit {0}
-IsGoing (Done sector) = ⊥
-IsGoing (Failed status) = ⊥
-IsGoing Back = ⊥
+IsGoing _ = ⊥
 
 -- a request of which no place has ended
 record IsAfresh (o : OpenRequest) : Type 0 where
@@ -85,8 +83,7 @@ lasts_device rules number (Start piece tag block ∷ labels) rest s s' only l ru
     by_step (inl free) = lasts_started rules number s piece tag block run.0 free.1 l
     by_step (inr owing) = absurd owing
 lasts_device rules number (Act piece bytes ∷ labels) rest s s' only l run = absurd (All-head IsStart (Act piece bytes) labels only)
-lasts_device rules number (Fault piece ∷ labels) rest s s' only l run = absurd (All-head IsStart (Fault piece) labels only)
-lasts_device rules number (Return piece class ∷ labels) rest s s' only l run = absurd (All-head IsStart (Return piece class) labels only)
+lasts_device rules number (other ∷ labels) rest s s' only l run = absurd (All-head IsStart other labels only)
 
 -- REQUESTS ARE ANSWERED
 
@@ -96,9 +93,7 @@ going_on rules s o Untouched kept stays going (inr (status, inl (cancelled, is))
 going_on rules s o Untouched kept stays going (inr (status, inr (removing, is))) = apart s.removing removing stays
 going_on rules s o Out kept stays going (inl done) = cc (done)
 going_on rules s o Out kept stays going (inr (status, cause)) = cause
-going_on rules s o (Done sector) kept stays going ended = going
-going_on rules s o (Failed status) kept stays going ended = going
-going_on rules s o Back kept stays going ended = going
+going_on rules s o _ kept stays going ended = going
 
 not_ended : (rules : Rules) (s : State) (o : OpenRequest) (marks : List Mark) → IsFalse o.cancelled → IsFalse s.removing → 0 < length marks → All IsGoing marks → All (HasEnded rules s o) marks → ⊥
 not_ended rules s o [] kept stays some going ended = absurd (omega arith)

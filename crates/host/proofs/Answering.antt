@@ -92,14 +92,7 @@ called_in (x ∷ es) r k less at = go (called_in es r) x.label refl k less at
   where
     go : ((j : ℕ) → j < length (call_numbers (labels_of es)) → slice_index_or (call_numbers (labels_of es)) j r ≡ r → Called es r) → (l : Label) → x.label ≡ l → (j : ℕ) → j < length (call_numbers (l ∷ labels_of es)) → slice_index_or (call_numbers (l ∷ labels_of es)) j r ≡ r → Called (x ∷ es) r
     go rest (Call n q) is j less at = first_or x es n r q (call_numbers (labels_of es)) is j less at rest
-    go rest (Device l) is j less at = later x es r (rest j less at)
-    go rest (AnswerLabel n s i b) is j less at = later x es r (rest j less at)
-    go rest (Cancel n) is j less at = later x es r (rest j less at)
-    go rest Pause is j less at = later x es r (rest j less at)
-    go rest Resume is j less at = later x es r (rest j less at)
-    go rest Remove is j less at = later x es r (rest j less at)
-    go rest Surprise is j less at = later x es r (rest j less at)
-    go rest Removed is j less at = later x es r (rest j less at)
+    go rest _ is j less at = later x es r (rest j less at)
 
 pub rowed_at : (owners : List ℕ) (es : List TraceEntry) (k : ℕ) (e : TraceEntry) → AreRowed owners es → slice_get es k ≡ Some e → e.row ≡ row_of owners e.label
 rowed_at owners [] k e all at = absurd (cc)
@@ -114,25 +107,11 @@ by_order (suc x) (suc y) ne above below = by_order x y (λ e. ne (ap suc e)) (λ
 
 no_answer_of : (r : ℕ) (l : Label) → IsNoAnswerOf r l → IsAnswerTo r l → ⊥
 no_answer_of r (AnswerLabel n s i b) none is = none is
-no_answer_of r (Call n q) none is = is
-no_answer_of r (Device l) none is = is
-no_answer_of r (Cancel n) none is = is
-no_answer_of r Pause none is = is
-no_answer_of r Resume none is = is
-no_answer_of r Remove none is = is
-no_answer_of r Surprise none is = is
-no_answer_of r Removed none is = is
+no_answer_of r _ none is = is
 
 answer_named : (r : ℕ) (l : Label) → IsAnswerTo r l → (answer : Answer) × (l ≡ as_answer answer) × (answer.number ≡ r)
 answer_named r (AnswerLabel n s i b) is = (record { number = n; status = s; information = i; bytes = b }, refl, is)
-answer_named r (Call n q) is = absurd is
-answer_named r (Device l) is = absurd is
-answer_named r (Cancel n) is = absurd is
-answer_named r Pause is = absurd is
-answer_named r Resume is = absurd is
-answer_named r Remove is = absurd is
-answer_named r Surprise is = absurd is
-answer_named r Removed is = absurd is
+answer_named r _ is = absurd is
 
 -- OF A RUN
 

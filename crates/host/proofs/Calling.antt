@@ -1,7 +1,7 @@
 -- What the trace tells of a client's call.
 use Rattle.std.proofs.Common.{◌≡◌, ℕ, zero, suc, ◌+◌, ◌-◌, ◌<◌, ◌≤◌, ◌==◌, Bool, true, false, if◌then◌else◌, List, [], ◌∷◌, ◌++◌, length, map, Option, Some, None, refl, sym, ap, ◌∙◌, subst, arith, append_assoc, length-append, inl, inr}
 use Rattle.std.specs.Prelude.{◌⊎◌, ◌^◌, slice_get, slice_index_or}
-use Rattle.host.proofs.Common.{nat_tests, NtStatus, Success, ClientRequest, Kind, Label, AreDistinct, Rules, as_label, OpenHandle, InvalidHandle, InvalidParameter, DeletePending, DeviceBusy, InsufficientResources, InvalidDeviceRequest, NotFound, Event, Reply, are_used_up, bytes_called, call_on, partition_at, partition_of, status_of_refusal, without_bytes, IsWant, ManagerView, TraceEntry, entry, is_call, owner_of, row_of, PagesView, noted, noted_all, AreNoCalls, open_at, ShareView, IsOpenOn, bytes_of}
+use Rattle.host.proofs.Common.{nat_tests, NtStatus, Success, ClientRequest, Kind, Label, AreDistinct, Rules, as_label, OpenHandle, InvalidHandle, InvalidParameter, DeletePending, DeviceBusy, InsufficientResources, InvalidDeviceRequest, NotFound, Event, Reply, are_used_up, bytes_called, call_on, partition_at, partition_of, status_of_refusal, without_bytes, IsWant, ManagerView, TraceEntry, entry, is_call, owner_of, row_of, LogView, noted, noted_all, AreNoCalls, open_at, ShareView, IsOpenOn, bytes_of}
 use Rattle.srb.specs.declared.Kind.TheVariants.{Read as ReadKind, Write as WriteKind, Flush as FlushKind}
 use Rattle.machine.specs.declared.Label.TheVariants.{Call as CallLabel, Answer as AnswerLabel}
 use Rattle.io_manager.specs.declared.Handle.{Handle}
@@ -9,7 +9,7 @@ use Rattle.io_manager.specs.declared.Refusal.{Refusal}
 use Rattle.compose.specs.declared.Event.TheVariants.{Read as ReadEvent, Write as WriteEvent, Flush as FlushEvent}
 use Rattle.io_manager.specs.declared.Reply.TheVariants.{Handle as HandleReply, Ok as OkReply, Request as Requested, Answered, Refused, Ignored}
 use Rattle.io_manager.specs.Right.{IsRight, IsRightBy, CallReplies, IsAdmitted, IsAnsweredAtOnce as AnswersAtOnce, IsSlotOf, IsTurnedAway, Told, TransferReplies, as_answer, end_labels, labels_of}
-use Rattle.traced.specs.Traced.{TracedView, HasCounted as Counts, IsServed, IsWanting, pages_of}
+use Rattle.traced.specs.Traced.{TracedView, HasCounted as Counts, IsServed, IsWanting, log_of}
 use Rattle.host.specs.declared.call.Call.{Call}
 use Rattle.host.specs.declared.call.Call.TheVariants.{Read, Write, Flush}
 use Rattle.host.specs.Calls.{FindsCall, HasCounted, IsAnsweredAtOnce, IsOpened, IsTold, Stands, asked, buffer_of, event_of, request_of}
@@ -59,12 +59,12 @@ owner_new owners number c next = ap (slice_get (owners ++ c ∷ [])) (let e : nu
 -- A CALL AND WHAT STANDS BEHIND IT
 
 -- these labels add a call of the client, and behind it no other
-record AddsCall (client : ℕ) (p : PagesView) (labels : List Label) (label : Label) (back : List TraceEntry) : Type 0 where
+record AddsCall (client : ℕ) (p : LogView) (labels : List Label) (label : Label) (back : List TraceEntry) : Type 0 where
   entries : (noted_all client p labels).entries ≡ p.entries ++ (entry label (Some client) ∷ back)
   none : NoCalls back
   owners : length (noted_all client p labels).owners ≡ length p.owners + 1
 
-called : (client : ℕ) (p : PagesView) (labels rest : List Label) (n : ℕ) (q : ClientRequest) → labels ≡ CallLabel n q ∷ rest → AreNoCalls rest → n ≡ length p.owners + 1
+called : (client : ℕ) (p : LogView) (labels rest : List Label) (n : ℕ) (q : ClientRequest) → labels ≡ CallLabel n q ∷ rest → AreNoCalls rest → n ≡ length p.owners + 1
     → (back : List TraceEntry) × AddsCall client p labels (CallLabel n q) back
 called client p labels rest n q is none next =
     let quiet' = quiet client (noted client p (CallLabel n q)) rest none in
@@ -79,7 +79,7 @@ called client p labels rest n q is none next =
     )
 
 -- with its answer right behind it
-called_twice : (client : ℕ) (p : PagesView) (labels : List Label) (n : ℕ) (q : ClientRequest) (s : NtStatus) (i : ℕ) (b : List ℕ) → labels ≡ CallLabel n q ∷ AnswerLabel n s i b ∷ []
+called_twice : (client : ℕ) (p : LogView) (labels : List Label) (n : ℕ) (q : ClientRequest) (s : NtStatus) (i : ℕ) (b : List ℕ) → labels ≡ CallLabel n q ∷ AnswerLabel n s i b ∷ []
     → n ≡ length p.owners + 1 → AddsCall client p labels (CallLabel n q) (entry (AnswerLabel n s i b) (Some client) ∷ [])
 called_twice client p labels n q s i b is next =
     let row : owner_of (p.owners ++ client ∷ []) n ≡ Some client = owner_new p.owners n client next in
@@ -99,8 +99,8 @@ record Comes (client : ℕ) (old new : TracedView) (label : Label) (back : List 
   none_front : NoCalls front
   none_back : NoCalls back
 
-comes : (client : ℕ) (old mid new : TracedView) (labels : List Label) (label : Label) (back : List TraceEntry) → Still old mid → new.entries ≡ (noted_all client (pages_of mid) labels).entries
-    → AddsCall client (pages_of mid) labels label back → Comes client old new label back
+comes : (client : ℕ) (old mid new : TracedView) (labels : List Label) (label : Label) (back : List TraceEntry) → Still old mid → new.entries ≡ (noted_all client (log_of mid) labels).entries
+    → AddsCall client (log_of mid) labels label back → Comes client old new label back
 comes client old mid new labels label back still is adds = record {
   front = still.more;
   entries = is ∙ adds.entries ∙ ap (λ es. es ++ (entry label (Some client) ∷ back)) still.entries ∙ append_assoc old.entries still.more (entry label (Some client) ∷ back);
@@ -153,8 +153,8 @@ at_once_labels old q status new told a = ap labels_of a.tells
 
 -- what a book needs of a carried call
 record Carried (client : ℕ) (mid new : TracedView) (stepped : ManagerView) : Type 0 where
-  entries : new.entries ≡ (noted_all client (pages_of mid) stepped.labels).entries
-  owners : new.owners ≡ (noted_all client (pages_of mid) stepped.labels).owners
+  entries : new.entries ≡ (noted_all client (log_of mid) stepped.labels).entries
+  owners : new.owners ≡ (noted_all client (log_of mid) stepped.labels).owners
   stack : new.stack ≡ record stepped { labels = [] }
 
 counted_one : (before after : ShareView) (mid new : TracedView) → Counts mid before after new → length new.owners ≡ length mid.owners + 1 → HasCounted before 1 after
@@ -185,7 +185,7 @@ module _ (slots : ℕ) (old mid new : TracedView) (before after : ShareView) (q 
       → (place : Option ℕ) → FindsCall (length old.entries) new.entries place → (p : ℕ) × (place ≡ Some p) × IsOpened slots before after q new slot number p
   opened handle slot number told right a place finds =
       let number_is : number ≡ length mid.owners + 1 = a.next_number ∙ next in
-      let adds = called before.client (pages_of mid) stepped.labels ((map as_label told.device ++ map as_answer told.answers) ++ end_labels told.ends) number q (right.in_order ∙ opened_labels mid.stack handle q slot number told a) (rest_calls_none told) number_is in
+      let adds = called before.client (log_of mid) stepped.labels ((map as_label told.device ++ map as_answer told.answers) ++ end_labels told.ends) number q (right.in_order ∙ opened_labels mid.stack handle q slot number told a) (rest_calls_none told) number_is in
       let f = found before.client old new (CallLabel number q) adds.0 refl (comes before.client old mid new stepped.labels (CallLabel number q) adds.0 still carried.entries adds.1) place finds in
       let limit = small_number mid.stack.state.next_request a.numbers_last in (
         f.0,
@@ -207,7 +207,7 @@ module _ (slots : ℕ) (old mid new : TracedView) (before after : ShareView) (q 
   at_once status stepped' told order a place finds =
       let n : ℕ = mid.stack.state.next_request in
       let back : List TraceEntry = entry (AnswerLabel n status 0 []) (Some before.client) ∷ [] in
-      let adds = called_twice before.client (pages_of mid) stepped.labels n (without_bytes q) status 0 [] (order ∙ at_once_labels mid.stack q status stepped' told a) next in
+      let adds = called_twice before.client (log_of mid) stepped.labels n (without_bytes q) status 0 [] (order ∙ at_once_labels mid.stack q status stepped' told a) next in
       let f = found before.client old new (CallLabel n (without_bytes q)) back refl (comes before.client old mid new stepped.labels (CallLabel n (without_bytes q)) back still carried.entries adds) place finds in (
         f.0,
         f.1,
@@ -219,16 +219,12 @@ module _ (slots : ℕ) (old mid new : TracedView) (before after : ShareView) (q 
       )
 
   no_labels : stepped.labels ≡ [] → (new.entries ≡ mid.entries) × (new.owners ≡ mid.owners)
-  no_labels none = (carried.entries ∙ ap (λ ls. (noted_all before.client (pages_of mid) ls).entries) none, carried.owners ∙ ap (λ ls. (noted_all before.client (pages_of mid) ls).owners) none)
+  no_labels none = (carried.entries ∙ ap (λ ls. (noted_all before.client (log_of mid) ls).entries) none, carried.owners ∙ ap (λ ls. (noted_all before.client (log_of mid) ls).owners) none)
 
   turned_away : (reason : Refusal) (stepped' : ManagerView) (told : Told) → IsTurnedAway mid.stack q reason stepped' told → (labels_of told ≡ []) × IsWant reason
   turned_away DeviceBusy stepped' told t = (ap labels_of t.1.nothing, tt)
   turned_away InsufficientResources stepped' told t = (ap labels_of t.2.nothing, tt)
-  turned_away InvalidHandle stepped' told t = absurd t
-  turned_away InvalidParameter stepped' told t = absurd t
-  turned_away DeletePending stepped' told t = absurd t
-  turned_away InvalidDeviceRequest stepped' told t = absurd t
-  turned_away NotFound stepped' told t = absurd t
+  turned_away _ stepped' told t = absurd t
 
   told_place : (reply : Reply) (p : ℕ) (place : Option ℕ) → place ≡ Some p → IsTold slots before after q buffer new reply (Some p) → IsTold slots before after q buffer new reply place
   told_place reply p place is t = subst (IsTold slots before after q buffer new reply) (sym is) t
@@ -250,8 +246,7 @@ module _ (slots : ℕ) (old mid new : TracedView) (before after : ShareView) (q 
           let u = unheard old mid new before after still counts same.0 same.1 place finds in
           subst (IsTold slots before after q buffer new (Refused reason bytes)) (sym u.0) (r.0, away.1, u.1)
   by_reply handle (HandleReply given) told right r place finds = absurd r
-  by_reply handle OkReply told right r place finds = absurd r
-  by_reply handle Ignored told right r place finds = absurd r
+  by_reply handle _ told right r place finds = absurd r
 
 same_number : (n : ℕ) → (n == n) ≡ true
 same_number n = grind (arith, nat_tests)

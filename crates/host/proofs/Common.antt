@@ -67,12 +67,12 @@ pub use Rattle.std.specs.Prelude.{Err, IfOk, IfSome, Ok, Result, drop, slice_get
 pub use Rattle.std.specs.Vec.Iter.{into_iter_items, into_iter_len}
 pub use Rattle.traced.specs.Entries.{AreRowed, HasOwner, calls, entry, is_call, is_row, owner_of, row_of}
 pub use Rattle.traced.specs.Opening.{AreOpened, IsNew, IsOpenOn}
-pub use Rattle.traced.specs.Pages.{PagesView, noted, noted_all, owners_after}
+pub use Rattle.traced.specs.Log.{LogView, noted, noted_all, owners_after}
 pub use Rattle.traced.specs.Rows.{RowView}
 pub use Rattle.traced.specs.Serving.{is_handle_event, open_at}
 pub use Rattle.traced.specs.Shares.{ShareView}
 pub use Rattle.traced.specs.Sizes.{AreSizes, sizes_of}
 pub use Rattle.traced.specs.Told.{AreNoCalls}
-pub use Rattle.traced.specs.Traced.{AreLooked, AreRowsOf, CarriesSeen, IsCarried, IsLooked, IsServed, IsTraced, TracedView, may_want, pages_of}
+pub use Rattle.traced.specs.Traced.{AreLooked, AreRowsOf, CarriesSeen, IsCarried, IsLooked, IsServed, IsTraced, TracedView, may_want, log_of}
 pub use Rattle.traced.specs.declared.TraceEntry.{TraceEntry}
 pub use Rattle.traced.specs.declared.sizes.StackSizes.{StackSizes}

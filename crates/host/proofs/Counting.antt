@@ -72,14 +72,7 @@ own_call n k owners row some few is owned =
 
 own_head : (n : ℕ) (owners : List ℕ) (row : Option ℕ) (l : Label) → HasOwner owners l → row ≡ row_of owners l → ((number c : ℕ) → owner_of owners number ≡ Some c → c < n) → is_call l ≡ true → (d : ℕ) × (row ≡ Some d) × (d < n)
 own_head n owners row (Call k q) has is owned call = own_call n k owners row has.0 has.1 is owned
-own_head n owners row (Device l) has is owned call = absurd (cc)
-own_head n owners row (Answer k s i b) has is owned call = absurd (cc)
-own_head n owners row (Cancel k) has is owned call = absurd (cc)
-own_head n owners row Pause has is owned call = absurd (cc)
-own_head n owners row Resume has is owned call = absurd (cc)
-own_head n owners row Remove has is owned call = absurd (cc)
-own_head n owners row Surprise has is owned call = absurd (cc)
-own_head n owners row Removed has is owned call = absurd (cc)
+own_head n owners row _ has is owned call = absurd (cc)
 
 pub calls_of : (n : ℕ) (owners : List ℕ) (es : List TraceEntry) → AreRowed owners es → ((number c : ℕ) → owner_of owners number ≡ Some c → c < n) → AreCallsOf n es
 calls_of n owners [] all owned = tt

@@ -41,23 +41,13 @@ record Leaves (old new : PassView) : Type 0 where
 
 no_hold : (reason : Reason) (old new : PassView) → HasNoHold reason old new → Leaves old new
 no_hold (Refused DeletePending) old new h = record { holds = h.0; quota = h.1; closed = h.3 }
-no_hold (Refused InvalidHandle) old new h = absurd h
-no_hold (Refused InvalidParameter) old new h = absurd h
-no_hold (Refused DeviceBusy) old new h = absurd h
-no_hold (Refused InsufficientResources) old new h = absurd h
-no_hold (Refused InvalidDeviceRequest) old new h = absurd h
-no_hold (Refused NotFound) old new h = absurd h
 no_hold TooManyTickets old new h = record { holds = ap (λ (v : PassView). v.holds) h.0; quota = ap (λ (v : PassView). v.quota) h.0; closed = ap (λ (v : PassView). v.closed) h.0 }
+no_hold _ old new h = absurd h
 
 no_receipts : (partition : ℕ) (old : ClientView) (call : Call) (reason : Reason) (new : ClientView) → old.pass.quota ≡ ticket_limit → HasNoReceipt old new → HasNoHold reason old.pass new.pass → HasReceipts partition old call reason None new
 no_receipts partition old call (Refused DeletePending) new quota none h = (none, h.2)
-no_receipts partition old call (Refused InvalidHandle) new quota none h = absurd h
-no_receipts partition old call (Refused InvalidParameter) new quota none h = absurd h
-no_receipts partition old call (Refused DeviceBusy) new quota none h = absurd h
-no_receipts partition old call (Refused InsufficientResources) new quota none h = absurd h
-no_receipts partition old call (Refused InvalidDeviceRequest) new quota none h = absurd h
-no_receipts partition old call (Refused NotFound) new quota none h = absurd h
 no_receipts partition old call TooManyTickets new quota none h = (none, h.1 ∙ quota)
+no_receipts partition old call _ new quota none h = absurd h
 
 module _ (gate marks : TableId) (account account' : AccountView) (holds holds' : HoldsView) (seat : SeatStanding) (kept : ClientKept gate marks account holds seat) (gate_is : holds'.pass.gate ≡ gate) (out : holds'.out ≡ holds.out) where
   -- where there is no hold
@@ -142,13 +132,8 @@ module _ (partitions : List ℕ) (call : Call) (account account' : AccountView) 
         })
 
     receipts : (reason : Reason) (places : Option Places) → HasLabels (partition_for partitions account.share.client) account' call reason places account'' → HasReceipts (partition_for partitions account.share.client) (view_of account holds seat) call reason places (view_of account'' holds'' seat)
-    receipts (Refused DeletePending) None l = absurd l.0
-    receipts (Refused InvalidHandle) None l = absurd l.0
-    receipts (Refused InvalidParameter) None l = absurd l.0
     receipts (Refused DeviceBusy) None l = (record { called = l.1 ∙ called; answered = l.2 ∙ answered }, l.0)
     receipts (Refused InsufficientResources) None l = (record { called = l.1 ∙ called; answered = l.2 ∙ answered }, l.0)
-    receipts (Refused InvalidDeviceRequest) None l = absurd l.0
-    receipts (Refused NotFound) None l = absurd l.0
     receipts TooManyTickets None l = absurd l
     receipts (Refused reason) (Some places) l =
         let partition = partition_for partitions account.share.client in
@@ -156,6 +141,7 @@ module _ (partitions : List ℕ) (call : Call) (account account' : AccountView) 
         (subst (λ (c : List Receipt). AreAnsweredAt partition call reason places account'.share.client c account.answered.list account''.called.list account''.answered.list) called
         (subst (λ (a : List Receipt). AreAnsweredAt partition call reason places account'.share.client account'.called.list a account''.called.list account''.answered.list) answered l))
     receipts TooManyTickets (Some places) l = absurd l
+    receipts _ None l = absurd l.0
 
     -- the book refused the call, and the hold is taken back
     pub refused_late : (refusal : Refusal) → IsTurnedDown (partition_for partitions account'.share.client) account' call refusal account'' → holds''.pass.view ≡ without_hold holds'.pass.view holds''.pass.view.found → IsRefusedFrom partitions call refusal (view_of account'' holds'' seat) old

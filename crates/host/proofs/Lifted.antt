@@ -29,17 +29,7 @@ are_first rules start trace entries taken receipts first numbered are = record {
 acts_counted : (trace labels : List Label) (entries : List Entry) → AreOfActs trace labels entries → length entries ≡ act_count labels
 acts_counted trace [] entries is = ap (λ (es : List Entry). length es) is
 acts_counted trace (Device (Act piece bytes) ∷ labels) entries (left, taken, are) = ap (λ (es : List Entry). length es) taken.1 ∙ ap suc (acts_counted trace labels left are)
-acts_counted trace (Device (Start piece tag block) ∷ labels) entries (left, same, are) = ap (λ (es : List Entry). length es) (sym same) ∙ acts_counted trace labels left are
-acts_counted trace (Device (Fault piece) ∷ labels) entries (left, same, are) = ap (λ (es : List Entry). length es) (sym same) ∙ acts_counted trace labels left are
-acts_counted trace (Device (Return piece class) ∷ labels) entries (left, same, are) = ap (λ (es : List Entry). length es) (sym same) ∙ acts_counted trace labels left are
-acts_counted trace (Call number q ∷ labels) entries (left, same, are) = ap (λ (es : List Entry). length es) (sym same) ∙ acts_counted trace labels left are
-acts_counted trace (Answer number status informed bytes ∷ labels) entries (left, same, are) = ap (λ (es : List Entry). length es) (sym same) ∙ acts_counted trace labels left are
-acts_counted trace (Cancel number ∷ labels) entries (left, same, are) = ap (λ (es : List Entry). length es) (sym same) ∙ acts_counted trace labels left are
-acts_counted trace (Pause ∷ labels) entries (left, same, are) = ap (λ (es : List Entry). length es) (sym same) ∙ acts_counted trace labels left are
-acts_counted trace (Resume ∷ labels) entries (left, same, are) = ap (λ (es : List Entry). length es) (sym same) ∙ acts_counted trace labels left are
-acts_counted trace (Remove ∷ labels) entries (left, same, are) = ap (λ (es : List Entry). length es) (sym same) ∙ acts_counted trace labels left are
-acts_counted trace (Surprise ∷ labels) entries (left, same, are) = ap (λ (es : List Entry). length es) (sym same) ∙ acts_counted trace labels left are
-acts_counted trace (Removed ∷ labels) entries (left, same, are) = ap (λ (es : List Entry). length es) (sym same) ∙ acts_counted trace labels left are
+acts_counted trace (_ ∷ labels) entries (left, same, are) = ap (λ (es : List Entry). length es) (sym same) ∙ acts_counted trace labels left are
 
 -- no entry is replayed
 ends_there : (size : ℕ) (rest : List Entered) (mid sectors : List (List ℕ)) → length rest ≡ 0 → Replays size mid (entries_in rest) sectors → mid ≡ sectors

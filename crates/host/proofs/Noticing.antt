@@ -1,6 +1,6 @@
 -- What a keeper notices.
 use Rattle.std.proofs.Common.{◌≡◌, ℕ, ◌+◌, ◌<◌, ◌≤◌, true, false, List, [], ◌∷◌, ◌++◌, length, map, Some, None, refl, sym, ap, ◌∙◌, subst, arith, append_assoc, length-append, inl, inr}
-use Rattle.host.proofs.Common.{slice_get, Label, as_label, InsufficientResources, Reply, ManagerView, Event, IsNoAct, call_handle, TraceEntry, AreRowed, entry, row_of, noted, noted_all, owners_after, is_handle_event, AreNoCalls, TracedView, IsServed, pages_of, Notice, Minor, Receipt, AreBelow}
+use Rattle.host.proofs.Common.{slice_get, Label, as_label, InsufficientResources, Reply, ManagerView, Event, IsNoAct, call_handle, TraceEntry, AreRowed, entry, row_of, noted, noted_all, owners_after, is_handle_event, AreNoCalls, TracedView, IsServed, log_of, Notice, Minor, Receipt, AreBelow}
 use Rattle.machine.specs.declared.Label.TheVariants.{Call, Device, Answer, Cancel, Pause as PauseLabel, Resume, Remove as RemoveLabel, Surprise as SurpriseLabel, Removed as RemovedLabel}
 use Rattle.io_manager.specs.declared.Reply.TheVariants.{Ok as OkReply, Refused}
 use Rattle.io_manager.specs.Right.{QueryReplies, RemoveReplies, SurpriseReplies, Told, as_answer, end_labels, labels_of}
@@ -17,42 +17,11 @@ in_no_row : (notice : Notice) (owners : List ℕ) (e : TraceEntry) → is_notice
 in_no_row notice owners e is rowed = go notice e.label is rowed
   where
     go : (n : Notice) (l : Label) → is_notice n l ≡ true → e.row ≡ row_of owners l → entry l e.row ≡ entry (label_of n) None
-    go Pause (Call n q) is rowed = absurd (cc)
-    go Pause (Device l) is rowed = absurd (cc)
-    go Pause (Answer n s i b) is rowed = absurd (cc)
-    go Pause (Cancel n) is rowed = absurd (cc)
     go Pause PauseLabel is rowed = ap (entry PauseLabel) rowed
-    go Pause Resume is rowed = absurd (cc)
-    go Pause RemoveLabel is rowed = absurd (cc)
-    go Pause SurpriseLabel is rowed = absurd (cc)
-    go Pause RemovedLabel is rowed = absurd (cc)
-    go RemoveNotice (Call n q) is rowed = absurd (cc)
-    go RemoveNotice (Device l) is rowed = absurd (cc)
-    go RemoveNotice (Answer n s i b) is rowed = absurd (cc)
-    go RemoveNotice (Cancel n) is rowed = absurd (cc)
-    go RemoveNotice PauseLabel is rowed = absurd (cc)
-    go RemoveNotice Resume is rowed = absurd (cc)
     go RemoveNotice RemoveLabel is rowed = ap (entry RemoveLabel) rowed
-    go RemoveNotice SurpriseLabel is rowed = absurd (cc)
-    go RemoveNotice RemovedLabel is rowed = absurd (cc)
-    go SurpriseNotice (Call n q) is rowed = absurd (cc)
-    go SurpriseNotice (Device l) is rowed = absurd (cc)
-    go SurpriseNotice (Answer n s i b) is rowed = absurd (cc)
-    go SurpriseNotice (Cancel n) is rowed = absurd (cc)
-    go SurpriseNotice PauseLabel is rowed = absurd (cc)
-    go SurpriseNotice Resume is rowed = absurd (cc)
-    go SurpriseNotice RemoveLabel is rowed = absurd (cc)
     go SurpriseNotice SurpriseLabel is rowed = ap (entry SurpriseLabel) rowed
-    go SurpriseNotice RemovedLabel is rowed = absurd (cc)
-    go Removed (Call n q) is rowed = absurd (cc)
-    go Removed (Device l) is rowed = absurd (cc)
-    go Removed (Answer n s i b) is rowed = absurd (cc)
-    go Removed (Cancel n) is rowed = absurd (cc)
-    go Removed PauseLabel is rowed = absurd (cc)
-    go Removed Resume is rowed = absurd (cc)
-    go Removed RemoveLabel is rowed = absurd (cc)
-    go Removed SurpriseLabel is rowed = absurd (cc)
     go Removed RemovedLabel is rowed = ap (entry RemovedLabel) rowed
+    go _ _ is rowed = absurd (cc)
 
 -- a claim on the place where one was found
 pub noticed : (notice : Notice) (owners : List ℕ) (es : List TraceEntry) (from place : ℕ) (claim : List Receipt) → AreRowed owners es
@@ -67,7 +36,7 @@ noticed notice owners es from place claim rowed found claimed =
 
 -- the label that a step tells first stands behind all that was told before
 first_stands : (notice : Notice) (label : Label) (rest : List Label) (old mid new : TracedView) (labels : List Label) → is_notice notice label ≡ true → Still old mid → AreNoCalls rest → labels ≡ label ∷ rest
-    → new.entries ≡ (noted_all 0 (pages_of mid) labels).entries → HasNone notice (length old.entries) new.entries → ⊥
+    → new.entries ≡ (noted_all 0 (log_of mid) labels).entries → HasNone notice (length old.entries) new.entries → ⊥
 first_stands notice label rest old mid new labels is still calls first noted_is none = apart (sym is ∙ none (length mid.entries + 0) told late at)
   where
     apart : true ≡ false → ⊥
@@ -81,13 +50,13 @@ first_stands notice label rest old mid new labels is still calls first noted_is 
 
     at : slice_get new.entries (length mid.entries + 0) ≡ Some told
     at =
-        let q = quiet 0 (noted 0 (pages_of mid) label) rest calls in
+        let q = quiet 0 (noted 0 (log_of mid) label) rest calls in
         let entries : new.entries ≡ mid.entries ++ (told ∷ q.more) =
-        noted_is ∙ ap (λ ls. (noted_all 0 (pages_of mid) ls).entries) first ∙ q.entries ∙ append_assoc mid.entries (told ∷ []) q.more in
+        noted_is ∙ ap (λ ls. (noted_all 0 (log_of mid) ls).entries) first ∙ q.entries ∙ append_assoc mid.entries (told ∷ []) q.more in
         ap (λ es. slice_get es (length mid.entries + 0)) entries ∙ get_behind mid.entries (told ∷ q.more) 0
 
 own_stands : (notice : Notice) (label : Label) (old mid new : TracedView) (stepped : ManagerView) (told : Told) → is_notice notice label ≡ true → Still old mid → stepped.labels ≡ labels_of told → told.own ≡ label ∷ []
-    → new.entries ≡ (noted_all 0 (pages_of mid) stepped.labels).entries → HasNone notice (length old.entries) new.entries → ⊥
+    → new.entries ≡ (noted_all 0 (log_of mid) stepped.labels).entries → HasNone notice (length old.entries) new.entries → ⊥
 own_stands notice label old mid new stepped told is still order own noted_is none =
     first_stands notice label ((map as_label told.device ++ map as_answer told.answers) ++ end_labels told.ends) old mid new stepped.labels is still (rest_calls_none told)
     (order ∙ ap (λ own. ((own ++ map as_label told.device) ++ map as_answer told.answers) ++ end_labels told.ends) own) noted_is none
@@ -100,9 +69,6 @@ not_refused bytes reply ok refused =
 -- an accepted call of a keeper tells of it behind all that was told before
 pub begun_stands : (minor : Minor) (old mid new : TracedView) (reply : Reply) → Still old mid → IsServed 0 mid (event_of minor) reply new → reply ≡ OkReply
     → HasNone (notice_of minor) (length old.entries) new.entries → ⊥
-begun_stands QueryRemove old mid new reply still (inr wants) ok none = not_refused [] reply ok wants.replies
-begun_stands RemoveDevice old mid new reply still (inr wants) ok none = not_refused [] reply ok wants.replies
-begun_stands SurpriseRemove old mid new reply still (inr wants) ok none = not_refused [] reply ok wants.replies
 begun_stands QueryRemove old mid new reply still (inl c) ok none =
     let valid = subst (λ (r : Reply). QueryReplies mid.stack r c.stepped c.right.told) ok c.right.replies in
     own_stands Pause PauseLabel old mid new c.stepped c.right.told refl still c.right.by.in_order valid.tells.own c.entries none
@@ -112,6 +78,9 @@ begun_stands RemoveDevice old mid new reply still (inl c) ok none =
 begun_stands SurpriseRemove old mid new reply still (inl c) ok none =
     let valid = subst (λ (r : Reply). SurpriseReplies mid.stack r c.stepped c.right.told) ok c.right.replies in
     own_stands SurpriseNotice SurpriseLabel old mid new c.stepped c.right.told refl still c.right.by.in_order valid.tells.own c.entries none
+begun_stands QueryRemove old mid new reply still (inr wants) ok none = not_refused [] reply ok wants.replies
+begun_stands RemoveDevice old mid new reply still (inr wants) ok none = not_refused [] reply ok wants.replies
+begun_stands SurpriseRemove old mid new reply still (inr wants) ok none = not_refused [] reply ok wants.replies
 
 -- such a call is no act, and of no handle
 pub is_keepers : (minor : Minor) (event : Event) → event ≡ event_of minor → IsNoAct event × (is_handle_event event ≡ false) × (call_handle event ≡ None)
@@ -119,8 +88,7 @@ is_keepers minor event is = subst (λ e. IsNoAct e × (is_handle_event e ≡ fal
   where
     go : (m : Minor) → IsNoAct (event_of m) × (is_handle_event (event_of m) ≡ false) × (call_handle (event_of m) ≡ None)
     go QueryRemove = (tt, refl, refl)
-    go RemoveDevice = (tt, refl, refl)
-    go SurpriseRemove = (tt, refl, refl)
+    go _ = (tt, refl, refl)
 
 -- a receipt more
 pub noted_one : (label : Label) (from : ℕ) (old claim new : List Receipt) → AreBelow from old → IsNoticed from label claim → new ≡ old ++ claim → HasNoted label old new

@@ -1,7 +1,7 @@
 -- Steps that tell of no call.
 use Rattle.std.proofs.Common.{◌≡◌, ℕ, zero, suc, Bool, true, false, if◌then◌else◌, List, [], ◌∷◌, ◌++◌, length, map, Option, Some, None, refl, sym, ap, ◌∙◌, subst, arith, append_assoc, inl, inr}
 use Rattle.std.specs.Prelude.{◌⊎◌}
-use Rattle.host.proofs.Common.{append-nil, DeviceLabel, Label, AreDistinct, as_label, AreDistinct-Run, CallsCount, call_numbers, Reply, ManagerView, Event, IsNoAct, ActsEntry, BookView, AreBooked, HoldsFailure, IsLastAct, ServesAfter, ServesEvent, TraceEntry, entry, is_call, row_of, PagesView, noted, noted_all, owners_after, AreNoCalls, TracedView, AreLooked, CarriesSeen, IsCarried, IsLooked, IsServed, pages_of}
+use Rattle.host.proofs.Common.{append-nil, DeviceLabel, Label, AreDistinct, as_label, AreDistinct-Run, CallsCount, call_numbers, Reply, ManagerView, Event, IsNoAct, ActsEntry, BookView, AreBooked, HoldsFailure, IsLastAct, ServesAfter, ServesEvent, TraceEntry, entry, is_call, row_of, LogView, noted, noted_all, owners_after, AreNoCalls, TracedView, AreLooked, CarriesSeen, IsCarried, IsLooked, IsServed, log_of}
 use Rattle.machine.specs.declared.Label.TheVariants.{Call, Device, Answer as AnswerLabel, Cancel, Pause, Resume, Remove, Surprise, Removed}
 use Rattle.io_manager.specs.declared.Answer.{Answer}
 use Rattle.io_manager.specs.declared.Reply.TheVariants.{Handle, Ok as OkReply, Request, Answered, Refused, Ignored}
@@ -14,26 +14,12 @@ use Rattle.compose.specs.declared.Event.TheVariants.{Mark}
 pub no_calls_append : (xs ys : List Label) → AreNoCalls xs → AreNoCalls ys → AreNoCalls (xs ++ ys)
 no_calls_append [] ys a b = b
 no_calls_append (Call n q ∷ xs) ys a b = absurd a
-no_calls_append (Device l ∷ xs) ys a b = no_calls_append xs ys a b
-no_calls_append (AnswerLabel n s i bs ∷ xs) ys a b = no_calls_append xs ys a b
-no_calls_append (Cancel n ∷ xs) ys a b = no_calls_append xs ys a b
-no_calls_append (Pause ∷ xs) ys a b = no_calls_append xs ys a b
-no_calls_append (Resume ∷ xs) ys a b = no_calls_append xs ys a b
-no_calls_append (Remove ∷ xs) ys a b = no_calls_append xs ys a b
-no_calls_append (Surprise ∷ xs) ys a b = no_calls_append xs ys a b
-no_calls_append (Removed ∷ xs) ys a b = no_calls_append xs ys a b
+no_calls_append (_ ∷ xs) ys a b = no_calls_append xs ys a b
 
 no_calls_numbers : (xs : List Label) → AreNoCalls xs → length (call_numbers xs) ≡ 0
 no_calls_numbers [] a = refl
 no_calls_numbers (Call n q ∷ xs) a = absurd a
-no_calls_numbers (Device l ∷ xs) a = no_calls_numbers xs a
-no_calls_numbers (AnswerLabel n s i bs ∷ xs) a = no_calls_numbers xs a
-no_calls_numbers (Cancel n ∷ xs) a = no_calls_numbers xs a
-no_calls_numbers (Pause ∷ xs) a = no_calls_numbers xs a
-no_calls_numbers (Resume ∷ xs) a = no_calls_numbers xs a
-no_calls_numbers (Remove ∷ xs) a = no_calls_numbers xs a
-no_calls_numbers (Surprise ∷ xs) a = no_calls_numbers xs a
-no_calls_numbers (Removed ∷ xs) a = no_calls_numbers xs a
+no_calls_numbers (_ ∷ xs) a = no_calls_numbers xs a
 
 devices_call_none : (labels : List DeviceLabel) → AreNoCalls (map as_label labels)
 devices_call_none [] = tt
@@ -73,14 +59,14 @@ pub none_both : (xs ys : List TraceEntry) → NoCalls xs → NoCalls ys → NoCa
 none_both [] ys a b = b
 none_both (x ∷ xs) ys a b = (a.0, none_both xs ys a.1 b)
 
--- what labels without calls add to the pages
-pub record IsQuiet (client : ℕ) (p : PagesView) (labels : List Label) : Type 0 where
+-- what labels without calls add to the log
+pub record IsQuiet (client : ℕ) (p : LogView) (labels : List Label) : Type 0 where
   pub more : List TraceEntry
   pub entries : (noted_all client p labels).entries ≡ p.entries ++ more
   pub none : NoCalls more
   pub owners : (noted_all client p labels).owners ≡ p.owners
 
-quiet_next : (client : ℕ) (p : PagesView) (label : Label) (labels : List Label) → is_call label ≡ false → owners_after client p.owners label ≡ p.owners → IsQuiet client (noted client p label) labels
+quiet_next : (client : ℕ) (p : LogView) (label : Label) (labels : List Label) → is_call label ≡ false → owners_after client p.owners label ≡ p.owners → IsQuiet client (noted client p label) labels
     → IsQuiet client p (label ∷ labels)
 quiet_next client p label labels none same rest = record {
   more = entry label (row_of (owners_after client p.owners label) label) ∷ rest.more;
@@ -89,17 +75,10 @@ quiet_next client p label labels none same rest = record {
   owners = rest.owners ∙ same;
 }
 
-pub quiet : (client : ℕ) (p : PagesView) (labels : List Label) → AreNoCalls labels → IsQuiet client p labels
+pub quiet : (client : ℕ) (p : LogView) (labels : List Label) → AreNoCalls labels → IsQuiet client p labels
 quiet client p [] none = record { more = []; entries = sym (append-nil p.entries); none = tt; owners = refl }
 quiet client p (Call n q ∷ ls) none = absurd none
-quiet client p (Device l ∷ ls) none = quiet_next client p (Device l) ls refl refl (quiet client (noted client p (Device l)) ls none)
-quiet client p (AnswerLabel n s i b ∷ ls) none = quiet_next client p (AnswerLabel n s i b) ls refl refl (quiet client (noted client p (AnswerLabel n s i b)) ls none)
-quiet client p (Cancel n ∷ ls) none = quiet_next client p (Cancel n) ls refl refl (quiet client (noted client p (Cancel n)) ls none)
-quiet client p (Pause ∷ ls) none = quiet_next client p Pause ls refl refl (quiet client (noted client p Pause) ls none)
-quiet client p (Resume ∷ ls) none = quiet_next client p Resume ls refl refl (quiet client (noted client p Resume) ls none)
-quiet client p (Remove ∷ ls) none = quiet_next client p Remove ls refl refl (quiet client (noted client p Remove) ls none)
-quiet client p (Surprise ∷ ls) none = quiet_next client p Surprise ls refl refl (quiet client (noted client p Surprise) ls none)
-quiet client p (Removed ∷ ls) none = quiet_next client p Removed ls refl refl (quiet client (noted client p Removed) ls none)
+quiet client p (other ∷ ls) none = quiet_next client p other ls refl refl (quiet client (noted client p other) ls none)
 
 -- LOOKS AT THE MARKS
 
@@ -148,16 +127,13 @@ mark_own old number told c = subst AreNoCalls (sym c.own) (go c.request.cancelle
 mark_tells : (old : ManagerView) (number : ℕ) (reply : Reply) (new : ManagerView) (told : Told) → MarkReplies old number reply new told → AreNoCalls told.own × (new.handles ≡ old.handles)
 mark_tells old number OkReply new told r = (mark_own old number told r.0, r.1.handles)
 mark_tells old number Ignored new told r = (subst AreNoCalls (sym (ap (λ t. t.own) r.0.nothing)) tt, r.2.handles)
-mark_tells old number (Handle h) new told r = absurd r
-mark_tells old number (Request id) new told r = absurd r
-mark_tells old number (Answered a) new told r = absurd r
-mark_tells old number (Refused why bs) new told r = absurd r
+mark_tells old number _ new told r = absurd r
 
 still_marked : CallsCount → (old : TracedView) (number : ℕ) (reply : Reply) (new : TracedView) → IsCarried 0 old (Mark number) reply new → Still old new
 still_marked count old number reply new c =
     let m = mark_tells old.stack number reply c.stepped c.right.told c.right.replies in
     let none : AreNoCalls c.stepped.labels = subst AreNoCalls (sym c.right.by.in_order) (told_calls_none c.right.told m.0) in
-    let q = quiet 0 (pages_of old) c.stepped.labels none in
+    let q = quiet 0 (log_of old) c.stepped.labels none in
     let rise = count old.stack.rules old.stack.state c.stepped.labels c.stepped.state c.right.by.run in
     let zeros = no_calls_numbers c.stepped.labels none in
     let next : c.stepped.state.next_request ≡ old.stack.state.next_request = omega (arith, rise, zeros) in
@@ -194,7 +170,7 @@ still_acted count old booked new acts =
     let c = acts.carried in
     let stack : held.stack ≡ record old.stack { adapter = held.stack.adapter } = acts.holds.books.same in
     let none : AreNoCalls c.stepped.labels = subst AreNoCalls (sym acts.tells) tt in
-    let q = quiet 0 (pages_of held) c.stepped.labels none in
+    let q = quiet 0 (log_of held) c.stepped.labels none in
     let rise = count held.stack.rules held.stack.state c.stepped.labels c.stepped.state c.right.by.run in
     let zeros = no_calls_numbers c.stepped.labels none in
     let next : c.stepped.state.next_request ≡ held.stack.state.next_request = omega (arith, rise, zeros) in

@@ -17,34 +17,22 @@ invalid old reason bytes new told r =
 pnp_reply : (old : ManagerView) (event : _) (after : _) (label : _) (reply : Reply) (new : ManagerView) (told : Told) → PnpReplies old event after label reply new told → IsPnpReply reply
 pnp_reply old event after label OkReply new told r = inl refl
 pnp_reply old event after label (Refused reason bytes) new told r = invalid old reason bytes new told r.refuses
-pnp_reply old event after label (HandleReply given) new told r = absurd r
-pnp_reply old event after label (Requested id) new told r = absurd r
-pnp_reply old event after label (Answered answer) new told r = absurd r
-pnp_reply old event after label Ignored new told r = absurd r
+pnp_reply old event after label _ new told r = absurd r
 
 recall_reply : (old : ManagerView) (reply : Reply) (new : ManagerView) (told : Told) → RecallReplies old reply new told → IsPnpReply reply
 recall_reply old OkReply new told r = inl refl
 recall_reply old (Refused reason bytes) new told r = invalid old reason bytes new told r.refuses
-recall_reply old (HandleReply given) new told r = absurd r
-recall_reply old (Requested id) new told r = absurd r
-recall_reply old (Answered answer) new told r = absurd r
-recall_reply old Ignored new told r = absurd r
+recall_reply old _ new told r = absurd r
 
 act_reply : (old : ManagerView) (tag : ℕ) (reply : Reply) (new : ManagerView) (told : Told) → ActReplies old tag reply new told → IsTagReply reply
 act_reply old tag OkReply new told r = inl refl
 act_reply old tag Ignored new told r = inr refl
-act_reply old tag (HandleReply given) new told r = absurd r
-act_reply old tag (Requested id) new told r = absurd r
-act_reply old tag (Answered answer) new told r = absurd r
-act_reply old tag (Refused reason bytes) new told r = absurd r
+act_reply old tag _ new told r = absurd r
 
 finish_reply : (old : ManagerView) (tag : ℕ) (reply : Reply) (new : ManagerView) (told : Told) → FinishReplies old tag reply new told → IsTagReply reply
 finish_reply old tag OkReply new told r = inl refl
 finish_reply old tag Ignored new told r = inr refl
-finish_reply old tag (HandleReply given) new told r = absurd r
-finish_reply old tag (Requested id) new told r = absurd r
-finish_reply old tag (Answered answer) new told r = absurd r
-finish_reply old tag (Refused reason bytes) new told r = absurd r
+finish_reply old tag _ new told r = absurd r
 
 -- a right step
 right_reply : (event : Event) (reply : Reply) (old new : ManagerView) → IsRight old event reply new → IsReplyTo event reply
@@ -55,13 +43,7 @@ right_reply SurpriseRemove reply old new r = pnp_reply old _ _ _ reply new r.tol
 right_reply (Act tag) reply old new r = act_reply old tag reply new r.told r.replies
 right_reply (Finish tag) reply old new r = finish_reply old tag reply new r.told r.replies
 right_reply Reset reply old new r = r.0
-right_reply (Open partition) reply old new r = tt
-right_reply (Close handle) reply old new r = tt
-right_reply (Read handle offset buffer) reply old new r = tt
-right_reply (Write handle offset bytes through) reply old new r = tt
-right_reply (Flush handle) reply old new r = tt
-right_reply (CancelIoEx handle target) reply old new r = tt
-right_reply (Mark number) reply old new r = tt
+right_reply _ reply old new r = tt
 
 -- want of memory for the trace
 wanting_reply : (event : Event) (reply : Reply) → may_want event ≡ true → reply ≡ Refused InsufficientResources (bytes_of event) → IsReplyTo event reply
@@ -72,13 +54,7 @@ wanting_reply SurpriseRemove reply may is = absurd (cc)
 wanting_reply (Act tag) reply may is = absurd (cc)
 wanting_reply (Finish tag) reply may is = absurd (cc)
 wanting_reply Reset reply may is = absurd (cc)
-wanting_reply (Open partition) reply may is = tt
-wanting_reply (Close handle) reply may is = tt
-wanting_reply (Read handle offset buffer) reply may is = tt
-wanting_reply (Write handle offset bytes through) reply may is = tt
-wanting_reply (Flush handle) reply may is = tt
-wanting_reply (CancelIoEx handle target) reply may is = tt
-wanting_reply (Mark number) reply may is = tt
+wanting_reply _ reply may is = tt
 
 served_reply : (event : Event) (reply : Reply) (old new : TracedView) → IsServed 0 old event reply new → IsReplyTo event reply
 served_reply event reply old new (inl c) = right_reply event reply old.stack c.stepped c.right

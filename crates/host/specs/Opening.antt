@@ -15,7 +15,7 @@ use Rattle.sector_journal.specs.Journal.{JournalView}
 use Rattle.traced.specs.declared.sizes.StackSizes.{StackSizes}
 use Rattle.traced.specs.Sizes.{AreSizes, sizes_of}
 use Rattle.traced.specs.Opening.{AreClientsOf, IsFirst, IsOpenOn, NamesNone}
-use Rattle.host.specs.declared.opened.Gear.{Gear}
+use Rattle.host.specs.declared.opened.Resources.{Resources}
 use Rattle.host.specs.declared.opened.HostFault.{HostFault}
 use Rattle.host.specs.declared.opened.HostFault.TheVariants.{TooManyClients, NoPartition, NoMemory}
 use Rattle.host.specs.Accounts.{partition_of}
@@ -56,16 +56,16 @@ pub record AreHandlesFor (partitions : List ℕ) (open' : List (Option OpenHandl
   pub count : length handles ≡ length partitions
   pub each : (c : ℕ) (handle : Handle) → slice_get handles c ≡ Some handle → IsHandleFor partitions open' c handle
 
--- the gear is a list of the partitions, a table of this many slots with its owner's seat and one for each client, and a
+-- the resources are a list of the partitions, a table of this many slots with its owner's seat and one for each client, and a
 -- gate with a pass for each client and one more
-pub record IsGear (partitions : List ℕ) (slots : ℕ) (gear : Gear) : Type 0 where
-  pub kept : gear.partitions.items ≡ partitions
-  pub slots_is : gear.marks.1 ≡ slots
-  pub owner_is : gear.owner ≡ seat_of gear.marks.0 0 (starting (max slots 1))
-  pub count_seats : length gear.seats.items ≡ length partitions
-  pub are_seats : All (IsOther gear.marks.0) gear.seats.items
-  pub count_passes : length gear.passes.items ≡ length partitions + 1
-  pub are_passes : All (IsClientPass gear.gate) gear.passes.items
+pub record AreResources (partitions : List ℕ) (slots : ℕ) (resources : Resources) : Type 0 where
+  pub kept : resources.partitions.items ≡ partitions
+  pub slots_is : resources.marks.1 ≡ slots
+  pub owner_is : resources.owner ≡ seat_of resources.marks.0 0 (starting (max slots 1))
+  pub count_seats : length resources.seats.items ≡ length partitions
+  pub are_seats : All (IsOther resources.marks.0) resources.seats.items
+  pub count_passes : length resources.passes.items ≡ length partitions + 1
+  pub are_passes : All (IsClientPass resources.gate) resources.passes.items
 
 -- nothing was asked of the stack but a handle for each client; there is a part of the ledger, a seat and a pass for
 -- each, and one more of each

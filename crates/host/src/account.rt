@@ -16,7 +16,7 @@ ghost use Rattle.host.specs.Opening.{IsHandleFor};
 use crate::call::{Answered, Call, Places, Refusal};
 use crate::condvars::Concerned;
 use crate::host::Host;
-use crate::name::Naming;
+use crate::name::HostNaming;
 use crate::receipts::Receipts;
 use crate::ticket::Ticket;
 use book::Book;
@@ -33,13 +33,13 @@ use traced::{Share, TraceEntry};
 
 /// A client's share of the book, and its receipts.
 #[derive(Drop)]
-pub(crate) struct Account<N: Naming> {
+pub(crate) struct Account<N: HostNaming> {
     pub share: Share<N>,
     pub called: Receipts<N>,
     pub answered: Receipts<N>,
 }
 
-impl<N: Naming> Model for Account<N> {
+impl<N: HostNaming> Model for Account<N> {
     ghost use Rattle.host.specs.Accounts.{AccountView, AccountKept};
 
     ghost Value = { AccountView };
@@ -65,7 +65,7 @@ fn laws_of_answers()
 }
 
 // The place of the first call from a place of the trace on.
-fn find_call<N: Naming>(book: &Book<N>, from: usize) -> Option<usize>
+fn find_call<N: HostNaming>(book: &Book<N>, from: usize) -> Option<usize>
     ensures finds { FindsCall from book.now.traced.entries result }
     ensures fits { IfSome result (λ place. place + 1 < 2 ^ 64) }
 {
@@ -79,14 +79,14 @@ fn find_call<N: Naming>(book: &Book<N>, from: usize) -> Option<usize>
 
 /// A call that waits for its answer: the number of its request, the place of its label, and the receipt of that.
 #[derive(Drop)]
-struct Awaited<N: Naming> {
+struct Awaited<N: HostNaming> {
     number: u64,
     place: usize,
     claim: Claims<TraceEntry, N>,
 }
 
 // Carries out a call, and finds its label.
-fn carry_call<M: Medium, N: Naming, R: Wait>(
+fn carry_call<M: Medium, N: HostNaming, R: Wait>(
     rt: &R,
     host: &Host<M, N>,
     book: &mut Book<N>,
@@ -110,7 +110,7 @@ fn carry_call<M: Medium, N: Naming, R: Wait>(
 }
 
 // Takes the answer of a request whose call stands at this place, and finds the answer's own place.
-fn take_answer<M: Medium, N: Naming>(
+fn take_answer<M: Medium, N: HostNaming>(
     host: &Host<M, N>,
     book: &mut Book<N>,
     number: u64,
@@ -130,7 +130,7 @@ fn take_answer<M: Medium, N: Naming>(
     Some((place, answer))
 }
 
-impl<N: Naming> Account<N> {
+impl<N: HostNaming> Account<N> {
     /// The account of a client that has called nothing.
     pub(crate) fn new(
         alloc: Global,

@@ -9,7 +9,7 @@ use sector::Bytes;
 use std::alloc::Global;
 
 /// What a client asks of its partition. Offsets and lengths are in bytes.
-#[derive(Debug, Drop)]
+#[derive(Drop)]
 pub enum Call {
     /// A read of as many bytes as the buffer has (WDK: IRP_MJ_READ).
     Read {
@@ -27,7 +27,7 @@ pub enum Call {
 }
 
 /// The places of a call and of its answer in the trace, counted from 0.
-#[derive(Debug, Clone, Copy, PartialEq, Eq)]
+#[derive(Clone, Copy)]
 pub struct Places {
     pub call: usize,
     pub answer: usize,
@@ -47,14 +47,14 @@ impl Places {
 }
 
 /// How a call that was issued ended.
-#[derive(Debug, Drop)]
+#[derive(Drop)]
 pub struct Answered {
     pub answer: Answer,
     pub places: Places,
 }
 
 /// Why there is no ticket.
-#[derive(Debug, Clone, Copy, PartialEq, Eq)]
+#[derive(Clone, Copy)]
 pub enum Reason {
     /// The reason of the stack. Also `DeletePending` where the gate is closed, and `InsufficientResources` where memory
     /// for the call's receipts was refused.
@@ -65,7 +65,7 @@ pub enum Reason {
 
 /// A call for which there is no ticket, with the caller's bytes. Where the call reached the trace, the refusal has the
 /// places of its two labels there.
-#[derive(Debug, Drop)]
+#[derive(Drop)]
 pub struct Refusal {
     pub reason: Reason,
     pub bytes: Bytes,

@@ -10,7 +10,7 @@ use crate::account::Account;
 use crate::call::{Answered, Call, Reason, Refusal};
 use crate::holds::Holds;
 use crate::host::Host;
-use crate::name::Naming;
+use crate::name::HostNaming;
 use crate::ticket::Ticket;
 use cancel_marks::{Marking, Seat};
 use compose::Refusal as Why;
@@ -20,13 +20,13 @@ use std::sync::Wait;
 
 /// A client of a host. Contracts see it as its number, its receipts, and what it knows of the gate and of the marks.
 #[derive(Drop)]
-pub struct Client<N: Naming> {
+pub struct Client<N: HostNaming> {
     pub(crate) account: Account<N>,
     pub(crate) holds: Holds,
     pub(crate) seat: Seat,
 }
 
-impl<N: Naming> Model for Client<N> {
+impl<N: HostNaming> Model for Client<N> {
     ghost use Rattle.host.specs.Clients.{ClientView, ClientKept};
 
     ghost Value = { ClientView };
@@ -42,7 +42,7 @@ impl<N: Naming> Model for Client<N> {
     ghost invariant = { λ c. ClientKept N.gate N.marks c.account c.holds c.seat };
 }
 
-impl<N: Naming> Client<N> {
+impl<N: HostNaming> Client<N> {
     /// Its number, from 0.
     pub fn client(&self) -> usize
         ensures { result ≡ self.now.client }

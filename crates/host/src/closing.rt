@@ -13,18 +13,18 @@ ghost use Rattle.host.specs.Closing.{AreFirst, AreBorneOut, HasReceiptsIn, IsClo
 use crate::account::Account;
 use crate::client::Client;
 use crate::host::{Host, Keeper};
-use crate::name::Naming;
+use crate::name::HostNaming;
 use book::{Book, Records};
 use chronicle::{Claims, History};
 use disk::Medium;
 use sector_journal::{Entered, OfEntries};
 use std::sync::ledger::Share as Part;
-use traced::{Row, TraceEntry};
+use traced::{Context, Row, TraceEntry};
 
 /// What is left of a host: the trace, for each client the places of its calls and of their answers, what acts did to
 /// the sectors, in their order, the receipts of the entries of the trace's acts, numbered from 0, and the medium.
 #[derive(Drop)]
-pub struct Closed<M: Medium, N: Naming> {
+pub struct Closed<M: Medium, N: HostNaming> {
     pub trace: Vec<TraceEntry>,
     pub rows: Vec<Row>,
     pub entries: Vec<Entered>,
@@ -33,7 +33,7 @@ pub struct Closed<M: Medium, N: Naming> {
 }
 
 // Checks all receipts against the book, and takes the parts of the ledger back.
-fn collect<N: Naming>(
+fn collect<N: HostNaming>(
     history: &History<TraceEntry, N>,
     book: &mut Book<N>,
     all: &mut Part<N>,
@@ -51,7 +51,7 @@ fn collect<N: Naming>(
 }
 
 // Collects the claims of one client.
-fn collect_one<N: Naming>(
+fn collect_one<N: HostNaming>(
     history: &History<TraceEntry, N>,
     book: &mut Book<N>,
     all: &mut Part<N>,
@@ -81,7 +81,7 @@ fn laws_of_removals()
     machine_laws::goes_on();
 }
 
-impl<M: Medium, N: Naming> Host<M, N> {
+impl<M: Medium, N: HostNaming> Host<M, N> {
     /// The trace, which is a run from the state that the host was opened with, and the rows, in which all receipts of
     /// the clients stand; the calls of each row are just its client's. From the end of a removal on, of which the
     /// keeper may have a receipt, nothing is open or out. It asks for all clients, in their order.
@@ -115,7 +115,8 @@ impl<M: Medium, N: Naming> Host<M, N> {
         disk.shows_disk();
         let mut book = book.into_inner();
         let mut journal = journal.into_inner();
-        let records = Records::new(alloc, &history, &table.marks, &words);
+        let context = Context::new(alloc, &history, &table.marks);
+        let records = Records::new(context, &words);
         book.book_rest(&records, &mut journal);
         let Keeper {
             part: mut all,

@@ -1,9 +1,9 @@
 //! Who is woken by a step. Each lane, each client, the worker and the keeper sleep on a condition variable of their own,
 //! which is notified where a label concerns them and at no other time.
 
-use crate::name::Naming;
+use crate::name::HostNaming;
 use book::Book;
-use lanes::Woken;
+use lanes::Signals;
 use machine::Label;
 use srb::DeviceLabel;
 use std::alloc::{AllocError, Global};
@@ -20,7 +20,7 @@ fn bit(number: usize) -> u64 {
 
 /// Whom the labels of a step concern: the lanes of tags on which a piece was started, the clients that were answered,
 /// and everybody once the removal has ended.
-#[derive(Debug, Clone, Copy)]
+#[derive(Clone, Copy)]
 pub(crate) struct Concerned {
     lanes: u64,
     clients: u64,
@@ -29,7 +29,7 @@ pub(crate) struct Concerned {
 
 impl Concerned {
     /// Returns whom the labels of the trace from a place on concern.
-    pub(crate) fn since<N: Naming>(book: &Book<N>, from: usize) -> Concerned {
+    pub(crate) fn since<N: HostNaming>(book: &Book<N>, from: usize) -> Concerned {
         let mut concerned = Concerned {
             lanes: 0,
             clients: 0,
@@ -55,13 +55,6 @@ impl Concerned {
             self.clients |= bit(client);
         }
     }
-}
-
-/// How often the worker was signalled, and whether the removal has ended.
-#[derive(Debug, Clone, Copy, Drop)]
-struct Signals {
-    count: u64,
-    is_removed: bool,
 }
 
 /// The condition variables.
@@ -149,16 +142,13 @@ impl Condvars {
         signals.count = signals.count.wrapping_add(1);
     }
 
-    /// Has the worker sleep until it was signalled more often than it heard, or the removal has ended.
-    pub(crate) fn rest<R: Wait>(&self, rt: &R, heard: u64) -> Woken {
+    /// Has the worker sleep until the count of its signals is another than this, or the removal has ended.
+    pub(crate) fn wait_for_signal<R: Wait>(&self, rt: &R, seen: u64) -> Signals {
         let mut signals = self.signals.lock(rt);
         for _ in rt.forever() {
-            let Signals { count, is_removed } = *signals;
-            if is_removed || count != heard {
-                return Woken {
-                    heard: count,
-                    is_removed,
-                };
+            let now = *signals;
+            if now.is_removed || now.count != seen {
+                return now;
             }
             signals = self.worker.wait(rt, signals);
         }

@@ -6,17 +6,17 @@ ghost use Rattle.srb.specs.Fate.{class_of};
 
 use crate::condvars::Concerned;
 use crate::host::Host;
-use crate::name::Naming;
+use crate::name::HostNaming;
 use book::Book;
 use compose::Event;
 use disk::Medium;
-use lanes::{Desk, Step, Woken};
+use lanes::{Desk, Signals, Step};
 use machine::Label;
 use srb::{Completion, DeviceLabel};
 use std::sync::{Mutex, Wait};
 
 /// What the trace has told of the tags.
-#[derive(Debug, Drop)]
+#[derive(Drop)]
 struct Tags {
     // How many labels were looked at.
     seen: usize,
@@ -27,7 +27,7 @@ struct Tags {
 
 impl Tags {
     /// Looks at the labels that have come since the last look.
-    fn catch_up<N: Naming>(&mut self, book: &Book<N>) {
+    fn catch_up<N: HostNaming>(&mut self, book: &Book<N>) {
         for place in self.seen..book.len() {
             match &book.entry(place).label {
                 Label::Device(DeviceLabel::Start { tag, .. }) => self.start(*tag),
@@ -78,14 +78,14 @@ impl SharedTags {
         }
     }
 
-    fn take<N: Naming, R: Wait>(&self, rt: &R, book: &Book<N>, tag: u8) -> Option<Step> {
+    fn take<N: HostNaming, R: Wait>(&self, rt: &R, book: &Book<N>, tag: u8) -> Option<Step> {
         let mut tags = self.tags.lock(rt);
         tags.catch_up(book);
         tags.take(tag)
     }
 }
 
-impl<M: Medium, N: Naming> Host<M, N> {
+impl<M: Medium, N: HostNaming> Host<M, N> {
     // Lets the piece of a tag act in the journal, under the journal's lock alone. Returns how it failed, where it did.
     fn transfer<R: Wait>(&self, rt: &R, tag: u8) -> Option<Completion>
         ensures { IfSome result (λ completion. class_of completion ≡ Bad completion) }
@@ -121,7 +121,7 @@ impl<M: Medium, N: Naming> Host<M, N> {
     }
 }
 
-impl<M: Medium, N: Naming> Desk for Host<M, N> {
+impl<M: Medium, N: HostNaming> Desk for Host<M, N> {
     fn next<R: Wait>(&self, rt: &R, tag: u8) -> Step {
         let mut book = self.book.lock(rt);
         for _ in rt.forever() {
@@ -146,11 +146,11 @@ impl<M: Medium, N: Naming> Desk for Host<M, N> {
         self.step(rt, Event::Finish { tag });
     }
 
-    fn ring<R: Wait>(&self, rt: &R) {
+    fn signal<R: Wait>(&self, rt: &R) {
         self.condvars.notify_worker(rt);
     }
 
-    fn rest<R: Wait>(&self, rt: &R, heard: u64) -> Woken {
-        self.condvars.rest(rt, heard)
+    fn wait_for_signal<R: Wait>(&self, rt: &R, seen: u64) -> Signals {
+        self.condvars.wait_for_signal(rt, seen)
     }
 }

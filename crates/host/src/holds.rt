@@ -8,7 +8,7 @@ ghost use Rattle.host.specs.Clients.{HasNoHold};
 
 use crate::account::Account;
 use crate::call::Reason;
-use crate::name::Naming;
+use crate::name::HostNaming;
 use crate::shared::HostGate;
 use compose::Refusal as Why;
 use remove_lock::{AcquireFault, Pass};
@@ -45,7 +45,7 @@ impl Holds {
     }
 
     /// Takes a hold for a ticket.
-    pub(crate) fn take<N: Naming>(&mut self, gate: &HostGate<N>) -> Result<(), Reason>
+    pub(crate) fn take<N: HostNaming>(&mut self, gate: &HostGate<N>) -> Result<(), Reason>
         requires gate { self.old.pass.gate ≡ N.gate }
         ensures gate { self.new.pass.gate ≡ N.gate }
         ensures out { self.new.out ≡ self.old.out }
@@ -70,7 +70,7 @@ impl Holds {
     }
 
     /// Takes the last hold back from a call that got no ticket.
-    pub(crate) fn take_back<N: Naming>(&mut self, gate: &HostGate<N>)
+    pub(crate) fn take_back<N: HostNaming>(&mut self, gate: &HostGate<N>)
         requires gate { self.old.pass.gate ≡ N.gate }
         requires spare { self.old.out < self.old.pass.view.holds }
         ensures gate { self.new.pass.gate ≡ N.gate }
@@ -81,7 +81,7 @@ impl Holds {
     }
 
     /// Gives back the hold of a ticket, of those that are out, once the client has the receipt of its answer.
-    pub(crate) fn give_back<N: Naming>(
+    pub(crate) fn give_back<N: HostNaming>(
         &mut self,
         gate: &HostGate<N>,
         _account: &Account<N>,

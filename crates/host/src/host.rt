@@ -17,8 +17,8 @@ use crate::client::Client;
 use crate::condvars::{Concerned, Condvars};
 use crate::desk::SharedTags;
 use crate::holds::Holds;
-use crate::name::Naming;
-use crate::opened::{HostFault, Opened, Supplies};
+use crate::name::HostNaming;
+use crate::opened::{ClientResources, HostFault, Opened};
 use crate::shared::{Disk, HostGate, Table};
 use book::{Beside, Book, Records};
 use chronicle::{Claims, History, Whole};
@@ -30,11 +30,11 @@ use std::alloc::{AllocError, Global};
 use std::marker::Model;
 use std::sync::ledger::Share as Part;
 use std::sync::{Mutex, Wait};
-use traced::{Owned, Share, TraceEntry, Traced};
+use traced::{Context, Owned, Share, TraceEntry, Traced};
 
 /// A book and its journal, each under its lock, and what threads share beside them.
 #[derive(Drop)]
-pub struct Host<M: Medium, N: Naming>
+pub struct Host<M: Medium, N: HostNaming>
 where
     OfArmings<N>: chronicle::Naming,
     OfEntries<N>: chronicle::Naming,
@@ -55,13 +55,13 @@ where
 /// The right to remove the device and to close the host: the part of the ledger that no client has, and a pass of the
 /// gate. Contracts see it as what it knows of the gate, and its receipts.
 #[derive(Drop)]
-pub struct Keeper<N: Naming> {
+pub struct Keeper<N: HostNaming> {
     pub(crate) part: Part<N>,
     pub(crate) pass: Pass,
     pub(crate) told: Claims<TraceEntry, N>,
 }
 
-impl<N: Naming> Model for Keeper<N> {
+impl<N: HostNaming> Model for Keeper<N> {
     ghost use Rattle.std.specs.Prelude.{◌≡◌};
     ghost use Rattle.host.specs.Keepers.{KeeperView};
 
@@ -73,16 +73,16 @@ impl<N: Naming> Model for Keeper<N> {
 }
 
 // Makes a client for each handle, with a part of the ledger, a seat and a pass. The passes that are left come along.
-fn make_clients<N: Naming>(
+fn make_clients<N: HostNaming>(
     alloc: Global,
     history: &History<TraceEntry, N>,
     whole: &mut Whole<TraceEntry, N>,
     all: &mut Part<N>,
-    supplies: Supplies,
+    for_clients: ClientResources,
 ) -> Result<(Vec<Client<N>>, Vec<Pass>), AllocError>
-    requires handles { AreHandlesFor N.partitions N.handles supplies.handles.items }
-    requires seats { (length supplies.seats.items ≡ length N.partitions) × All (IsOther N.marks) supplies.seats.items }
-    requires passes { (length supplies.passes.items ≡ length N.partitions + 1) × All (IsClientPass N.gate) supplies.passes.items }
+    requires handles { AreHandlesFor N.partitions N.handles for_clients.handles.items }
+    requires seats { (length for_clients.seats.items ≡ length N.partitions) × All (IsOther N.marks) for_clients.seats.items }
+    requires passes { (length for_clients.passes.items ≡ length N.partitions + 1) × All (IsClientPass N.gate) for_clients.passes.items }
     requires parts { (all.old.parts ≡ length N.partitions + 1) × (all.old.amount ≡ 0) }
     ensures whole { whole.new ≡ whole.old }
     ensures rest { IfOk result (λ _. (all.new.parts ≡ 1) × (all.new.amount ≡ 0)) }
@@ -90,11 +90,11 @@ fn make_clients<N: Naming>(
     ensures clients { IfOk result (λ r. AreNumbered (length N.partitions) r.0.items) }
     ensures fresh { IfOk result (λ r. AreFresh (length N.partitions) r.0.items) }
 {
-    let Supplies {
+    let ClientResources {
         handles,
         mut seats,
         mut passes,
-    } = supplies;
+    } = for_clients;
     let mut clients = Vec::new(alloc);
     for c in 0..handles.len() {
         clients.reserve(1)?;
@@ -120,16 +120,16 @@ fn make_clients<N: Naming>(
 }
 
 // Makes a client for each handle, and the keeper with what is left.
-fn hand_out<N: Naming>(
+fn hand_out<N: HostNaming>(
     alloc: Global,
     history: &History<TraceEntry, N>,
     whole: &mut Whole<TraceEntry, N>,
     all: Part<N>,
-    supplies: Supplies,
+    for_clients: ClientResources,
 ) -> Result<(Vec<Client<N>>, Keeper<N>), AllocError>
-    requires handles { AreHandlesFor N.partitions N.handles supplies.handles.items }
-    requires seats { (length supplies.seats.items ≡ length N.partitions) × All (IsOther N.marks) supplies.seats.items }
-    requires passes { (length supplies.passes.items ≡ length N.partitions + 1) × All (IsClientPass N.gate) supplies.passes.items }
+    requires handles { AreHandlesFor N.partitions N.handles for_clients.handles.items }
+    requires seats { (length for_clients.seats.items ≡ length N.partitions) × All (IsOther N.marks) for_clients.seats.items }
+    requires passes { (length for_clients.passes.items ≡ length N.partitions + 1) × All (IsClientPass N.gate) for_clients.passes.items }
     requires parts { (all.parts ≡ length N.partitions + 1) × (all.amount ≡ 0) }
     ensures whole { whole.new ≡ whole.old }
     ensures clients { IfOk result (λ r. AreNumbered (length N.partitions) r.0.items) }
@@ -137,7 +137,7 @@ fn hand_out<N: Naming>(
     ensures keeper { IfOk result (λ r. r.1 ≡ record { pass = fresh_pass ticket_limit; told = [] }) }
 {
     let mut all = all;
-    let (clients, passes) = make_clients(alloc, history, whole, &mut all, supplies)?;
+    let (clients, passes) = make_clients(alloc, history, whole, &mut all, for_clients)?;
     let mut passes = passes;
     let Some(pass) = passes.pop() else {
         unreachable!()
@@ -151,7 +151,7 @@ fn hand_out<N: Naming>(
     Ok((clients, keeper))
 }
 
-impl<M: Medium, N: Naming> Host<M, N> {
+impl<M: Medium, N: HostNaming> Host<M, N> {
     /// A host of a stack and of the journal of its disk, of the stack's depth, in which nothing was entered or armed, with
     /// its keeper and its clients, client c over the partition that was given as number c. None of them has made a step:
     /// the gate is open to all.
@@ -183,7 +183,7 @@ impl<M: Medium, N: Naming> Host<M, N> {
     {
         let Opened {
             stack,
-            supplies,
+            for_clients,
             partitions,
             sizes,
             slots,
@@ -197,7 +197,7 @@ impl<M: Medium, N: Naming> Host<M, N> {
         let (history, mut whole) = history.named::<N>();
         let (tally, all) = ledger.open::<N>();
         let condvars = Condvars::new(alloc, partitions.len())?;
-        let (clients, keeper) = hand_out(alloc, &history, &mut whole, all, supplies)?;
+        let (clients, keeper) = hand_out(alloc, &history, &mut whole, all, for_clients)?;
         let owned = Owned {
             whole,
             seat: owner,
@@ -247,8 +247,9 @@ impl<M: Medium, N: Naming> Host<M, N> {
 
     // What stands beside the book.
     pub(crate) fn beside(&self) -> Beside<M, N> {
+        let context = Context::new(self.alloc, &self.history, &self.table.marks);
         Beside {
-            records: Records::new(self.alloc, &self.history, &self.table.marks, &self.words),
+            records: Records::new(context, &self.words),
             journal: &self.journal,
         }
     }

@@ -43,6 +43,6 @@ pub use call::{Answered, Call, Places, Reason, Refusal};
 pub use client::Client;
 pub use closing::Closed;
 pub use host::{Host, Keeper};
-pub use name::Naming;
+pub use name::HostNaming;
 pub use opened::{HostFault, Opened};
 pub use ticket::Ticket;

@@ -7,10 +7,10 @@ use std::marker::Brand;
 
 /// Names one host, for contracts alone: its book, and its gate. A function that is generic in it requires that what it
 /// is handed is the one named; its caller passes `Brand`.
-pub trait Naming: book::Naming {
+pub trait HostNaming: book::BookNaming {
     ghost gate: { TableId };
 }
 
-impl Naming for Brand {
+impl HostNaming for Brand {
     ghost gate = { no_table };
 }

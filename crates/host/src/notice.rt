@@ -4,7 +4,7 @@ ghost use Rattle.std.specs.Prelude.{◌≡◌, ◌<◌, ◌≤◌, ◌+◌, ◌^
 ghost use Rattle.host.specs.Keepers.{FindsNotice, HasNone, IsNoticed, event_of, is_notice, label_of, notice_of};
 ghost use Rattle.host.specs.Receipts.{AreBelow};
 
-use crate::name::Naming;
+use crate::name::HostNaming;
 use book::Book;
 use chronicle::{Claims, History};
 use compose::Event;
@@ -12,7 +12,7 @@ use machine::Label;
 use traced::TraceEntry;
 
 /// A label of which a keeper has receipts.
-#[derive(Debug, Clone, Copy)]
+#[derive(Clone, Copy)]
 pub(crate) enum Notice {
     Pause,
     Remove,
@@ -21,7 +21,7 @@ pub(crate) enum Notice {
 }
 
 /// A call of a keeper that may take the device away (WDK: minor functions of IRP_MJ_PNP).
-#[derive(Debug, Clone, Copy)]
+#[derive(Clone, Copy)]
 pub(crate) enum Minor {
     QueryRemove,
     Remove,
@@ -67,7 +67,7 @@ impl Notice {
 }
 
 // The place of the first such label from a place of the trace on.
-fn find_notice<N: Naming>(book: &Book<N>, notice: Notice, from: usize) -> Option<usize>
+fn find_notice<N: HostNaming>(book: &Book<N>, notice: Notice, from: usize) -> Option<usize>
     ensures finds { FindsNotice notice from book.now.traced.entries result }
     ensures fits { IfSome result (λ place. place + 1 < 2 ^ 64) }
 {
@@ -80,7 +80,7 @@ fn find_notice<N: Naming>(book: &Book<N>, notice: Notice, from: usize) -> Option
 }
 
 /// A claim on the first such label from a place of the trace on, if there is one, and its place.
-pub(crate) fn claim_notice<N: Naming>(
+pub(crate) fn claim_notice<N: HostNaming>(
     history: &History<TraceEntry, N>,
     book: &mut Book<N>,
     notice: Notice,

@@ -4,7 +4,7 @@ ghost use Rattle.std.specs.Prelude.{◌≡◌, ◌≤◌, ◌+◌, Some, All, If
 ghost use Rattle.cancel_marks.specs.Marks.{IsOther, standing, starting};
 ghost use Rattle.traced.specs.Opening.{AreOpened, IsNew};
 ghost use Rattle.traced.specs.Sizes.{AreSizes, sizes_of};
-ghost use Rattle.host.specs.Opening.{IsClientPass, IsGear, IsHostFault, client_limit};
+ghost use Rattle.host.specs.Opening.{IsClientPass, AreResources, IsHostFault, client_limit};
 ghost use Rattle.host.specs.declared.opened.HostFault.TheVariants.{NoMemory};
 
 use cancel_marks::{Marks, Seat};
@@ -50,7 +50,7 @@ impl From<AllocError> for HostFault {
 
 /// What a host hands out: a handle and a seat for each client, and a pass for each and for the keeper.
 #[derive(Drop)]
-pub(crate) struct Supplies {
+pub(crate) struct ClientResources {
     pub handles: Vec<Handle>,
     pub seats: Vec<Seat>,
     pub passes: Vec<Pass>,
@@ -60,7 +60,7 @@ pub(crate) struct Supplies {
 /// see it as the names that a host of it has.
 pub struct Opened {
     pub(crate) stack: Stack<BookedAdapter>,
-    pub(crate) supplies: Supplies,
+    pub(crate) for_clients: ClientResources,
     pub(crate) partitions: Vec<u8>,
     pub(crate) sizes: StackSizes,
     pub(crate) slots: usize,
@@ -89,7 +89,7 @@ impl Model for Opened {
       gate = o.gate;
     } };
 
-    ghost invariant = { λ o. IsReady o.partitions.items o.stack o.supplies.handles.items o.sizes o.slots o.ledger.parts o.marks o.owner o.supplies.seats.items o.gate o.supplies.passes.items };
+    ghost invariant = { λ o. IsReady o.partitions.items o.stack o.for_clients.handles.items o.sizes o.slots o.ledger.parts o.marks o.owner o.for_clients.seats.items o.gate o.for_clients.passes.items };
 }
 
 // Makes a table of this many slots, with the owner's seat and one for each client.
@@ -128,7 +128,7 @@ fn make_gate(alloc: Global, clients: usize) -> Result<(Gate, Vec<Pass>), HostFau
 
 /// What the threads of a host will share, a handle, a seat and a pass for each client, and a list of their partitions.
 #[derive(Drop)]
-struct Gear {
+struct Resources {
     partitions: Vec<u8>,
     handles: Vec<Handle>,
     marks: Marks,
@@ -138,17 +138,17 @@ struct Gear {
     passes: Vec<Pass>,
 }
 
-// Makes all gear for clients on these partitions, with their handles open on the stack.
-fn make_gear(
+// Makes all resources for clients on these partitions, with their handles open on the stack.
+fn make_resources(
     alloc: Global,
     stack: &mut Stack<BookedAdapter>,
     slots: usize,
     partitions: &[u8],
-) -> Result<Gear, HostFault>
+) -> Result<Resources, HostFault>
     requires { IsNew stack.old }
     ensures few { IfOk result (λ _. length partitions.now ≤ client_limit) }
-    ensures gear { IfOk result (λ gear. IsGear partitions.now slots gear) }
-    ensures opened { IfOk result (λ gear. AreOpened partitions.now gear.handles.items stack.old stack.new) }
+    ensures resources { IfOk result (λ resources. AreResources partitions.now slots resources) }
+    ensures opened { IfOk result (λ resources. AreOpened partitions.now resources.handles.items stack.old stack.new) }
     ensures apart { IfOk result (λ _. IsFalse stack.old.adapter.faithful → IsFalse stack.new.adapter.faithful) }
     ensures fault { IfErr result (IsHostFault stack.old.rules partitions.now) }
 {
@@ -164,7 +164,7 @@ fn make_gear(
         Err(OpenFault::Refused(_)) => return Err(HostFault::NoPartition),
         Err(OpenFault::NoMemory) => return Err(HostFault::NoMemory),
     };
-    Ok(Gear {
+    Ok(Resources {
         partitions: kept,
         handles,
         marks,
@@ -199,23 +199,23 @@ impl Opened {
         ensures fault { IfErr result (IsHostFault stack.rules partitions.now) }
     {
         let mut stack = stack;
-        let gear = make_gear(alloc, &mut stack, slots, partitions)?;
+        let resources = make_resources(alloc, &mut stack, slots, partitions)?;
         let history = chronicle::Opened::new(alloc)?;
         Ok(Opened {
             stack,
-            supplies: Supplies {
-                handles: gear.handles,
-                seats: gear.seats,
-                passes: gear.passes,
+            for_clients: ClientResources {
+                handles: resources.handles,
+                seats: resources.seats,
+                passes: resources.passes,
             },
-            partitions: gear.partitions,
+            partitions: resources.partitions,
             sizes,
             slots,
             history,
             ledger: Blank::new(partitions.len() as u64 + 1),
-            marks: gear.marks,
-            owner: gear.owner,
-            gate: gear.gate,
+            marks: resources.marks,
+            owner: resources.owner,
+            gate: resources.gate,
         })
     }
 
@@ -223,7 +223,7 @@ impl Opened {
     pub fn end(self) {
         let Opened {
             stack: _,
-            supplies: _,
+            for_clients: _,
             partitions: _,
             sizes: _,
             slots: _,

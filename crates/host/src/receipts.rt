@@ -5,7 +5,7 @@ ghost use Rattle.chronicle.specs.Claims.{AllStand};
 ghost use Rattle.traced.specs.declared.TraceEntry.{TraceEntry as EntryView};
 ghost use Rattle.host.specs.Receipts.{none_yet, places_of};
 
-use crate::name::Naming;
+use crate::name::HostNaming;
 use book::Book;
 use chronicle::{Claims, History};
 use std::alloc::{AllocError, Global};
@@ -14,13 +14,13 @@ use traced::TraceEntry;
 
 /// Receipts: places of the trace, with claims on the entries there, and room for more.
 #[derive(Drop)]
-pub(crate) struct Receipts<N: Naming> {
+pub(crate) struct Receipts<N: HostNaming> {
     places: Vec<usize>,
     room: usize,
     claims: Claims<TraceEntry, N>,
 }
 
-impl<N: Naming> Model for Receipts<N> {
+impl<N: HostNaming> Model for Receipts<N> {
     ghost use Rattle.std.specs.Prelude.{◌≡◌, ◌≤◌, ◌+◌, vec_len, vec_capacity};
     ghost use Rattle.host.specs.Receipts.{ReceiptsView, places_of};
 
@@ -31,7 +31,7 @@ impl<N: Naming> Model for Receipts<N> {
     ghost invariant = { λ r. (r.places.items ≡ places_of r.claims) × (vec_len r.places + r.room ≤ vec_capacity r.places) };
 }
 
-impl<N: Naming> Receipts<N> {
+impl<N: HostNaming> Receipts<N> {
     /// No receipts yet.
     pub(crate) fn new(alloc: Global, claims: Claims<TraceEntry, N>) -> Receipts<N>
         requires { claims ≡ [] }

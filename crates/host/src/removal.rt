@@ -13,7 +13,7 @@ ghost use Rattle.compose.specs.declared.Event.TheVariants.{CancelRemove, QueryRe
 use crate::account::laws_of_numbers;
 use crate::condvars::Concerned;
 use crate::host::{Host, Keeper};
-use crate::name::Naming;
+use crate::name::HostNaming;
 use crate::notice::{Minor, Notice, claim_notice};
 use crate::shared::HostGate;
 use book::Book;
@@ -26,7 +26,7 @@ use std::thread;
 use traced::TraceEntry;
 
 // Closes the gate, and returns once it was seen drained.
-fn close_and_drain<N: Naming, R: Wait>(rt: &R, gate: &HostGate<N>, pass: &mut Pass)
+fn close_and_drain<N: HostNaming, R: Wait>(rt: &R, gate: &HostGate<N>, pass: &mut Pass)
     requires gate { pass.old.gate ≡ N.gate }
     ensures gate { pass.new.gate ≡ N.gate }
     ensures drained { pass.new.view.saw_drained ≡ true }
@@ -41,7 +41,7 @@ fn close_and_drain<N: Naming, R: Wait>(rt: &R, gate: &HostGate<N>, pass: &mut Pa
     unreachable!()
 }
 
-impl<N: Naming> Keeper<N> {
+impl<N: HostNaming> Keeper<N> {
     // Waits until no ticket is out.
     fn drain<R: Wait>(&mut self, rt: &R, gate: &HostGate<N>)
         ensures drained { self.new.pass.saw_drained ≡ true }
@@ -51,7 +51,7 @@ impl<N: Naming> Keeper<N> {
     }
 }
 
-impl<M: Medium, N: Naming> Host<M, N> {
+impl<M: Medium, N: HostNaming> Host<M, N> {
     // Carries out a keeper's call. Its labels stand from the place on that it returns, which is above all receipts.
     fn begin<R: Wait>(
         &self,

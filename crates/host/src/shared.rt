@@ -3,7 +3,7 @@
 ghost use Rattle.std.specs.Prelude.{◌≡◌, ◌<◌, ◌+◌, Some, length};
 ghost use Rattle.host.specs.Opening.{IsDiskOf, IsJournalFor, IsOpening};
 
-use crate::name::Naming;
+use crate::name::HostNaming;
 use cancel_marks::Marks;
 use disk::Medium;
 use remove_lock::Gate;
@@ -12,7 +12,7 @@ use std::marker::{Model, PhantomData};
 
 /// The table of marks, with a slot for each request that may be open.
 #[derive(Drop)]
-pub(crate) struct Table<N: Naming> {
+pub(crate) struct Table<N: HostNaming> {
     pub marks: Marks,
     pub of: PhantomData<N>,
     pub ghost is: { marks ≡ (N.marks, N.slots) },
@@ -24,13 +24,13 @@ pub(crate) struct Table<N: Naming> {
 
 /// The gate that tickets hold.
 #[derive(Drop)]
-pub(crate) struct HostGate<N: Naming> {
+pub(crate) struct HostGate<N: HostNaming> {
     pub lock: Gate,
     pub of: PhantomData<N>,
     pub ghost is: { lock ≡ N.gate },
 }
 
-impl<N: Naming> Table<N> {
+impl<N: HostNaming> Table<N> {
     /// The table of a host whose stack may have as many requests open as it has slots.
     pub(crate) fn new(marks: Marks) -> Table<N>
         requires named { marks ≡ (N.marks, N.slots) }
@@ -54,7 +54,7 @@ impl<N: Naming> Table<N> {
     {}
 }
 
-impl<N: Naming> HostGate<N> {
+impl<N: HostNaming> HostGate<N> {
     /// The gate that is named.
     pub(crate) fn new(gate: Gate) -> HostGate<N>
         requires named { gate ≡ N.gate }
@@ -68,11 +68,11 @@ impl<N: Naming> HostGate<N> {
 
 /// What is known of the sectors that the journal was opened with. Contracts see it as these sectors.
 #[derive(Drop)]
-pub(crate) struct Disk<N: Naming> {
+pub(crate) struct Disk<N: HostNaming> {
     of: PhantomData<N>,
 }
 
-impl<N: Naming> Model for Disk<N> {
+impl<N: HostNaming> Model for Disk<N> {
     ghost use Rattle.std.specs.Prelude.{ℕ, List};
     ghost use Rattle.host.specs.Opening.{IsDiskOf};
 
@@ -83,7 +83,7 @@ impl<N: Naming> Model for Disk<N> {
     ghost invariant = { λ d. IsDiskOf N.rules N.opening };
 }
 
-impl<N: Naming> Disk<N> {
+impl<N: HostNaming> Disk<N> {
     /// The sectors of a journal in which nothing was entered.
     pub(crate) fn of<M: Medium>(journal: &Journal<M, N>) -> Disk<N>
         requires disk { IsJournalFor N.rules journal.now }

@@ -2,7 +2,7 @@
 
 ghost use Rattle.std.specs.Prelude.{◌≡◌};
 
-use crate::name::Naming;
+use crate::name::HostNaming;
 use chronicle::Claims;
 use compose::Answer;
 use std::marker::Model;
@@ -12,7 +12,7 @@ use traced::TraceEntry;
 /// then. One that is dropped keeps its hold, so that a removal never ends. Contracts see it as its client, its
 /// request's number, the place of its call, its slot where its call opened a request, and the receipt of its call.
 #[derive(Drop)]
-pub struct Ticket<N: Naming> {
+pub struct Ticket<N: HostNaming> {
     pub(crate) client: usize,
     pub(crate) number: u64,
     pub(crate) place: usize,
@@ -23,7 +23,7 @@ pub struct Ticket<N: Naming> {
     pub(crate) early: Option<(Answer, Claims<TraceEntry, N>)>,
 }
 
-impl<N: Naming> Model for Ticket<N> {
+impl<N: HostNaming> Model for Ticket<N> {
     ghost use Rattle.host.specs.Tickets.{TicketView, TicketKept, slot_of};
 
     ghost Value = { TicketView };
@@ -33,7 +33,7 @@ impl<N: Naming> Model for Ticket<N> {
     ghost invariant = { λ t. TicketKept N.slots t.client t.number t.place t.claim t.slot t.early };
 }
 
-impl<N: Naming> Ticket<N> {
+impl<N: HostNaming> Ticket<N> {
     /// The number of the request.
     pub fn number(&self) -> u64
         ensures { result ≡ self.now.number }

@@ -12,7 +12,7 @@ use crate::texts;
 use cancel_marks::Marking;
 use compose::Refusal as Why;
 use disk::{BadSector, Medium, NoMemory};
-use host::{Answered, Call, Client, Naming, Reason, Ticket};
+use host::{Answered, Call, Client, HostNaming, Reason, Ticket};
 use sector::Extent;
 use std::alloc::{AllocError, Global};
 use std::marker::Brand;
@@ -76,7 +76,7 @@ impl<'a, M: Medium, C: Clock, W: Wait> Medium for HoldsReads<'a, M, C, W> {
 }
 
 // A client reads the sector at an offset.
-pub(crate) fn read_at<M: Medium, N: Naming, R: Wait>(
+pub(crate) fn read_at<M: Medium, N: HostNaming, R: Wait>(
     bench: &Bench<M, N, R>,
     client: &mut Client<N>,
     offset: u64,
@@ -93,7 +93,7 @@ pub(crate) fn read_at<M: Medium, N: Naming, R: Wait>(
 }
 
 // A client reads a sector that lies past its partition. Returns why it may not.
-fn read_past<M: Medium, N: Naming, R: Wait>(
+fn read_past<M: Medium, N: HostNaming, R: Wait>(
     bench: &Bench<M, N, R>,
     client: &mut Client<N>,
 ) -> Result<String, AllocError>
@@ -113,7 +113,7 @@ fn read_past<M: Medium, N: Naming, R: Wait>(
 }
 
 // A client reads the first sector, and waits for the answer.
-fn read_and_wait<M: Medium, N: Naming, R: Wait>(
+fn read_and_wait<M: Medium, N: HostNaming, R: Wait>(
     bench: &Bench<M, N, R>,
     client: &mut Client<N>,
 ) -> Result<String, AllocError>
@@ -137,7 +137,7 @@ fn seen(
     Ok(text)
 }
 
-fn beside_transfer<M: Medium, N: Naming, R: Wait, C: Clock>(
+fn beside_transfer<M: Medium, N: HostNaming, R: Wait, C: Clock>(
     bench: &Bench<M, N, R>,
     holding: &Holding<'_, C>,
     first: &mut Client<N>,
@@ -161,7 +161,7 @@ fn beside_transfer<M: Medium, N: Naming, R: Wait, C: Clock>(
     seen(alloc, marked, refused, answered)
 }
 
-fn beside_reset<M: Medium, N: Naming, R: Wait, C: Clock>(
+fn beside_reset<M: Medium, N: HostNaming, R: Wait, C: Clock>(
     bench: &Bench<M, N, R>,
     holding: &Holding<'_, C>,
     first: &mut Client<N>,
@@ -177,7 +177,7 @@ fn beside_reset<M: Medium, N: Naming, R: Wait, C: Clock>(
     seen(alloc, "reset", texts::reply(alloc, &reply), answered)
 }
 
-fn beside_turnstile<M: Medium, N: Naming, R: Wait, C: Clock>(
+fn beside_turnstile<M: Medium, N: HostNaming, R: Wait, C: Clock>(
     bench: &Bench<M, N, R>,
     holding: &Holding<'_, C>,
     first: &mut Client<N>,
@@ -196,7 +196,7 @@ fn beside_turnstile<M: Medium, N: Naming, R: Wait, C: Clock>(
 }
 
 // Waits for the answer to a read, where it was issued.
-pub(crate) fn answer_to<M: Medium, N: Naming, R: Wait>(
+pub(crate) fn answer_to<M: Medium, N: HostNaming, R: Wait>(
     bench: &Bench<M, N, R>,
     client: &mut Client<N>,
     issued: Result<Ticket<N>, AllocError>,
@@ -209,7 +209,7 @@ pub(crate) fn answer_to<M: Medium, N: Naming, R: Wait>(
 }
 
 // A client reads four sectors at once, and is told of each. Nobody is held where a read can't be issued.
-fn read_four<M: Medium, N: Naming, R: Wait, C: Clock>(
+fn read_four<M: Medium, N: HostNaming, R: Wait, C: Clock>(
     bench: &Bench<M, N, R>,
     holding: &Holding<'_, C>,
     client: &mut Client<N>,
@@ -232,7 +232,7 @@ fn read_four<M: Medium, N: Naming, R: Wait, C: Clock>(
 }
 
 /// Plays the scene of a setting.
-pub(crate) fn play<M: Medium, N: Naming, R: Wait, C: Clock>(
+pub(crate) fn play<M: Medium, N: HostNaming, R: Wait, C: Clock>(
     bench: &Bench<M, N, R>,
     setting: &Setting<'_, C>,
     first: &mut Client<N>,

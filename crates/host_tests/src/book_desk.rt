@@ -12,11 +12,11 @@ ghost use Rattle.traced.specs.Sizes.{AreSizes, sizes_of};
 ghost use Rattle.traced.specs.Sound.{IsNamed};
 
 use crate::expect::same;
-use crate::opened::Opened as Ready;
+use crate::opened::OpenStack;
 use crate::orders::{bytes, client_of, order_of, tag_of};
 use crate::replaying::{compare_acts, compare_rows, places_of, replay};
 use crate::texts;
-use book::{Beside, Book, Naming, Records};
+use book::{Beside, Book, BookNaming, Records};
 use cancel_marks::{Marks, Seat};
 use chronicle::{History, Opened};
 use compose::{Event, Handle, Id, Refusal, Reply};
@@ -30,7 +30,7 @@ use std::alloc::{AllocError, Global};
 use std::process::Abort;
 use std::sync::ledger::Blank;
 use std::sync::{Mutex, Wait};
-use traced::{Owned, Share, TraceEntry, Traced};
+use traced::{Context, Owned, Share, TraceEntry, Traced};
 
 /// One row of a test.
 #[derive(Clone, Copy)]
@@ -49,7 +49,7 @@ pub(crate) enum Row<'a> {
 
 /// A book, and what stands beside it.
 #[derive(Drop)]
-pub(crate) struct Desk<'a, M: Medium, N: Naming>
+pub(crate) struct Desk<'a, M: Medium, N: BookNaming>
 where
     OfArmings<N>: chronicle::Naming,
     OfEntries<N>: chronicle::Naming,
@@ -62,13 +62,13 @@ where
 }
 
 // The piece that may act in the journal on a tag.
-fn armed_piece<M: Medium, N: Naming>(journal: &Journal<M, N>, tag: u8) -> Option<u128> {
+fn armed_piece<M: Medium, N: BookNaming>(journal: &Journal<M, N>, tag: u8) -> Option<u128> {
     let armed = journal.armed(tag)?;
     Some(armed.piece)
 }
 
 // The piece of a tag acts in the journal, under its lock alone.
-fn act<M: Medium, N: Naming, R: Wait + Abort>(
+fn act<M: Medium, N: BookNaming, R: Wait + Abort>(
     rt: &R,
     desk: &Desk<M, N>,
     tag: u8,
@@ -85,14 +85,19 @@ fn act<M: Medium, N: Naming, R: Wait + Abort>(
     }
 }
 
-fn rests<M: Medium, N: Naming, R: Wait + Abort>(rt: &R, desk: &Desk<M, N>, tag: u8, piece: u128) {
+fn rests<M: Medium, N: BookNaming, R: Wait + Abort>(
+    rt: &R,
+    desk: &Desk<M, N>,
+    tag: u8,
+    piece: u128,
+) {
     let mut journal = desk.beside.journal.lock(rt);
     assert!(rt; journal.armed(tag).is_none(), "tag {tag}");
     assert!(rt; journal.act(desk.words, tag, piece).is_none(), "tag {tag}");
 }
 
 // Of how many requests the journal has room for the acts.
-fn reservations<M: Medium, N: Naming, R: Wait>(rt: &R, desk: &Desk<M, N>) -> usize {
+fn reservations<M: Medium, N: BookNaming, R: Wait>(rt: &R, desk: &Desk<M, N>) -> usize {
     let journal = desk.beside.journal.lock(rt);
     journal.reservations()
 }
@@ -109,7 +114,7 @@ fn is_refused_for_memory(reply: &Reply) -> bool {
 }
 
 // A read, a write or a flush on a client's handle.
-fn call<M: Medium, N: Naming, R: Wait>(
+fn call<M: Medium, N: BookNaming, R: Wait>(
     rt: &R,
     desk: &mut Desk<M, N>,
     share: &mut Share<N>,
@@ -122,7 +127,7 @@ fn call<M: Medium, N: Naming, R: Wait>(
 }
 
 // Any other event.
-fn other<M: Medium, N: Naming, R: Wait>(rt: &R, desk: &mut Desk<M, N>, event: Event) -> Reply
+fn other<M: Medium, N: BookNaming, R: Wait>(rt: &R, desk: &mut Desk<M, N>, event: Event) -> Reply
     requires no_handle { is_handle_event event ≡ false }
     requires no_call { call_handle event ≡ None }
 {
@@ -130,7 +135,7 @@ fn other<M: Medium, N: Naming, R: Wait>(rt: &R, desk: &mut Desk<M, N>, event: Ev
 }
 
 // A step on a client's handle.
-fn step<M: Medium, N: Naming, R: Wait + Abort>(
+fn step<M: Medium, N: BookNaming, R: Wait + Abort>(
     rt: &R,
     desk: &mut Desk<M, N>,
     share: &mut Share<N>,
@@ -170,7 +175,7 @@ fn step<M: Medium, N: Naming, R: Wait + Abort>(
 }
 
 // A step that is no call.
-fn other_step<M: Medium, N: Naming, R: Wait + Abort>(
+fn other_step<M: Medium, N: BookNaming, R: Wait + Abort>(
     rt: &R,
     desk: &mut Desk<M, N>,
     handle: Handle,
@@ -190,7 +195,7 @@ fn other_step<M: Medium, N: Naming, R: Wait + Abort>(
 
 // Checks that a step has just this reply. Where it was refused for want of memory, the trace has not grown, and what
 // was reserved for it was given back.
-fn go<M: Medium, N: Naming, R: Wait + Abort>(
+fn go<M: Medium, N: BookNaming, R: Wait + Abort>(
     rt: &R,
     desk: &mut Desk<M, N>,
     share: &mut Share<N>,
@@ -208,7 +213,7 @@ fn go<M: Medium, N: Naming, R: Wait + Abort>(
 }
 
 // The piece of a tag fails in the journal, and then in the book.
-fn fail<M: Medium, N: Naming, R: Wait + Abort>(
+fn fail<M: Medium, N: BookNaming, R: Wait + Abort>(
     rt: &R,
     desk: &mut Desk<M, N>,
     tag: u8,
@@ -223,7 +228,7 @@ fn fail<M: Medium, N: Naming, R: Wait + Abort>(
 }
 
 /// The rows of a test one by one.
-pub(crate) fn play<M: Medium, N: Naming, R: Wait + Abort>(
+pub(crate) fn play<M: Medium, N: BookNaming, R: Wait + Abort>(
     rt: &R,
     desk: &mut Desk<M, N>,
     shares: (&mut Share<N>, &mut Share<N>),
@@ -261,7 +266,7 @@ pub(crate) struct Run<'a> {
 }
 
 // The label at a place was claimed, and stands there.
-fn claim_first<N: Naming>(book: &mut Book<N>, history: &History<TraceEntry, N>) {
+fn claim_first<N: BookNaming>(book: &mut Book<N>, history: &History<TraceEntry, N>) {
     if book.len() == 0 {
         return;
     }
@@ -270,7 +275,7 @@ fn claim_first<N: Naming>(book: &mut Book<N>, history: &History<TraceEntry, N>) 
 }
 
 // Books what is left of the entries.
-fn book_rest<M: Medium, N: Naming, R: Wait>(rt: &R, desk: &mut Desk<M, N>) {
+fn book_rest<M: Medium, N: BookNaming, R: Wait>(rt: &R, desk: &mut Desk<M, N>) {
     let mut journal = desk.beside.journal.lock(rt);
     desk.book.book_rest(&desk.beside.records, &mut journal);
 }
@@ -278,7 +283,7 @@ fn book_rest<M: Medium, N: Naming, R: Wait>(rt: &R, desk: &mut Desk<M, N>) {
 /// What a book of two clients and its journal are made of beside a stack, which has no name yet: the history of the
 /// trace, the ledger of the calls, sixty-four marks with the owner's seat, and the histories of the journal with the
 /// medium of its sectors.
-pub(crate) struct Gear<M: Medium> {
+pub(crate) struct BookParts<M: Medium> {
     pub history: Opened<TraceEntry>,
     pub ledger: Blank,
     pub marks: Marks,
@@ -288,39 +293,39 @@ pub(crate) struct Gear<M: Medium> {
 }
 
 /// A book over this stack, beside a journal, carries the rows out.
-pub(crate) fn carry_out<M: Medium, N: Naming, R: Wait + Abort>(
+pub(crate) fn carry_out<M: Medium, N: BookNaming, R: Wait + Abort>(
     rt: &R,
     alloc: Global,
-    ready: Ready<BookedAdapter>,
-    gear: Gear<M>,
+    ready: OpenStack<BookedAdapter>,
+    parts: BookParts<M>,
     run: &Run,
 ) -> Result<(), AllocError>
-    requires history { gear.history ≡ N.table }
-    requires ledger { (gear.ledger.name ≡ N.name) × (gear.ledger.parts ≡ N.parts) × (N.parts ≡ 3) }
+    requires history { parts.history ≡ N.table }
+    requires ledger { (parts.ledger.name ≡ N.name) × (parts.ledger.parts ≡ N.parts) × (N.parts ≡ 3) }
     requires named { IsNamed N.rules N.start N.handles N.slots ready.stack }
     requires partitions { N.partitions ≡ 0 ∷ 0 ∷ [] }
     requires slots { N.slots ≡ 64 }
-    requires marks { gear.marks ≡ (N.marks, N.slots) }
-    requires owner { gear.owner ≡ standing N.marks 0 (starting 64) }
+    requires marks { parts.marks ≡ (N.marks, N.slots) }
+    requires owner { parts.owner ≡ standing N.marks 0 (starting 64) }
     requires first { IsFirst ready.stack }
     requires opens { ready.stack.state ≡ opening ready.stack.state.arrays }
     requires clients { AreClientsOf (0 ∷ 0 ∷ []) ready.stack.handles }
     requires handles { AreHandlesOf (0 ∷ 0 ∷ []) ready.handles.items ready.stack }
     requires sizes { (ready.sizes ≡ sizes_of ready.stack.rules) × AreSizes ready.sizes }
     requires apart { IsFalse ready.stack.adapter.faithful }
-    requires journal { gear.journal ≡ record { armings = N.armings; entries = N.entries } }
-    requires medium { (M.view gear.medium).sectors ≡ N.opening }
-    requires some { 1 ≤ length (M.view gear.medium).sectors }
-    requires unfailed { (M.view gear.medium).failures ≡ 0 }
+    requires journal { parts.journal ≡ record { armings = N.armings; entries = N.entries } }
+    requires medium { (M.view parts.medium).sectors ≡ N.opening }
+    requires some { 1 ≤ length (M.view parts.medium).sectors }
+    requires unfailed { (M.view parts.medium).failures ≡ 0 }
 {
-    let Gear {
+    let BookParts {
         history,
         ledger,
         marks,
         owner,
         journal,
         medium,
-    } = gear;
+    } = parts;
     let (history, whole) = history.named::<N>();
     let (tally, mut all) = ledger.open::<N>();
     let (mut journal, words) = Journal::<M, N>::new(alloc, journal, medium, 2, false)?;
@@ -339,7 +344,7 @@ pub(crate) fn carry_out<M: Medium, N: Naming, R: Wait + Abort>(
         alloc,
         book,
         beside: Beside {
-            records: Records::new(alloc, &history, &marks, &words),
+            records: Records::new(Context::new(alloc, &history, &marks), &words),
             journal: &journal,
         },
         words: &words,
@@ -374,7 +379,7 @@ fn first_answer(trace: &[TraceEntry]) -> (Option<usize>, u64) {
 
 // Returns the trace of a book, which is the one that is wanted. Its rows, and what is told of request 1, are those of
 // that trace.
-fn compare<N: Naming>(
+fn compare<N: BookNaming>(
     rt: &impl Abort,
     alloc: Global,
     book: Book<N>,

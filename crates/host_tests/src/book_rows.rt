@@ -3,7 +3,7 @@
 ghost use Rattle.std.specs.Prelude.{◌≡◌, ◌≤◌, IfOk, length};
 ghost use Rattle.cancel_marks.specs.Marks.{standing, starting};
 
-use crate::book_desk::{Gear, Row, Run, carry_out};
+use crate::book_desk::{BookParts, Row, Run, carry_out};
 use crate::disks::disk;
 use crate::opened::open_two;
 use cancel_marks::{Marks, Seat};
@@ -61,7 +61,7 @@ fn run_on<M: Medium, R: Wait + Abort>(
     let ready = open_two(rt, alloc)?;
     let (marks, owner) = slots(alloc)?;
     let (opened, journal) = histories(alloc)?;
-    let gear = Gear {
+    let parts = BookParts {
         history: opened,
         ledger: Blank::new(3),
         marks,
@@ -69,7 +69,7 @@ fn run_on<M: Medium, R: Wait + Abort>(
         journal,
         medium,
     };
-    carry_out::<M, Brand, R>(rt, alloc, ready, gear, run)
+    carry_out::<M, Brand, R>(rt, alloc, ready, parts, run)
 }
 
 // A run beside a journal of a disk in memory. Sector 2,120 is bad.

@@ -12,7 +12,7 @@ use crate::texts;
 use crate::user::{Deed, User};
 use compose::{Refusal as Why, Reply};
 use disk::Medium;
-use host::{Client, Closed, Host, Keeper, Naming};
+use host::{Client, Closed, Host, HostNaming, Keeper};
 use lanes::{Desk, Step};
 use machine::Label;
 use script::Order;
@@ -24,7 +24,7 @@ use traced::TraceEntry;
 
 /// A host, with what each call of it is passed.
 #[derive(Drop)]
-pub(crate) struct Bench<'a, M: Medium, N: Naming, R>
+pub(crate) struct Bench<'a, M: Medium, N: HostNaming, R>
 where
     OfArmings<N>: chronicle::Naming,
     OfEntries<N>: chronicle::Naming,
@@ -47,7 +47,7 @@ pub(crate) enum Row<'a> {
 
 /// Both clients of a test.
 #[derive(Drop)]
-struct Users<N: Naming> {
+struct Users<N: HostNaming> {
     first: User<N>,
     second: User<N>,
 }
@@ -63,7 +63,7 @@ pub(crate) struct Run<'a> {
 type Told = (usize, Vec<usize>, Vec<usize>);
 
 // Takes a step that is no client's.
-fn step<M: Medium, N: Naming, R: Wait + Abort>(
+fn step<M: Medium, N: HostNaming, R: Wait + Abort>(
     rt: &R,
     host: &Host<M, N>,
     keeper: &mut Keeper<N>,
@@ -82,7 +82,7 @@ fn step<M: Medium, N: Naming, R: Wait + Abort>(
 }
 
 // Takes such a step, and returns its reply as text.
-fn drive<M: Medium, N: Naming, R: Wait + Abort>(
+fn drive<M: Medium, N: HostNaming, R: Wait + Abort>(
     bench: &Bench<M, N, R>,
     keeper: &mut Keeper<N>,
     order: Order,
@@ -107,12 +107,12 @@ fn serve<D: Desk, R: Wait + Abort>(rt: &R, desk: &D, tag: u8, want: Step) {
         desk.finish(rt, tag);
     }
     if step == Step::Ended {
-        assert!(rt; desk.rest(rt, 0).is_removed);
+        assert!(rt; desk.wait_for_signal(rt, 0).is_removed);
     }
 }
 
 // Has a client do something.
-fn act<M: Medium, N: Naming, R: Wait + Abort>(
+fn act<M: Medium, N: HostNaming, R: Wait + Abort>(
     bench: &Bench<M, N, R>,
     users: &mut Users<N>,
     client: usize,
@@ -129,7 +129,7 @@ fn act<M: Medium, N: Naming, R: Wait + Abort>(
 }
 
 // Carries a row out, and checks its outcome.
-fn go<M: Medium, N: Naming, R: Wait + Abort>(
+fn go<M: Medium, N: HostNaming, R: Wait + Abort>(
     bench: &Bench<M, N, R>,
     keeper: &mut Keeper<N>,
     users: &mut Users<N>,
@@ -157,7 +157,7 @@ fn go<M: Medium, N: Naming, R: Wait + Abort>(
 }
 
 // Carries the rows of a test out one by one. Returns what both clients were told.
-fn play<M: Medium, N: Naming, R: Wait + Abort>(
+fn play<M: Medium, N: HostNaming, R: Wait + Abort>(
     bench: &Bench<M, N, R>,
     keeper: &mut Keeper<N>,
     users: &mut Users<N>,
@@ -176,7 +176,10 @@ fn play<M: Medium, N: Naming, R: Wait + Abort>(
 }
 
 /// Two clients, in order.
-pub(crate) fn two_of<N: Naming>(rt: &impl Abort, clients: Vec<Client<N>>) -> (Client<N>, Client<N>)
+pub(crate) fn two_of<N: HostNaming>(
+    rt: &impl Abort,
+    clients: Vec<Client<N>>,
+) -> (Client<N>, Client<N>)
     requires two { AreNumbered 2 clients.items }
     ensures first { result.0.client ≡ 0 }
     ensures second { result.1.client ≡ 1 }
@@ -191,7 +194,7 @@ pub(crate) fn two_of<N: Naming>(rt: &impl Abort, clients: Vec<Client<N>>) -> (Cl
 }
 
 /// Both clients, at places that were made for them.
-pub(crate) fn given_back<N: Naming>(
+pub(crate) fn given_back<N: HostNaming>(
     mut back: Vec<Client<N>>,
     first: Client<N>,
     second: Client<N>,
@@ -207,7 +210,7 @@ pub(crate) fn given_back<N: Naming>(
 }
 
 // Two clients play the rows, and come back.
-fn play_by_two<M: Medium, N: Naming, R: Wait + Abort>(
+fn play_by_two<M: Medium, N: HostNaming, R: Wait + Abort>(
     bench: &Bench<M, N, R>,
     keeper: &mut Keeper<N>,
     clients: Vec<Client<N>>,
@@ -229,7 +232,7 @@ fn play_by_two<M: Medium, N: Naming, R: Wait + Abort>(
 }
 
 // Plays the rows on a host of two clients, and closes it.
-fn play_and_close<M: Medium, N: Naming, R: Wait + Abort>(
+fn play_and_close<M: Medium, N: HostNaming, R: Wait + Abort>(
     rt: &R,
     alloc: Global,
     ready: Ready<M>,
@@ -276,7 +279,7 @@ fn calls_and_answers(
 }
 
 /// A host of two clients carries the rows out.
-pub(crate) fn carry_out<M: Medium, N: Naming, R: Wait + Abort>(
+pub(crate) fn carry_out<M: Medium, N: HostNaming, R: Wait + Abort>(
     rt: &R,
     alloc: Global,
     ready: Ready<M>,

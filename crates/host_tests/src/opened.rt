@@ -15,7 +15,7 @@ use traced::{OpenFault, StackSizes, open_handles};
 
 /// The stack, with sixty-four open requests, and its handles.
 #[derive(Drop)]
-pub(crate) struct Opened<A: Adapter> {
+pub(crate) struct OpenStack<A: Adapter> {
     pub stack: Stack<A>,
     pub handles: Vec<Handle>,
     pub sizes: StackSizes,
@@ -39,7 +39,10 @@ fn handles_on<A: Adapter>(
 }
 
 /// A stack of two tags, two requests at work and sixty-four open.
-pub(crate) fn open_two(rt: &impl Abort, alloc: Global) -> Result<Opened<BookedAdapter>, AllocError>
+pub(crate) fn open_two(
+    rt: &impl Abort,
+    alloc: Global,
+) -> Result<OpenStack<BookedAdapter>, AllocError>
     ensures first { IfOk result (λ o. IsFirst o.stack) }
     ensures opens { IfOk result (λ o. o.stack.state ≡ opening o.stack.state.arrays) }
     ensures clients { IfOk result (λ o. AreClientsOf (0 ∷ 0 ∷ []) o.stack.handles) }
@@ -50,7 +53,7 @@ pub(crate) fn open_two(rt: &impl Abort, alloc: Global) -> Result<Opened<BookedAd
 {
     let (mut stack, sizes) = start(rt, alloc, 2)?;
     let handles = handles_on(rt, alloc, &mut stack)?;
-    Ok(Opened {
+    Ok(OpenStack {
         stack,
         handles,
         sizes,

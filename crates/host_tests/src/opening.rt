@@ -6,7 +6,7 @@ ghost use Rattle.host.specs.Opening.{IsDiskFor};
 
 use crate::disks::start_for;
 use disk::Medium;
-use host::{Client, Host, HostFault, Keeper, Naming, Opened};
+use host::{Client, Host, HostFault, HostNaming, Keeper, Opened};
 use sector_journal::Journal;
 use std::alloc::{AllocError, Global};
 use std::process::Abort;
@@ -55,7 +55,7 @@ pub(crate) fn ready_over<M: Medium>(
 }
 
 /// A host, its keeper and its clients, over this many tags.
-pub(crate) fn open_host<M: Medium, N: Naming>(
+pub(crate) fn open_host<M: Medium, N: HostNaming>(
     alloc: Global,
     ready: Ready<M>,
     depth: u8,

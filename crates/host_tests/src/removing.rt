@@ -10,7 +10,7 @@ use crate::expect::same;
 use crate::opening::{Ready, open_host, ready_over};
 use compose::Reply;
 use disk::Medium;
-use host::{Client, Host, Keeper, Naming, Ticket};
+use host::{Client, Host, HostNaming, Keeper, Ticket};
 use std::alloc::{AllocError, Global};
 use std::marker::Brand;
 use std::process::Abort;
@@ -26,7 +26,7 @@ enum Going {
 }
 
 // Takes the device away. It returns once no ticket is out.
-fn take_away<M: Medium, N: Naming, R: Wait>(
+fn take_away<M: Medium, N: HostNaming, R: Wait>(
     rt: &R,
     host: &Host<M, N>,
     keeper: Keeper<N>,
@@ -40,7 +40,7 @@ fn take_away<M: Medium, N: Naming, R: Wait>(
 }
 
 // The second client reads, and both wait for their answers.
-fn read_on<M: Medium, N: Naming, R: Wait>(
+fn read_on<M: Medium, N: HostNaming, R: Wait>(
     bench: &Bench<M, N, R>,
     first: Client<N>,
     held: Ticket<N>,
@@ -56,7 +56,7 @@ fn read_on<M: Medium, N: Naming, R: Wait>(
 }
 
 // The device goes beside two clients on one partition, of which the first has a read that is held.
-fn go_beside<M: Medium + Send, N: Naming + Send + Sync, R: Threads + Wait + Sync + Abort>(
+fn go_beside<M: Medium + Send, N: HostNaming + Send + Sync, R: Threads + Wait + Sync + Abort>(
     rt: &R,
     alloc: Global,
     ready: Ready<M>,

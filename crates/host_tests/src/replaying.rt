@@ -6,7 +6,7 @@ use crate::expect::same;
 use disk::Medium;
 use journal_replay::ReplayFault;
 use machine::Label;
-use rounds::{Done, Plan, RoundsFault, run};
+use rounds::{Disk, Done, Plan, RoundsFault, run};
 use sector::Extent;
 use sector_journal::Entered;
 use srb::DeviceLabel;
@@ -95,7 +95,6 @@ pub(crate) fn compare_rows(
 const PLAN: Plan = Plan {
     clients: 2,
     rounds: 3,
-    sector_size: 512,
     depth: 2,
     write_protected: false,
 };
@@ -107,7 +106,13 @@ fn run_and_replay<M: Medium + Send, R: Threads + Wait + Sync + Abort>(
     medium: M,
 ) -> Result<(), AllocError> {
     let (stack, sizes) = start_for(rt, alloc, &medium, 2)?;
-    match run(rt, alloc, stack, medium, sizes, 64, PLAN) {
+    let over = Disk {
+        stack,
+        medium,
+        sizes,
+        slots: 64,
+    };
+    match run(rt, alloc, over, PLAN) {
         Ok(done) => {
             let Done {
                 tally,

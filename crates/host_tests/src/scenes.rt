@@ -13,8 +13,8 @@ use crate::opening::{Ready, open_host};
 use crate::replaying::{compare_acts, replay};
 use crate::texts;
 use disk::Medium;
-use host::{Client, Closed, Host, Keeper, Naming};
-use lanes::{Completions, Desk, Pass, Step, Turnstile, Woken};
+use host::{Client, Closed, Host, HostNaming, Keeper};
+use lanes::{Completions, Desk, Pass, Signals, Step, Turnstile};
 use rounds::{Lanes, remove, start_lanes};
 use sector_journal::{OfArmings, OfEntries};
 use std::alloc::{AllocError, Global};
@@ -27,7 +27,7 @@ use traced::TraceEntry;
 
 /// The keeper of a host and both its clients.
 #[derive(Drop)]
-struct Company<N: Naming> {
+struct Company<N: HostNaming> {
     keeper: Keeper<N>,
     first: Client<N>,
     second: Client<N>,
@@ -69,7 +69,7 @@ pub(crate) struct Setting<'a, C: Clock> {
 
 /// A host as the desk of its lanes and of a worker, where a finish lets the worker go if it is held.
 #[derive(Drop)]
-struct LetsGo<'a, 'b, M: Medium, N: Naming, C: Clock>
+struct LetsGo<'a, 'b, M: Medium, N: HostNaming, C: Clock>
 where
     OfArmings<N>: chronicle::Naming,
     OfEntries<N>: chronicle::Naming,
@@ -79,7 +79,7 @@ where
     at_worker: Held,
 }
 
-impl<'a, 'b, M: Medium, N: Naming, C: Clock> Desk for LetsGo<'a, 'b, M, N, C> {
+impl<'a, 'b, M: Medium, N: HostNaming, C: Clock> Desk for LetsGo<'a, 'b, M, N, C> {
     fn next<R: Wait>(&self, rt: &R, tag: u8) -> Step {
         Desk::next(self.host, rt, tag)
     }
@@ -95,12 +95,12 @@ impl<'a, 'b, M: Medium, N: Naming, C: Clock> Desk for LetsGo<'a, 'b, M, N, C> {
         }
     }
 
-    fn ring<R: Wait>(&self, rt: &R) {
-        Desk::ring(self.host, rt);
+    fn signal<R: Wait>(&self, rt: &R) {
+        Desk::signal(self.host, rt);
     }
 
-    fn rest<R: Wait>(&self, rt: &R, heard: u64) -> Woken {
-        Desk::rest(self.host, rt, heard)
+    fn wait_for_signal<R: Wait>(&self, rt: &R, seen: u64) -> Signals {
+        Desk::wait_for_signal(self.host, rt, seen)
     }
 }
 
@@ -111,7 +111,7 @@ struct Queue<'a> {
 }
 
 // Plays the scene, and removes the device. Nobody is held any more then.
-fn play_and_remove<M: Medium, N: Naming, R: Wait, C: Clock>(
+fn play_and_remove<M: Medium, N: HostNaming, R: Wait, C: Clock>(
     bench: &Bench<M, N, R>,
     company: &mut Company<N>,
     setting: &Setting<'_, C>,
@@ -133,7 +133,7 @@ fn play_and_remove<M: Medium, N: Naming, R: Wait, C: Clock>(
 // Four lanes and the worker, the two clients, and the removal.
 fn run_threads<
     M: Medium + Send,
-    N: Naming + Send + Sync,
+    N: HostNaming + Send + Sync,
     R: Threads + Wait + Sync,
     C: Clock + Sync,
 >(
@@ -190,7 +190,7 @@ fn run_threads<
 // The threads, with one place in the queue; then the host is closed.
 fn play_and_close<
     M: Medium + Send,
-    N: Naming + Send + Sync,
+    N: HostNaming + Send + Sync,
     R: Threads + Wait + Sync + Abort,
     C: Clock + Sync,
 >(
@@ -248,7 +248,7 @@ fn trace_of(alloc: Global, trace: &[TraceEntry]) -> Result<String, AllocError> {
 /// A host of two clients on one partition plays a scene.
 pub(crate) fn play_scene<
     M: Medium + Send,
-    N: Naming + Send + Sync,
+    N: HostNaming + Send + Sync,
     R: Threads + Wait + Sync + Abort,
     C: Clock + Sync,
 >(

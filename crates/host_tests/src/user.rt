@@ -7,7 +7,7 @@ use crate::orders::bytes;
 use crate::texts;
 use compose::Refusal as Why;
 use disk::Medium;
-use host::{Call, Client, Naming, Reason, Ticket};
+use host::{Call, Client, HostNaming, Reason, Ticket};
 use script::Order;
 use std::alloc::{AllocError, Global};
 use std::marker::Model;
@@ -29,12 +29,12 @@ pub(crate) enum Deed {
 
 /// A client, and the ticket of its last call unless it was waited for.
 #[derive(Drop)]
-pub(crate) struct User<N: Naming> {
+pub(crate) struct User<N: HostNaming> {
     client: Client<N>,
     ticket: Option<Ticket<N>>,
 }
 
-impl<N: Naming> Model for User<N> {
+impl<N: HostNaming> Model for User<N> {
     ghost use Rattle.std.specs.Prelude.{◌≡◌, ◌<◌, IfSome};
     ghost use Rattle.host.specs.Clients.{ClientView};
 
@@ -45,7 +45,7 @@ impl<N: Naming> Model for User<N> {
     ghost invariant = { λ u. IfSome u.ticket (λ t. (t.client ≡ u.client.client) × (0 < u.client.pass.holds)) };
 }
 
-impl<N: Naming> User<N> {
+impl<N: HostNaming> User<N> {
     pub(crate) fn new(client: Client<N>) -> User<N>
         ensures { result ≡ client }
     {

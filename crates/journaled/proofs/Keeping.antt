@@ -28,14 +28,7 @@ stepped opening old new before after max_transfer next kept taken same stands co
 
 given_below : (next : ℕ) (label : Label) (old new : List Reservation) → GivesBack label old new → All (IsBelow next) old → All (IsBelow next) new
 given_below next (AnswerLabel number status informed bytes) old new gives below = below_without next number old new gives below
-given_below next (Call number q) old new gives below = subst (λ (rs : List Reservation). All (IsBelow next) rs) (sym gives) below
-given_below next (Device l) old new gives below = subst (λ (rs : List Reservation). All (IsBelow next) rs) (sym gives) below
-given_below next (Cancel number) old new gives below = subst (λ (rs : List Reservation). All (IsBelow next) rs) (sym gives) below
-given_below next Pause old new gives below = subst (λ (rs : List Reservation). All (IsBelow next) rs) (sym gives) below
-given_below next Resume old new gives below = subst (λ (rs : List Reservation). All (IsBelow next) rs) (sym gives) below
-given_below next RemoveLabel old new gives below = subst (λ (rs : List Reservation). All (IsBelow next) rs) (sym gives) below
-given_below next Surprise old new gives below = subst (λ (rs : List Reservation). All (IsBelow next) rs) (sym gives) below
-given_below next RemovedLabel old new gives below = subst (λ (rs : List Reservation). All (IsBelow next) rs) (sym gives) below
+given_below next _ old new gives below = subst (λ (rs : List Reservation). All (IsBelow next) rs) (sym gives) below
 
 pub noted : (opening : List (List ℕ)) (stack new : ManagerView) (before after : JournalView) (max_transfer next next' : ℕ) (label : Label) → JournaledKept opening stack before max_transfer next → TakesLabel stack (Some label) new → KeepsEntries before after
     → GivesBack label before.reservations after.reservations → ((labels : List Label) → next_behind next' labels ≡ next_behind next (label ∷ labels)) → JournaledKept opening new after max_transfer next'

@@ -11,14 +11,7 @@ use Rattle.compose.specs.declared.Event.TheVariants.{Open, Close, Read, Write, F
 no_calls : (next : ℕ) (labels : List Label) → All IsNoCall labels → (next_behind next labels ≡ next) × (call_numbers labels ≡ [])
 no_calls next [] h = (refl, refl)
 no_calls next (Call number q ∷ ls) h = absurd (All-head IsNoCall (Call number q) ls h)
-no_calls next (Device l ∷ ls) h = no_calls next ls (All-tail IsNoCall _ ls h)
-no_calls next (AnswerLabel n status informed bytes ∷ ls) h = no_calls next ls (All-tail IsNoCall _ ls h)
-no_calls next (Cancel n ∷ ls) h = no_calls next ls (All-tail IsNoCall _ ls h)
-no_calls next (Pause ∷ ls) h = no_calls next ls (All-tail IsNoCall _ ls h)
-no_calls next (Resume ∷ ls) h = no_calls next ls (All-tail IsNoCall _ ls h)
-no_calls next (RemoveLabel ∷ ls) h = no_calls next ls (All-tail IsNoCall _ ls h)
-no_calls next (Surprise ∷ ls) h = no_calls next ls (All-tail IsNoCall _ ls h)
-no_calls next (RemovedLabel ∷ ls) h = no_calls next ls (All-tail IsNoCall _ ls h)
+no_calls next (_ ∷ ls) h = no_calls next ls (All-tail IsNoCall _ ls h)
 
 -- the first label is no call, or numbers are left for it
 abbrev MayCall : ℕ → List Label → Type 0
@@ -57,14 +50,7 @@ counted rise count rules s (Call number q) labels s' run (inr left) none =
     ∙ ap (λ (n : ℕ). min (n + 1) (2 ^ 64 - 1)) from.0
     ∙ min_same (s.next_request + 1) (2 ^ 64 - 1) (not_used_up s.next_request left)
     ∙ sym next
-counted rise count rules s (Device l) labels s' run may none = uncounted count rules s (Device l ∷ labels) s' run (All-cons IsNoCall (Device l) labels tt none)
-counted rise count rules s (AnswerLabel n status informed bytes) labels s' run may none = uncounted count rules s (AnswerLabel n status informed bytes ∷ labels) s' run (All-cons IsNoCall (AnswerLabel n status informed bytes) labels tt none)
-counted rise count rules s (Cancel n) labels s' run may none = uncounted count rules s (Cancel n ∷ labels) s' run (All-cons IsNoCall (Cancel n) labels tt none)
-counted rise count rules s Pause labels s' run may none = uncounted count rules s (Pause ∷ labels) s' run (All-cons IsNoCall Pause labels tt none)
-counted rise count rules s Resume labels s' run may none = uncounted count rules s (Resume ∷ labels) s' run (All-cons IsNoCall Resume labels tt none)
-counted rise count rules s RemoveLabel labels s' run may none = uncounted count rules s (RemoveLabel ∷ labels) s' run (All-cons IsNoCall RemoveLabel labels tt none)
-counted rise count rules s Surprise labels s' run may none = uncounted count rules s (Surprise ∷ labels) s' run (All-cons IsNoCall Surprise labels tt none)
-counted rise count rules s RemovedLabel labels s' run may none = uncounted count rules s (RemovedLabel ∷ labels) s' run (All-cons IsNoCall RemovedLabel labels tt none)
+counted rise count rules s other labels s' run may none = uncounted count rules s (other ∷ labels) s' run (All-cons IsNoCall other labels tt none)
 
 -- A STEP
 
@@ -89,20 +75,14 @@ turned_may old q DeviceBusy new told e (inr h) =
     may_call_none _ new.labels
     (none_told old told new.labels e (ap (λ (t : Told). t.own) h.1.nothing) (ap (λ (t : Told). t.device) h.1.nothing) (ap (λ (t : Told). t.answers) h.1.nothing) (ap (λ (t : Told). t.ends) h.1.nothing))
 turned_may old q InsufficientResources new told e (inr h) = may_call _ new.labels h.0
-turned_may old q InvalidHandle new told e (inr h) = absurd h
-turned_may old q InvalidParameter new told e (inr h) = absurd h
-turned_may old q DeletePending new told e (inr h) = absurd h
-turned_may old q InvalidDeviceRequest new told e (inr h) = absurd h
-turned_may old q NotFound new told e (inr h) = absurd h
+turned_may old q _ new told e (inr h) = absurd h
 
 reply_may : (old : ManagerView) (handle : Handle) (q : ClientRequest) (buffer : List ℕ) (reply : Reply) (new : ManagerView) (told : Told) → new.labels ≡ labels_of told
     → TransferReplies old handle q buffer reply new told → MayCall old.state.next_request new.labels
 reply_may old handle q buffer (Requested id) new told e h = may_call _ new.labels h.numbers_last
 reply_may old handle q buffer (Answered answer) new told e h = may_call _ new.labels h.0.numbers_last
 reply_may old handle q buffer (Refused reason bytes) new told e h = turned_may old q reason new told e h.1
-reply_may old handle q buffer (HandleReply given) new told e h = absurd h
-reply_may old handle q buffer Done new told e h = absurd h
-reply_may old handle q buffer Ignored new told e h = absurd h
+reply_may old handle q buffer _ new told e h = absurd h
 
 first_may : (event : Event) (next : ℕ) (labels : List Label) → (IsTransferEvent event → ⊥) → CallsFirst event labels → MayCall next labels
 first_may event next [] other h = tt
@@ -112,17 +92,7 @@ event_may : StepsCallOnce → (old : ManagerView) (event : Event) (reply : Reply
 event_may once old (Read handle offset buffer) reply new h = reply_may old handle _ buffer reply new h.told h.by.in_order h.replies.replies
 event_may once old (Write handle offset bytes through) reply new h = reply_may old handle _ bytes reply new h.told h.by.in_order h.replies.replies
 event_may once old (Flush handle) reply new h = reply_may old handle _ [] reply new h.told h.by.in_order h.replies.replies
-event_may once old (Open partition) reply new h = first_may (Open partition) _ new.labels (λ asked. asked) (once old (Open partition) reply new h)
-event_may once old (Close handle) reply new h = first_may (Close handle) _ new.labels (λ asked. asked) (once old (Close handle) reply new h)
-event_may once old (CancelIoEx handle target) reply new h = first_may (CancelIoEx handle target) _ new.labels (λ asked. asked) (once old (CancelIoEx handle target) reply new h)
-event_may once old (Mark number) reply new h = first_may (Mark number) _ new.labels (λ asked. asked) (once old (Mark number) reply new h)
-event_may once old QueryRemove reply new h = first_may QueryRemove _ new.labels (λ asked. asked) (once old QueryRemove reply new h)
-event_may once old CancelRemove reply new h = first_may CancelRemove _ new.labels (λ asked. asked) (once old CancelRemove reply new h)
-event_may once old Remove reply new h = first_may Remove _ new.labels (λ asked. asked) (once old Remove reply new h)
-event_may once old SurpriseRemove reply new h = first_may SurpriseRemove _ new.labels (λ asked. asked) (once old SurpriseRemove reply new h)
-event_may once old (Act tag) reply new h = first_may (Act tag) _ new.labels (λ asked. asked) (once old (Act tag) reply new h)
-event_may once old (Finish tag) reply new h = first_may (Finish tag) _ new.labels (λ asked. asked) (once old (Finish tag) reply new h)
-event_may once old Reset reply new h = first_may Reset _ new.labels (λ asked. asked) (once old Reset reply new h)
+event_may once old other reply new h = first_may other _ new.labels (λ asked. asked) (once old other reply new h)
 
 rest_none : (event : Event) (label : Label) (labels : List Label) → CallsFirst event (label ∷ labels) → All IsNoCall labels
 rest_none event label labels h = h.1
@@ -168,17 +138,8 @@ pub step_opens : CallsCount → StepsCallOnce → (old : ManagerView) (event : E
 step_opens count once old (Read handle offset buffer) id new h = opened_call count once old new (Read handle offset buffer) handle _ buffer id (once old (Read handle offset buffer) (Requested id) new h) h
 step_opens count once old (Write handle offset bytes through) id new h = opened_call count once old new (Write handle offset bytes through) handle _ bytes id (once old (Write handle offset bytes through) (Requested id) new h) h
 step_opens count once old (Flush handle) id new h = opened_call count once old new (Flush handle) handle _ [] id (once old (Flush handle) (Requested id) new h) h
-step_opens count once old (Open partition) id new h = absurd h.replies
-step_opens count once old (Close handle) id new h = absurd h.replies
-step_opens count once old (CancelIoEx handle target) id new h = absurd h.replies
-step_opens count once old (Mark number) id new h = absurd h.replies
-step_opens count once old QueryRemove id new h = absurd h.replies
-step_opens count once old CancelRemove id new h = absurd h.replies
-step_opens count once old Remove id new h = absurd h.replies
-step_opens count once old SurpriseRemove id new h = absurd h.replies
-step_opens count once old (Act tag) id new h = absurd h.replies
-step_opens count once old (Finish tag) id new h = absurd h.replies
 step_opens count once old Reset id new h = absurd (let k : Requested id ≡ Done = h.0 in cc)
+step_opens count once old _ id new h = absurd h.replies
 
 -- RESERVATIONS
 

@@ -8,20 +8,10 @@ use Rattle.journaled.proofs.Numbering.{IsOpened, below_more, last_goes, none_goe
 
 -- nothing, where it asks for no request
 pub none_opened : (v : ManagerView) (event : Event) → kind_asked event ≡ None → opened_by v event ≡ None
-none_opened v (Open partition) none = refl
-none_opened v (Close handle) none = refl
-none_opened v (CancelIoEx handle target) none = refl
-none_opened v (Mark number) none = refl
-none_opened v QueryRemove none = refl
-none_opened v CancelRemove none = refl
-none_opened v Remove none = refl
-none_opened v SurpriseRemove none = refl
-none_opened v (Act tag) none = refl
-none_opened v (Finish tag) none = refl
-none_opened v Reset none = refl
 none_opened v (Read handle offset buffer) none = absurd (cc (none))
 none_opened v (Write handle offset bytes through) none = absurd (cc (none))
 none_opened v (Flush handle) none = absurd (cc (none))
+none_opened v _ none = refl
 
 -- ROOM IS MADE
 
@@ -85,11 +75,7 @@ module _ (told : StepsOpenAsTold) (count : CallsCount) (once : StepsCallOnce) (o
 
   pub room_held : (reply : Reply) → IsRight old event reply new → MatchBool (is_opened reply) (after ≡ mid) (Releases mid number after) → HoldsRoom (over old before) event reply (over new after)
   room_held (Requested id) right gives = kept id right gives
-  room_held (HandleReply given) right gives = gone gives
-  room_held Done right gives = gone gives
-  room_held (Answered answer) right gives = gone gives
-  room_held (Refused reason bytes) right gives = gone gives
-  room_held Ignored right gives = gone gives
+  room_held _ right gives = gone gives
 
 -- all that is reserved is for calls before the next
 module _ (count : CallsCount) (once : StepsCallOnce) (old new : ManagerView) (before after : JournalView) (event : Event) (below : All (IsBelow old.state.next_request) before.reservations) where
@@ -111,11 +97,7 @@ module _ (count : CallsCount) (once : StepsCallOnce) (old new : ManagerView) (be
 
   pub room_below : (reply : Reply) → IsRight old event reply new → HoldsRoom (over old before) event reply (over new after) → All (IsBelow new.state.next_request) after.reservations
   room_below (Requested id) right holds = one_more_below id right holds
-  room_below (HandleReply given) right holds = same_below (HandleReply given) right holds
-  room_below Done right holds = same_below Done right holds
-  room_below (Answered answer) right holds = same_below (Answered answer) right holds
-  room_below (Refused reason bytes) right holds = same_below (Refused reason bytes) right holds
-  room_below Ignored right holds = same_below Ignored right holds
+  room_below other right holds = same_below other right holds
 
 -- AN ACT
 
@@ -133,12 +115,9 @@ booked_next old before tag booked after (inr none) = ap (λ (v : ManagerView). v
 
 module _ (old booked new : ManagerView) (before after : JournalView) (tag : ℕ) (books : BooksArmed old before tag booked after) where
   pub act_room : (reply : Reply) → IsRight booked (Act tag) reply new → HoldsRoom (over old before) (Act tag) reply (over new after)
-  act_room (Requested id) right = absurd right.replies
-  act_room (HandleReply given) right = absurd right.replies
-  act_room (Answered answer) right = absurd right.replies
-  act_room (Refused reason bytes) right = absurd right.replies
   act_room Done right = booked_reservations old before tag booked after books
   act_room Ignored right = booked_reservations old before tag booked after books
+  act_room _ right = absurd right.replies
 
   pub act_below : CallsCount → (reply : Reply) → IsRight booked (Act tag) reply new → All (IsBelow old.state.next_request) before.reservations → All (IsBelow new.state.next_request) after.reservations
   act_below count reply right below =

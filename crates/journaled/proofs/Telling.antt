@@ -55,20 +55,8 @@ module _ (keep : StepsKeepEntries) (apart : StepsStayApart) (old new : ManagerVi
 
 module _ (old new : ManagerView) (before after : JournalView) (reply : Reply) (keeps : KeepsEntries before after) where
   nothing_booked : (event : Event) → IsNoAct event → BooksFor (over old before) event old after
-  nothing_booked (Open partition) other = (refl, keeps)
-  nothing_booked (Close handle) other = (refl, keeps)
-  nothing_booked (Read handle offset buffer) other = (refl, keeps)
-  nothing_booked (Write handle offset bytes through) other = (refl, keeps)
-  nothing_booked (Flush handle) other = (refl, keeps)
-  nothing_booked (CancelIoEx handle target) other = (refl, keeps)
-  nothing_booked (Mark number) other = (refl, keeps)
-  nothing_booked QueryRemove other = (refl, keeps)
-  nothing_booked CancelRemove other = (refl, keeps)
-  nothing_booked Remove other = (refl, keeps)
-  nothing_booked SurpriseRemove other = (refl, keeps)
   nothing_booked (Act tag) other = absurd other
-  nothing_booked (Finish tag) other = (refl, keeps)
-  nothing_booked Reset other = (refl, keeps)
+  nothing_booked _ other = (refl, keeps)
 
   pub others_served : (event : Event) → IsNoAct event → IsRight old event reply new → IsServed (over old before) event reply (over new after)
   others_served event other right = inl (record { booked = old; books = nothing_booked event other; right = right })

@@ -68,14 +68,4 @@ pub lies_on_disk : (v : ManagerView) (event : Event) (told : ℕ × Extent) → 
 lies_on_disk v (ReadEvent handle offset buffer) told map h = would_lie v (call_on v handle Read offset buffer false) told (moved v.rules v.state (call_on v handle Read offset buffer false) map refl) h
 lies_on_disk v (WriteEvent handle offset bytes through) told map h = would_lie v (call_on v handle Write offset bytes through) told (moved v.rules v.state (call_on v handle Write offset bytes through) map refl) h
 lies_on_disk v (FlushEvent handle) told map h = would_lie v (call_on v handle Flush 0 [] false) told (λ _. flushed v.rules (call_on v handle Flush 0 [] false) map refl refl) h
-lies_on_disk v (Open partition) told map h = absurd (cc (h))
-lies_on_disk v (Close handle) told map h = absurd (cc (h))
-lies_on_disk v (CancelIoEx handle target) told map h = absurd (cc (h))
-lies_on_disk v (Mark number) told map h = absurd (cc (h))
-lies_on_disk v QueryRemove told map h = absurd (cc (h))
-lies_on_disk v CancelRemove told map h = absurd (cc (h))
-lies_on_disk v Remove told map h = absurd (cc (h))
-lies_on_disk v SurpriseRemove told map h = absurd (cc (h))
-lies_on_disk v (Act tag) told map h = absurd (cc (h))
-lies_on_disk v (Finish tag) told map h = absurd (cc (h))
-lies_on_disk v Reset told map h = absurd (cc (h))
+lies_on_disk v _ told map h = absurd (cc (h))

@@ -22,7 +22,7 @@ use std::alloc::{AllocError, Global};
 
 /// What a request may move.
 #[derive(Drop)]
-struct Asked {
+struct Transfer {
     kind: Kind,
     /// On the disk; of a flush it is empty.
     extent: Extent,
@@ -41,7 +41,7 @@ fn extent_of(stack: &Stack<BookedAdapter>, event: &Event) -> Option<Extent>
 }
 
 /// The request that an event would open now.
-fn asked_by(stack: &Stack<BookedAdapter>, event: &Event) -> Option<Asked>
+fn asked_by(stack: &Stack<BookedAdapter>, event: &Event) -> Option<Transfer>
     requires { IsMap stack.now.rules.disk_sectors stack.now.rules.partitions }
     ensures transfer { IfSome result (λ _. IsTransferEvent event.now) }
     ensures within { IfSome result (λ a. a.extent.first + a.extent.count ≤ stack.now.rules.disk_sectors) }
@@ -49,7 +49,7 @@ fn asked_by(stack: &Stack<BookedAdapter>, event: &Event) -> Option<Asked>
 {
     let kind = kind_of(event)?;
     let extent = extent_of(stack, event)?;
-    Some(Asked { kind, extent })
+    Some(Transfer { kind, extent })
 }
 
 /// Makes room in the journal for the acts of the request that an event would open now, if it would open one. The

@@ -168,8 +168,9 @@ stands_by items views r by v at false is = subst (λ (k : ℕ). get_elem? views 
 pub stands : (by : ℕ) (v : View) → Learns QueueKept by v (Stands v)
 stands by v items views r at = (views, r, stands_by items views r by v at v.takes refl)
 
-pub puts_one_more : (v w u : View) (tag : ℕ) → v.tag ≡ tag → HasPut v w → u ≡ with_put w (item_of tag (length w.put)) → HasPut v u
-puts_one_more v w u tag own has is =
+pub puts_more : (v w u : View) (tag : ℕ) → v.tag ≡ tag → HasPut v w → (u ≡ w) ⊎ (u ≡ with_put w (item_of tag (length w.put))) → HasPut v u
+puts_more v w u tag own has (inl same) = (has.0, same ∙ has.1)
+puts_more v w u tag own has (inr is) =
     (suc has.0, is ∙ (ap (λ (k : ℕ). with_put w (item_of k (length w.put))) (sym own) ∙ ap (λ (y : View). with_put y (item_of v.tag (length y.put))) has.1))
 
 pub takes_one_more : (v w u : View) (x : Item) → HasTaken v w → u ≡ with_taken w x → HasTaken v u

@@ -51,11 +51,11 @@ pub enum Step {
     Ended,
 }
 
-/// What woke the worker.
-#[derive(Debug, Clone, Copy, PartialEq, Eq, Drop)]
-pub struct Woken {
-    /// How often it was rung for, counted modulo 2^64.
-    pub heard: u64,
+/// What is signalled to the worker.
+#[derive(Clone, Copy, Drop)]
+pub struct Signals {
+    /// How often an item was put, counted modulo 2^64.
+    pub count: u64,
     /// Whether the disk is removed: no piece will be started.
     pub is_removed: bool,
 }
@@ -72,11 +72,11 @@ pub trait Desk {
     /// Completes the piece on the tag.
     fn finish<R: Wait>(&self, rt: &R, tag: u8);
 
-    /// Tells the worker that an item was put.
-    fn ring<R: Wait>(&self, rt: &R);
+    /// Signals to the worker that an item was put.
+    fn signal<R: Wait>(&self, rt: &R);
 
-    /// The worker sleeps until it was rung for more often than it heard, or the disk is removed.
-    fn rest<R: Wait>(&self, rt: &R, heard: u64) -> Woken;
+    /// The worker sleeps until the count of signals is another than this, or the disk is removed.
+    fn wait_for_signal<R: Wait>(&self, rt: &R, seen: u64) -> Signals;
 }
 
 /// The queue from the lanes to the worker. Contracts see it as its identity and its capacity.
@@ -222,39 +222,51 @@ impl Completions {
     }
 }
 
+/// What the lane of a tag works for, with the queue to the worker.
+#[derive(Drop)]
+pub struct Lane<'l, D, T> {
+    pub tag: u8,
+    pub desk: &'l D,
+    /// The lane passes it with each piece.
+    pub turnstile: &'l T,
+    pub completions: &'l Completions,
+}
+
+impl<'l, D: Desk, T: Turnstile> Lane<'l, D, T> {
+    // Has the tag's piece carried out, and puts an item for the worker; where the queue is full it finishes the piece.
+    fn carry_out<R: Wait>(&self, rt: &R, pass: &mut Pass)
+        requires lane { IsLane self.now.completions.now.id self.now.tag pass.old }
+        ensures lane { IsLane self.now.completions.now.id self.now.tag pass.new }
+        ensures put { (pass.new.view ≡ pass.old.view) ⊎ (pass.new.view ≡ with_put pass.old.view (item_of self.now.tag (length pass.old.view.put))) }
+    {
+        self.turnstile.pass(rt, self.tag);
+        self.desk.act(rt, self.tag);
+        match self.completions.put(rt, pass, self.tag) {
+            Ok(()) => self.desk.signal(rt),
+            Err(item) => self.desk.finish(rt, item.tag),
+        }
+    }
+}
+
 /// A tag's lane. For each piece started on the tag it passes the turnstile, has the piece carried out, and puts an item for
 /// the worker; where the queue is full it finishes the piece itself. It ends once the disk is removed, and gives its pass back.
-pub fn serve_lane<R: Wait, D: Desk, T: Turnstile>(
-    rt: &R,
-    desk: &D,
-    tag: u8,
-    turnstile: &T,
-    completions: &Completions,
-    mut pass: Pass,
-) -> Pass
-    requires lane { IsLane completions.now.id tag pass }
-    ensures lane { IsLane completions.now.id tag result }
+pub fn serve_lane<R: Wait, D: Desk, T: Turnstile>(rt: &R, lane: &Lane<D, T>, mut pass: Pass) -> Pass
+    requires lane { IsLane lane.now.completions.now.id lane.now.tag pass }
+    ensures lane { IsLane lane.now.completions.now.id lane.now.tag result }
     ensures put { HasPut pass.view result.view }
 {
     for _ in rt.forever() {
-        match desk.next(rt, tag) {
+        match lane.desk.next(rt, lane.tag) {
             Step::Ended => break,
-            Step::Ready => {
-                turnstile.pass(rt, tag);
-                desk.act(rt, tag);
-                match completions.put(rt, &mut pass, tag) {
-                    Ok(()) => desk.ring(rt),
-                    Err(item) => desk.finish(rt, item.tag),
-                }
-            }
+            Step::Ready => lane.carry_out(rt, &mut pass),
         }
     }
     pass
 }
 
 /// The worker. It takes items, passes its own turnstile with the tag of each, and finishes the piece on that tag. Where there
-/// is none it sleeps until a lane rings. It ends where a look at the queue that began after the disk was removed finds none, and
-/// gives its pass back.
+/// is none it sleeps until a lane signals. It ends where a look at the queue that began after the disk was removed finds none,
+/// and gives its pass back.
 pub fn serve_completions<R: Wait, D: Desk, T: Turnstile>(
     rt: &R,
     desk: &D,
@@ -267,23 +279,20 @@ pub fn serve_completions<R: Wait, D: Desk, T: Turnstile>(
     ensures took { HasTaken pass.view result.view }
     ensures emptied { StoodAt 0 result.view }
 {
-    let mut woken = Woken {
-        heard: 0,
+    let mut signals = Signals {
+        count: 0,
         is_removed: false,
     };
     for _ in rt.forever() {
-        match completions.pop(rt, &mut pass.queue_pass) {
-            Some(item) => {
-                turnstile.pass(rt, item.tag);
-                desk.finish(rt, item.tag);
+        let Some(item) = completions.pop(rt, &mut pass.queue_pass) else {
+            if signals.is_removed {
+                return pass;
             }
-            None => {
-                if woken.is_removed {
-                    return pass;
-                }
-                woken = desk.rest(rt, woken.heard);
-            }
-        }
+            signals = desk.wait_for_signal(rt, signals.count);
+            continue;
+        };
+        turnstile.pass(rt, item.tag);
+        desk.finish(rt, item.tag);
     }
     unreachable!()
 }

@@ -5,7 +5,7 @@ ghost use Rattle.std.specs.Prelude.{◌≡◌, ◌≤◌, ◌+◌, ◌*◌, ◌<
 use crate::{Plan, Tally};
 use compose::Refusal as Why;
 use disk::Medium;
-use host::{Call, Client, Host, Naming, Reason};
+use host::{Call, Client, Host, HostNaming, Reason};
 use sector::Bytes;
 use sector_journal::{OfArmings, OfEntries};
 use std::alloc::{AllocError, Global};
@@ -13,7 +13,7 @@ use std::sync::Wait;
 
 /// What the threads of the clients share.
 #[derive(Drop)]
-pub(crate) struct Shared<'s, M: Medium, N: Naming, R>
+pub(crate) struct Shared<'s, M: Medium, N: HostNaming, R>
 where
     OfArmings<N>: chronicle::Naming,
     OfEntries<N>: chronicle::Naming,
@@ -22,11 +22,13 @@ where
     pub alloc: Global,
     pub host: &'s Host<M, N>,
     pub plan: Plan,
+    /// The bytes of a sector.
+    pub sector_size: u32,
 }
 
 /// A client after its rounds, with their tally. Where memory was refused the rounds ended early.
 #[derive(Drop)]
-pub(crate) struct Served<N: Naming> {
+pub(crate) struct Served<N: HostNaming> {
     pub client: Client<N>,
     pub tally: Tally,
     pub has_wanted: bool,
@@ -40,7 +42,7 @@ fn sector_of(alloc: Global, size: u32, byte: u8) -> Result<Bytes, AllocError> {
 }
 
 /// Issues a call, waits for its answer, and returns the answer where it is a success.
-fn answer_to<M: Medium, N: Naming, R: Wait>(
+fn answer_to<M: Medium, N: HostNaming, R: Wait>(
     rt: &R,
     host: &Host<M, N>,
     client: &mut Client<N>,
@@ -65,7 +67,7 @@ fn answer_to<M: Medium, N: Naming, R: Wait>(
 }
 
 /// Writes the client's sector full of a byte, reads it and compares.
-fn round<M: Medium, N: Naming, R: Wait>(
+fn round<M: Medium, N: HostNaming, R: Wait>(
     shared: &Shared<M, N, R>,
     client: &mut Client<N>,
     byte: u8,
@@ -76,7 +78,7 @@ fn round<M: Medium, N: Naming, R: Wait>(
     ensures most { tally.new.answered ≤ tally.old.answered + 2 }
 {
     let (rt, alloc, host) = (shared.rt, shared.alloc, shared.host);
-    let size = shared.plan.sector_size;
+    let size = shared.sector_size;
     let offset = (client.client() as u64).saturating_mul(u64::from(size));
     let bytes = sector_of(alloc, size, byte)?;
     let write = Call::Write {
@@ -99,7 +101,7 @@ fn round<M: Medium, N: Naming, R: Wait>(
 }
 
 /// Does all rounds of a client.
-pub(crate) fn serve_client<M: Medium, N: Naming, R: Wait>(
+pub(crate) fn serve_client<M: Medium, N: HostNaming, R: Wait>(
     shared: &Shared<M, N, R>,
     client: Client<N>,
 ) -> Served<N>

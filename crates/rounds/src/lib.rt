@@ -37,22 +37,30 @@ use thiserror::Error;
 use traced::{StackSizes, TraceEntry};
 
 /// What the clients do.
-#[derive(Debug, Clone, Copy, PartialEq, Eq, Drop)]
+#[derive(Clone, Copy, Drop)]
 pub struct Plan {
     /// How many clients there are, 1 to 32.
     pub clients: u16,
     /// How many rounds each client does, of two calls.
     pub rounds: u16,
-    /// The bytes of a sector.
-    pub sector_size: u32,
     /// How many lanes there are, one for each tag of the adapter, 1 to 32.
     pub depth: u8,
     /// Whether the disk fails each write as WRITE PROTECTED.
     pub write_protected: bool,
 }
 
+/// A disk for the clients: its stack as it was started, beside the medium of its sectors.
+pub struct Disk<M: Medium> {
+    pub stack: Stack<BookedAdapter>,
+    pub medium: M,
+    /// The stack's sizes.
+    pub sizes: StackSizes,
+    /// How many requests may be open.
+    pub slots: usize,
+}
+
 /// What came of the rounds.
-#[derive(Debug, Clone, Copy, PartialEq, Eq, Drop)]
+#[derive(Clone, Copy, Drop)]
 pub struct Tally {
     /// How many calls were answered with success.
     pub answered: u64,
@@ -70,7 +78,7 @@ pub struct Done<M: Medium> {
 }
 
 /// Why there is no tally.
-#[derive(Debug, Clone, Copy, PartialEq, Eq, Drop, Error)]
+#[derive(Debug, Drop, Error)]
 pub enum RoundsFault {
     /// The stack has no partition 0.
     #[error("no such partition")]
@@ -80,9 +88,9 @@ pub enum RoundsFault {
     NoMemory,
 }
 
-/// Runs clients on partition 0 of a stack as it was started, beside a journal of a medium's sectors, and removes the
-/// device. `sizes` are the stack's, and `slots` is how many requests may be open. Client c writes in round j its sector
-/// c full of the byte (c + j) mod 256, waits, reads the sector, waits and compares. Clients and rounds count from 0.
+/// Runs clients on partition 0 of a stack, beside a journal of the medium's sectors, and removes the device. Client c
+/// writes in round j its sector c full of the byte (c + j) mod 256, waits, reads the sector, waits and compares.
+/// Clients and rounds count from 0.
 ///
 /// # Errors
 ///
@@ -90,25 +98,28 @@ pub enum RoundsFault {
 pub fn run<M: Medium + Send, R: Threads + Wait + Sync>(
     rt: &R,
     alloc: Global,
-    stack: Stack<BookedAdapter>,
-    medium: M,
-    sizes: StackSizes,
-    slots: usize,
+    over: Disk<M>,
     plan: Plan,
 ) -> Result<Done<M>, RoundsFault>
-    requires new { IsNew stack }
-    requires apart { IsFalse stack.adapter.faithful }
-    requires unfailed { (M.view medium).failures ≡ 0 }
-    requires disk { IsDiskFor stack.rules (M.view medium) }
-    requires sizes { (sizes ≡ sizes_of stack.rules) × AreSizes sizes }
-    requires slots { stack.rules.open_requests ≡ Some slots }
-    requires depth { plan.depth ≡ stack.rules.depth }
+    requires new { IsNew over.stack }
+    requires apart { IsFalse over.stack.adapter.faithful }
+    requires unfailed { (M.view over.medium).failures ≡ 0 }
+    requires disk { IsDiskFor over.stack.rules (M.view over.medium) }
+    requires sizes { (over.sizes ≡ sizes_of over.stack.rules) × AreSizes over.sizes }
+    requires slots { over.stack.rules.open_requests ≡ Some over.slots }
+    requires depth { plan.depth ≡ over.stack.rules.depth }
     requires plan { (1 ≤ plan.clients) × (plan.clients ≤ 32) × (1 ≤ plan.depth) × (plan.depth ≤ 32) }
     ensures most { IfOk result (λ done. done.tally.answered ≤ 2 * (plan.clients * plan.rounds)) }
-    ensures replays { IfOk result (λ done. Replays (M.view done.medium).sector_size (M.view medium).sectors (entries_in done.entries.items) (M.view done.medium).sectors) }
-    ensures run { IfOk result (λ done. IsFaithfulRun stack.rules (M.view medium).sectors (labels_of done.trace.items) done.entries.items (M.view done.medium).sectors) }
-    ensures fault { IfErr result (IsRoundsFault stack.rules) }
+    ensures replays { IfOk result (λ done. Replays (M.view done.medium).sector_size (M.view over.medium).sectors (entries_in done.entries.items) (M.view done.medium).sectors) }
+    ensures run { IfOk result (λ done. IsFaithfulRun over.stack.rules (M.view over.medium).sectors (labels_of done.trace.items) done.entries.items (M.view done.medium).sectors) }
+    ensures fault { IfErr result (IsRoundsFault over.stack.rules) }
 {
+    let Disk {
+        stack,
+        medium,
+        sizes,
+        slots,
+    } = over;
     let Ok(partitions) = Vec::from_elem(alloc, 0, usize::from(plan.clients)) else {
         return Err(RoundsFault::NoMemory);
     };

@@ -15,8 +15,8 @@ use crate::client::{Served, Shared, serve_client};
 use crate::{Done, Plan, RoundsFault, Tally};
 use compose::Reply;
 use disk::Medium;
-use host::{Client, Host, HostFault, Keeper, Naming, Opened};
-use lanes::{Completions, Desk, Pass, Turnstile, serve_completions, serve_lane};
+use host::{Client, Host, HostFault, HostNaming, Keeper, Opened};
+use lanes::{Completions, Desk, Lane, Pass, Turnstile, serve_completions, serve_lane};
 use sector_journal::Journal;
 use std::alloc::{AllocError, Global};
 use std::sync::Wait;
@@ -32,13 +32,13 @@ impl Turnstile for Open {
 }
 
 /// What a client's thread gives: the client of this number, with no more successes than it made calls.
-#[derive(Debug, Clone, Copy, Drop)]
+#[derive(Clone, Copy, Drop)]
 struct OfClient {
     number: usize,
     rounds: u16,
 }
 
-impl<N: Naming> Promise<Served<N>> for OfClient {
+impl<N: HostNaming> Promise<Served<N>> for OfClient {
     ghost kept_by = { λ p served. (served.client.client ≡ p.number) × (served.tally.answered ≤ 2 * p.rounds) };
 }
 
@@ -102,7 +102,15 @@ pub fn start_lanes<
             return false;
         };
         if scope
-            .spawn(move || serve_lane(rt, desk, tag, turnstile, completions, pass))
+            .spawn(move || {
+                let lane = Lane {
+                    tag,
+                    desk,
+                    turnstile,
+                    completions,
+                };
+                serve_lane(rt, &lane, pass)
+            })
             .is_err()
         {
             return false;
@@ -112,7 +120,7 @@ pub fn start_lanes<
 }
 
 /// Starts the clients' rounds.
-fn start_clients<'s, E, M: Medium + Send, N: Naming + Send + Sync, R: Threads + Wait + Sync>(
+fn start_clients<'s, E, M: Medium + Send, N: HostNaming + Send + Sync, R: Threads + Wait + Sync>(
     shared: &'s Shared<'s, M, N, R>,
     scope: &'s Scope<'s, E>,
     clients: Vec<Client<N>>,
@@ -137,7 +145,7 @@ fn start_clients<'s, E, M: Medium + Send, N: Naming + Send + Sync, R: Threads + 
 }
 
 /// Waits for the clients to be done.
-fn join_clients<N: Naming, R: Threads>(
+fn join_clients<N: HostNaming, R: Threads>(
     rt: &R,
     alloc: Global,
     handles: Vec<PromisedHandle<Served<N>, OfClient>>,
@@ -171,7 +179,7 @@ fn join_clients<N: Naming, R: Threads>(
 
 /// Removes the device, by surprise where the query is refused. Returns whether the query was granted; the keeper has
 /// receipts of it then, and of a removal that was accepted.
-pub fn remove<M: Medium, N: Naming, R: Wait>(
+pub fn remove<M: Medium, N: HostNaming, R: Wait>(
     rt: &R,
     host: &Host<M, N>,
     keeper: &mut Keeper<N>,
@@ -188,7 +196,7 @@ pub fn remove<M: Medium, N: Naming, R: Wait>(
 }
 
 /// Starts the lanes and the worker, and has the clients do their rounds.
-fn serve_clients<'s, E, M: Medium + Send, N: Naming + Send + Sync, R: Threads + Wait + Sync>(
+fn serve_clients<'s, E, M: Medium + Send, N: HostNaming + Send + Sync, R: Threads + Wait + Sync>(
     shared: &'s Shared<'s, M, N, R>,
     scope: &'s Scope<'s, E>,
     lanes: Lanes<'s, Host<M, N>, Open, Open>,
@@ -209,7 +217,7 @@ fn serve_clients<'s, E, M: Medium + Send, N: Naming + Send + Sync, R: Threads + 
 }
 
 /// Runs all threads until the device is removed.
-fn run_threads<M: Medium + Send, N: Naming + Send + Sync, R: Threads + Wait + Sync>(
+fn run_threads<M: Medium + Send, N: HostNaming + Send + Sync, R: Threads + Wait + Sync>(
     shared: &Shared<M, N, R>,
     completions: &Completions,
     passes: Vec<Pass>,
@@ -258,7 +266,7 @@ pub(crate) struct Blank<M: Medium> {
 }
 
 /// Serves a stack: its clients do their rounds, and then its device is removed.
-pub(crate) fn serve<M: Medium + Send, N: Naming + Send + Sync, R: Threads + Wait + Sync>(
+pub(crate) fn serve<M: Medium + Send, N: HostNaming + Send + Sync, R: Threads + Wait + Sync>(
     rt: &R,
     alloc: Global,
     opened: Opened,
@@ -289,6 +297,7 @@ pub(crate) fn serve<M: Medium + Send, N: Naming + Send + Sync, R: Threads + Wait
         opened.end();
         return Err(RoundsFault::NoMemory);
     };
+    let sector_size = journal.sector_size();
     let Ok((host, keeper, clients)) = Host::<M, N>::new(alloc, opened, journal, words) else {
         return Err(RoundsFault::NoMemory);
     };
@@ -301,6 +310,7 @@ pub(crate) fn serve<M: Medium + Send, N: Naming + Send + Sync, R: Threads + Wait
         alloc,
         host: &host,
         plan,
+        sector_size,
     };
     let (keeper, served) = run_threads(&shared, &completions, passes, keeper, clients);
     let Ok((tally, clients)) = served else {

@@ -1,12 +1,8 @@
 -- Slots retired one after another.
 use Rattle.std.proofs.Common.{◌≡◌, ◌≢◌, ◌⊎◌, ℕ, suc, ◌+◌, ◌<◌, ◌≤◌, ◌==◌, max, if◌then◌else◌, true, false, List, length, set, Option, None, sym, ap, ◌∙◌, arith, get_or-set_same, get_or-set_other, inl, inr}
-use Rattle.std.proofs.lemmas.Bool.Decides.{nat_tests}
+use Rattle.traced.proofs.Common.{nat_tests, cases_lt, View, LooksNowhere, SlotsView, number_at, AreEmptyFrom, ArmedBelow, Leaves, unless_number}
 use mathlib.Core.Logic.{dite}
-use Rattle.std.proofs.lemmas.Bool.{cases_lt}
 use native.Mathlib.Decide.{ℕ_discrete}
-use Rattle.cancel_marks.specs.declared.rule.View.{View}
-use Rattle.traced.specs.Slots.{LooksNowhere}
-use Rattle.traced.specs.inside.Slots.{SlotsView, number_at, AreEmptyFrom, ArmedBelow, Leaves, unless_number}
 
 -- the slots below this one were gone through
 pub record HasRetired (number slot : ℕ) (old new : SlotsView) : Type 0 where

@@ -1,25 +1,10 @@
 -- Handles opened one after another.
-use Rattle.std.proofs.Common.{◌≡◌, ◌≢◌, ℕ, zero, suc, cond, ap₂, ◌+◌, ◌<◌, ◌≤◌, List, [], ◌∷◌, ◌++◌, length, Option, Some, None, option_map, slice_index_or, refl, sym, ap, ◌∙◌, subst, arith, length-append}
-use Rattle.std.specs.Prelude.{IsFalse, IsTrue, slice_get, Contains, count_by, is_some, nat_le}
-use Rattle.std.proofs.lemmas.List.Sums.{sum_by-cons}
-use Rattle.std.proofs.lemmas.Bool.{leb-false}
-use Rattle.ntstatus.proofs.First.{none_first}
-use Rattle.std.proofs.lemmas.Option.{slice_get_within}
+use Rattle.traced.proofs.Common.{◌≡◌, ◌≢◌, ℕ, zero, suc, cond, ap₂, ◌+◌, ◌<◌, ◌≤◌, List, [], ◌∷◌, ◌++◌, length, Option, Some, None, option_map, slice_index_or, refl, sym, ap, ◌∙◌, subst, arith, length-append, IsFalse, IsTrue, slice_get, Contains, count_by, is_some, nat_le, sum_by-cons, leb-false, none_first, slice_get_within, Rules, State, labels_left, awaited, OpenHandle, are_used_up, handle_limit, open_refusal, Updates, unless_answered, ManagerView, Holder, IsNew, IsFirst, IsOpenOn, AreOpened, KeepsAll, OpensOne}
 use mathlib.Core.Logic.{dite}
 use native.Mathlib.Decide.{ℕ_discrete}
-use Rattle.machine.specs.Rules.{Rules}
-use Rattle.machine.specs.State.{State}
-use Rattle.machine_laws.specs.LabelsLeft.{labels_left}
-use Rattle.machine_laws.specs.NumberLaws.{awaited}
 use Rattle.io_manager.specs.declared.Answer.{Answer}
 use Rattle.io_manager.specs.declared.Handle.{Handle}
-use Rattle.io_manager.specs.declared.OpenHandle.{OpenHandle}
 use Rattle.ntstatus.specs.declared.NtStatus.TheVariants.{InvalidParameter as ParameterStatus, DeletePending as PendingStatus, DeviceBusy as BusyStatus}
-use Rattle.io_manager.specs.Calls.{are_used_up, handle_limit, open_refusal}
-use Rattle.io_manager.specs.Right.{Updates, unless_answered}
-use Rattle.io_manager.specs.Shown.{ManagerView, Holder}
-use Rattle.traced.specs.Opening.{IsNew, IsFirst, IsOpenOn, AreOpened}
-use Rattle.traced.specs.inside.Opening.{KeepsAll, OpensOne}
 use Rattle.traced.proofs.Noting.{get_front, get_last, some_is}
 
 -- ONE HANDLE

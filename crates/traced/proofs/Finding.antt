@@ -1,12 +1,8 @@
 -- Where the answer to a request stands.
-use Rattle.std.proofs.Common.{◌≡◌, ℕ, zero, suc, ◌+◌, ◌<◌, if◌then◌else◌, Bool, true, false, List, [], ◌∷◌, length, Option, Some, None, refl, sym, ap, ◌∙◌, subst, arith}
+use Rattle.traced.proofs.Common.{◌≡◌, ℕ, zero, suc, ◌+◌, ◌<◌, if◌then◌else◌, Bool, true, false, List, [], ◌∷◌, length, Option, Some, None, refl, sym, ap, ◌∙◌, subst, arith, All-cons, All-nil, Label, TraceEntry, HasNoAnswer}
 use Rattle.std.specs.Prelude.{slice_get, All, MatchOption}
-use Rattle.std.proofs.lemmas.List.Elements.{All-cons, All-nil}
-use Rattle.machine.specs.declared.Label.{Label}
 use Rattle.machine.specs.declared.Label.TheVariants.{Call, Device, Answer, Cancel, Pause, Resume, Remove, Surprise, Removed}
-use Rattle.traced.specs.declared.TraceEntry.{TraceEntry}
 use Rattle.traced.specs.Entries.{owner_of, WasCalled, row_of, HasOwner, AreRowed, is_row, places, labels_of, IsAnswerTo, IsNoAnswerTo, IsAnswerAt}
-use Rattle.traced.specs.inside.Entries.{HasNoAnswer}
 use Rattle.traced.proofs.Noting.{some_is, same_row}
 
 -- PLACES OF A ROW
@@ -46,14 +42,7 @@ rowed_at owners (f ∷ es) (suc i) e all is = rowed_at owners es i e all.1 is
 -- it is of a request that was called, and in the row of this one's client
 of_owner : (owners : List ℕ) (number : ℕ) (label : Label) → HasOwner owners label → IsAnswerTo number label → WasCalled owners number × (row_of owners label ≡ owner_of owners number)
 of_owner owners number (Answer n st i b) has is = (subst (WasCalled owners) is has, ap (owner_of owners) is)
-of_owner owners number (Call n q) has is = absurd is
-of_owner owners number (Device l) has is = absurd is
-of_owner owners number (Cancel n) has is = absurd is
-of_owner owners number Pause has is = absurd is
-of_owner owners number Resume has is = absurd is
-of_owner owners number Remove has is = absurd is
-of_owner owners number Surprise has is = absurd is
-of_owner owners number Removed has is = absurd is
+of_owner owners number _ has is = absurd is
 
 none_of_all : (number : ℕ) (es : List TraceEntry) → ((i : ℕ) (e : TraceEntry) → slice_get es i ≡ Some e → IsNoAnswerTo number e.label) → All (IsNoAnswerTo number) (labels_of es)
 none_of_all number [] each = All-nil _

@@ -1,49 +1,17 @@
 -- What a book needs of a step, from what its stack promises of it.
-use Rattle.std.proofs.Common.{◌≡◌, ◌≢◌, inl, inr, ℕ, zero, suc, ◌+◌, ◌*◌, ◌/◌, ◌<◌, ◌≤◌, ◌==◌, ◌&&◌, ◌||◌, not, if◌then◌else◌, Bool, true, false, List, [], ◌∷◌, ◌++◌, length, map, Option, Some, None, option_map, slice_index_or, refl, sym, ap, ◌∙◌, subst, arith, append_assoc}
+use Rattle.traced.proofs.Common.{◌≡◌, ◌≢◌, inl, inr, ℕ, zero, suc, ◌+◌, ◌*◌, ◌/◌, ◌<◌, ◌≤◌, ◌==◌, ◌&&◌, ◌||◌, not, if◌then◌else◌, Bool, true, false, List, [], ◌∷◌, ◌++◌, length, map, Option, Some, None, option_map, slice_index_or, refl, sym, ap, ◌∙◌, subst, arith, append_assoc, list_any, Contains-permutation, Contains-append_left, Contains-append_right, Contains-append_cases, All-append, All-head, All-tail, All-cons, All-nil, nat_tests, NtStatus, none_first, DeviceLabel, ClientRequest, Label, Rules, is_transfer, is_in_bounds, place_count, refusal, State, Run, as_label, IsSame-refl, piece_count, restarts, labels_left, labels_brought, BringsNone, StepsUseUp, NoMoreAreLeft, CallsCount, call_numbers, IsReached, RunsGoOn, Id, Refusal, InvalidHandle, InvalidParameter, DeletePending, DeviceBusy, InsufficientResources, InvalidDeviceRequest, NotFound, Reply, ManagerView, Holder, number_limit, are_used_up, call_on, without_bytes, Event, IsRight, sizes_of, labels_of_call, labels_of_transfer, brought_by, unless_number, AreNoCalls, open_at, is_call_event, is_handle_event, admitted_at, unless_told, HaveOneCall, HaveCallsOf, OpensSlot, Serves}
 use Rattle.std.specs.Prelude.{IsFalse, Contains, IsPermutation, ◌⊎◌, All, is_none, min}
-use Rattle.std.specs.List.{list_any}
-use Rattle.std.proofs.lemmas.List.Sorted.{Contains-permutation}
-use Rattle.std.proofs.lemmas.List.Elements.{Contains-append_left, Contains-append_right, Contains-append_cases, All-append, All-head, All-tail, All-cons, All-nil}
-use Rattle.std.proofs.lemmas.Bool.Decides.{nat_tests}
 use mathlib.Core.Logic.{dite}
 use native.Mathlib.Decide.{ℕ_discrete}
-use Rattle.ntstatus.specs.declared.NtStatus.{NtStatus}
-use Rattle.ntstatus.proofs.First.{none_first}
-use Rattle.srb.specs.declared.DeviceLabel.{DeviceLabel}
-use Rattle.machine.specs.declared.ClientRequest.{ClientRequest}
 use Rattle.srb.specs.declared.Kind.TheVariants.{Read as ReadKind, Write as WriteKind, Flush as FlushKind}
-use Rattle.machine.specs.declared.Label.{Label}
 use Rattle.machine.specs.declared.Label.TheVariants.{Call, Device, Answer as AnswerLabel, Cancel, Pause, Resume, Remove as RemoveLabel, Surprise, Removed}
-use Rattle.machine.specs.Rules.{Rules, is_transfer, is_in_bounds, place_count}
-use Rattle.machine.specs.Calling.{refusal}
-use Rattle.machine.specs.State.{State}
-use Rattle.machine.specs.Step.{Run, as_label}
-use Rattle.machine.proofs.Same.{IsSame-refl}
-use Rattle.machine.specs.Cutting.{piece_count, restarts}
-use Rattle.machine_laws.specs.LabelsLeft.{labels_left, labels_brought, BringsNone, StepsUseUp, NoMoreAreLeft}
-use Rattle.machine_laws.specs.NumberLaws.{CallsCount, call_numbers}
-use Rattle.machine_laws.specs.Reached.{IsReached, RunsGoOn}
 use Rattle.pnp.specs.declared.State.{State as PnpState}
 use Rattle.pnp.specs.declared.State.TheVariants.{Started, RemovePending, Removing, Removed as RemovedState}
 use Rattle.io_manager.specs.declared.Answer.{Answer}
 use Rattle.io_manager.specs.declared.Handle.{Handle}
-use Rattle.io_manager.specs.declared.Id.{Id}
-use Rattle.io_manager.specs.declared.Refusal.{Refusal}
-use Rattle.io_manager.specs.declared.Refusal.TheVariants.{InvalidHandle, InvalidParameter, DeletePending, DeviceBusy, InsufficientResources, InvalidDeviceRequest, NotFound}
-use Rattle.io_manager.specs.declared.Reply.{Reply}
 use Rattle.io_manager.specs.declared.Reply.TheVariants.{Handle as HandleReply, Ok as OkReply, Request as Requested, Answered, Refused, Ignored}
-use Rattle.io_manager.specs.Shown.{ManagerView, Holder}
-use Rattle.io_manager.specs.Calls.{number_limit, are_used_up, call_on, without_bytes}
 use Rattle.io_manager.specs.Right.{as_answer, as_cancel, Told, end_labels, labels_of, tells_nothing, SameHandles, IsSlotOf, IsAdmitted, IsTurnedAway, IsAnsweredAtOnce, OpenReplies, CloseReplies, TransferReplies, CallReplies, CancelReplies, MarkReplies, QueryReplies, RecallReplies, RemoveReplies, SurpriseReplies, ActReplies, FinishReplies, pnp_state, CancelsAllOf, CancelsOne, TellsOne, IsRecalled, TellsReset, is_answer_of, unless_answered, IsRightBy}
-use Rattle.compose.specs.declared.Event.{Event}
 use Rattle.compose.specs.declared.Event.TheVariants.{Open, Close, Read, Write, Flush, CancelIoEx, Mark, QueryRemove, CancelRemove, Remove, SurpriseRemove, Act, Finish, Reset}
-use Rattle.compose.specs.Right.{IsRight}
-use Rattle.traced.specs.Sizes.{sizes_of}
-use Rattle.traced.specs.inside.Sizes.{labels_of_call, labels_of_transfer, brought_by}
-use Rattle.traced.specs.inside.Slots.{unless_number}
-use Rattle.traced.specs.Told.{AreNoCalls}
-use Rattle.traced.specs.Serving.{open_at, is_call_event, is_handle_event}
-use Rattle.traced.specs.inside.Serving.{admitted_at, unless_told, HaveOneCall, HaveCallsOf, OpensSlot, Serves}
 
 -- LISTS OF LABELS
 
@@ -64,15 +32,11 @@ plain_brings [] all = All-nil _
 plain_brings (label ∷ labels) all = All-cons BringsNone label labels (one label (All-head IsPlain label labels all)) (plain_brings labels (All-tail IsPlain label labels all))
   where
     one : (l : Label) → IsPlain l → BringsNone l
-    one (Call n q) h = absurd h
-    one (AnswerLabel n st i b) h = absurd h
-    one (Device l) h = absurd h
     one (Cancel n) h = tt
-    one Pause h = absurd h
     one Resume h = tt
     one RemoveLabel h = tt
     one Surprise h = tt
-    one Removed h = absurd h
+    one _ h = absurd h
 
 devices_bring : (labels : List DeviceLabel) → All BringsNone (map as_label labels)
 devices_bring [] = All-nil _
@@ -89,26 +53,13 @@ end_brings false = All-nil _
 no_calls : (labels : List Label) → All BringsNone labels → AreNoCalls labels
 no_calls [] all = tt
 no_calls (Call n q ∷ ls) all = absurd (All-head BringsNone (Call n q) ls all)
-no_calls (AnswerLabel n st i b ∷ ls) all = no_calls ls (All-tail BringsNone (AnswerLabel n st i b) ls all)
-no_calls (Device l ∷ ls) all = no_calls ls (All-tail BringsNone (Device l) ls all)
-no_calls (Cancel n ∷ ls) all = no_calls ls (All-tail BringsNone (Cancel n) ls all)
 no_calls (Pause ∷ ls) all = absurd (All-head BringsNone Pause ls all)
-no_calls (Resume ∷ ls) all = no_calls ls (All-tail BringsNone Resume ls all)
-no_calls (RemoveLabel ∷ ls) all = no_calls ls (All-tail BringsNone RemoveLabel ls all)
-no_calls (Surprise ∷ ls) all = no_calls ls (All-tail BringsNone Surprise ls all)
-no_calls (Removed ∷ ls) all = no_calls ls (All-tail BringsNone Removed ls all)
+no_calls (other ∷ ls) all = no_calls ls (All-tail BringsNone other ls all)
 
 none_has_one : (labels : List Label) → AreNoCalls labels → HaveOneCall labels
 none_has_one [] none = tt
 none_has_one (Call n q ∷ ls) none = absurd none
-none_has_one (AnswerLabel n st i b ∷ ls) none = none_has_one ls none
-none_has_one (Device l ∷ ls) none = none_has_one ls none
-none_has_one (Cancel n ∷ ls) none = none_has_one ls none
-none_has_one (Pause ∷ ls) none = none_has_one ls none
-none_has_one (Resume ∷ ls) none = none_has_one ls none
-none_has_one (RemoveLabel ∷ ls) none = none_has_one ls none
-none_has_one (Surprise ∷ ls) none = none_has_one ls none
-none_has_one (Removed ∷ ls) none = none_has_one ls none
+none_has_one (_ ∷ ls) none = none_has_one ls none
 
 have_calls_of : (b : Bool) (labels : List Label) → AreNoCalls labels → HaveCallsOf b labels
 have_calls_of true labels none = none_has_one labels none
@@ -118,27 +69,16 @@ have_calls_of false labels none = none
 
 told_append : (xs ys : List Label) (number : Option ℕ) → unless_told (xs ++ ys) number ≡ unless_told ys (unless_told xs number)
 told_append [] ys number = refl
-told_append (Call n q ∷ xs) ys number = told_append xs ys number
 told_append (AnswerLabel n st i b ∷ xs) ys number = told_append xs ys (unless_number n number)
-told_append (Device l ∷ xs) ys number = told_append xs ys number
-told_append (Cancel n ∷ xs) ys number = told_append xs ys number
-told_append (Pause ∷ xs) ys number = told_append xs ys number
-told_append (Resume ∷ xs) ys number = told_append xs ys number
-told_append (RemoveLabel ∷ xs) ys number = told_append xs ys number
-told_append (Surprise ∷ xs) ys number = told_append xs ys number
-told_append (Removed ∷ xs) ys number = told_append xs ys number
+told_append (_ ∷ xs) ys number = told_append xs ys number
 
 plain_told : (labels : List Label) → All IsPlain labels → (number : Option ℕ) → unless_told labels number ≡ number
 plain_told [] all number = refl
-plain_told (Call n q ∷ ls) all number = absurd (All-head IsPlain (Call n q) ls all)
-plain_told (AnswerLabel n st i b ∷ ls) all number = absurd (All-head IsPlain (AnswerLabel n st i b) ls all)
-plain_told (Device l ∷ ls) all number = absurd (All-head IsPlain (Device l) ls all)
 plain_told (Cancel n ∷ ls) all number = plain_told ls (All-tail IsPlain (Cancel n) ls all) number
-plain_told (Pause ∷ ls) all number = absurd (All-head IsPlain Pause ls all)
 plain_told (Resume ∷ ls) all number = plain_told ls (All-tail IsPlain Resume ls all) number
 plain_told (RemoveLabel ∷ ls) all number = plain_told ls (All-tail IsPlain RemoveLabel ls all) number
 plain_told (Surprise ∷ ls) all number = plain_told ls (All-tail IsPlain Surprise ls all) number
-plain_told (Removed ∷ ls) all number = absurd (All-head IsPlain Removed ls all)
+plain_told (other ∷ ls) all number = absurd (All-head IsPlain other ls all)
 
 devices_told : (labels : List DeviceLabel) (number : Option ℕ) → unless_told (map as_label labels) number ≡ number
 devices_told [] number = refl
@@ -222,19 +162,11 @@ record Gist (old : ManagerView) (event : Event) (reply : Reply) (new : ManagerVi
 
 none_opened : (old : ManagerView) (reply : Reply) (own : List Label) → OpensNone reply → Opens old reply own
 none_opened old (Requested id) own shut = absurd shut
-none_opened old (HandleReply h) own shut = tt
-none_opened old OkReply own shut = tt
-none_opened old (Answered a) own shut = tt
-none_opened old (Refused r b) own shut = tt
-none_opened old Ignored own shut = tt
+none_opened old _ own shut = tt
 
 none_admitted : (reply : Reply) (k : ℕ) (number : Option ℕ) → OpensNone reply → admitted_at reply k number ≡ number
 none_admitted (Requested id) k number shut = absurd shut
-none_admitted (HandleReply h) k number shut = refl
-none_admitted OkReply k number shut = refl
-none_admitted (Answered a) k number shut = refl
-none_admitted (Refused r b) k number shut = refl
-none_admitted Ignored k number shut = refl
+none_admitted _ k number shut = refl
 
 module _ (old : ManagerView) (event : Event) (reply : Reply) (new : ManagerView) (told : Told) where
   -- no request is opened
@@ -302,11 +234,7 @@ module _ (old : ManagerView) (event : Event) (handle : Handle) (q : ClientReques
   turned_away reply DeviceBusy shut h = nothing old event reply new told shut handles h.1.nothing
   turned_away reply InsufficientResources shut h =
       plainly old event reply new told shut handles (subst (All IsPlain) (sym (ap (λ (t : Told). t.own) h.2.nothing)) (All-nil _)) (ap (λ (t : Told). t.admitted) h.2.nothing)
-  turned_away reply InvalidHandle shut h = absurd h
-  turned_away reply InvalidParameter shut h = absurd h
-  turned_away reply DeletePending shut h = absurd h
-  turned_away reply InvalidDeviceRequest shut h = absurd h
-  turned_away reply NotFound shut h = absurd h
+  turned_away reply _ shut h = absurd h
 
   opened_at : (id : Id) → IsAdmitted old handle q id.slot id.number told → (k : ℕ) → option_map (λ h. h.number) (slice_index_or told.admitted k None) ≡ admitted_at (Requested id) k (open_at old k)
   opened_at id h k =
@@ -332,9 +260,7 @@ module _ (old : ManagerView) (event : Event) (handle : Handle) (q : ClientReques
   transfer (Answered answer) h = at_once (Answered answer) _ tt h.0
   transfer (Refused reason bytes) (_, inl h) = at_once (Refused reason bytes) _ tt h
   transfer (Refused reason bytes) (_, inr h) = turned_away (Refused reason bytes) reason tt h
-  transfer (HandleReply given) h = absurd h
-  transfer OkReply h = absurd h
-  transfer Ignored h = absurd h
+  transfer _ h = absurd h
 
 -- a read or a write that is not refused is no longer than the longest
 enough_sectors : (old : ManagerView) (q : ClientRequest) (bytes : ℕ) → (refusal old.rules old.state q ≡ None → q.length / old.rules.sector_size ≤ old.rules.longest) → q.length ≡ bytes → refusal old.rules old.state q ≡ None
@@ -367,18 +293,12 @@ three_more rules places = omega arith
 open_gist : (old : ManagerView) (partition : ℕ) (reply : Reply) (new : ManagerView) (told : Told) → OpenReplies old partition reply new told → Gist old (Open partition) reply new told
 open_gist old p (HandleReply h) new told r = nothing old (Open p) (HandleReply h) new told tt (λ e. absurd (cc)) r.0.nothing
 open_gist old p (Refused why bytes) new told r = nothing old (Open p) (Refused why bytes) new told tt (λ e. absurd (cc)) r.1.unmoved.nothing
-open_gist old p OkReply new told r = absurd r
-open_gist old p (Requested id) new told r = absurd r
-open_gist old p (Answered a) new told r = absurd r
-open_gist old p Ignored new told r = absurd r
+open_gist old p _ new told r = absurd r
 
 close_gist : (old : ManagerView) (handle : Handle) (reply : Reply) (new : ManagerView) (told : Told) → CloseReplies old handle reply new told → Gist old (Close handle) reply new told
 close_gist old h OkReply new told r = plainly old (Close h) OkReply new told tt (λ e. absurd (cc)) (cancels_all old (Close h) OkReply new told h.number r.1) r.1.holders
 close_gist old h (Refused why bytes) new told r = nothing old (Close h) (Refused why bytes) new told tt (λ e. absurd (cc)) r.1.unmoved.nothing
-close_gist old h (HandleReply g) new told r = absurd r
-close_gist old h (Requested id) new told r = absurd r
-close_gist old h (Answered a) new told r = absurd r
-close_gist old h Ignored new told r = absurd r
+close_gist old h _ new told r = absurd r
 
 read_gist : (old : ManagerView) (handle : Handle) (offset : ℕ) (buffer : List ℕ) (reply : Reply) (new : ManagerView) (told : Told)
     → CallReplies old handle (call_on old handle ReadKind offset buffer false) buffer reply new told → Gist old (Read handle offset buffer) reply new told
@@ -403,72 +323,47 @@ cancel_gist old h (Some id) OkReply new told r =
     plainly old (CancelIoEx h (Some id)) OkReply new told tt (λ _. r.3.handles) (cancels_one old (CancelIoEx h (Some id)) OkReply new told id.number r.2) r.2.holders
 cancel_gist old h target (Refused why bytes) new told r =
     nothing old (CancelIoEx h target) (Refused why bytes) new told tt (λ _. r.1.same_handles.handles) r.1.unmoved.nothing
-cancel_gist old h target (HandleReply g) new told r = absurd r
-cancel_gist old h target (Requested id) new told r = absurd r
-cancel_gist old h target (Answered a) new told r = absurd r
-cancel_gist old h target Ignored new told r = absurd r
+cancel_gist old h target _ new told r = absurd r
 
 mark_gist : (old : ManagerView) (number : ℕ) (reply : Reply) (new : ManagerView) (told : Told) → MarkReplies old number reply new told → Gist old (Mark number) reply new told
 mark_gist old n OkReply new told r = plainly old (Mark n) OkReply new told tt (λ _. r.1.handles) (cancels_one old (Mark n) OkReply new told n r.0) r.0.holders
 mark_gist old n Ignored new told r = nothing old (Mark n) Ignored new told tt (λ _. r.2.handles) r.0.nothing
-mark_gist old n (HandleReply g) new told r = absurd r
-mark_gist old n (Requested id) new told r = absurd r
-mark_gist old n (Answered a) new told r = absurd r
-mark_gist old n (Refused why bytes) new told r = absurd r
+mark_gist old n _ new told r = absurd r
 
 query_gist : (old : ManagerView) (reply : Reply) (new : ManagerView) (told : Told) → QueryReplies old reply new told → Gist old QueryRemove reply new told
 query_gist old OkReply new told r = opening_none old QueryRemove OkReply new told tt (λ _. r.handles.handles) (inr (inl (r.tells.own, refl))) r.tells.holders
 query_gist old (Refused why bytes) new told r = nothing old QueryRemove (Refused why bytes) new told tt (λ _. r.refuses.same_handles.handles) r.refuses.unmoved.nothing
-query_gist old (HandleReply g) new told r = absurd r
-query_gist old (Requested id) new told r = absurd r
-query_gist old (Answered a) new told r = absurd r
-query_gist old Ignored new told r = absurd r
+query_gist old _ new told r = absurd r
 
 remove_gist : (old : ManagerView) (reply : Reply) (new : ManagerView) (told : Told) → RemoveReplies old reply new told → Gist old Remove reply new told
 remove_gist old OkReply new told r = plainly old Remove OkReply new told tt (λ _. r.handles.handles) (one_plain old Remove OkReply new told RemoveLabel tt r.tells) r.tells.holders
 remove_gist old (Refused why bytes) new told r = nothing old Remove (Refused why bytes) new told tt (λ _. r.refuses.same_handles.handles) r.refuses.unmoved.nothing
-remove_gist old (HandleReply g) new told r = absurd r
-remove_gist old (Requested id) new told r = absurd r
-remove_gist old (Answered a) new told r = absurd r
-remove_gist old Ignored new told r = absurd r
+remove_gist old _ new told r = absurd r
 
 surprise_gist : (old : ManagerView) (reply : Reply) (new : ManagerView) (told : Told) → SurpriseReplies old reply new told → Gist old SurpriseRemove reply new told
 surprise_gist old OkReply new told r = plainly old SurpriseRemove OkReply new told tt (λ _. r.handles.handles) (one_plain old SurpriseRemove OkReply new told Surprise tt r.tells) r.tells.holders
 surprise_gist old (Refused why bytes) new told r = nothing old SurpriseRemove (Refused why bytes) new told tt (λ _. r.refuses.same_handles.handles) r.refuses.unmoved.nothing
-surprise_gist old (HandleReply g) new told r = absurd r
-surprise_gist old (Requested id) new told r = absurd r
-surprise_gist old (Answered a) new told r = absurd r
-surprise_gist old Ignored new told r = absurd r
+surprise_gist old _ new told r = absurd r
 
 recalled : (old new : ManagerView) (told : Told) (state : PnpState) → IsRecalled state old new told → SameHandles old new → Gist old CancelRemove OkReply new told
 recalled old new told Started r same = nothing old CancelRemove OkReply new told tt (λ _. same.handles) r.nothing
 recalled old new told RemovePending r same = plainly old CancelRemove OkReply new told tt (λ _. same.handles) (one_plain old CancelRemove OkReply new told Resume tt r.0) r.0.holders
-recalled old new told Removing r same = absurd r
-recalled old new told RemovedState r same = absurd r
+recalled old new told _ r same = absurd r
 
 recall_gist : (old : ManagerView) (reply : Reply) (new : ManagerView) (told : Told) → RecallReplies old reply new told → Gist old CancelRemove reply new told
 recall_gist old OkReply new told r = recalled old new told (pnp_state old.state) r.0 r.1
 recall_gist old (Refused why bytes) new told r = nothing old CancelRemove (Refused why bytes) new told tt (λ _. r.refuses.same_handles.handles) r.refuses.unmoved.nothing
-recall_gist old (HandleReply g) new told r = absurd r
-recall_gist old (Requested id) new told r = absurd r
-recall_gist old (Answered a) new told r = absurd r
-recall_gist old Ignored new told r = absurd r
+recall_gist old _ new told r = absurd r
 
 act_gist : (old : ManagerView) (tag : ℕ) (reply : Reply) (new : ManagerView) (told : Told) → ActReplies old tag reply new told → Gist old (Act tag) reply new told
 act_gist old tag OkReply new told r = plainly old (Act tag) OkReply new told tt (λ _. r.1.handles) (own_empty old (Act tag) OkReply new told r.0.no_own) r.0.holders
 act_gist old tag Ignored new told r = nothing old (Act tag) Ignored new told tt (λ _. r.2.handles) r.0.nothing
-act_gist old tag (HandleReply g) new told r = absurd r
-act_gist old tag (Requested id) new told r = absurd r
-act_gist old tag (Answered a) new told r = absurd r
-act_gist old tag (Refused why bytes) new told r = absurd r
+act_gist old tag _ new told r = absurd r
 
 finish_gist : (old : ManagerView) (tag : ℕ) (reply : Reply) (new : ManagerView) (told : Told) → FinishReplies old tag reply new told → Gist old (Finish tag) reply new told
 finish_gist old tag OkReply new told r = plainly old (Finish tag) OkReply new told tt (λ _. r.1.handles) (own_empty old (Finish tag) OkReply new told r.0.no_own) r.0.holders
 finish_gist old tag Ignored new told r = nothing old (Finish tag) Ignored new told tt (λ _. r.2.handles) r.0.nothing
-finish_gist old tag (HandleReply g) new told r = absurd r
-finish_gist old tag (Requested id) new told r = absurd r
-finish_gist old tag (Answered a) new told r = absurd r
-finish_gist old tag (Refused why bytes) new told r = absurd r
+finish_gist old tag _ new told r = absurd r
 
 reset_gist : (old new : ManagerView) (told : Told) → TellsReset old new told → Gist old Reset OkReply new told
 reset_gist old new told r = plainly old Reset OkReply new told tt (λ _. r.handles.handles) (own_empty old Reset OkReply new told r.no_own) r.holders
@@ -612,11 +507,7 @@ module _ (laws : Laws) (old : ManagerView) (event : Event) (reply : Reply) (new 
         let some : length (call_numbers labels) ≡ length (call_numbers (behind told)) + 1 = ap (λ ls. length (call_numbers ls)) first ∙ omega arith in
         let number = o.number in omega arith;
   }
-  opens_slot labels is run (HandleReply h) o = tt
-  opens_slot labels is run OkReply o = tt
-  opens_slot labels is run (Answered a) o = tt
-  opens_slot labels is run (Refused why bytes) o = tt
-  opens_slot labels is run Ignored o = tt
+  opens_slot labels is run _ o = tt
 
 pub serves : Laws → (old : ManagerView) (event : Event) (reply : Reply) (new : ManagerView) → IsFalse old.rules.any_cut → IsReached old.rules old.state
     → ((k number : ℕ) → open_at old k ≡ Some number → number < old.state.next_request) → IsRight old event reply new

@@ -6,3 +6,4 @@ pub mod Booking
 pub mod Looking
 pub mod FromRight
 pub mod Clients
+mod Common

@@ -1,10 +1,6 @@
 -- No slot is looked at from one on that none behind it has an open request.
 use Rattle.std.proofs.Common.{◌≡◌, ◌⊎◌, ℕ, zero, suc, ◌<◌, ◌≤◌, None, refl, sym, subst, arith, inl, inr}
-use Rattle.std.proofs.Math.Nat.{eq-or-lt_of_le}
-use Rattle.cancel_marks.specs.declared.rule.View.{View}
-use Rattle.traced.specs.Serving.{open_at}
-use Rattle.traced.specs.Slots.{LooksAt}
-use Rattle.traced.specs.Traced.{TracedView, IsLooked, AreLooked}
+use Rattle.traced.proofs.Common.{eq-or-lt_of_le, View, open_at, LooksAt, TracedView, IsLooked, AreLooked}
 
 module _ (old new : TracedView) where
   still : (slot : ℕ) → open_at new.stack slot ≡ None → IsLooked slot new new

@@ -1,19 +1,9 @@
 -- One label more.
-use Rattle.std.proofs.Common.{◌≡◌, ◌≢◌, ℕ, zero, suc, ◌+◌, ◌-◌, ◌<◌, ◌≤◌, ◌==◌, ◌&&◌, if◌then◌else◌, Bool, true, false, List, [], ◌∷◌, ◌++◌, length, set, Option, Some, None, refl, sym, ap, ◌∙◌, subst, arith, length-append, length-set, get_or-set_same, get_or-set_other}
-use Rattle.std.specs.Prelude.{slice_get}
-use Rattle.std.proofs.lemmas.Option.{slice_get_within}
-use Rattle.std.proofs.lemmas.Bool.Decides.{nat_tests}
-use Rattle.std.proofs.lemmas.List.{append-nil}
+use Rattle.traced.proofs.Common.{◌≡◌, ◌≢◌, ℕ, zero, suc, ◌+◌, ◌-◌, ◌<◌, ◌≤◌, ◌==◌, ◌&&◌, if◌then◌else◌, Bool, true, false, List, [], ◌∷◌, ◌++◌, length, set, Option, Some, None, refl, sym, ap, ◌∙◌, subst, arith, length-append, length-set, get_or-set_same, get_or-set_other, slice_get, slice_get_within, nat_tests, append-nil, Label, TraceEntry, RowView, blank, row_at, IsRowAt, called, answered, rows_after, MayStand, LogView, owners_after, ready_after, AreKept, IsAwaited, MayNote, IsNext, HasPlaces, IsReady}
 use mathlib.Core.Logic.{dite}
 use native.Mathlib.Decide.{ℕ_discrete}
-use Rattle.machine.specs.declared.Label.{Label}
 use Rattle.machine.specs.declared.Label.TheVariants.{Call, Device, Answer, Cancel, Pause, Resume, Remove, Surprise, Removed}
-use Rattle.traced.specs.declared.TraceEntry.{TraceEntry}
 use Rattle.traced.specs.Entries.{entry, owner_of, WasCalled, row_of, HasOwner, AreRowed, is_row, is_call, is_answer, places, count_of, is_call_of, is_answer_of}
-use Rattle.traced.specs.Rows.{RowView, blank, row_at, IsRowAt}
-use Rattle.traced.specs.inside.Rows.{called, answered, rows_after, MayStand}
-use Rattle.traced.specs.Pages.{PagesView, owners_after, ready_after, AreKept}
-use Rattle.traced.specs.inside.Pages.{IsAwaited, MayNote, IsNext, HasPlaces, IsReady}
 
 pub some_is : {A : Type 0} {x y : A} → Some x ≡ Some y → x ≡ y
 some_is {A} {x} {y} e = cc
@@ -78,13 +68,7 @@ owner_new owners number c next = ap (slice_get (owners ++ c ∷ [])) (let e : nu
 row_stays : (owners : List ℕ) (c : ℕ) (label : Label) → HasOwner owners label → (HasOwner (owners ++ c ∷ []) label) × (row_of (owners ++ c ∷ []) label ≡ row_of owners label)
 row_stays owners c (Call n q) has = ((has.0, (let h = has.1 in omega (arith, length-append owners (c ∷ [])))), owner_front owners (c ∷ []) n has)
 row_stays owners c (Answer n s i b) has = ((has.0, (let h = has.1 in omega (arith, length-append owners (c ∷ [])))), owner_front owners (c ∷ []) n has)
-row_stays owners c (Device l) has = (tt, refl)
-row_stays owners c (Cancel n) has = (tt, refl)
-row_stays owners c Pause has = (tt, refl)
-row_stays owners c Resume has = (tt, refl)
-row_stays owners c Remove has = (tt, refl)
-row_stays owners c Surprise has = (tt, refl)
-row_stays owners c Removed has = (tt, refl)
+row_stays owners c _ has = (tt, refl)
 
 rowed_more : (owners : List ℕ) (c : ℕ) (es : List TraceEntry) → AreRowed owners es → AreRowed (owners ++ c ∷ []) es
 rowed_more owners c [] all = tt
@@ -100,13 +84,7 @@ rowed_noted : (client : ℕ) (owners : List ℕ) (es : List TraceEntry) (label :
 rowed_noted client owners es (Call n q) next all =
     rowed_snoc (owners ++ client ∷ []) es (Call n q) (rowed_more owners client es all) (omega arith, omega (arith, next, length-append owners (client ∷ [])))
 rowed_noted client owners es (Answer n s i b) next all = rowed_snoc owners es (Answer n s i b) all next
-rowed_noted client owners es (Device l) next all = rowed_snoc owners es (Device l) all tt
-rowed_noted client owners es (Cancel n) next all = rowed_snoc owners es (Cancel n) all tt
-rowed_noted client owners es Pause next all = rowed_snoc owners es Pause all tt
-rowed_noted client owners es Resume next all = rowed_snoc owners es Resume all tt
-rowed_noted client owners es Remove next all = rowed_snoc owners es Remove all tt
-rowed_noted client owners es Surprise next all = rowed_snoc owners es Surprise all tt
-rowed_noted client owners es Removed next all = rowed_snoc owners es Removed all tt
+rowed_noted client owners es other next all = rowed_snoc owners es other all tt
 
 -- ROWS
 
@@ -169,7 +147,7 @@ answer_adds n s i b d place r some room = record {
 }
 
 -- the row of an answer awaits one
-awaits : (clients : ℕ) (p : PagesView) (rows : List RowView) (number c : ℕ) → AreKept clients p.entries p.owners rows → owner_of p.owners number ≡ Some c → IsAwaited p.entries c → (c < length rows) × (0 < (row_at rows c).awaited)
+awaits : (clients : ℕ) (p : LogView) (rows : List RowView) (number c : ℕ) → AreKept clients p.entries p.owners rows → owner_of p.owners number ≡ Some c → IsAwaited p.entries c → (c < length rows) × (0 < (row_at rows c).awaited)
 awaits clients p rows number c kept is some =
     let less = kept.owned number c is in
     let r = (kept.each c less).awaited in
@@ -177,42 +155,30 @@ awaits clients p rows number c kept is some =
 
 -- THE PAGES
 
-abbrev row_now : ℕ → PagesView → Label → Option ℕ
+abbrev row_now : ℕ → LogView → Label → Option ℕ
 row_now client p label = row_of (owners_after client p.owners label) label
 
-stands_in : (clients : ℕ) (p : PagesView) (rows : List RowView) (n : ℕ) (s : _) (i : ℕ) (b : List ℕ) → AreKept clients p.entries p.owners rows → ((c : ℕ) → owner_of p.owners n ≡ Some c → IsAwaited p.entries c)
+stands_in : (clients : ℕ) (p : LogView) (rows : List RowView) (n : ℕ) (s : _) (i : ℕ) (b : List ℕ) → AreKept clients p.entries p.owners rows → ((c : ℕ) → owner_of p.owners n ≡ Some c → IsAwaited p.entries c)
     → (row : Option ℕ) → owner_of p.owners n ≡ row → MayStand rows (Answer n s i b) row
 stands_in clients p rows n s i b kept all None is = tt
 stands_in clients p rows n s i b kept all (Some c) is =
     let a = awaits clients p rows n c kept is (all c is) in (a.0, a.1, (kept.each c (kept.owned n c is)).room)
 
-call_place : (clients client spare : ℕ) (p : PagesView) (rows : List RowView) → p.ready ≡ Some client → IsReady rows spare p.ready → HasPlaces rows spare client
+call_place : (clients client spare : ℕ) (p : LogView) (rows : List RowView) → p.ready ≡ Some client → IsReady rows spare p.ready → HasPlaces rows spare client
 call_place clients client spare p rows is ready = subst (IsReady rows spare) is ready
 
-pub may_stand : (clients client spare : ℕ) (p : PagesView) (rows : List RowView) (label : Label) → AreKept clients p.entries p.owners rows → IsReady rows spare p.ready → MayNote clients client p label
+pub may_stand : (clients client spare : ℕ) (p : LogView) (rows : List RowView) (label : Label) → AreKept clients p.entries p.owners rows → IsReady rows spare p.ready → MayNote clients client p label
     → MayStand rows label (row_now client p label)
 may_stand clients client spare p rows (Call n q) kept ready may =
     let h = call_place clients client spare p rows may.2 ready in
     subst (MayStand rows (Call n q)) (sym (owner_new p.owners n client may.0)) (h.is_client, h.row)
 may_stand clients client spare p rows (Answer n s i b) kept ready may = stands_in clients p rows n s i b kept may.1 (owner_of p.owners n) refl
-may_stand clients client spare p rows (Device l) kept ready may = tt
-may_stand clients client spare p rows (Cancel n) kept ready may = tt
-may_stand clients client spare p rows Pause kept ready may = tt
-may_stand clients client spare p rows Resume kept ready may = tt
-may_stand clients client spare p rows Remove kept ready may = tt
-may_stand clients client spare p rows Surprise kept ready may = tt
-may_stand clients client spare p rows Removed kept ready may = tt
+may_stand clients client spare p rows _ kept ready may = tt
 
-pub is_next : (clients client : ℕ) (p : PagesView) (label : Label) → MayNote clients client p label → IsNext p.owners label
+pub is_next : (clients client : ℕ) (p : LogView) (label : Label) → MayNote clients client p label → IsNext p.owners label
 is_next clients client p (Call n q) may = may.0
 is_next clients client p (Answer n s i b) may = may.0
-is_next clients client p (Device l) may = tt
-is_next clients client p (Cancel n) may = tt
-is_next clients client p Pause may = tt
-is_next clients client p Resume may = tt
-is_next clients client p Remove may = tt
-is_next clients client p Surprise may = tt
-is_next clients client p Removed may = tt
+is_next clients client p _ may = tt
 
 owned_more : (clients client : ℕ) (owners : List ℕ) → client < clients → ((number c : ℕ) → owner_of owners number ≡ Some c → c < clients) → (number c : ℕ) → owner_of (owners ++ client ∷ []) number ≡ Some c → c < clients
 owned_more clients client owners less all number c is =
@@ -222,7 +188,7 @@ owned_more clients client owners less all number c is =
     (λ (ne : number - 1 ≢ length owners). let within = slice_get_within (owners ++ client ∷ []) (number - 1) c is in
     let front : number - 1 < length owners = omega (arith, within, length-append owners (client ∷ [])) in all number c (sym (get_front owners (client ∷ []) (number - 1) front) ∙ is))
 
-answer_rows : (clients : ℕ) (p : PagesView) (rows : List RowView) (n : ℕ) (s : _) (i : ℕ) (b : List ℕ) → AreKept clients p.entries p.owners rows → (row : Option ℕ) → MayStand rows (Answer n s i b) row
+answer_rows : (clients : ℕ) (p : LogView) (rows : List RowView) (n : ℕ) (s : _) (i : ℕ) (b : List ℕ) → AreKept clients p.entries p.owners rows → (row : Option ℕ) → MayStand rows (Answer n s i b) row
     → (c : ℕ) → c < clients → IsRowAt (p.entries ++ entry (Answer n s i b) row ∷ []) (rows_after rows (Answer n s i b) row (length p.entries)) c
 answer_rows clients p rows n s i b kept None may = no_row p.entries (entry (Answer n s i b) None) clients rows refl kept.each
 answer_rows clients p rows n s i b kept (Some d) may =
@@ -232,7 +198,7 @@ length_after : (rows : List RowView) (n : ℕ) (s : _) (i : ℕ) (b : List ℕ) 
 length_after rows n s i b None place = refl
 length_after rows n s i b (Some c) place = length-set rows c _
 
-plain : (clients : ℕ) (p : PagesView) (rows : List RowView) (label : Label) → AreKept clients p.entries p.owners rows → HasOwner p.owners label → row_of p.owners label ≡ None
+plain : (clients : ℕ) (p : LogView) (rows : List RowView) (label : Label) → AreKept clients p.entries p.owners rows → HasOwner p.owners label → row_of p.owners label ≡ None
     → AreKept clients (p.entries ++ entry label (row_of p.owners label) ∷ []) p.owners rows
 plain clients p rows label kept has none = record {
   rowed = rowed_snoc p.owners p.entries label kept.rowed has;
@@ -241,7 +207,7 @@ plain clients p rows label kept has none = record {
   each = no_row p.entries (entry label (row_of p.owners label)) clients rows none kept.each;
 }
 
-pub kept_noted : (clients client spare : ℕ) (p : PagesView) (rows : List RowView) (label : Label) → AreKept clients p.entries p.owners rows → IsReady rows spare p.ready → MayNote clients client p label
+pub kept_noted : (clients client spare : ℕ) (p : LogView) (rows : List RowView) (label : Label) → AreKept clients p.entries p.owners rows → IsReady rows spare p.ready → MayNote clients client p label
     → AreKept clients (p.entries ++ entry label (row_now client p label) ∷ []) (owners_after client p.owners label) (rows_after rows label (row_now client p label) (length p.entries))
 kept_noted clients client spare p rows (Call n q) kept ready may =
     let h = call_place clients client spare p rows may.2 ready in
@@ -260,13 +226,7 @@ kept_noted clients client spare p rows (Answer n s i b) kept ready may = record 
   count = length_after rows n s i b (owner_of p.owners n) (length p.entries) ∙ kept.count;
   each = answer_rows clients p rows n s i b kept (owner_of p.owners n) (stands_in clients p rows n s i b kept may.1 (owner_of p.owners n) refl);
 }
-kept_noted clients client spare p rows (Device l) kept ready may = plain clients p rows (Device l) kept tt refl
-kept_noted clients client spare p rows (Cancel n) kept ready may = plain clients p rows (Cancel n) kept tt refl
-kept_noted clients client spare p rows Pause kept ready may = plain clients p rows Pause kept tt refl
-kept_noted clients client spare p rows Resume kept ready may = plain clients p rows Resume kept tt refl
-kept_noted clients client spare p rows Remove kept ready may = plain clients p rows Remove kept tt refl
-kept_noted clients client spare p rows Surprise kept ready may = plain clients p rows Surprise kept tt refl
-kept_noted clients client spare p rows Removed kept ready may = plain clients p rows Removed kept tt refl
+kept_noted clients client spare p rows other kept ready may = plain clients p rows other kept tt refl
 
 still_ready : (rows : List RowView) (spare c d place : ℕ) → d < length rows → 0 < (row_at rows d).awaited → HasPlaces rows spare c → HasPlaces (set rows d (answered (row_at rows d) place)) spare c
 still_ready rows spare c d place inside some h = record {
@@ -283,22 +243,16 @@ answer_ready rows spare n s i b None place may (Some c) all = all
 answer_ready rows spare n s i b (Some d) place may (Some c) all = still_ready rows spare c d place may.0 may.1 all
 
 -- the places of a call are there still, unless it came
-pub ready_noted : (clients client spare : ℕ) (p : PagesView) (rows : List RowView) (label : Label) → AreKept clients p.entries p.owners rows → IsReady rows spare p.ready → MayNote clients client p label
+pub ready_noted : (clients client spare : ℕ) (p : LogView) (rows : List RowView) (label : Label) → AreKept clients p.entries p.owners rows → IsReady rows spare p.ready → MayNote clients client p label
     → (spare' : ℕ) → (is_call label ≡ false → spare' ≡ spare) → IsReady (rows_after rows label (row_now client p label) (length p.entries)) spare' (ready_after p.ready label)
 ready_noted clients client spare p rows (Call n q) kept ready may spare' same = tt
 ready_noted clients client spare p rows (Answer n s i b) kept ready may spare' same =
     subst (λ (k : ℕ). IsReady (rows_after rows (Answer n s i b) (owner_of p.owners n) (length p.entries)) k p.ready) (sym (same refl))
     (answer_ready rows spare n s i b (owner_of p.owners n) (length p.entries) (stands_in clients p rows n s i b kept may.1 (owner_of p.owners n) refl) p.ready ready)
-ready_noted clients client spare p rows (Device l) kept ready may spare' same = subst (λ (k : ℕ). IsReady rows k p.ready) (sym (same refl)) ready
-ready_noted clients client spare p rows (Cancel n) kept ready may spare' same = subst (λ (k : ℕ). IsReady rows k p.ready) (sym (same refl)) ready
-ready_noted clients client spare p rows Pause kept ready may spare' same = subst (λ (k : ℕ). IsReady rows k p.ready) (sym (same refl)) ready
-ready_noted clients client spare p rows Resume kept ready may spare' same = subst (λ (k : ℕ). IsReady rows k p.ready) (sym (same refl)) ready
-ready_noted clients client spare p rows Remove kept ready may spare' same = subst (λ (k : ℕ). IsReady rows k p.ready) (sym (same refl)) ready
-ready_noted clients client spare p rows Surprise kept ready may spare' same = subst (λ (k : ℕ). IsReady rows k p.ready) (sym (same refl)) ready
-ready_noted clients client spare p rows Removed kept ready may spare' same = subst (λ (k : ℕ). IsReady rows k p.ready) (sym (same refl)) ready
+ready_noted clients client spare p rows _ kept ready may spare' same = subst (λ (k : ℕ). IsReady rows k p.ready) (sym (same refl)) ready
 
 -- the same at what the code has
-module _ (clients client spare : ℕ) (p : PagesView) (rows : List RowView) (label : Label) (kept : AreKept clients p.entries p.owners rows) (ready : IsReady rows spare p.ready) (may : MayNote clients client p label)
+module _ (clients client spare : ℕ) (p : LogView) (rows : List RowView) (label : Label) (kept : AreKept clients p.entries p.owners rows) (ready : IsReady rows spare p.ready) (may : MayNote clients client p label)
     (owners : List ℕ) (row : Option ℕ) (owners_is : owners ≡ owners_after client p.owners label) (row_is : row ≡ row_of owners label) where
   row_is_now : row ≡ row_now client p label
   row_is_now = row_is ∙ ap (λ os. row_of os label) owners_is

@@ -1,21 +1,7 @@
 -- Which labels of a step may be noted, by the laws on the numbers of a run.
-use Rattle.std.proofs.Common.{◌≡◌, ℕ, ◌+◌, ◌-◌, ◌<◌, ◌&&◌, if◌then◌else◌, false, List, [], ◌∷◌, ◌++◌, length, Option, Some, None, refl, sym, ap, ◌∙◌, subst, arith, length-append, append_assoc}
-use Rattle.std.specs.Prelude.{All, IsPermutation}
-use Rattle.std.proofs.lemmas.List.{append-nil}
-use Rattle.std.proofs.lemmas.List.Sums.{sum_by-cons, sum_by_push}
-use Rattle.std.proofs.lemmas.List.Sorted.{sum_by-IsPermutation, sum_by_popped, All-permutation, IsPermutation-refl}
-use Rattle.std.proofs.lemmas.List.Elements.{All-append, All-head, All-tail, All-cons, All-nil}
-use Rattle.machine.specs.declared.Label.{Label}
+use Rattle.traced.proofs.Common.{◌≡◌, ℕ, ◌+◌, ◌-◌, ◌<◌, ◌&&◌, if◌then◌else◌, false, List, [], ◌∷◌, ◌++◌, length, Option, Some, None, refl, sym, ap, ◌∙◌, subst, arith, length-append, append_assoc, All, IsPermutation, append-nil, sum_by-cons, sum_by_push, sum_by-IsPermutation, sum_by_popped, All-permutation, IsPermutation-refl, All-append, All-head, All-tail, All-cons, All-nil, Label, Rules, State, IsSame, Step, Run, CallsRise, CallsCount, CallsAwait, awaited, call_numbers, answer_numbers, TraceEntry, LogView, owners_after, ready_after, noted, noted_all, MayNote, one_of, awaited_of, AreTold, AreNoCalls, MayCall, MayNoteAll}
 use Rattle.machine.specs.declared.Label.TheVariants.{Call, Device, Answer, Cancel, Pause, Resume, Remove, Surprise, Removed}
-use Rattle.machine.specs.Rules.{Rules}
-use Rattle.machine.specs.State.{State, IsSame}
-use Rattle.machine.specs.Step.{Step, Run}
-use Rattle.machine_laws.specs.NumberLaws.{CallsRise, CallsCount, CallsAwait, awaited, call_numbers, answer_numbers}
-use Rattle.traced.specs.declared.TraceEntry.{TraceEntry}
 use Rattle.traced.specs.Entries.{entry, owner_of, WasCalled, row_of, is_row, is_call, is_answer, calls, labels_of, count_of, is_call_of, is_answer_of}
-use Rattle.traced.specs.Pages.{PagesView, owners_after, ready_after, noted, noted_all}
-use Rattle.traced.specs.inside.Pages.{MayNote}
-use Rattle.traced.specs.Told.{one_of, awaited_of, AreTold, AreNoCalls, MayCall, MayNoteAll}
 use Rattle.traced.proofs.Noting.{owner_front, count_snoc, same_row}
 
 -- the laws that serve here
@@ -88,7 +74,7 @@ module _ (laws : Laws) (rules : Rules) (s s' : State) where
             let b = told.balanced c in omega arith;
       }
 
-  module _ (clients client : ℕ) (p : PagesView) (told : AreTold p.entries p.owners s) where
+  module _ (clients client : ℕ) (p : LogView) (told : AreTold p.entries p.owners s) where
     Noted : Label → Type 0
     Noted label = MayNote clients client p label × AreTold (noted client p label).entries (noted client p label).owners s'
 
@@ -145,38 +131,18 @@ module _ (laws : Laws) (rules : Rules) (s s' : State) where
     unfolding Noted
     told_next (Call n q) step may = called_now n q step may.0 may.1
     told_next (Answer n st i b) step may = answered_now n st i b step
-    told_next (Device l) step may = (tt, plain p.entries p.owners (Device l) told (waiting (Device l) step) (next_is (Device l) step) refl refl)
-    told_next (Cancel n) step may = (tt, plain p.entries p.owners (Cancel n) told (waiting (Cancel n) step) (next_is (Cancel n) step) refl refl)
-    told_next Pause step may = (tt, plain p.entries p.owners Pause told (waiting Pause step) (next_is Pause step) refl refl)
-    told_next Resume step may = (tt, plain p.entries p.owners Resume told (waiting Resume step) (next_is Resume step) refl refl)
-    told_next Remove step may = (tt, plain p.entries p.owners Remove told (waiting Remove step) (next_is Remove step) refl refl)
-    told_next Surprise step may = (tt, plain p.entries p.owners Surprise told (waiting Surprise step) (next_is Surprise step) refl refl)
-    told_next Removed step may = (tt, plain p.entries p.owners Removed told (waiting Removed step) (next_is Removed step) refl refl)
+    told_next other step may = (tt, plain p.entries p.owners other told (waiting other step) (next_is other step) refl refl)
 
 -- A RUN
 
 pub no_calls_may : (clients client : ℕ) (ready : Option ℕ) (labels : List Label) → AreNoCalls labels → MayCall clients client ready labels
 no_calls_may clients client ready [] none = tt
 no_calls_may clients client ready (Call n q ∷ ls) none = absurd none
-no_calls_may clients client ready (Answer n st i b ∷ ls) none = no_calls_may clients client ready ls none
-no_calls_may clients client ready (Device l ∷ ls) none = no_calls_may clients client ready ls none
-no_calls_may clients client ready (Cancel n ∷ ls) none = no_calls_may clients client ready ls none
-no_calls_may clients client ready (Pause ∷ ls) none = no_calls_may clients client ready ls none
-no_calls_may clients client ready (Resume ∷ ls) none = no_calls_may clients client ready ls none
-no_calls_may clients client ready (Remove ∷ ls) none = no_calls_may clients client ready ls none
-no_calls_may clients client ready (Surprise ∷ ls) none = no_calls_may clients client ready ls none
-no_calls_may clients client ready (Removed ∷ ls) none = no_calls_may clients client ready ls none
+no_calls_may clients client ready (_ ∷ ls) none = no_calls_may clients client ready ls none
 
 may_first : (clients client : ℕ) (ready : Option ℕ) (label : Label) (ls : List Label) → MayCall clients client ready (label ∷ ls) → MayCall clients client ready (label ∷ []) × MayCall clients client (ready_after ready label) ls
 may_first clients client ready (Call n q) ls may = ((may.0, may.1, tt), no_calls_may clients client None ls may.2)
-may_first clients client ready (Answer n st i b) ls may = (tt, may)
-may_first clients client ready (Device l) ls may = (tt, may)
-may_first clients client ready (Cancel n) ls may = (tt, may)
-may_first clients client ready Pause ls may = (tt, may)
-may_first clients client ready Resume ls may = (tt, may)
-may_first clients client ready Remove ls may = (tt, may)
-may_first clients client ready Surprise ls may = (tt, may)
-may_first clients client ready Removed ls may = (tt, may)
+may_first clients client ready _ ls may = (tt, may)
 
 same_told : Laws → (rules : Rules) (s s' : State) (es : List TraceEntry) (owners : List ℕ) → IsSame s s' → AreTold es owners s → AreTold es owners s'
 same_told laws rules s s' es owners same told =
@@ -189,7 +155,7 @@ same_told laws rules s s' es owners same told =
       balanced = λ c. ap (λ k. count_of (is_answer_of c) es + k) (sum_by-IsPermutation (one_of owners c) (awaited s) (awaited s') perm) ∙ told.balanced c;
     }
 
-pub told_all : Laws → (rules : Rules) (s s' : State) (clients client : ℕ) (p : PagesView) (labels : List Label) → Run rules s labels s' → AreTold p.entries p.owners s → MayCall clients client p.ready labels
+pub told_all : Laws → (rules : Rules) (s s' : State) (clients client : ℕ) (p : LogView) (labels : List Label) → Run rules s labels s' → AreTold p.entries p.owners s → MayCall clients client p.ready labels
     → MayNoteAll clients client p labels × AreTold (noted_all client p labels).entries (noted_all client p labels).owners s'
 told_all laws rules s s' clients client p [] run told may = (tt, same_told laws rules s s' p.entries p.owners run told)
 told_all laws rules s s' clients client p (label ∷ labels) run told may =
@@ -209,7 +175,7 @@ told_first s next none = record {
 
 -- WHAT WAS NOTED
 
-pub room_noted : (client : ℕ) (p : PagesView) (labels : List Label) → (noted_all client p labels).room ≡ p.room - length labels
+pub room_noted : (client : ℕ) (p : LogView) (labels : List Label) → (noted_all client p labels).room ≡ p.room - length labels
 room_noted client p [] = omega arith
 room_noted client p (label ∷ labels) = room_noted client (noted client p label) labels ∙ omega arith
 
@@ -217,23 +183,16 @@ labels_snoc : (es : List TraceEntry) (label : Label) (row : Option ℕ) → labe
 labels_snoc [] label row = refl
 labels_snoc (e ∷ es) label row = ap (λ ls. e.label ∷ ls) (labels_snoc es label row)
 
-pub labels_noted : (client : ℕ) (p : PagesView) (labels : List Label) → labels_of (noted_all client p labels).entries ≡ labels_of p.entries ++ labels
+pub labels_noted : (client : ℕ) (p : LogView) (labels : List Label) → labels_of (noted_all client p labels).entries ≡ labels_of p.entries ++ labels
 labels_noted client p [] = sym (append-nil _)
 labels_noted client p (label ∷ labels) =
     labels_noted client (noted client p label) labels ∙ ap (λ ls. ls ++ labels) (labels_snoc p.entries label (row_of (owners_after client p.owners label) label))
     ∙ append_assoc (labels_of p.entries) (label ∷ []) labels
 
-pub calls_noted : (client : ℕ) (p : PagesView) (labels : List Label) → calls (noted_all client p labels).entries ≡ calls p.entries + length (call_numbers labels)
+pub calls_noted : (client : ℕ) (p : LogView) (labels : List Label) → calls (noted_all client p labels).entries ≡ calls p.entries + length (call_numbers labels)
 calls_noted client p [] = omega arith
 calls_noted client p (label ∷ labels) = calls_noted client (noted client p label) labels ∙ one label
   where
     one : (l : Label) → calls (noted client p l).entries + length (call_numbers labels) ≡ calls p.entries + length (call_numbers (l ∷ labels))
     one (Call n q) = ap (λ k. k + length (call_numbers labels)) (count_snoc (λ e. is_call e.label) p.entries _) ∙ omega arith
-    one (Answer n st i b) = ap (λ k. k + length (call_numbers labels)) (count_snoc (λ e. is_call e.label) p.entries _) ∙ omega arith
-    one (Device l) = ap (λ k. k + length (call_numbers labels)) (count_snoc (λ e. is_call e.label) p.entries _) ∙ omega arith
-    one (Cancel n) = ap (λ k. k + length (call_numbers labels)) (count_snoc (λ e. is_call e.label) p.entries _) ∙ omega arith
-    one Pause = ap (λ k. k + length (call_numbers labels)) (count_snoc (λ e. is_call e.label) p.entries _) ∙ omega arith
-    one Resume = ap (λ k. k + length (call_numbers labels)) (count_snoc (λ e. is_call e.label) p.entries _) ∙ omega arith
-    one Remove = ap (λ k. k + length (call_numbers labels)) (count_snoc (λ e. is_call e.label) p.entries _) ∙ omega arith
-    one Surprise = ap (λ k. k + length (call_numbers labels)) (count_snoc (λ e. is_call e.label) p.entries _) ∙ omega arith
-    one Removed = ap (λ k. k + length (call_numbers labels)) (count_snoc (λ e. is_call e.label) p.entries _) ∙ omega arith
+    one _ = ap (λ k. k + length (call_numbers labels)) (count_snoc (λ e. is_call e.label) p.entries _) ∙ omega arith

@@ -1,6 +1,6 @@
 pub mod Entries
 pub mod Rows
-pub mod Pages
+pub mod Log
 pub mod Told
 pub mod Shares
 pub mod Slots

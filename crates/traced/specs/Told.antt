@@ -6,8 +6,8 @@ use Rattle.machine.specs.State.{State}
 use Rattle.machine_laws.specs.NumberLaws.{awaited}
 use Rattle.traced.specs.declared.TraceEntry.{TraceEntry}
 use Rattle.traced.specs.Entries.{owner_of, WasCalled, is_row, calls, count_of, is_call_of, is_answer_of}
-use Rattle.traced.specs.Pages.{PagesView, noted}
-use Rattle.traced.specs.inside.Pages.{MayNote}
+use Rattle.traced.specs.Log.{LogView, noted}
+use Rattle.traced.specs.inside.Log.{MayNote}
 
 -- 1 where the number is of this row, else 0
 abbrev pub one_of : List ℕ → ℕ → ℕ → ℕ
@@ -38,6 +38,6 @@ MayCall clients client ready (Call number q ∷ labels) = (client < clients) × 
 MayCall clients client ready (_ ∷ labels) = MayCall clients client ready labels
 
 -- each of these labels may be noted when its turn comes
-abbrev pub MayNoteAll : ℕ → ℕ → PagesView → List Label → Type 0
+abbrev pub MayNoteAll : ℕ → ℕ → LogView → List Label → Type 0
 MayNoteAll clients client p [] = Unit {0}
 MayNoteAll clients client p (label ∷ labels) = MayNote clients client p label × MayNoteAll clients client (noted client p label) labels

@@ -21,7 +21,7 @@ use Rattle.compose.specs.Right.{IsRight}
 use Rattle.traced.specs.Serving.{open_at}
 use Rattle.traced.specs.Entries.{labels_of, AreRowed}
 use Rattle.traced.specs.Opening.{AreClientsOf}
-use Rattle.traced.specs.Pages.{PagesView, noted_all, AreKept}
+use Rattle.traced.specs.Log.{LogView, noted_all, AreKept}
 use Rattle.traced.specs.Rows.{RowView}
 use Rattle.traced.specs.Shares.{ShareView}
 use Rattle.traced.specs.Slots.{IsArmedAs, LooksNowhere, LooksAt}
@@ -58,17 +58,17 @@ pub record IsTraced (rules : Rules) (opening : State) (partitions : List ℕ) (h
 
 -- A STEP
 
--- the pages as far as a traced stack shows them
-abbrev pub pages_of : TracedView → PagesView
-pages_of v = record { entries = v.entries; owners = v.owners; room = 0; ready = None }
+-- the log as far as a traced stack shows them
+abbrev pub log_of : TracedView → LogView
+log_of v = record { entries = v.entries; owners = v.owners; room = 0; ready = None }
 
 -- a right step of the stack, whose labels are noted in order, a call in the client's row; no slot is looked at
 pub record IsCarried (client : ℕ) (old : TracedView) (event : Event) (reply : Reply) (new : TracedView) : Type 0 where
   pub stepped : ManagerView
   pub right : IsRight old.stack event reply stepped
   pub stack : new.stack ≡ record stepped { labels = [] }
-  pub entries : new.entries ≡ (noted_all client (pages_of old) stepped.labels).entries
-  pub owners : new.owners ≡ (noted_all client (pages_of old) stepped.labels).owners
+  pub entries : new.entries ≡ (noted_all client (log_of old) stepped.labels).entries
+  pub owners : new.owners ≡ (noted_all client (log_of old) stepped.labels).owners
   pub looks : LooksNowhere old.marks new.marks
 
 -- where a mark was seen, a step carries it out

@@ -2,7 +2,7 @@
 pub mod Entries
 pub mod Naming
 pub mod Opening
-pub mod Pages
+pub mod Log
 pub mod Rows
 pub mod Serving
 pub mod Sizes

@@ -2,7 +2,7 @@
 //! the marks on its open requests. [`Traced`] is the part of a book that knows no journal.
 //!
 //! Of what lies under a lock only its type's invariant is known. So a type parameter of the stack names what it was
-//! opened with ([`Naming`]), and a claim on a place of its trace is borne out later ([`Traced::claim`],
+//! opened with ([`TraceNaming`]), and a claim on a place of its trace is borne out later ([`Traced::claim`],
 //! [`Traced::check`]).
 //!
 //! # Promises
@@ -14,17 +14,19 @@
 //! `takes`, `stands`. `open_handles`: `fault`. Not promised: that a mark made during a step is seen by it.
 #![tactic(auto)]
 
+mod context;
 mod name;
 mod opening;
-mod pages;
 mod row;
 mod share;
 mod sizes;
 mod slots;
+mod trace_log;
 mod traced;
 
+pub use context::Context;
 use machine::Label;
-pub use name::Naming;
+pub use name::TraceNaming;
 pub use opening::{OpenFault, open_handles};
 pub use row::Row;
 pub use share::Share;
@@ -32,7 +34,7 @@ pub use sizes::StackSizes;
 pub use traced::{Owned, Traced};
 
 /// A label of the trace, and the row that it stands in: for a call or an answer, its client's number.
-#[derive(Debug, Drop)]
+#[derive(Drop)]
 pub struct TraceEntry {
     pub label: Label,
     pub row: Option<usize>,

@@ -14,7 +14,7 @@ use std::sync::ledger::Ledger;
 /// Names one traced stack, for contracts alone: its history, the ledger of its calls, the rules of its stack, the state
 /// that it was opened with, the number of its clients, and its table of marks. A function that is generic in it
 /// requires that what it is handed is the one named; its caller passes `Brand`.
-pub trait Naming: chronicle::Naming + Ledger {
+pub trait TraceNaming: chronicle::Naming + Ledger {
     ghost rules: { Rules };
 
     ghost start: { State };
@@ -29,7 +29,7 @@ pub trait Naming: chronicle::Naming + Ledger {
     ghost slots: { ℕ };
 }
 
-impl Naming for Brand {
+impl TraceNaming for Brand {
     ghost rules = { no_rules };
 
     ghost start = { opening [] };

@@ -12,7 +12,7 @@ use std::alloc::{AllocError, Global};
 use thiserror::Error;
 
 /// Why the handles of the clients could not be opened.
-#[derive(Debug, Clone, Copy, PartialEq, Eq, Error)]
+#[derive(Debug, Clone, Copy, Error)]
 pub enum OpenFault {
     /// The stack refused to open one of them: `InvalidParameter` where it has no such partition, `DeviceBusy` for the
     /// 65th.

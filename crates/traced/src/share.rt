@@ -2,7 +2,7 @@
 
 ghost use Rattle.std.specs.Prelude.{◌≡◌, ◌<◌, ◌+◌, None, length};
 
-use crate::name::Naming;
+use crate::name::TraceNaming;
 use compose::Handle;
 use std::marker::Model;
 use std::sync::ledger;
@@ -10,13 +10,13 @@ use std::sync::ledger::Share as Part;
 
 /// A client's number, its handle and the count of its calls, which nobody can copy. Contracts see all three.
 #[derive(Drop)]
-pub struct Share<N: Naming> {
+pub struct Share<N: TraceNaming> {
     client: usize,
     handle: Handle,
     part: Part<N>,
 }
 
-impl<N: Naming> Model for Share<N> {
+impl<N: TraceNaming> Model for Share<N> {
     ghost use Rattle.std.specs.Prelude.{◌≡◌, ◌<◌, ◌+◌, length};
     ghost use Rattle.traced.specs.Shares.{ShareView};
 
@@ -27,7 +27,7 @@ impl<N: Naming> Model for Share<N> {
     ghost invariant = { λ s. (s.client < length N.partitions) × (s.handle.number ≡ s.client + 1) × (s.part.parts ≡ 1) };
 }
 
-impl<N: Naming> Share<N> {
+impl<N: TraceNaming> Share<N> {
     /// The share of a client that has called nothing.
     pub fn new(client: usize, handle: Handle, part: Part<N>) -> Share<N>
         requires client { client < length N.partitions }

@@ -7,7 +7,7 @@ ghost use Rattle.traced.specs.inside.Sizes.{brought_by, labels_of_call, labels_o
 use compose::Event;
 
 /// The sizes of a stack, by which the labels of its events are counted.
-#[derive(Debug, Clone, Copy, PartialEq, Eq)]
+#[derive(Clone, Copy)]
 pub struct StackSizes {
     /// Bytes of a sector.
     pub sector_size: u32,

@@ -5,7 +5,7 @@ ghost use Rattle.cancel_marks.specs.Marks.{arming, slot_at, starting, standing};
 ghost use Rattle.traced.specs.Slots.{LooksAt, LooksNowhere};
 ghost use Rattle.traced.specs.inside.Slots.{AreArmed, AreEmptyFrom, ArmedBelow, Leaves, number_at, unless_number};
 
-use crate::name::Naming;
+use crate::name::TraceNaming;
 use cancel_marks::{Marks, Seat};
 use std::alloc::{AllocError, Global};
 use std::marker::{Model, PhantomData};
@@ -13,7 +13,7 @@ use std::marker::{Model, PhantomData};
 /// The slots of open requests: the number in each, and the seat of the marks' owner. A slot is armed exactly with the
 /// number in it.
 #[derive(Drop)]
-pub(crate) struct Slots<N: Naming> {
+pub(crate) struct Slots<N: TraceNaming> {
     numbers: Vec<Option<u64>>,
     /// No slot from this one on has a number.
     end: usize,
@@ -21,7 +21,7 @@ pub(crate) struct Slots<N: Naming> {
     of: PhantomData<N>,
 }
 
-impl<N: Naming> Model for Slots<N> {
+impl<N: TraceNaming> Model for Slots<N> {
     ghost use Rattle.std.specs.Prelude.{◌≡◌, ◌≤◌, length};
     ghost use Rattle.traced.specs.inside.Slots.{AreArmed, AreEmptyFrom, SlotsView};
 
@@ -40,7 +40,7 @@ impl<N: Naming> Model for Slots<N> {
     } };
 }
 
-impl<N: Naming> Slots<N> {
+impl<N: TraceNaming> Slots<N> {
     /// Empty slots.
     pub(crate) fn new(alloc: Global, seat: Seat, slots: usize) -> Result<Slots<N>, AllocError>
         requires slots { slots ≡ N.slots }

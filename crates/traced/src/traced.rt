@@ -18,8 +18,8 @@ ghost use Rattle.traced.specs.Opening.{AreClientsOf, IsFirst};
 ghost use Rattle.traced.specs.Traced.{AreLooked, AreRowsOf, IsTraced, IsCarried, IsLooked, IsServed, IsWanting, HasCounted, may_want};
 ghost use Rattle.traced.specs.declared.TraceEntry.{TraceEntry as EntryView};
 ghost use Rattle.traced.specs.Entries.{IsAnswerAt, IsNoAnswerTo, calls, labels_of, places};
-ghost use Rattle.traced.specs.Pages.{noted_all};
-ghost use Rattle.traced.specs.inside.Pages.{MayNote};
+ghost use Rattle.traced.specs.Log.{noted_all};
+ghost use Rattle.traced.specs.inside.Log.{MayNote};
 ghost use Rattle.traced.specs.Sizes.{AreSizes, sizes_of};
 ghost use Rattle.traced.specs.inside.Sizes.{brought_by};
 ghost use Rattle.traced.specs.Serving.{is_call_event, is_handle_event, open_at};
@@ -31,12 +31,13 @@ ghost use Rattle.traced.specs.Sound.{IsNamed};
 ghost use Rattle.traced.specs.inside.Sound.{IsSound, MayArm, IsGivenBelow, shown, unless_label};
 
 use crate::TraceEntry;
-use crate::name::Naming;
-use crate::pages::Pages;
+use crate::context::Context;
+use crate::name::TraceNaming;
 use crate::row::Row;
 use crate::share::Share;
 use crate::sizes::StackSizes;
 use crate::slots::Slots;
+use crate::trace_log::TraceLog;
 use adapter::Adapter;
 use asking::refused;
 use cancel_marks::{Marks, Seat};
@@ -50,7 +51,7 @@ use std::marker::Model;
 use std::sync::ledger;
 
 /// What the holder of a traced stack's lock owns beside the stack: an end of each of what threads share.
-pub struct Owned<N: Naming> {
+pub struct Owned<N: TraceNaming> {
     /// The history of the trace.
     pub whole: Whole<TraceEntry, N>,
     /// The owner's seat at the table of marks.
@@ -62,20 +63,20 @@ pub struct Owned<N: Naming> {
 }
 
 /// A stack that many threads share under a lock, the trace of all its labels, and the marks on its open requests.
-pub struct Traced<A: Adapter, N: Naming> {
+pub struct Traced<A: Adapter, N: TraceNaming> {
     stack: Stack<A>,
-    pages: Pages<N>,
+    log: TraceLog<N>,
     slots: Slots<N>,
     tally: ledger::Book<N>,
     sizes: StackSizes,
 }
 
 // By hand, so that no crate above proves it again, as it would a derived one.
-impl<A: Adapter, N: Naming> Drop for Traced<A, N> {
+impl<A: Adapter, N: TraceNaming> Drop for Traced<A, N> {
     fn drop(self) {
         let Traced {
             stack: _,
-            pages: _,
+            log: _,
             slots: _,
             tally: _,
             sizes: _,
@@ -83,7 +84,7 @@ impl<A: Adapter, N: Naming> Drop for Traced<A, N> {
     }
 }
 
-impl<A: Adapter, N: Naming> Model for Traced<A, N> {
+impl<A: Adapter, N: TraceNaming> Model for Traced<A, N> {
     ghost use Rattle.std.specs.Prelude.{◌≡◌, ◌≤◌, length};
     ghost use Rattle.traced.specs.Traced.{TracedView};
     ghost use Rattle.traced.specs.Opening.{AreClientsOf};
@@ -92,37 +93,19 @@ impl<A: Adapter, N: Naming> Model for Traced<A, N> {
 
     ghost Value = { TracedView };
 
-    ghost view = { λ b. shown b.stack b.pages b.slots };
+    ghost view = { λ b. shown b.stack b.log b.slots };
 
     ghost invariant = { λ b. record {
-      sound : IsSound N.rules N.start N.handles N.slots b.stack b.pages b.slots;
-      tally : b.tally.total ≡ length b.pages.owners;
+      sound : IsSound N.rules N.start N.handles N.slots b.stack b.log b.slots;
+      tally : b.tally.total ≡ length b.log.owners;
       clients : AreClientsOf N.partitions N.handles;
       same_sizes : b.sizes ≡ sizes_of N.rules;
       sizes : AreSizes b.sizes;
     } };
 }
 
-// What stands beside a stack whose labels are noted: memory, the history of its trace, and the marks of its requests.
-#[derive(Drop)]
-struct Beside<'a, N: Naming> {
-    alloc: Global,
-    history: &'a History<TraceEntry, N>,
-    marks: &'a Marks,
-}
-
-impl<'a, N: Naming> Model for Beside<'a, N> {
-    ghost use Rattle.std.specs.Prelude.{◌≡◌};
-
-    ghost Value = { Unit {0} };
-
-    ghost view = { λ b. tt };
-
-    ghost invariant = { λ b. b.marks.now ≡ (N.marks, N.slots) };
-}
-
 // An event, and for a call the client whose call it is.
-struct Asked {
+struct ClientEvent {
     client: usize,
     event: Event,
 }
@@ -130,26 +113,26 @@ struct Asked {
 // How many labels may always come: those of a removal and of its end.
 const REMOVAL_LABELS: usize = 2;
 
-// Makes pages with room for a removal, and slots, all empty.
-fn make_rows<N: Naming>(
+// Makes a log with room for a removal, and slots, all empty.
+fn make_rows<N: TraceNaming>(
     alloc: Global,
     whole: Whole<TraceEntry, N>,
     seat: Seat,
     clients: usize,
     slots: usize,
-) -> Result<(Pages<N>, Slots<N>), AllocError>
+) -> Result<(TraceLog<N>, Slots<N>), AllocError>
     requires clients { clients ≡ length N.partitions }
     requires whole { whole ≡ [] }
     requires slots { slots ≡ N.slots }
     requires seat { seat ≡ standing N.marks 0 (starting (max slots 1)) }
-    ensures pages { IfOk result (λ r. (r.0.entries ≡ []) × (r.0.owners ≡ []) × (2 ≤ r.0.room)) }
+    ensures log { IfOk result (λ r. (r.0.entries ≡ []) × (r.0.owners ≡ []) × (2 ≤ r.0.room)) }
     ensures numbers { IfOk result (λ r. r.1.numbers ≡ replicate slots None) }
     ensures owner { IfOk result (λ r. r.1.owner ≡ starting (max slots 1)) }
 {
-    let mut pages = Pages::new(alloc, whole, clients)?;
-    pages.reserve(REMOVAL_LABELS)?;
+    let mut log = TraceLog::new(alloc, whole, clients)?;
+    log.reserve(REMOVAL_LABELS)?;
     let slots = Slots::new(alloc, seat, slots)?;
-    Ok((pages, slots))
+    Ok((log, slots))
 }
 
 // Shows the caller the laws on the numbers of a run.
@@ -178,7 +161,7 @@ fn serve_right<A: Adapter>(stack: &mut Stack<A>, alloc: Global, event: Event) ->
 }
 
 // Takes a request that is answered out of its slot.
-fn retire_if_answered<N: Naming>(slots: &mut Slots<N>, marks: &Marks, label: &Label)
+fn retire_if_answered<N: TraceNaming>(slots: &mut Slots<N>, marks: &Marks, label: &Label)
     requires marks { marks.now ≡ (N.marks, N.slots) }
     ensures numbers { (k : ℕ) → number_at slots.new.numbers k ≡ unless_label label.now (number_at slots.old.numbers k) }
     ensures looks { LooksNowhere slots.old.owner slots.new.owner }
@@ -190,7 +173,7 @@ fn retire_if_answered<N: Naming>(slots: &mut Slots<N>, marks: &Marks, label: &La
 }
 
 // Arms the slot of a request that was opened.
-fn arm_if_opened<N: Naming>(slots: &mut Slots<N>, marks: &Marks, reply: &Reply)
+fn arm_if_opened<N: TraceNaming>(slots: &mut Slots<N>, marks: &Marks, reply: &Reply)
     requires marks { marks.now ≡ (N.marks, N.slots) }
     requires may { MayArm N.slots slots.old.owner reply.now }
     ensures numbers { (k : ℕ) → number_at slots.new.numbers k ≡ admitted_at reply.now k (number_at slots.old.numbers k) }
@@ -203,128 +186,128 @@ fn arm_if_opened<N: Naming>(slots: &mut Slots<N>, marks: &Marks, reply: &Reply)
 }
 
 // Takes all labels of a step, and notes them.
-fn note_all<A: Adapter, N: Naming>(
+fn note_all<A: Adapter, N: TraceNaming>(
     stack: &mut Stack<A>,
-    pages: &mut Pages<N>,
+    log: &mut TraceLog<N>,
     slots: &mut Slots<N>,
-    beside: &Beside<N>,
+    context: &Context<N>,
     client: usize,
 )
-    requires may { MayNoteAll (length N.partitions) client pages.old stack.old.labels }
-    requires room { length stack.old.labels ≤ pages.old.room }
+    requires may { MayNoteAll (length N.partitions) client log.old stack.old.labels }
+    requires room { length stack.old.labels ≤ log.old.room }
     requires bytes { IsTrue stack.old.rules.keeps_bytes }
     ensures stack { stack.new ≡ record stack.old { labels = [] } }
-    ensures pages { pages.new ≡ noted_all client pages.old stack.old.labels }
+    ensures log { log.new ≡ noted_all client log.old stack.old.labels }
     ensures numbers { (k : ℕ) → number_at slots.new.numbers k ≡ unless_told stack.old.labels (number_at slots.old.numbers k) }
     ensures looks { LooksNowhere slots.old.owner slots.new.owner }
     ensures below { (next : ℕ) → ArmedBelow next slots.old.owner → ArmedBelow next slots.new.owner }
 {
     while let Some(label) = stack.take_label() {
-        retire_if_answered(slots, beside.marks, &label);
-        pages.note(beside.history, label, client);
+        retire_if_answered(slots, context.marks, &label);
+        log.note(context.history, label, client);
     }
 }
 
 // Carries out an event, and notes its labels.
-fn carry<A: Adapter, N: Naming>(
+fn carry<A: Adapter, N: TraceNaming>(
     stack: &mut Stack<A>,
-    pages: &mut Pages<N>,
+    log: &mut TraceLog<N>,
     slots: &mut Slots<N>,
-    beside: &Beside<N>,
-    asked: Asked,
+    context: &Context<N>,
+    asked: ClientEvent,
 ) -> Reply
-    requires sound { IsSound N.rules N.start N.handles N.slots stack.old pages.old slots.old }
+    requires sound { IsSound N.rules N.start N.handles N.slots stack.old log.old slots.old }
     requires no_handle { is_handle_event asked.event ≡ false }
-    requires client { is_call_event asked.event ≡ true → (asked.client < length N.partitions) × (pages.old.ready ≡ Some asked.client) }
-    requires room { labels_left N.rules stack.old.state + brought_by (sizes_of N.rules) asked.event ≤ pages.old.room }
-    ensures sound { IsSound N.rules N.start N.handles N.slots stack.new pages.new slots.new }
-    ensures carried { IsCarried asked.client (shown stack.old pages.old slots.old) asked.event result (shown stack.new pages.new slots.new) }
-    ensures no_call { is_call_event asked.event ≡ false → pages.new.owners ≡ pages.old.owners }
-    ensures more { length pages.old.owners ≤ length pages.new.owners }
+    requires client { is_call_event asked.event ≡ true → (asked.client < length N.partitions) × (log.old.ready ≡ Some asked.client) }
+    requires room { labels_left N.rules stack.old.state + brought_by (sizes_of N.rules) asked.event ≤ log.old.room }
+    ensures sound { IsSound N.rules N.start N.handles N.slots stack.new log.new slots.new }
+    ensures carried { IsCarried asked.client (shown stack.old log.old slots.old) asked.event result (shown stack.new log.new slots.new) }
+    ensures no_call { is_call_event asked.event ≡ false → log.new.owners ≡ log.old.owners }
+    ensures more { length log.old.owners ≤ length log.new.owners }
 {
-    let Asked { client, event } = asked;
+    let ClientEvent { client, event } = asked;
     laws_of_numbers();
     slots.shows_armed();
-    let reply = serve_right(stack, beside.alloc, event);
-    arm_if_opened(slots, beside.marks, &reply);
-    note_all(stack, pages, slots, beside, client);
+    let reply = serve_right(stack, context.alloc, event);
+    arm_if_opened(slots, context.marks, &reply);
+    note_all(stack, log, slots, context, client);
     reply
 }
 
 // Carries out a mark that was seen. It stands apart from the look, so that a look that sees none makes no event.
-fn carry_mark<A: Adapter, N: Naming>(
+fn carry_mark<A: Adapter, N: TraceNaming>(
     stack: &mut Stack<A>,
-    pages: &mut Pages<N>,
+    log: &mut TraceLog<N>,
     slots: &mut Slots<N>,
-    beside: &Beside<N>,
+    context: &Context<N>,
     number: u64,
 )
-    requires sound { IsSound N.rules N.start N.handles N.slots stack.old pages.old slots.old }
-    ensures sound { IsSound N.rules N.start N.handles N.slots stack.new pages.new slots.new }
-    ensures carried { (reply : ReplyView) × IsCarried 0 (shown stack.old pages.old slots.old) (Mark number) reply (shown stack.new pages.new slots.new) }
-    ensures no_call { pages.new.owners ≡ pages.old.owners }
+    requires sound { IsSound N.rules N.start N.handles N.slots stack.old log.old slots.old }
+    ensures sound { IsSound N.rules N.start N.handles N.slots stack.new log.new slots.new }
+    ensures carried { (reply : ReplyView) × IsCarried 0 (shown stack.old log.old slots.old) (Mark number) reply (shown stack.new log.new slots.new) }
+    ensures no_call { log.new.owners ≡ log.old.owners }
 {
     let event = Event::Mark { number };
-    carry(stack, pages, slots, beside, Asked { client: 0, event });
+    carry(stack, log, slots, context, ClientEvent { client: 0, event });
 }
 
 // Looks at a slot, and carries out a mark that it sees there.
-fn look_at<A: Adapter, N: Naming>(
+fn look_at<A: Adapter, N: TraceNaming>(
     stack: &mut Stack<A>,
-    pages: &mut Pages<N>,
+    log: &mut TraceLog<N>,
     slots: &mut Slots<N>,
-    beside: &Beside<N>,
+    context: &Context<N>,
     slot: usize,
 )
-    requires sound { IsSound N.rules N.start N.handles N.slots stack.old pages.old slots.old }
+    requires sound { IsSound N.rules N.start N.handles N.slots stack.old log.old slots.old }
     requires slot { slot < N.slots }
-    ensures sound { IsSound N.rules N.start N.handles N.slots stack.new pages.new slots.new }
-    ensures looked { IsLooked slot (shown stack.old pages.old slots.old) (shown stack.new pages.new slots.new) }
-    ensures no_call { pages.new.owners ≡ pages.old.owners }
+    ensures sound { IsSound N.rules N.start N.handles N.slots stack.new log.new slots.new }
+    ensures looked { IsLooked slot (shown stack.old log.old slots.old) (shown stack.new log.new slots.new) }
+    ensures no_call { log.new.owners ≡ log.old.owners }
 {
-    if let Some(number) = slots.look(beside.marks, slot) {
-        carry_mark(stack, pages, slots, beside, number);
+    if let Some(number) = slots.look(context.marks, slot) {
+        carry_mark(stack, log, slots, context, number);
     }
 }
 
 // Looks once at each slot that has an open request, and carries out each mark that it sees.
-fn look_all<A: Adapter, N: Naming>(
+fn look_all<A: Adapter, N: TraceNaming>(
     stack: &mut Stack<A>,
-    pages: &mut Pages<N>,
+    log: &mut TraceLog<N>,
     slots: &mut Slots<N>,
-    beside: &Beside<N>,
+    context: &Context<N>,
 )
-    requires sound { IsSound N.rules N.start N.handles N.slots stack.old pages.old slots.old }
-    ensures sound { IsSound N.rules N.start N.handles N.slots stack.new pages.new slots.new }
-    ensures looked { AreLooked N.slots (shown stack.old pages.old slots.old) (shown stack.new pages.new slots.new) }
-    ensures no_call { pages.new.owners ≡ pages.old.owners }
+    requires sound { IsSound N.rules N.start N.handles N.slots stack.old log.old slots.old }
+    ensures sound { IsSound N.rules N.start N.handles N.slots stack.new log.new slots.new }
+    ensures looked { AreLooked N.slots (shown stack.old log.old slots.old) (shown stack.new log.new slots.new) }
+    ensures no_call { log.new.owners ≡ log.old.owners }
 {
     for slot in 0..slots.len() {
         if slot >= slots.end() {
             return;
         }
-        look_at(stack, pages, slots, beside, slot);
+        look_at(stack, log, slots, context, slot);
     }
 }
 
 // Makes the places for all labels that an event may bring.
-fn make_room<N: Naming>(
+fn make_room<N: TraceNaming>(
     sizes: &StackSizes,
-    pages: &mut Pages<N>,
+    log: &mut TraceLog<N>,
     event: &Event,
 ) -> Result<(), AllocError>
     requires sizes { AreSizes sizes.now }
-    ensures kept { pages.new ≡ record pages.old { room = pages.new.room } }
-    ensures no_less { pages.old.room ≤ pages.new.room }
-    ensures room { OnOk result (pages.old.room + brought_by sizes.now event.now ≤ pages.new.room) }
+    ensures kept { log.new ≡ record log.old { room = log.new.room } }
+    ensures no_less { log.old.room ≤ log.new.room }
+    ensures room { OnOk result (log.old.room + brought_by sizes.now event.now ≤ log.new.room) }
 {
-    let Some(room) = pages.room().checked_add(sizes.labels_for(event)) else {
+    let Some(room) = log.room().checked_add(sizes.labels_for(event)) else {
         return Err(AllocError);
     };
-    pages.reserve(room)
+    log.reserve(room)
 }
 
-impl<A: Adapter, N: Naming> Traced<A, N> {
+impl<A: Adapter, N: TraceNaming> Traced<A, N> {
     /// A traced stack on which the clients' handles are open, and nothing else. It owns an empty history, a seat at a
     /// table of as many slots as requests may be open, and a ledger that counted nothing. `clients` is their number,
     /// and `sizes` are the stack's.
@@ -355,10 +338,10 @@ impl<A: Adapter, N: Naming> Traced<A, N> {
             slots,
             tally,
         } = owned;
-        let (pages, slots) = make_rows(alloc, whole, seat, clients, slots)?;
+        let (log, slots) = make_rows(alloc, whole, seat, clients, slots)?;
         Ok(Traced {
             stack,
-            pages,
+            log,
             slots,
             tally,
             sizes,
@@ -369,7 +352,7 @@ impl<A: Adapter, N: Naming> Traced<A, N> {
     pub fn len(&self) -> usize
         ensures { result ≡ length self.now.entries }
     {
-        self.pages.len()
+        self.log.len()
     }
 
     /// Returns what stands at a place of the trace.
@@ -377,7 +360,7 @@ impl<A: Adapter, N: Naming> Traced<A, N> {
         requires { place < length self.now.entries }
         ensures { slice_get self.now.entries place ≡ Some result.now }
     {
-        self.pages.entry(place)
+        self.log.entry(place)
     }
 
     /// The places of a client's calls and of their answers so far, rising.
@@ -385,7 +368,7 @@ impl<A: Adapter, N: Naming> Traced<A, N> {
         requires { client < length N.partitions }
         ensures { result.now ≡ places client 0 self.now.entries }
     {
-        self.pages.row(client)
+        self.log.row(client)
     }
 
     /// Returns where the answer to a request stands in the trace, if it has come. It looks through the row of the
@@ -393,7 +376,7 @@ impl<A: Adapter, N: Naming> Traced<A, N> {
     pub fn answer_place(&self, number: u64) -> Option<usize>
         ensures { MatchOption result (All (IsNoAnswerTo number) (labels_of self.now.entries)) (IsAnswerAt number self.now.entries) }
     {
-        self.pages.answer_place(number)
+        self.log.answer_place(number)
     }
 
     /// A claim on a place of the trace, by the entry there.
@@ -402,7 +385,7 @@ impl<A: Adapter, N: Naming> Traced<A, N> {
         ensures same { self.new ≡ self.old }
         ensures claim { (e : EntryView) × (slice_get self.old.entries place ≡ Some e) × (result ≡ (place, e) ∷ []) }
     {
-        self.pages.claim(history, place)
+        self.log.claim(history, place)
     }
 
     /// Shows the caller that what was claimed stands in the trace.
@@ -410,7 +393,7 @@ impl<A: Adapter, N: Naming> Traced<A, N> {
         ensures same { (self.new ≡ self.old) × (claims.new ≡ claims.old) }
         ensures stand { AllStand self.old.entries claims.old }
     {
-        self.pages.check(history, claims)
+        self.log.check(history, claims)
     }
 
     /// Shows the caller that the parts of the ledger, once all have come back, have the number of calls.
@@ -430,26 +413,20 @@ impl<A: Adapter, N: Naming> Traced<A, N> {
     {
         let Traced {
             stack: _,
-            pages,
+            log,
             slots: _,
             tally: _,
             sizes: _,
         } = self;
-        pages.into_rows()
+        log.into_rows()
     }
 
     /// Looks once at each slot that has an open request, and carries out each mark that it sees there.
-    pub fn look(&mut self, alloc: Global, history: &History<TraceEntry, N>, marks: &Marks)
-        requires marks { marks.now ≡ (N.marks, N.slots) }
+    pub fn look(&mut self, context: &Context<N>)
         ensures looked { AreLooked N.slots self.old self.new }
         ensures no_call { self.new.owners ≡ self.old.owners }
     {
-        let beside = Beside {
-            alloc,
-            history,
-            marks,
-        };
-        look_all(&mut self.stack, &mut self.pages, &mut self.slots, &beside);
+        look_all(&mut self.stack, &mut self.log, &mut self.slots, context);
     }
 
     /// The piece on a tag that could act, with its SRB.
@@ -486,7 +463,7 @@ impl<A: Adapter, N: Naming> Traced<A, N> {
     pub fn calls(&self) -> u64
         ensures { result ≡ length self.now.owners }
     {
-        self.pages.calls()
+        self.log.calls()
     }
 
     /// Shows the caller that the stack's view fits together, that a run leads to it, and that its adapter is in order.
@@ -501,74 +478,49 @@ impl<A: Adapter, N: Naming> Traced<A, N> {
     /// Carries out a read, a write or a flush, and notes it as a call of the share's client, whichever handle it names.
     /// It is refused as `InsufficientResources`, before any step, where memory for the labels that it may bring is
     /// refused.
-    pub fn call(
-        &mut self,
-        alloc: Global,
-        history: &History<TraceEntry, N>,
-        marks: &Marks,
-        share: &mut Share<N>,
-        event: Event,
-    ) -> Reply
-        requires marks { marks.now ≡ (N.marks, N.slots) }
+    pub fn call(&mut self, context: &Context<N>, share: &mut Share<N>, event: Event) -> Reply
         requires call { is_call_event event ≡ true }
         ensures served { IsServed share.old.client self.old event result self.new }
         ensures counted { HasCounted self.old share.old share.new self.new }
     {
         let client = share.client();
-        if make_room(&self.sizes, &mut self.pages, &event).is_err() {
-            return refused(alloc, event);
+        if make_room(&self.sizes, &mut self.log, &event).is_err() {
+            return refused(context.alloc, event);
         }
-        if self.pages.make_ready(client).is_err() {
-            return refused(alloc, event);
+        if self.log.make_ready(client).is_err() {
+            return refused(context.alloc, event);
         }
-        let before = self.pages.calls();
-        let beside = Beside {
-            alloc,
-            history,
-            marks,
-        };
+        let before = self.log.calls();
         let reply = carry(
             &mut self.stack,
-            &mut self.pages,
+            &mut self.log,
             &mut self.slots,
-            &beside,
-            Asked { client, event },
+            context,
+            ClientEvent { client, event },
         );
-        let after = self.pages.calls();
+        let after = self.log.calls();
         share.count(&mut self.tally, after - before);
         reply
     }
 
     /// Carries out any event but a call, an open and a close. A query-remove is refused as `InsufficientResources`,
     /// before any step, where memory for its labels is refused.
-    pub fn serve(
-        &mut self,
-        alloc: Global,
-        history: &History<TraceEntry, N>,
-        marks: &Marks,
-        event: Event,
-    ) -> Reply
-        requires marks { marks.now ≡ (N.marks, N.slots) }
+    pub fn serve(&mut self, context: &Context<N>, event: Event) -> Reply
         requires no_handle { is_handle_event event ≡ false }
         requires no_call { is_call_event event ≡ false }
         ensures served { IsServed 0 self.old event result self.new }
     {
         if matches!(event, Event::QueryRemove)
-            && make_room(&self.sizes, &mut self.pages, &event).is_err()
+            && make_room(&self.sizes, &mut self.log, &event).is_err()
         {
-            return refused(alloc, event);
+            return refused(context.alloc, event);
         }
-        let beside = Beside {
-            alloc,
-            history,
-            marks,
-        };
         carry(
             &mut self.stack,
-            &mut self.pages,
+            &mut self.log,
             &mut self.slots,
-            &beside,
-            Asked { client: 0, event },
+            context,
+            ClientEvent { client: 0, event },
         )
     }
 
@@ -588,7 +540,7 @@ impl<A: Adapter, N: Naming> Traced<A, N> {
         ensures { IsTraced N.rules N.start N.partitions N.handles self.now }
     {
         self.stack.shows_whole();
-        self.pages.shows_rows();
+        self.log.shows_rows();
         self.slots.shows_armed();
     }
 }

@@ -1,5 +1,5 @@
-use Rattle.lanes.proofs.Steps.{puts_one_more}
+use Rattle.lanes.proofs.Steps.{puts_more}
 use Rattle.lanes.proofs.serve_lane.Goals as goal
 
-pub loop-preserved-in-Ok : goal.loop-preserved-in-Ok
-loop-preserved-in-Ok g c = (c.put.ensures.lane, puts_one_more _ _ _ _ c.requires.lane.2 c.loop.invariant.1 c.in-Ok.ensures.put)
+pub loop-preserved : goal.loop-preserved
+loop-preserved g c = (c.carry_out.ensures.lane, puts_more _ _ _ _ c.requires.lane.2 c.loop.invariant.1 c.carry_out.ensures.put)

@@ -17,16 +17,16 @@ use Rattle.io_manager.specs.Shown.{ManagerView}
 use Rattle.traced.specs.Serving.{open_at}
 use Rattle.traced.specs.Traced.{TracedView}
 use Rattle.traced.specs.Entries.{labels_of}
-use Rattle.traced.specs.Pages.{PagesView}
+use Rattle.traced.specs.Log.{LogView}
 use Rattle.traced.specs.inside.Slots.{SlotsView, number_at, ArmedBelow, unless_number}
 use Rattle.traced.specs.Told.{AreTold}
 
 -- what a traced stack of these parts shows
-abbrev pub shown : ManagerView → PagesView → SlotsView → TracedView
-shown stack pages slots = record { stack = stack; entries = pages.entries; owners = pages.owners; marks = slots.owner }
+abbrev pub shown : ManagerView → LogView → SlotsView → TracedView
+shown stack log slots = record { stack = stack; entries = log.entries; owners = log.owners; marks = slots.owner }
 
 -- the parts of a traced stack between two steps
-pub record IsSound (rules : Rules) (opening : State) (handles : List (Option OpenHandle)) (count : ℕ) (stack : ManagerView) (pages : PagesView) (slots : SlotsView) : Type 0 where
+pub record IsSound (rules : Rules) (opening : State) (handles : List (Option OpenHandle)) (count : ℕ) (stack : ManagerView) (log : LogView) (slots : SlotsView) : Type 0 where
   pub same_rules : stack.rules ≡ rules
   -- requests are cut on the grid, so that no labels come without end
   pub on_grid : IsFalse rules.any_cut
@@ -34,15 +34,15 @@ pub record IsSound (rules : Rules) (opening : State) (handles : List (Option Ope
   pub as_many : rules.open_requests ≡ Some count
   pub same_handles : stack.handles ≡ handles
   pub taken : stack.labels ≡ []
-  pub run : Run rules opening (labels_of pages.entries) stack.state
-  pub told : AreTold pages.entries pages.owners stack.state
+  pub run : Run rules opening (labels_of log.entries) stack.state
+  pub told : AreTold log.entries log.owners stack.state
   -- a slot has the number of the open request there, and was never armed with one that is still to come
   pub numbers : (k : ℕ) → number_at slots.numbers k ≡ open_at stack k
   pub below : ArmedBelow stack.state.next_request slots.owner
   -- each answer that waits to be taken stands in the trace
-  pub answered : (answer : Waiting) → Contains stack.answers answer → Contains (labels_of pages.entries) (as_answer answer)
+  pub answered : (answer : Waiting) → Contains stack.answers answer → Contains (labels_of log.entries) (as_answer answer)
   -- all labels that may still come have a place
-  pub room : labels_left rules stack.state ≤ pages.room
+  pub room : labels_left rules stack.state ≤ log.room
 
 -- the number in a slot, unless this label answers it
 abbrev pub unless_label : Label → Option ℕ → Option ℕ

@@ -1,10 +1,9 @@
-use Rattle.std.proofs.Common.{◌≡◌, ℕ, ◌-◌, length}
-use Rattle.book.specs.Book.{HasBooked, IsKept, book_of}
+use Rattle.book.proofs.Common.{◌≡◌, ℕ, ◌-◌, length, HasBooked, IsKept, book_of}
 use Rattle.book.proofs.booking.book_all.Given as goal
 
 abbrev pub invariant-loop-tag : goal.invariant-loop-tag
 invariant-loop-tag g l = record {
-  kept : IsKept g.N.Naming-2.rules g.N.Naming-2.start l.traced l.taken l.tags;
+  kept : IsKept g.N.TraceNaming.rules g.N.TraceNaming.start l.traced l.taken l.tags;
   books : (count : ℕ) × HasBooked l.last count (book_of l.initial.traced l.initial.taken) (book_of l.traced l.taken);
   journal : l.journal ≡ l.initial.journal;
 }

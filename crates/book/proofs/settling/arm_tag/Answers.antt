@@ -1,7 +1,4 @@
-use Rattle.std.proofs.Common.{◌<◌, inl, inr, length, rules, subst, sym}
-use Rattle.adapter.specs.Booking.{IsArmed}
-use Rattle.sector_journal.specs.Journal.{Arms, JournalView, MayArm}
-use Rattle.book.specs.Rooms.{ArmsTag}
+use Rattle.book.proofs.Common.{◌<◌, inl, inr, length, rules, subst, sym, IsArmed, Arms, JournalView, MayArm, ArmsTag}
 use Rattle.book.proofs.Settled.{on_put}
 use Rattle.book.proofs.settling.arm_tag.Goals as goal
 

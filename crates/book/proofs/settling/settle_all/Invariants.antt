@@ -1,6 +1,4 @@
-use Rattle.std.proofs.Common.{◌-◌}
-use Rattle.book.specs.Rooms.{FollowsFrom}
-use Rattle.book.specs.Staying.{AreOnTags}
+use Rattle.book.proofs.Common.{◌-◌, FollowsFrom, AreOnTags}
 use Rattle.book.proofs.settling.settle_all.Given as goal
 
 abbrev pub invariant-loop-place : goal.invariant-loop-place

@@ -1,6 +1,4 @@
-use Rattle.std.proofs.Common.{subst, sym}
-use Rattle.srb.specs.declared.DeviceLabel.{DeviceLabel}
-use Rattle.book.specs.Rooms.{FollowsDevice}
+use Rattle.book.proofs.Common.{subst, sym, DeviceLabel, FollowsDevice}
 use Rattle.book.proofs.settling.settle_device.Goals as goal
 
 pub returns-in-Start-clause-follows : goal.returns-in-Start-clause-follows

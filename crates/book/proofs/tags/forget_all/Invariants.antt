@@ -1,5 +1,4 @@
-use Rattle.std.proofs.Common.{◌≡◌, ◌≤◌, ◌<◌, ℕ, length}
-use Rattle.book.specs.Arming.{Forgets, claimed_at}
+use Rattle.book.proofs.Common.{◌≡◌, ◌≤◌, ◌<◌, ℕ, length, Forgets, claimed_at}
 use Rattle.book.proofs.tags.forget_all.Given as goal
 
 abbrev pub invariant-loop-at : goal.invariant-loop-at

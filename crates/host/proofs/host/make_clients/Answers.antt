@@ -6,29 +6,29 @@ use Rattle.host.proofs.host.make_clients.Goals as goal
 
 pub new-account-requires-clause-handle : goal.new-account-requires-clause-handle
 new-account-requires-clause-handle g c =
-    let within : c.loop-c.c < length c.args.supplies.handles.items = search rules in
-    c.requires.handles.each c.loop-c.c c.index.result.now (slice_get_read c.args.supplies.handles.items (length c.args.supplies.handles.items) c.loop-c.c c.index.result.now refl within c.index.ensures)
+    let within : c.loop-c.c < length c.args.for_clients.handles.items = search rules in
+    c.requires.handles.each c.loop-c.c c.index.result.now (slice_get_read c.args.for_clients.handles.items (length c.args.for_clients.handles.items) c.loop-c.c c.index.result.now refl within c.index.ensures)
 
 pub invariant_of-push_reserved : goal.invariant_of-push_reserved
 invariant_of-push_reserved g c =
     let at = c.loop-c.invariant in
-    let seat = popped (IsOther g.N.Naming-3.marks) c.loop-c.seats.items c.pop.new.self.items c.pop.result c.in-Some-Some.seat c.in-Some-Some.is-0 c.pop.ensures.items at.are_seats in
-    let pass = popped (IsClientPass g.N.Naming-1.gate) c.loop-c.passes.items c.pop-in-loop-c.new.self.items c.pop-in-loop-c.result c.in-Some-Some.pass c.in-Some-Some.is-1 c.pop-in-loop-c.ensures.items at.are_passes in
-    subst (λ (h : HoldsView). ClientKept g.N.Naming-1.gate g.N.Naming-3.marks c.new-account.result h c.in-Some-Some.seat) (sym c.new-holds.ensures)
-    (new_client g.N.Naming-1.gate g.N.Naming-3.marks c.new-account.result c.in-Some-Some.pass c.in-Some-Some.seat pass.0 seat.0.0)
+    let seat = popped (IsOther g.N.TraceNaming.marks) c.loop-c.seats.items c.pop.new.self.items c.pop.result c.in-Some-Some.seat c.in-Some-Some.is-0 c.pop.ensures.items at.are_seats in
+    let pass = popped (IsClientPass g.N.HostNaming.gate) c.loop-c.passes.items c.pop-in-loop-c.new.self.items c.pop-in-loop-c.result c.in-Some-Some.pass c.in-Some-Some.is-1 c.pop-in-loop-c.ensures.items at.are_passes in
+    subst (λ (h : HoldsView). ClientKept g.N.HostNaming.gate g.N.TraceNaming.marks c.new-account.result h c.in-Some-Some.seat) (sym c.new-holds.ensures)
+    (new_client g.N.HostNaming.gate g.N.TraceNaming.marks c.new-account.result c.in-Some-Some.pass c.in-Some-Some.seat pass.0 seat.0.0)
 
 pub loop-c-preserved : goal.loop-c-preserved
 loop-c-preserved g c =
     let at = c.loop-c.invariant in
-    let seat = popped (IsOther g.N.Naming-3.marks) c.loop-c.seats.items c.pop.new.self.items c.pop.result c.in-Some-Some.seat c.in-Some-Some.is-0 c.pop.ensures.items at.are_seats in
-    let pass = popped (IsClientPass g.N.Naming-1.gate) c.loop-c.passes.items c.pop-in-loop-c.new.self.items c.pop-in-loop-c.result c.in-Some-Some.pass c.in-Some-Some.is-1 c.pop-in-loop-c.ensures.items at.are_passes in
+    let seat = popped (IsOther g.N.TraceNaming.marks) c.loop-c.seats.items c.pop.new.self.items c.pop.result c.in-Some-Some.seat c.in-Some-Some.is-0 c.pop.ensures.items at.are_seats in
+    let pass = popped (IsClientPass g.N.HostNaming.gate) c.loop-c.passes.items c.pop-in-loop-c.new.self.items c.pop-in-loop-c.result c.in-Some-Some.pass c.in-Some-Some.is-1 c.pop-in-loop-c.ensures.items at.are_passes in
     let seats = one_less c.loop-c.seats.items c.pop.new.self.items c.pop.result c.in-Some-Some.seat c.in-Some-Some.is-0 c.pop.ensures.items in
     let passes = one_less c.loop-c.passes.items c.pop-in-loop-c.new.self.items c.pop-in-loop-c.result c.in-Some-Some.pass c.in-Some-Some.is-1 c.pop-in-loop-c.ensures.items in
     let x : ClientView = record { client = c.new-account.result.share.client; called = c.new-account.result.called.list; answered = c.new-account.result.answered.list; pass = c.new-holds.result.pass.view; seat = c.in-Some-Some.seat.view } in
     let items : c.push_reserved.new.self.items ≡ c.loop-c.clients.items ++ x ∷ [] = ◌∙◌ {A = List ClientView} c.push_reserved.ensures.items (ap (λ (vs : List ClientView). vs ++ x ∷ []) c.reserve.ensures.items) in
     let are_fresh = subst (λ (vs : List ClientView). (k : ℕ) → k < c.loop-c.c + 1 → client_at vs k ≡ fresh k) (sym items)
     (fresh_more c.loop-c.clients.items x c.loop-c.c at.made at.are_fresh
-    (is_fresh g.N.Naming-1.gate g.N.Naming-3.marks c.loop-c.c c.index.result.now c.new-account.result c.new-holds.result.pass c.in-Some-Some.seat c.new-account.ensures (ap (λ (h : HoldsView). h.pass) c.new-holds.ensures ∙ pass.0) seat.0)) in
+    (is_fresh g.N.HostNaming.gate g.N.TraceNaming.marks c.loop-c.c c.index.result.now c.new-account.result c.new-holds.result.pass c.in-Some-Some.seat c.new-account.ensures (ap (λ (h : HoldsView). h.pass) c.new-holds.ensures ∙ pass.0) seat.0)) in
     record {
       whole = c.no_claims-in-loop-c.ensures.same ∙ c.no_claims.ensures.same ∙ at.whole;
       parts = (let p = at.parts in let s = c.split_off.ensures.parts_left in omega arith);

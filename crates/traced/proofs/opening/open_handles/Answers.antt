@@ -1,5 +1,4 @@
-use Rattle.std.proofs.Common.{rules, ◌≡◌, ◌+◌, ◌++◌, ◌∷◌, [], List, length, sym, ap, ◌∙◌, subst}
-use Rattle.std.proofs.lemmas.Option.{slice_get-get_or}
+use Rattle.traced.proofs.Common.{rules, ◌≡◌, ◌+◌, ◌++◌, ◌∷◌, [], List, length, sym, ap, ◌∙◌, subst, slice_get-get_or}
 use Rattle.io_manager.specs.declared.Handle.{Handle}
 use Rattle.traced.proofs.Clients.{WereOpened, opened_next, all_opened}
 use Rattle.traced.proofs.opening.open_handles.Goals as goal

@@ -1,5 +1,4 @@
-use Rattle.std.proofs.Common.{◌≡◌, replicate}
-use Rattle.traced.specs.Rows.{blank}
+use Rattle.traced.proofs.Common.{◌≡◌, replicate, blank}
 use Rattle.traced.proofs.row.empty_rows.Given as goal
 
 abbrev pub invariant-loop : goal.invariant-loop

@@ -1,5 +1,4 @@
-use Rattle.std.proofs.Common.{◌≤◌, length}
-use Rattle.traced.specs.inside.Slots.{AreEmptyFrom}
+use Rattle.traced.proofs.Common.{◌≤◌, length, AreEmptyFrom}
 use Rattle.traced.proofs.slots.end_below.Given as goal
 
 abbrev pub invariant-loop-left : goal.invariant-loop-left

@@ -1,7 +1,4 @@
-use Rattle.std.proofs.Common.{◌≤◌, ◌∙◌, length, sym, subst}
-use Rattle.std.specs.Prelude.{IsFalse, IsTrue}
-use Rattle.machine.specs.Rules.{Rules}
-use Rattle.traced.specs.Pages.{PagesView}
+use Rattle.traced.proofs.Common.{◌≤◌, ◌∙◌, length, sym, subst, IsFalse, IsTrue, Rules, LogView}
 use Rattle.traced.proofs.Arming.{nowhere_joined}
 use Rattle.traced.proofs.Booking.{may_note, open_given, sound_after, is_carried, no_call_noted, owners_more}
 use Rattle.traced.proofs.Telling.{Laws}
@@ -29,7 +26,7 @@ returns-clause-sound g c =
     let laws : Laws = record { rise = l.rise; count = l.count; await = l.waiting } in
     let a = c.arm_if_opened.ensures in
     let n = c.note_all.ensures in
-    sound_after laws _ _ _ _ _ _ _ _ _ _ _ _ c.requires.sound c.requires.client c.serve_right-reply.ensures.serves _ _ c.arm_if_opened.new.slots c.note_all.new.slots n.stack n.pages a.numbers n.numbers a.below n.below
+    sound_after laws _ _ _ _ _ _ _ _ _ _ _ _ c.requires.sound c.requires.client c.serve_right-reply.ensures.serves _ _ c.arm_if_opened.new.slots c.note_all.new.slots n.stack n.log a.numbers n.numbers a.below n.below
     c.requires.no_handle c.requires.room
 
 pub returns-clause-carried : goal.returns-clause-carried
@@ -38,12 +35,12 @@ returns-clause-carried g c =
     let laws : Laws = record { rise = l.rise; count = l.count; await = l.waiting } in
     let a = c.arm_if_opened.ensures in
     let n = c.note_all.ensures in
-    is_carried laws _ _ _ _ _ _ _ _ _ _ _ _ c.requires.sound c.requires.client c.serve_right-reply.ensures.serves _ _ c.arm_if_opened.new.slots c.note_all.new.slots n.stack n.pages a.numbers n.numbers a.below n.below
+    is_carried laws _ _ _ _ _ _ _ _ _ _ _ _ c.requires.sound c.requires.client c.serve_right-reply.ensures.serves _ _ c.arm_if_opened.new.slots c.note_all.new.slots n.stack n.log a.numbers n.numbers a.below n.below
     c.serve_right-reply.ensures.right (nowhere_joined _ _ _ a.looks n.looks)
 
 pub returns-clause-no_call : goal.returns-clause-no_call
-returns-clause-no_call g c = no_call_noted _ _ _ _ _ c.serve_right-reply.ensures.serves.calls c.note_all.ensures.pages
+returns-clause-no_call g c = no_call_noted _ _ _ _ _ c.serve_right-reply.ensures.serves.calls c.note_all.ensures.log
 
 pub returns-clause-more : goal.returns-clause-more
 returns-clause-more g c =
-    subst (λ (p : PagesView). length c.args.pages.now.owners ≤ length p.owners) (sym c.note_all.ensures.pages) (owners_more c.args.asked.client c.args.pages.now c.serve_right-reply.new.stack.labels)
+    subst (λ (p : LogView). length c.args.log.now.owners ≤ length p.owners) (sym c.note_all.ensures.log) (owners_more c.args.asked.client c.args.log.now c.serve_right-reply.new.stack.labels)

@@ -1,7 +1,5 @@
-use Rattle.std.proofs.Common.{◌≡◌, List, Some, ap, subst}
+use Rattle.book.proofs.Common.{◌≡◌, List, Some, ap, subst, Entered, BookView, ServesAfter, book_of}
 use Rattle.compose.specs.declared.Event.TheVariants.{Act}
-use Rattle.sector_journal.specs.declared.acted.Entered.{Entered}
-use Rattle.book.specs.Book.{BookView, ServesAfter, book_of}
 use Rattle.book.proofs.book.Book.act_failed.Goals as goal
 
 pub returns : goal.returns

@@ -1,6 +1,5 @@
-use Rattle.std.proofs.Common.{Some, subst}
+use Rattle.book.proofs.Common.{Some, subst, BookView, ServesAfter}
 use Rattle.compose.specs.declared.Event.TheVariants.{Act}
-use Rattle.book.specs.Book.{BookView, ServesAfter}
 use Rattle.book.proofs.book.Book.act_in.Goals as goal
 
 pub returns : goal.returns

@@ -1,6 +1,4 @@
-use Rattle.std.proofs.Common.{inr, length, subst}
-use Rattle.book.specs.Book.{BookView}
-use Rattle.book.specs.Rooms.{FailsAs}
+use Rattle.book.proofs.Common.{inr, length, subst, BookView, FailsAs}
 use Rattle.book.proofs.book.Book.failure_of.Goals as goal
 
 pub returns-clause-why : goal.returns-clause-why

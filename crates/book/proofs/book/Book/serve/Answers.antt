@@ -1,7 +1,5 @@
-use Rattle.std.proofs.Common.{None, refl, inl, subst, sym}
-use Rattle.compose.specs.declared.Event.{Event}
+use Rattle.book.proofs.Common.{None, refl, inl, subst, sym, Event, ServesAfter}
 use Rattle.compose.specs.declared.Event.TheVariants.{Act}
-use Rattle.book.specs.Book.{ServesAfter}
 use Rattle.book.proofs.Stepping.{after_any}
 use Rattle.book.proofs.book.Book.serve.Goals as goal
 

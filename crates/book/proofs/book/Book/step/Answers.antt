@@ -1,7 +1,4 @@
-use Rattle.std.proofs.Common.{◌≡◌, List, None, ap, subst}
-use Rattle.sector_journal.specs.declared.acted.Entered.{Entered}
-use Rattle.traced.proofs.Booking.{served_wants}
-use Rattle.book.specs.Book.{BookView, CallsAfter, ServesAfter, book_of}
+use Rattle.book.proofs.Common.{◌≡◌, List, None, ap, subst, Entered, served_wants, BookView, CallsAfter, ServesAfter, book_of}
 use Rattle.book.proofs.Stepping.{after_wants}
 use Rattle.book.proofs.book.Book.step.Goals as goal
 

@@ -1,5 +1,4 @@
-use Rattle.std.proofs.Common.{◌≡◌, ◌≤◌, None, replicate, vec_len}
-use Rattle.std.specs.Vec.{vec_capacity}
+use Rattle.book.proofs.Common.{◌≡◌, ◌≤◌, None, replicate, vec_len, vec_capacity}
 use Rattle.book.proofs.tags.Tags.new.Given as goal
 
 abbrev pub invariant-loop : goal.invariant-loop

@@ -1,6 +1,4 @@
-use Rattle.std.proofs.Common.{List, subst}
-use Rattle.sector_journal.specs.declared.acted.Entered.{Entered}
-use Rattle.book.specs.Taken.{BeginsWith, entries_claimed}
+use Rattle.book.proofs.Common.{List, subst, Entered, BeginsWith, entries_claimed}
 use Rattle.book.proofs.Numbered.{begins}
 use Rattle.book.proofs.taken.Taken.check.Goals as goal
 

@@ -3,5 +3,5 @@ use Rattle.host.proofs.account.Account.issue_and_note.Goals as goal
 
 pub returns-clause-was_open : goal.returns-clause-was_open
 returns-clause-was_open g c =
-    was_open g.N.Naming-3.rules g.N.Naming-3.start g.N.Naming-3.partitions g.N.Naming-3.handles c.issue_in-issued.new.book.traced c.issue_in-issued.result c.shows_whole.ensures
+    was_open g.N.TraceNaming.rules g.N.TraceNaming.start g.N.TraceNaming.partitions g.N.TraceNaming.handles c.issue_in-issued.new.book.traced c.issue_in-issued.result c.shows_whole.ensures
     c.issue_in-issued.ensures.stands c.issue_in-issued.ensures.held

@@ -13,30 +13,30 @@ refusal_of why bytes places = record { reason = Refused why; bytes = bytes; plac
 
 -- what the book tells of the call, by its reply
 told : (g : _) (c : After-note-claim g) (reply : Reply) → c.carry_call-reply.result.0 ≡ reply
-    → IsTold g.N.Naming-3.slots c.self.inside.share c.carry_call-reply.new.share (request_of (slice_index_or g.N.Naming-3.partitions c.self.inside.share.client 0) c.args.call) (buffer_of c.args.call) c.carry_call-reply.new.book.traced reply (Some c.in-Some.place)
+    → IsTold g.N.TraceNaming.slots c.self.inside.share c.carry_call-reply.new.share (request_of (slice_index_or g.N.TraceNaming.partitions c.self.inside.share.client 0) c.args.call) (buffer_of c.args.call) c.carry_call-reply.new.book.traced reply (Some c.in-Some.place)
 told g c reply is =
-    let q : ClientRequest = request_of (slice_index_or g.N.Naming-3.partitions c.self.inside.share.client 0) c.args.call in
-    let tells : Reply → Option ℕ → Type 0 = IsTold g.N.Naming-3.slots c.self.inside.share c.carry_call-reply.new.share q (buffer_of c.args.call) c.carry_call-reply.new.book.traced in
+    let q : ClientRequest = request_of (slice_index_or g.N.TraceNaming.partitions c.self.inside.share.client 0) c.args.call in
+    let tells : Reply → Option ℕ → Type 0 = IsTold g.N.TraceNaming.slots c.self.inside.share c.carry_call-reply.new.share q (buffer_of c.args.call) c.carry_call-reply.new.book.traced in
     subst (λ (r : Reply). tells r (Some c.in-Some.place)) is (subst (tells c.carry_call-reply.result.0) c.in-Some.is c.carry_call-reply.ensures.told)
 
 -- the receipt of the call, above all before
 call_noted : (g : _) (c : After-note-claim g) (number : ℕ) (q : ClientRequest) → Stands c.carry_call-reply.new.book.traced.entries c.in-Some.place (CallLabel number q) c.self.inside.share.client
     → HasCounted c.self.inside.share 1 c.carry_call-reply.new.share
-    → IsReceived g.N.Naming-3.handles g.N.Naming-3.partitions c.self.inside.share c.carry_call-reply.new.share c.self.inside.called.list c.note-claim.new.self.list c.self.inside.answered.list c.check-2.new.self.list c.note-claim.result c.in-Some.place number q
+    → IsReceived g.N.TraceNaming.handles g.N.TraceNaming.partitions c.self.inside.share c.carry_call-reply.new.share c.self.inside.called.list c.note-claim.new.self.list c.self.inside.answered.list c.check-2.new.self.list c.note-claim.result c.in-Some.place number q
 call_noted g c number q stands counted =
     let late = subst (λ (p : Option ℕ). IfSome p (λ at. length c.check-2.new.book.traced.entries ≤ at)) c.in-Some.is c.carry_call-reply.ensures.late in
-    received g.N.Naming-3.handles g.N.Naming-3.partitions c.self.inside.share c.carry_call-reply.new.share c.self.inside.called c.check.new.self c.note-claim.new.self c.self.inside.answered c.check-2.new.self c.note-claim.result c.args.book.now.traced.entries c.check.new.book.traced.entries c.check-2.new.book.traced.entries c.carry_call-reply.new.book.traced.entries c.in-Some.place number q
+    received g.N.TraceNaming.handles g.N.TraceNaming.partitions c.self.inside.share c.carry_call-reply.new.share c.self.inside.called c.check.new.self c.note-claim.new.self c.self.inside.answered c.check-2.new.self c.note-claim.result c.args.book.now.traced.entries c.check.new.book.traced.entries c.check-2.new.book.traced.entries c.carry_call-reply.new.book.traced.entries c.in-Some.place number q
     c.self.invariant c.check.ensures.stand (ap (λ (b : BookView). b.traced.entries) c.check.ensures.same.0) c.check.ensures.same.1 c.check-2.ensures.stand (ap (λ (b : BookView). b.traced.entries) c.check-2.ensures.same.0) c.check-2.ensures.same.1 late stands counted c.note-claim.ensures.entry c.note-claim.ensures.noted
 
 -- the call is taken in
 call_taken : (g : _) (c : After-note-claim g) (number : ℕ) (slot : Option ℕ)
-    → Stands c.carry_call-reply.new.book.traced.entries c.in-Some.place (CallLabel number (told_request slot (request_of (slice_index_or g.N.Naming-3.partitions c.self.inside.share.client 0) c.args.call))) c.self.inside.share.client
+    → Stands c.carry_call-reply.new.book.traced.entries c.in-Some.place (CallLabel number (told_request slot (request_of (slice_index_or g.N.TraceNaming.partitions c.self.inside.share.client 0) c.args.call))) c.self.inside.share.client
     → HasCounted c.self.inside.share 1 c.carry_call-reply.new.share
-    → IsCalled (slice_index_or g.N.Naming-3.partitions c.args.self.now.share.client 0) c.args.self.now (record { client = c.client-client.result; number = number; place = c.in-Some.place; slot = slot; call = c.note-claim.result }) c.args.call
+    → IsCalled (slice_index_or g.N.TraceNaming.partitions c.args.self.now.share.client 0) c.args.self.now (record { client = c.client-client.result; number = number; place = c.in-Some.place; slot = slot; call = c.note-claim.result }) c.args.call
     (record { share = c.carry_call-reply.new.share; called = c.note-claim.new.self; answered = c.check-2.new.self })
 call_taken g c number slot stands counted =
     let r = call_noted g c _ _ stands counted in
-    called_view g.N.Naming-3.partitions _ _ _ c.args.call _ c.self.view_is
+    called_view g.N.TraceNaming.partitions _ _ _ c.args.call _ c.self.view_is
     (record { client = c.client-client.ensures.number; receipt_is = r.claim_is; above_calls = r.above_calls; above_answers = r.above_answers; same_client = counted.client; called = r.list; answered = c.check-2.ensures.same.1 })
 
 -- where a label stands right behind the call, there is an entry
@@ -45,11 +45,11 @@ behind_within g c label stands = stands_within c.carry_call-reply.new.book.trace
 
 -- the receipt of the answer by which the book refused the call
 refusal_noted : (g : _) (c : After-note g) (number : ℕ)
-    → IsAnsweredAtOnce c.self.inside.share c.carry_call-reply.new.share (request_of (slice_index_or g.N.Naming-3.partitions c.self.inside.share.client 0) c.args.call) c.carry_call-reply.new.book.traced.entries number (AnswerLabel number (status_of_refusal c.in-Refused-reply.refusal) 0 []) c.in-Some.place
-    → IsAnswerReceived g.N.Naming-3.handles g.N.Naming-3.partitions c.self.inside.share.client c.carry_call-reply.new.share c.note-claim.new.self.list c.check-2.new.self.list c.note.new.self.list c.note.result (c.in-Some.place + 1) (AnswerLabel number (status_of_refusal c.in-Refused-reply.refusal) 0 [])
+    → IsAnsweredAtOnce c.self.inside.share c.carry_call-reply.new.share (request_of (slice_index_or g.N.TraceNaming.partitions c.self.inside.share.client 0) c.args.call) c.carry_call-reply.new.book.traced.entries number (AnswerLabel number (status_of_refusal c.in-Refused-reply.refusal) 0 []) c.in-Some.place
+    → IsAnswerReceived g.N.TraceNaming.handles g.N.TraceNaming.partitions c.self.inside.share.client c.carry_call-reply.new.share c.note-claim.new.self.list c.check-2.new.self.list c.note.new.self.list c.note.result (c.in-Some.place + 1) (AnswerLabel number (status_of_refusal c.in-Refused-reply.refusal) 0 [])
 refusal_noted g c number t =
     let r = call_noted g (goal.at.After-note g c).After-note-claim _ _ t.called t.counted in
-    answer_received g.N.Naming-3.handles g.N.Naming-3.partitions c.self.inside.share c.carry_call-reply.new.share c.note-claim.new.self.list c.check-2.new.self c.note.new.self c.note.result c.carry_call-reply.new.book.traced.entries c.note-claim.new.book.traced.entries (c.in-Some.place + 1) (AnswerLabel number (status_of_refusal c.in-Refused-reply.refusal) 0 [])
+    answer_received g.N.TraceNaming.handles g.N.TraceNaming.partitions c.self.inside.share c.carry_call-reply.new.share c.note-claim.new.self.list c.check-2.new.self c.note.new.self c.note.result c.carry_call-reply.new.book.traced.entries c.note-claim.new.book.traced.entries (c.in-Some.place + 1) (AnswerLabel number (status_of_refusal c.in-Refused-reply.refusal) 0 [])
     r.kept t.counted.client (ap (λ (b : BookView). b.traced.entries) c.note-claim.ensures.book) t.answered tt c.note.ensures.entry c.note.ensures.noted
 
 pub invariant_of-self-in-Request : goal.invariant_of-self-in-Request
@@ -117,8 +117,8 @@ returns-in-Refused-reply-clause-refused g c =
     let rooms = ap (λ (v : ReceiptsView). v.room) c.note.ensures.noted in
     let same = ap (λ (v : ReceiptsView). v.room) c.check-2.ensures.same.1 in
     let is : c.of_stack-in-Refused-reply.result ≡ refusal = c.of_stack-in-Refused-reply.ensures ∙ ap (λ (p : Places). refusal_of c.in-Refused-reply.refusal c.in-Refused-reply.bytes (Some p)) c.at_once-places.ensures in
-    subst (λ (r : Refusal). IsTurnedDown (slice_index_or g.N.Naming-3.partitions c.args.self.now.share.client 0) c.args.self.now c.args.call r new) (sym is)
-    (subst (λ (v : AccountView). IsTurnedDown (slice_index_or g.N.Naming-3.partitions v.share.client 0) v c.args.call refusal new) c.self.view_is
+    subst (λ (r : Refusal). IsTurnedDown (slice_index_or g.N.TraceNaming.partitions c.args.self.now.share.client 0) c.args.self.now c.args.call r new) (sym is)
+    (subst (λ (v : AccountView). IsTurnedDown (slice_index_or g.N.TraceNaming.partitions v.share.client 0) v c.args.call refusal new) c.self.view_is
     (record {
       bytes = t.0;
       same_client = t.1.1.counted.client;

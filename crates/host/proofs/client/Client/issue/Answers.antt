@@ -4,34 +4,34 @@ use Rattle.host.proofs.client.Client.issue.Goals as goal
 
 pub invariant_of-self-in-Err : goal.invariant_of-self-in-Err
 invariant_of-self-in-Err g c =
-    kept_without g.N.Naming-1.gate g.N.Naming-3.marks c.self.inside.account c.make_places.new.self c.self.inside.holds c.take.new.self c.self.inside.seat c.self.invariant
+    kept_without g.N.HostNaming.gate g.N.TraceNaming.marks c.self.inside.account c.make_places.new.self c.self.inside.holds c.take.new.self c.self.inside.seat c.self.invariant
     c.take.ensures.gate c.take.ensures.out c.in-Err.reason c.make_places.ensures.no_less c.in-Err.ensures.refused
 
 pub returns-in-Err-clause-refused : goal.returns-in-Err-clause-refused
 returns-in-Err-clause-refused g c =
-    refused_early g.N.Naming-3.partitions c.args.call c.self.inside.account c.make_places.new.self c.self.inside.holds c.take.new.self c.self.inside.seat.view c.args.self.now c.self.view_is
+    refused_early g.N.TraceNaming.partitions c.args.call c.self.inside.account c.make_places.new.self c.self.inside.holds c.take.new.self c.self.inside.seat.view c.args.self.now c.self.view_is
     c.make_places.ensures.share c.make_places.ensures.lists.0 c.make_places.ensures.lists.1 c.in-Err.reason c.refused-in-Err.result c.self.invariant.quota c.in-Err.ensures.refused c.refused-in-Err.ensures
 
 pub invariant_of-self-in-Ok-issued : goal.invariant_of-self-in-Ok-issued
 invariant_of-self-in-Ok-issued g c =
-    let called = if_ok (λ t. IsCalled (partition_of g.N.Naming-3.partitions c.make_places.new.self.share.client) c.make_places.new.self t c.args.call c.issue_and_note-issued.new.self) c.issue_and_note-issued.result.0 c.in-Ok-issued.ticket c.in-Ok-issued.is c.issue_and_note-issued.ensures.issued in
-    kept_out g.N.Naming-1.gate g.N.Naming-3.marks c.self.inside.account c.make_places.new.self c.self.inside.holds c.take.new.self c.self.inside.seat c.self.invariant
+    let called = if_ok (λ t. IsCalled (partition_of g.N.TraceNaming.partitions c.make_places.new.self.share.client) c.make_places.new.self t c.args.call c.issue_and_note-issued.new.self) c.issue_and_note-issued.result.0 c.in-Ok-issued.ticket c.in-Ok-issued.is c.issue_and_note-issued.ensures.issued in
+    kept_out g.N.HostNaming.gate g.N.TraceNaming.marks c.self.inside.account c.make_places.new.self c.self.inside.holds c.take.new.self c.self.inside.seat c.self.invariant
     c.take.ensures.gate c.take.ensures.out c.out.result c.out.ensures c.in-Ok.ensures.room.1 c.in-Ok-take.ensures.held c.issue_and_note-issued.new.self c.give_out.new.self c.give_out.ensures.pass c.give_out.ensures.out called.answered
 
 pub invariant_of-self-in-Err-issued : goal.invariant_of-self-in-Err-issued
 invariant_of-self-in-Err-issued g c =
-    let refused = if_err (λ e. IsTurnedDown (partition_of g.N.Naming-3.partitions c.make_places.new.self.share.client) c.make_places.new.self c.args.call e c.issue_and_note-issued.new.self) c.issue_and_note-issued.result.0 c.in-Err-issued.refusal c.in-Err-issued.is c.issue_and_note-issued.ensures.refused in
-    kept_back g.N.Naming-1.gate g.N.Naming-3.marks c.self.inside.account c.make_places.new.self c.self.inside.holds c.take.new.self c.self.inside.seat c.self.invariant
+    let refused = if_err (λ e. IsTurnedDown (partition_of g.N.TraceNaming.partitions c.make_places.new.self.share.client) c.make_places.new.self c.args.call e c.issue_and_note-issued.new.self) c.issue_and_note-issued.result.0 c.in-Err-issued.refusal c.in-Err-issued.is c.issue_and_note-issued.ensures.refused in
+    kept_back g.N.HostNaming.gate g.N.TraceNaming.marks c.self.inside.account c.make_places.new.self c.self.inside.holds c.take.new.self c.self.inside.seat c.self.invariant
     c.take.ensures.gate c.take.ensures.out c.out.result c.out.ensures c.in-Ok.ensures.room.1 c.in-Ok-take.ensures.held c.issue_and_note-issued.new.self c.take_back.new.self c.take_back.ensures.gate c.take_back.ensures.out c.take_back.ensures.back refused.room
 
 pub returns-in-Ok-issued-clause-issued : goal.returns-in-Ok-issued-clause-issued
 returns-in-Ok-issued-clause-issued g c =
-    let called = if_ok (λ t. IsCalled (partition_of g.N.Naming-3.partitions c.make_places.new.self.share.client) c.make_places.new.self t c.args.call c.issue_and_note-issued.new.self) c.issue_and_note-issued.result.0 c.in-Ok-issued.ticket c.in-Ok-issued.is c.issue_and_note-issued.ensures.issued in
-    issued g.N.Naming-3.partitions c.args.call c.self.inside.account c.make_places.new.self c.self.inside.holds c.take.new.self c.self.inside.seat.view c.args.self.now c.self.view_is
+    let called = if_ok (λ t. IsCalled (partition_of g.N.TraceNaming.partitions c.make_places.new.self.share.client) c.make_places.new.self t c.args.call c.issue_and_note-issued.new.self) c.issue_and_note-issued.result.0 c.in-Ok-issued.ticket c.in-Ok-issued.is c.issue_and_note-issued.ensures.issued in
+    issued g.N.TraceNaming.partitions c.args.call c.self.inside.account c.make_places.new.self c.self.inside.holds c.take.new.self c.self.inside.seat.view c.args.self.now c.self.view_is
     c.make_places.ensures.share c.make_places.ensures.lists.0 c.make_places.ensures.lists.1 c.issue_and_note-issued.new.self c.give_out.new.self c.in-Ok-take.ensures.held c.in-Ok-issued.ticket called c.give_out.ensures.pass
 
 pub returns-in-Err-issued-clause-refused : goal.returns-in-Err-issued-clause-refused
 returns-in-Err-issued-clause-refused g c =
-    let refused = if_err (λ e. IsTurnedDown (partition_of g.N.Naming-3.partitions c.make_places.new.self.share.client) c.make_places.new.self c.args.call e c.issue_and_note-issued.new.self) c.issue_and_note-issued.result.0 c.in-Err-issued.refusal c.in-Err-issued.is c.issue_and_note-issued.ensures.refused in
-    refused_late g.N.Naming-3.partitions c.args.call c.self.inside.account c.make_places.new.self c.self.inside.holds c.take.new.self c.self.inside.seat.view c.args.self.now c.self.view_is
+    let refused = if_err (λ e. IsTurnedDown (partition_of g.N.TraceNaming.partitions c.make_places.new.self.share.client) c.make_places.new.self c.args.call e c.issue_and_note-issued.new.self) c.issue_and_note-issued.result.0 c.in-Err-issued.refusal c.in-Err-issued.is c.issue_and_note-issued.ensures.refused in
+    refused_late g.N.TraceNaming.partitions c.args.call c.self.inside.account c.make_places.new.self c.self.inside.holds c.take.new.self c.self.inside.seat.view c.args.self.now c.self.view_is
     c.make_places.ensures.share c.make_places.ensures.lists.0 c.make_places.ensures.lists.1 c.issue_and_note-issued.new.self c.take_back.new.self c.in-Ok-take.ensures.held c.in-Err-issued.refusal refused c.take_back.ensures.back

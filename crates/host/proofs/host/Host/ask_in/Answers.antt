@@ -8,7 +8,7 @@ pub unreachable-requires : goal.unreachable-requires
 unreachable-requires g c =
     let new : TracedView = c.begin-reply.new.book.traced in
     let stepped = c.begin-reply.ensures.stepped in
-    let before = goes_before c.laws_of_numbers.ensures.count g.N.Naming-3.slots c.args.book.now stepped.marked (event_of c.args.minor) c.begin-reply.result.0 c.begin-reply.new.book (is_keepers c.args.minor (event_of c.args.minor) refl).0 stepped.looks stepped.serves in
+    let before = goes_before c.laws_of_numbers.ensures.count g.N.TraceNaming.slots c.args.book.now stepped.marked (event_of c.args.minor) c.begin-reply.result.0 c.begin-reply.new.book (is_keepers c.args.minor (event_of c.args.minor) refl).0 stepped.looks stepped.serves in
     let none = subst (λ (n : Notice). HasNone n c.begin-reply.result.1 new.entries) c.notice.ensures c.in_default-claim_notice.ensures.none in
     begun_stands c.args.minor c.args.book.now.traced before.mid new c.begin-reply.result.0 before.still before.served c.in-Ok.is
     (subst (λ (n : ℕ). HasNone (notice_of c.args.minor) n new.entries) c.begin-reply.ensures.from none)

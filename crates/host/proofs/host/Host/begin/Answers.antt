@@ -15,8 +15,8 @@ step_in-reply-requires g c = let k = is_keepers c.args.minor c.event.result c.ev
 
 pub returns-clause-stepped : goal.returns-clause-stepped
 returns-clause-stepped g c =
-    let stepped = subst (λ (b : BookView). IsStepped g.N.Naming-3.slots None (inl tt) b c.event.result c.step_in-reply.result c.step_in-reply.new.book) c.check.ensures.same.0 c.step_in-reply.ensures.stepped in
-    subst (λ (e : Event). IsStepped g.N.Naming-3.slots None (inl tt) c.args.book.now e c.step_in-reply.result c.step_in-reply.new.book) c.event.ensures stepped
+    let stepped = subst (λ (b : BookView). IsStepped g.N.TraceNaming.slots None (inl tt) b c.event.result c.step_in-reply.result c.step_in-reply.new.book) c.check.ensures.same.0 c.step_in-reply.ensures.stepped in
+    subst (λ (e : Event). IsStepped g.N.TraceNaming.slots None (inl tt) c.args.book.now e c.step_in-reply.result c.step_in-reply.new.book) c.event.ensures stepped
 
 pub returns-clause-reply : goal.returns-clause-reply
 returns-clause-reply g c = subst (λ (e : Event). IsReplyTo e c.step_in-reply.result) c.event.ensures c.step_in-reply.ensures.reply

@@ -5,7 +5,7 @@ use Rattle.host.proofs.host.Host.new.Goals as goal
 pub new-table-requires-clause-named : goal.new-table-requires-clause-named
 new-table-requires-clause-named g c =
     let named = c.opened.view_is ∙ c.requires.named in
-    marks_are c.opened.inside.marks g.N.Naming-3.marks g.N.Naming-3.slots (ap (λ (v : Names). v.marks) named) (c.opened.invariant.slots_is ∙ ap (λ (v : Names). v.slots) named)
+    marks_are c.opened.inside.marks g.N.TraceNaming.marks g.N.TraceNaming.slots (ap (λ (v : Names). v.marks) named) (c.opened.invariant.slots_is ∙ ap (λ (v : Names). v.slots) named)
 
 pub new-table-requires-clause-slots : goal.new-table-requires-clause-slots
 new-table-requires-clause-slots g c =

@@ -1,7 +1,5 @@
 use Rattle.std.proofs.Common.{MatchOption, subst}
-use Rattle.adapter.specs.Calls.{HasNoneFresh}
-use Rattle.adapter.specs.Booking.{IsArmed}
-use Rattle.traced.specs.Traced.{TracedView}
+use Rattle.traced.proofs.Common.{HasNoneFresh, IsArmed, TracedView}
 use Rattle.traced.proofs.traced.Traced.armed.Goals as goal
 
 pub returns : goal.returns

@@ -4,9 +4,9 @@ use Rattle.traced.proofs.traced.Traced.new.Goals as goal
 
 pub invariant_of-result : goal.invariant_of-result
 invariant_of-result g c =
-    let made = c.in_ok-pages.ensures in
+    let made = c.in_ok-log.ensures in
     record {
-      sound = sound_first _ _ _ _ _ _ _ c.requires.named c.requires.first made.pages.0 made.pages.1 made.pages.2 _ c.requires.count.1 made.numbers made.owner;
+      sound = sound_first _ _ _ _ _ _ _ c.requires.named c.requires.first made.log.0 made.log.1 made.log.2 _ c.requires.count.1 made.numbers made.owner;
       tally = search rules;
       clients = c.requires.handles;
       same_sizes = c.requires.sizes.0;

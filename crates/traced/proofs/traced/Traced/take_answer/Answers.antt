@@ -1,7 +1,4 @@
-use Rattle.std.proofs.Common.{subst}
-use Rattle.std.specs.Prelude.{Contains, IfSome}
-use Rattle.io_manager.specs.Right.{as_answer}
-use Rattle.traced.specs.Traced.{TracedView}
+use Rattle.traced.proofs.Common.{subst, Contains, IfSome, as_answer, TracedView}
 use Rattle.traced.specs.Entries.{labels_of}
 use Rattle.traced.proofs.Booking.{sound_taken, stands_if}
 use Rattle.traced.proofs.traced.Traced.take_answer.Goals as goal

@@ -1,6 +1,6 @@
 use Rattle.std.proofs.Common.{ap, ◌∙◌}
 use Rattle.traced.proofs.Finding.{all_within, not_called, is_found}
-use Rattle.traced.proofs.pages.Pages.answer_place.Goals as goal
+use Rattle.traced.proofs.trace_log.TraceLog.answer_place.Goals as goal
 
 pub returns-in_err-client : goal.returns-in_err-client
 returns-in_err-client g c = rw c.from_residual.ensures (not_called _ _ _ c.shows_rows.ensures c.in_err-client.ensures)

@@ -1,11 +1,11 @@
--- What a page of the trace keeps.
+-- What the log of a trace keeps.
 use Rattle.std.specs.Prelude.{◌≡◌, ◌<◌, ◌≤◌, ℕ, ◌+◌, List, Option, Some, None, length}
 use Rattle.machine.specs.declared.Label.{Label}
 use Rattle.machine.specs.declared.Label.TheVariants.{Call, Answer}
 use Rattle.traced.specs.declared.TraceEntry.{TraceEntry}
 use Rattle.traced.specs.Entries.{owner_of, WasCalled, count_of, is_call_of, is_answer_of}
 use Rattle.traced.specs.Rows.{RowView, row_at}
-use Rattle.traced.specs.Pages.{PagesView, AreKept}
+use Rattle.traced.specs.Log.{LogView, AreKept}
 
 -- a call of this row is not answered yet
 abbrev pub IsAwaited : List TraceEntry → ℕ → Type 0
@@ -13,7 +13,7 @@ IsAwaited entries c = count_of (is_answer_of c) entries < count_of (is_call_of c
 
 -- the label may come next: a call of the next number, by a client whose places are there, or an answer to a request
 -- whose row awaits one
-abbrev pub MayNote : ℕ → ℕ → PagesView → Label → Type 0
+abbrev pub MayNote : ℕ → ℕ → LogView → Label → Type 0
 MayNote clients client p (Call number q) = (number ≡ length p.owners + 1) × (client < clients) × (p.ready ≡ Some client)
 MayNote clients client p (Answer number status informed bytes) =
     WasCalled p.owners number × ((c : ℕ) → owner_of p.owners number ≡ Some c → IsAwaited p.entries c)
@@ -35,7 +35,7 @@ IsNext owners (Call number q) = number ≡ length owners + 1
 IsNext owners (Answer number status informed bytes) = WasCalled owners number
 IsNext owners _ = Unit {0}
 
--- the trace and the rows of these pages
-pub record ArePages (clients : ℕ) (p : PagesView) (trace : List TraceEntry) (rows : List RowView) : Type 0 where
+-- the trace and the rows of these log
+pub record IsLog (clients : ℕ) (p : LogView) (trace : List TraceEntry) (rows : List RowView) : Type 0 where
   pub stored : trace ≡ p.entries
   pub kept : AreKept clients p.entries p.owners rows

@@ -8,7 +8,7 @@ use Rattle.traced.specs.Rows.{RowView, IsRowAt}
 
 -- what there is of a trace: its entries, the clients of all requests by number, how many more labels there is room for,
 -- and the client that has the places for a call
-pub record PagesView : Type 0 where
+pub record LogView : Type 0 where
   pub entries : List TraceEntry
   pub owners : List ℕ
   pub room : ℕ
@@ -24,8 +24,8 @@ abbrev pub ready_after : Option ℕ → Label → Option ℕ
 ready_after ready (Call number q) = None
 ready_after ready _ = ready
 
--- the pages after one more label: a call is by the client
-abbrev pub noted : ℕ → PagesView → Label → PagesView
+-- the log after one more label: a call is by the client
+abbrev pub noted : ℕ → LogView → Label → LogView
 noted client p label = record {
   entries = p.entries ++ entry label (row_of (owners_after client p.owners label) label) ∷ [];
   owners = owners_after client p.owners label;
@@ -33,7 +33,7 @@ noted client p label = record {
   ready = ready_after p.ready label;
 }
 
-abbrev pub noted_all : ℕ → PagesView → List Label → PagesView
+abbrev pub noted_all : ℕ → LogView → List Label → LogView
 noted_all client p [] = p
 noted_all client p (label ∷ labels) = noted_all client (noted client p label) labels
 

@@ -1,20 +1,17 @@
-use Rattle.std.proofs.Common.{rules, ◌≡◌, ◌-◌, false, sym, ap, subst, length, vec_len, vec_capacity}
-use Rattle.traced.specs.Entries.{is_call}
-use Rattle.traced.specs.Pages.{PagesView}
-use Rattle.traced.specs.inside.Pages.{MayNote}
+use Rattle.traced.proofs.Common.{rules, ◌≡◌, ◌-◌, false, sym, ap, subst, length, vec_len, vec_capacity, is_call, LogView, MayNote}
 use Rattle.traced.proofs.Noting.{stands, keeps, stays_ready}
-use Rattle.traced.proofs.pages.Pages.note.Goals as goal
+use Rattle.traced.proofs.trace_log.TraceLog.note.Goals as goal
 
 pub note_place-requires : goal.note_place-requires
 note_place-requires g c =
-    let p : PagesView = record { entries = c.self.inside.trace.items; owners = c.self.inside.owners.items; room = c.self.inside.room; ready = c.self.inside.ready } in
-    let may = subst (λ (p : PagesView). MayNote (length g.N.Naming-1.partitions) c.args.client p c.args.label) (sym c.self.view_is) c.requires.may in
+    let p : LogView = record { entries = c.self.inside.trace.items; owners = c.self.inside.owners.items; room = c.self.inside.room; ready = c.self.inside.ready } in
+    let may = subst (λ (p : LogView). MayNote (length g.N.TraceNaming.partitions) c.args.client p c.args.label) (sym c.self.view_is) c.requires.may in
     stands _ _ _ p _ _ c.self.invariant.kept c.self.invariant.ready may _ _ c.note_owner-row.ensures.owners c.note_owner-row.ensures.row
 
 pub invariant_of-self : goal.invariant_of-self
 invariant_of-self g c =
-    let p : PagesView = record { entries = c.self.inside.trace.items; owners = c.self.inside.owners.items; room = c.self.inside.room; ready = c.self.inside.ready } in
-    let may = subst (λ (p : PagesView). MayNote (length g.N.Naming-1.partitions) c.args.client p c.args.label) (sym c.self.view_is) c.requires.may in
+    let p : LogView = record { entries = c.self.inside.trace.items; owners = c.self.inside.owners.items; room = c.self.inside.room; ready = c.self.inside.ready } in
+    let may = subst (λ (p : LogView). MayNote (length g.N.TraceNaming.partitions) c.args.client p c.args.label) (sym c.self.view_is) c.requires.may in
     let kept = c.self.invariant.kept in
     let ready = c.self.invariant.ready in
     let owners = c.note_owner-row.ensures.owners in

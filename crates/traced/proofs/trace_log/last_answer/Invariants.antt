@@ -1,6 +1,5 @@
-use Rattle.std.proofs.Common.{◌≤◌, length}
-use Rattle.traced.specs.inside.Entries.{HasNoAnswer}
-use Rattle.traced.proofs.pages.last_answer.Given as goal
+use Rattle.traced.proofs.Common.{◌≤◌, length, HasNoAnswer}
+use Rattle.traced.proofs.trace_log.last_answer.Given as goal
 
 abbrev pub invariant-loop-left : goal.invariant-loop-left
 invariant-loop-left l = record { within : l.left ≤ length l.row; none : HasNoAnswer l.number l.trace l.row l.left }

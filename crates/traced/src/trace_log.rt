@@ -5,12 +5,12 @@ ghost use Rattle.chronicle.specs.Claims.{AllStand};
 ghost use Rattle.traced.specs.declared.TraceEntry.{TraceEntry};
 ghost use Rattle.traced.specs.Entries.{AreRowed, IsAnswerAt, IsAnswerTo, IsNoAnswerTo, WasCalled, is_call, labels_of, owner_of, places, row_of};
 ghost use Rattle.traced.specs.inside.Entries.{HasNoAnswer};
-ghost use Rattle.traced.specs.Pages.{owners_after, noted, ready_after};
-ghost use Rattle.traced.specs.inside.Pages.{ArePages, IsNext, MayNote};
+ghost use Rattle.traced.specs.Log.{owners_after, noted, ready_after};
+ghost use Rattle.traced.specs.inside.Log.{IsLog, IsNext, MayNote};
 ghost use Rattle.traced.specs.inside.Rows.{MayStand, rows_after};
 
 use crate::TraceEntry;
-use crate::name::Naming;
+use crate::name::TraceNaming;
 use crate::row::{Row, empty_rows};
 use chronicle::{Claims, History, Whole};
 use machine::Label;
@@ -19,7 +19,7 @@ use std::marker::Model;
 
 /// The trace and the rows of all clients, with room for more.
 #[derive(Drop)]
-pub(crate) struct Pages<N: Naming> {
+pub(crate) struct TraceLog<N: TraceNaming> {
     trace: Vec<TraceEntry>,
     // the clients of all requests, by number from 1
     owners: Vec<usize>,
@@ -31,12 +31,12 @@ pub(crate) struct Pages<N: Naming> {
     whole: Whole<TraceEntry, N>,
 }
 
-impl<N: Naming> Model for Pages<N> {
+impl<N: TraceNaming> Model for TraceLog<N> {
     ghost use Rattle.std.specs.Prelude.{◌≡◌, ◌+◌, ◌-◌, ◌≤◌, length, vec_len, vec_capacity};
-    ghost use Rattle.traced.specs.Pages.{AreKept, PagesView};
-    ghost use Rattle.traced.specs.inside.Pages.{IsReady};
+    ghost use Rattle.traced.specs.Log.{AreKept, LogView};
+    ghost use Rattle.traced.specs.inside.Log.{IsReady};
 
-    ghost Value = { PagesView };
+    ghost Value = { LogView };
 
     ghost view = { λ p. record { entries = p.trace.items; owners = p.owners.items; room = p.room; ready = p.ready } };
 
@@ -48,19 +48,19 @@ impl<N: Naming> Model for Pages<N> {
     } };
 }
 
-impl<N: Naming> Pages<N> {
+impl<N: TraceNaming> TraceLog<N> {
     /// An empty trace, with an empty row for each client.
     pub(crate) fn new(
         alloc: Global,
         whole: Whole<TraceEntry, N>,
         clients: usize,
-    ) -> Result<Pages<N>, AllocError>
+    ) -> Result<TraceLog<N>, AllocError>
         requires clients { clients ≡ length N.partitions }
         requires none { whole ≡ [] }
         ensures { IfOk result (λ p. p ≡ record { entries = []; owners = []; room = 0; ready = None }) }
     {
         let rows = empty_rows(alloc, clients)?;
-        Ok(Pages {
+        Ok(TraceLog {
             trace: Vec::new(alloc),
             owners: Vec::new(alloc),
             rows,
@@ -206,9 +206,9 @@ impl<N: Naming> Pages<N> {
 
     /// The trace and its rows.
     pub(crate) fn into_rows(self) -> (Vec<TraceEntry>, Vec<Row>)
-        ensures { ArePages (length N.partitions) self result.0.items result.1.items }
+        ensures { IsLog (length N.partitions) self result.0.items result.1.items }
     {
-        let Pages { trace, rows, .. } = self;
+        let TraceLog { trace, rows, .. } = self;
         (trace, rows)
     }
 }
