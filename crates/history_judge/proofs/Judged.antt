@@ -1,5 +1,5 @@
 -- Verdicts of sectors.
-use Rattle.std.proofs.Common.{◌≡◌, ◌<◌, ◌⊎◌, inl, inr, ℕ, ◌+◌, true, false, List, [], ◌∷◌, Option, Some, None, refl, sym, ◌∙◌, subst, length, get_or, take}
+use Rattle.std.proofs.Common.{◌≡◌, ◌<◌, ◌⊎◌, inl, inr, ℕ, ◌+◌, Bool, true, false, List, [], ◌∷◌, Option, Some, None, refl, sym, ◌∙◌, subst, length, get_or, take}
 use Rattle.std.specs.Prelude.{MatchOption, All, Contains}
 use Rattle.std.proofs.lemmas.List.{take_more}
 use Rattle.std.proofs.lemmas.List.Elements.{All-nil, All-append, All-contains, All-cons}
@@ -7,7 +7,6 @@ use Rattle.std.proofs.lemmas.List.Sorted.{All-permutation, IsPermutation-sym}
 use Rattle.std.specs.List.Sorted.{IsPermutation}
 use Rattle.machine.specs.declared.Label.{Label}
 use Rattle.machine.specs.Rules.{Rules}
-use Rattle.history_laws.specs.History.{IsExplained}
 use Rattle.history_laws.specs.Fitting.{all_fit_at_first}
 use Rattle.history_laws.specs.Laws.{ExplainedFit}
 use Rattle.register.specs.declared.Sight.{Sight}
@@ -22,11 +21,15 @@ use Rattle.history_judge.specs.declared.service.Place.{Place}
 use Rattle.history_judge.specs.declared.judging.Verdict.{Verdict}
 use Rattle.history_judge.specs.declared.judging.Verdict.TheVariants.{Passed, Misfit, Refused, Undecided}
 use Rattle.history_judge.specs.Services.{rules_of}
-use Rattle.history_judge.specs.Values.{number_in}
+use Rattle.history_judge.specs.Values.{number_in, IsBelow}
 use Rattle.history_judge.specs.Verdicts.{Passes, IsUnexplained, IsUnfit, IsRight}
 use Rattle.history_judge.specs.inside.Touching.{HasTouched}
 use Rattle.history_judge.specs.inside.Judging.{IsRightOf, IsOneOf}
+use Rattle.std.specs.Bool.{OnTrue}
+use Rattle.history_judge.specs.inside.Picking.{picked, HasRow}
+use Rattle.history_judge.specs.inside.Rows.{AreRising}
 use Rattle.history_judge.proofs.Alike.{shown_alike, fits_alike}
+use Rattle.history_judge.proofs.Thinning.{shown_by_row}
 
 pub refused : RefusedAreUnexplained → PrefixesAreScheduled → (service : Service) (start : List ℕ) (labels : List Label) (place : Place) (table : List (List ℕ)) (value : ℕ) (shown : List Sight)
     (verdict : RegisterVerdict) (count : ℕ) → value ≡ number_in table start → shown ≡ sights_of (number_in table) (rules_of service) place.partition place.sector [] labels
@@ -39,6 +42,24 @@ refused law prefixes service start labels place table value shown verdict count 
   where
     refusal : IsRefusal value shown count
     refusal = subst (IsRightOfRegister value shown) told right
+
+-- what the labels of a row that rises show
+pub by_row : (code : List ℕ → ℕ) (rules : Rules) (place : Place) (labels : List Label) (rising : Bool) (row indexes : List ℕ) → rising ≡ true → OnTrue rising (AreRising 0 (length labels) row) → row ≡ indexes
+    → HasRow rules place labels indexes → sights_of code rules place.partition place.sector [] (picked labels row) ≡ sights_of code rules place.partition place.sector [] labels
+by_row code rules place labels rising row indexes is rises same has =
+    shown_by_row code rules place labels (length labels) row (subst (λ b. OnTrue b (AreRising 0 (length labels) row)) is rises) (subst (HasRow rules place labels) (sym same) has)
+
+pub passed : (service : Service) (start : List ℕ) (labels : List Label) (place : Place) (table : List (List ℕ)) (value count : ℕ) (shown : List Sight) → value ≡ number_in table start → count ≡ length table
+    → shown ≡ sights_of (number_in table) (rules_of service) place.partition place.sector [] labels → value < count → All (IsBelow count) shown → HasSchedule value shown → Passes service start labels place
+passed service start labels place table value count shown numbered counts is low below schedule = record {
+  table = table;
+  starts = subst (λ n. n < length table) numbered (subst (λ n. value < n) counts low);
+  numbered = subst (All (IsBelow (length table))) is (subst (λ n. All (IsBelow n) shown) counts below);
+  schedule = subst (HasSchedule (number_in table start)) is (subst (λ n. HasSchedule n shown) numbered schedule);
+}
+
+pub passed_all : (service : Service) (start : List ℕ) (labels : List Label) (place : Place) → Passes service start labels place → All (Passes service start labels) (place ∷ [])
+passed_all service start labels place h = All-cons (Passes service start labels) place [] h (All-nil (Passes service start labels))
 
 -- labels that don't fit are explained by no run
 pub unfit : ExplainedFit → (service : Service) (labels : List Label) → all_fit_at_first (rules_of service) labels ≡ false → IsUnfit service labels

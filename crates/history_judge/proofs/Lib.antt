@@ -1,6 +1,11 @@
 mod Numbering
 mod Bounds
+mod Keyed
+mod Tables
 mod Touching
+mod Indexing
 mod Alike
 mod Judged
 mod Shown
+mod Thinning
+mod Picked

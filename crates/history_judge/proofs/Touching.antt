@@ -51,12 +51,12 @@ adds_more start old new partition first sector is h = (kept, up)
     up : HasUpTo new partition first (sector + 1)
     up other low below = by_order other low (order other sector below)
 
-on_ok : {T E : Type 0} {P Q : Type 0} (r : Result T E) → (P → Q) → OnOk r P → OnOk r Q
+pub on_ok : {T E : Type 0} {P Q : Type 0} (r : Result T E) → (P → Q) → OnOk r P → OnOk r Q
 on_ok (Ok x) f h = f h
 on_ok (Err fault) f h = tt
 
 -- a moved sector is in the extent, of the request's partition
-is_moved : (rules : Rules) (q : ClientRequest) (partition : ℕ) (extent : Extent) (place : Place) → q.partition ≡ Some partition → Some extent ≡ moved rules q
+pub is_moved : (rules : Rules) (q : ClientRequest) (partition : ℕ) (extent : Extent) (place : Place) → q.partition ≡ Some partition → Some extent ≡ moved rules q
     → has_sector rules place.partition place.sector q ≡ true → (partition ≡ place.partition) × IsIn place.sector extent
 is_moved rules q partition extent place is all moves =
     let parts = and_parts _ _ moves in

@@ -6,13 +6,18 @@ ghost use Rattle.history_laws.specs.Fitting.{all_fit_at_first};
 ghost use Rattle.history_judge.specs.declared.service.Place.{Place};
 ghost use Rattle.history_judge.specs.Services.{rules_of};
 ghost use Rattle.history_judge.specs.Verdicts.{IsRight};
+ghost use Rattle.history_judge.specs.inside.Indexing.{IsIndex};
 ghost use Rattle.history_judge.specs.inside.Judging.{IsOneOf, IsRightOf};
+ghost use Rattle.history_judge.specs.inside.Picking.{HasRow};
+ghost use Rattle.history_judge.specs.inside.Rows.{row_of};
 
 use crate::fitting::{Misfit, first_misfit};
+use crate::index::{Index, index_of};
+use crate::rising::are_rising;
 use crate::sectors::{Watched, sights_of, values_of};
 use crate::service::{Place, Service};
 use crate::touched::touched;
-use crate::values::{are_below, number_in};
+use crate::values::are_below;
 use history::refused_are_unexplained;
 use history_laws::explained_fit;
 use machine::Label;
@@ -31,6 +36,20 @@ pub enum Verdict {
     Refused { place: Place, label: usize },
     /// Too many of the sector's requests were open at once.
     Undecided { place: Place },
+}
+
+/// A sector, and the labels that may speak of it.
+#[derive(Debug, Drop)]
+struct Looked {
+    place: Place,
+    indexes: Vec<usize>,
+}
+
+/// The sectors that a history touches, and its labels by sectors.
+#[derive(Debug, Drop)]
+struct Found {
+    places: Vec<Place>,
+    index: Index,
 }
 
 /// The answer at which the last sight ends a request.
@@ -54,18 +73,25 @@ fn judge_sector(
     service: &Service,
     start: &[u8],
     labels: &[Label],
-    place: Place,
+    looked: &Looked,
 ) -> Result<Verdict, AllocError>
-    requires { 0 < service.now.sector_size }
-    ensures { IfOk result (IsRightOf service.now start.now labels.now (place ∷ [])) }
+    requires sized { 0 < service.now.sector_size }
+    requires found { HasRow (rules_of service.now) looked.now.place labels.now looked.now.indexes.items }
+    ensures { IfOk result (IsRightOf service.now start.now labels.now (looked.now.place ∷ [])) }
 {
     prefixes_are_scheduled();
     refused_are_unexplained();
-    let table = values_of(alloc, service, place, start, labels)?;
+    let place = looked.place;
+    let indexes = looked.indexes.as_slice();
+    if !are_rising(indexes, labels.len()) {
+        return Ok(Verdict::Undecided { place });
+    }
+    let mut table = values_of(alloc, service, place, labels, indexes)?;
+    table.add(alloc, start)?;
     let watched = Watched { place, table };
-    let count = watched.table.len() as u64;
-    let value = number_in(watched.table.as_slice(), start);
-    let sights = sights_of(alloc, service, &watched, labels)?;
+    let count = watched.table.count();
+    let value = watched.table.number(start);
+    let sights = sights_of(alloc, service, &watched, labels, indexes)?;
     match judge_register(alloc, value, sights.as_slice())? {
         register_judge::Verdict::Passed => {
             if value < count && are_below(count, sights.as_slice()) {
@@ -107,6 +133,16 @@ fn is_again(places: &[Place], index: usize) -> bool
     before.partition == here.partition && before.sector == here.sector
 }
 
+/// A sector with the labels that may speak of it.
+fn look(alloc: Global, index: &Index, place: Place) -> Result<Looked, AllocError>
+    requires { 0 < length index.now.rows.items }
+    ensures place { IfOk result (λ looked. looked.place ≡ place) }
+    ensures row { IfOk result (λ looked. looked.indexes.items ≡ row_of index.now.rows.items place.sector) }
+{
+    let indexes = Vec::from_slice(alloc, index.row(place))?;
+    Ok(Looked { place, indexes })
+}
+
 /// Judges these sectors.
 #[tactic(auto, using(crate::proofs::Judged::same_again))]
 fn judge_all(
@@ -114,20 +150,23 @@ fn judge_all(
     service: &Service,
     start: &[u8],
     labels: &[Label],
-    places: &[Place],
+    found: &Found,
 ) -> Result<Verdict, AllocError>
-    requires { 0 < service.now.sector_size }
-    ensures { IfOk result (IsRightOf service.now start.now labels.now places.now) }
+    requires sized { 0 < service.now.sector_size }
+    requires found { IsIndex (rules_of service.now) labels.now found.now.index }
+    ensures { IfOk result (IsRightOf service.now start.now labels.now found.now.places.items) }
 {
-    let mut found = Verdict::Passed;
+    let places = found.places.as_slice();
+    let mut verdict = Verdict::Passed;
     for index in 0..places.len() {
         if is_again(places, index) {
             continue;
         }
-        let verdict = judge_sector(alloc, service, start, labels, places[index])?;
-        found = first_of(found, verdict);
+        let looked = look(alloc, &found.index, places[index])?;
+        let other = judge_sector(alloc, service, start, labels, &looked)?;
+        verdict = first_of(verdict, other);
     }
-    Ok(found)
+    Ok(verdict)
 }
 
 /// Judges a history whose labels fit.
@@ -143,8 +182,18 @@ fn judge_sectors(
 {
     let mut places = touched(alloc, service, labels)?;
     places.sort()?;
-    judge_all(alloc, service, start, labels, places.as_slice())
+    let Some(index) = index_of(alloc, service, labels)? else {
+        return Ok(Verdict::Undecided { place: NOWHERE });
+    };
+    let found = Found { places, index };
+    judge_all(alloc, service, start, labels, &found)
 }
+
+/// The sector of which is told where calls have other numbers: those of a history whose labels fit don't.
+const NOWHERE: Place = Place {
+    partition: 0,
+    sector: 0,
+};
 
 /// Judges a history of a service whose sectors all had these bytes at the start. Labels of its device are passed over.
 ///

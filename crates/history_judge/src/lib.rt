@@ -15,9 +15,13 @@
 #![tactic(auto)]
 
 mod fitting;
+mod index;
 mod judging;
+mod rising;
+mod rows;
 mod sectors;
 mod service;
+mod table;
 #[cfg(test)]
 mod tests;
 mod touched;

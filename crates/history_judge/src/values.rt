@@ -1,31 +1,10 @@
 //! The bytes of one sector, numbered.
 
-ghost use Rattle.std.specs.Prelude.{◌≡◌, ◌+◌, ◌*◌, ◌^◌, ◌<◌, slice_range, All, length};
+ghost use Rattle.std.specs.Prelude.{◌≡◌, ◌+◌, ◌*◌, ◌^◌, ◌<◌, slice_range, All};
 ghost use Rattle.std.specs.Bool.{OnTrue};
-ghost use Rattle.std.specs.Str.{bytes_eq};
-ghost use Rattle.history_judge.specs.Values.{number_in, IsBelow, is_below};
+ghost use Rattle.history_judge.specs.Values.{IsBelow, is_below};
 
 use register::Sight;
-use sector::Bytes;
-
-/// Whether two sectors have the same bytes.
-fn is_same(bytes: &[u8], other: &[u8]) -> bool
-    ensures { result ≡ bytes_eq bytes.now other.now }
-{
-    bytes == other
-}
-
-/// The number of a sector's bytes: their place in the table, or that behind its end.
-pub(crate) fn number_in(table: &[Bytes], bytes: &[u8]) -> u64
-    ensures { result ≡ number_in table.now bytes.now }
-{
-    for place in 0..table.len() {
-        if is_same(bytes, table[place].as_slice()) {
-            return place as u64;
-        }
-    }
-    table.len() as u64
-}
 
 /// Whether what is seen has a number below this one.
 fn is_below(count: u64, sight: &Sight) -> bool

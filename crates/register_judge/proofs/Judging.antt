@@ -15,13 +15,15 @@ use Rattle.register_judge.specs.declared.states.Turn.{Turn}
 use Rattle.register_judge.specs.declared.states.How.TheVariants.{Act, Hide, Leave}
 use Rattle.register_judge.specs.declared.keeping.Register.{Register}
 use Rattle.register_judge.specs.inside.States.{Form, form_of, forms_of, is_met, meets, lefts, is_source, may_turn, turned, turns_of, leave, called, EndsAll}
+use Rattle.register_judge.specs.inside.Covering.{Covers as CoversForm, Prunes}
 use Rattle.register_judge.specs.inside.Registers.{is_this, without, Begins, EachCalled, Calls, EndsAt, Sees}
-use Rattle.register_judge.proofs.Listing.{Has, has_left, has_new, has_last}
+use Rattle.register_judge.proofs.Listing.{Has, has_left, has_new, has_last, contains_has}
 use Rattle.register_judge.proofs.Turning.{Stays, stays, turn_from, Comes, Leaves, turns_from, read_unmet}
 use Rattle.register_judge.proofs.Matching.{IsAtMost, HasEffect, call_of, further, newest, first_or_behind, behind, effect_or_not, IsMatch, Settled, match_effect, hide_unmet, IsEndOf}
 use Rattle.register_judge.proofs.Calling.{call_low, no_end_above, no_effect_above, call_quiet, match_call, Turns, turns_acted, turns_free}
 use Rattle.register_judge.proofs.Adding.{all_there, all_only}
 use Rattle.register_judge.proofs.Reaching.{IsFresh, Split, Room, Stands, IsReal, call_read}
+use Rattle.register_judge.proofs.Pruning.{has_contains, IsTidy, tidy_first, tidy_call, tidy_end, done_no_call, failed_no_call, match_covered}
 use Rattle.register_judge.proofs.Standing.{fewer, stands_leave, stands_act, seen_act, acted_past, stands_hide, seen_hide, hidden_past, stands_end}
 
 -- LISTS
@@ -130,11 +132,11 @@ module _ (start : ℕ) (old : Register) (new : Register) (past : List Event) whe
         below = rw h.last (All-cons (IsAtMost n) (Seen (call_of writes n v)) past (at_most_call writes n v) (All-weaker (IsAtMost old.last) (IsAtMost n) (at_most_more n old.last h.newer) past c.below));
       }
 
-  end_covered : (n : ℕ) (must : Bool) (x : Sight) → IsEndOf n x → n ≤ old.last → EndsAt old n must new → (c : Covered start old.last (forms_of old.states.items) past) → Turns start past c.form must n
-      → Covered start new.last (forms_of new.states.items) (Seen x ∷ past)
+  end_covered : (n : ℕ) (must : Bool) (x : Sight) → IsEndOf n x → n ≤ old.last → (h : EndsAt old n must new) → (c : Covered start old.last (forms_of old.states.items) past) → Turns start past c.form must n
+      → Covered start new.last h.states.ended (Seen x ∷ past)
   end_covered n must x ends low h c t = record {
     form = turned t.0 c.form;
-    has = all_there must n (forms_of old.states.items) [] (forms_of new.states.items) c.form t.0 h.states c.has t.1;
+    has = all_there must n (forms_of old.states.items) [] h.states.ended c.form t.0 h.states.ends c.has t.1;
     match = t.2 x ends;
     below = rw h.last (All-cons (IsAtMost old.last) (Seen x) past (end_low n x ends low) c.below);
   }
@@ -144,6 +146,20 @@ module _ (start : ℕ) (old : Register) (new : Register) (past : List Event) whe
       end_low n (Failed k) e low = subst (λ j. j ≤ old.last) (sym e) low
       end_low n (Write k v) e low = absurd e
       end_low n (Read k v) e low = absurd e
+
+-- a form that is needless is covered
+covered_left : (start last : ℕ) (numbers : List ℕ) (sights : List Sight) (old new : List Form) → Prunes old new → ((f : Form) → Has old f → IsReal start last numbers sights f) → IsTidy last sights
+    → (past : List Event) → seen_of past ≡ sights → Covered start last old past → Covered start last new past
+covered_left start last numbers sights old new prunes reals tidy past seen c =
+    by (prunes.covered c.form (has_contains old c.form c.has))
+  where
+    by : (f : Form) × Contains new f × CoversForm f c.form → Covered start last new past
+    by (f, there, covers) = record {
+      form = f;
+      has = contains_has new f there;
+      match = match_covered start last numbers sights f c.form (reals f (contains_has old f (prunes.among f there))) tidy covers past seen c.match;
+      below = c.below;
+    }
 
 -- THE OPEN NUMBERS
 
@@ -395,6 +411,7 @@ pub record IsExact (start : ℕ) (register : Register) (sights : List Sight) : T
   pub covers : Covers start register.last (forms_of register.states.items) sights
   pub reals : (f : Form) → Has (forms_of register.states.items) f → IsReal start register.last register.numbers.items sights f
   pub low : are_low register.last register.numbers.items
+  pub tidy : IsTidy register.last sights
   pub some : register.states.items ≡ [] → ⊥
 
 abbrev first_form : ℕ → Form
@@ -405,6 +422,7 @@ exact_first start register b = record {
   covers = covers;
   reals = λ f h. elim (subst (λ fs. Has fs f) b.states h) [ inl is ↦ subst (IsReal start register.last register.numbers.items []) is first_real | inr none ↦ absurd none ];
   low = λ k h. absurd (subst (λ xs. Has xs k) b.numbers h);
+  tidy = tidy_first register.last;
   some = λ e. not_none (ap forms_of (sym e) ∙ b.states);
 }
   where
@@ -446,22 +464,68 @@ exact_first start register b = record {
 -- ONE MORE SIGHT
 
 module _ (start : ℕ) (old new : Register) (sights : List Sight) where
-  covered_done : (low : are_low old.last old.numbers.items) (n : ℕ) → EndsAt old n true new → (past : List Event) → May start past (Seen (Done n)) → Covered start old.last (forms_of old.states.items) past
+  tidy_more : (sight : Sight) → Sees old sight new → IsTidy old.last sights → IsTidy new.last (sights ++ sight ∷ [])
+  tidy_more (Write n v) h t = rw h.last (tidy_call old.last sights true n v h.newer t)
+  tidy_more (Read n v) h t = rw h.last (tidy_call old.last sights false n v h.newer t)
+  tidy_more (Done n) h t = rw h.last (tidy_end old.last sights (Done n) (done_no_call n) t)
+  tidy_more (Failed n) h t = rw h.last (tidy_end old.last sights (Failed n) (failed_no_call n) t)
+
+  -- what an end leaves of each form
+  reals_ended : (n : ℕ) (must : Bool) (sight : Sight) → IsEndOf n sight → (must ≡ false → (past : List Event) → May start past (Seen sight)) → (h : EndsAt old n must new) → IsExact start old sights
+      → (f : Form) → Has h.states.ended f → IsReal start new.last new.numbers.items (sights ++ sight ∷ []) f
+  reals_ended n must sight ends may h x f there =
+      let has_n : Has old.numbers.items n = any_has n old.numbers.items h.was_open in
+      elim (all_only must n (forms_of old.states.items) [] h.states.ended f h.states.ends there) [
+        | inl none ↦ absurd none
+        | inr (g, has, (t, in_turns, is)) ↦
+            subst (λ l. IsReal start l new.numbers.items (sights ++ sight ∷ []) f) (sym h.last)
+            (subst (λ xs. IsReal start old.last xs (sights ++ sight ∷ []) f) (sym h.numbers)
+            (subst (IsReal start old.last (without n [] old.numbers.items) (sights ++ sight ∷ [])) is
+            (real_turn start old.last old.numbers.items (without n [] old.numbers.items) sights g (x.reals g has) n must sight ends may has_n (x.low n has_n)
+            (λ k h'. elim (without_from n [] old.numbers.items k h') [ inl none ↦ absurd none | inr y ↦ y ]) t in_turns)))
+      ]
+
+  among_mid : (n : ℕ) (must : Bool) (h : EndsAt old n must new) (f : Form) → Has h.states.mid f → Has h.states.ended f
+  among_mid n must h f there = contains_has h.states.ended f (h.states.once.among f (has_contains h.states.mid f there))
+
+  among_new : (n : ℕ) (must : Bool) (h : EndsAt old n must new) (f : Form) → Has (forms_of new.states.items) f → Has h.states.mid f
+  among_new n must h f there = contains_has h.states.mid f (h.states.twice.among f (has_contains (forms_of new.states.items) f there))
+
+  -- without what is needless
+  covered_end : (n : ℕ) (must : Bool) (sight : Sight) → IsEndOf n sight → (must ≡ false → (past : List Event) → May start past (Seen sight)) → (h : EndsAt old n must new) → (x : IsExact start old sights)
+      → IsTidy new.last (sights ++ sight ∷ []) → (past : List Event) → seen_of past ≡ sights → Covered start new.last h.states.ended (Seen sight ∷ past) → Covered start new.last (forms_of new.states.items) (Seen sight ∷ past)
+  covered_end n must sight ends may h x tidy past seen c =
+      covered_left start new.last new.numbers.items (sights ++ sight ∷ []) h.states.mid (forms_of new.states.items) h.states.twice
+      (λ f there. reals_ended n must sight ends may h x f (among_mid n must h f there)) tidy (Seen sight ∷ past) (seen_end past sights sight seen)
+      (covered_left start new.last new.numbers.items (sights ++ sight ∷ []) h.states.ended h.states.mid h.states.once (reals_ended n must sight ends may h x) tidy (Seen sight ∷ past) (seen_end past sights sight seen) c)
+
+  may_done : (n : ℕ) → true ≡ false → (past : List Event) → May start past (Seen (Done n))
+  may_done n e = absurd (cc (e))
+
+  may_failed : (n : ℕ) → false ≡ false → (past : List Event) → May start past (Seen (Failed n))
+  may_failed n e past = tt
+
+  covered_done : (x : IsExact start old sights) (n : ℕ) → EndsAt old n true new → (past : List Event) → seen_of past ≡ sights → May start past (Seen (Done n)) → Covered start old.last (forms_of old.states.items) past
       → Covered start new.last (forms_of new.states.items) (Seen (Done n) ∷ past)
-  covered_done low n h past may c =
-      end_covered start old new past n true (Done n) refl (low n (any_has n old.numbers.items h.was_open)) h c (turns_acted start past c.form c.match true n may)
+  covered_done x n h past seen may c =
+      covered_end n true (Done n) refl (may_done n) h x (tidy_more (Done n) h x.tidy) past seen
+      (end_covered start old new past n true (Done n) refl (x.low n (any_has n old.numbers.items h.was_open)) h c (turns_acted start past c.form c.match true n may))
 
-  covered_failed : (low : are_low old.last old.numbers.items) (n : ℕ) → EndsAt old n false new → (past : List Event) → Covered start old.last (forms_of old.states.items) past → Covered start new.last (forms_of new.states.items) (Seen (Failed n) ∷ past)
-  covered_failed low n h past c = end_covered start old new past n false (Failed n) refl (low n (any_has n old.numbers.items h.was_open)) h c (elim (effect_or_not n past) [
-    | inl acted ↦ turns_acted start past c.form c.match false n acted
-    | inr none ↦ turns_free start past c.form c.match n none
-  ])
+  covered_failed : (x : IsExact start old sights) (n : ℕ) → EndsAt old n false new → (past : List Event) → seen_of past ≡ sights → Covered start old.last (forms_of old.states.items) past
+      → Covered start new.last (forms_of new.states.items) (Seen (Failed n) ∷ past)
+  covered_failed x n h past seen c =
+      covered_end n false (Failed n) refl (may_failed n) h x (tidy_more (Failed n) h x.tidy) past seen
+      (end_covered start old new past n false (Failed n) refl (x.low n (any_has n old.numbers.items h.was_open)) h c (elim (effect_or_not n past) [
+        | inl acted ↦ turns_acted start past c.form c.match false n acted
+        | inr none ↦ turns_free start past c.form c.match n none
+      ]))
 
-  covered_sight : are_low old.last old.numbers.items → (x : Sight) → Sees old x new → (past : List Event) → May start past (Seen x) → Covered start old.last (forms_of old.states.items) past → Covered start new.last (forms_of new.states.items) (Seen x ∷ past)
-  covered_sight low (Write n v) h past may c = call_covered start old new past n true v h c
-  covered_sight low (Read n v) h past may c = call_covered start old new past n false v h c
-  covered_sight low (Done n) h past may c = covered_done low n h past may c
-  covered_sight low (Failed n) h past may c = covered_failed low n h past c
+  covered_sight : IsExact start old sights → (x : Sight) → Sees old x new → (past : List Event) → seen_of past ≡ sights → May start past (Seen x) → Covered start old.last (forms_of old.states.items) past
+      → Covered start new.last (forms_of new.states.items) (Seen x ∷ past)
+  covered_sight exact (Write n v) h past seen may c = call_covered start old new past n true v h c
+  covered_sight exact (Read n v) h past seen may c = call_covered start old new past n false v h c
+  covered_sight exact (Done n) h past seen may c = covered_done exact n h past seen may c
+  covered_sight exact (Failed n) h past seen may c = covered_failed exact n h past seen c
 
   pub covers_more : (sight : Sight) → IsExact start old sights → Sees old sight new → Covers start new.last (forms_of new.states.items) (sights ++ sight ∷ [])
   covers_more sight x h [] s e = absurd (not_empty sights sight e)
@@ -469,7 +533,7 @@ module _ (start : ℕ) (old new : Register) (sights : List Sight) where
   covers_more sight x h (Seen y ∷ past) s e =
       let both : (seen_of past ≡ sights) × (y ≡ sight) = same_push (seen_of past) sights y sight e in
       let may : May start past (Seen sight) = subst (λ z. May start past (Seen z)) both.1 s.0 in
-      subst (λ z. Covered start new.last (forms_of new.states.items) (Seen z ∷ past)) (sym both.1) (covered_sight x.low sight h past may (x.covers past s.1 both.0))
+      subst (λ z. Covered start new.last (forms_of new.states.items) (Seen z ∷ past)) (sym both.1) (covered_sight x sight h past both.0 may (x.covers past s.1 both.0))
 
   reals_call : (n : ℕ) (writes : Bool) (v : ℕ) → Calls old n writes v new → IsExact start old sights → (f : Form) → Has (forms_of new.states.items) f → IsReal start new.last new.numbers.items (sights ++ call_of writes n v ∷ []) f
   reals_call n writes v h x f there =
@@ -482,23 +546,13 @@ module _ (start : ℕ) (old new : Register) (sights : List Sight) where
 
   reals_end : (n : ℕ) (must : Bool) (sight : Sight) → IsEndOf n sight → (must ≡ false → (past : List Event) → May start past (Seen sight)) → EndsAt old n must new → IsExact start old sights
       → (f : Form) → Has (forms_of new.states.items) f → IsReal start new.last new.numbers.items (sights ++ sight ∷ []) f
-  reals_end n must sight ends may h x f there =
-      let has_n : Has old.numbers.items n = any_has n old.numbers.items h.was_open in
-      elim (all_only must n (forms_of old.states.items) [] (forms_of new.states.items) f h.states there) [
-        | inl none ↦ absurd none
-        | inr (g, has, (t, in_turns, is)) ↦
-            subst (λ l. IsReal start l new.numbers.items (sights ++ sight ∷ []) f) (sym h.last)
-            (subst (λ xs. IsReal start old.last xs (sights ++ sight ∷ []) f) (sym h.numbers)
-            (subst (IsReal start old.last (without n [] old.numbers.items) (sights ++ sight ∷ [])) is
-            (real_turn start old.last old.numbers.items (without n [] old.numbers.items) sights g (x.reals g has) n must sight ends may has_n (x.low n has_n)
-            (λ k h'. elim (without_from n [] old.numbers.items k h') [ inl none ↦ absurd none | inr y ↦ y ]) t in_turns)))
-      ]
+  reals_end n must sight ends may h x f there = reals_ended n must sight ends may h x f (among_mid n must h f (among_new n must h f there))
 
   pub reals_more : (sight : Sight) → Sees old sight new → IsExact start old sights → (f : Form) → Has (forms_of new.states.items) f → IsReal start new.last new.numbers.items (sights ++ sight ∷ []) f
   reals_more (Write n v) h x f there = reals_call n true v h x f there
   reals_more (Read n v) h x f there = reals_call n false v h x f there
-  reals_more (Done n) h x f there = reals_end n true (Done n) refl (λ e. absurd (cc (e))) h x f there
-  reals_more (Failed n) h x f there = reals_end n false (Failed n) refl (λ e past. tt) h x f there
+  reals_more (Done n) h x f there = reals_end n true (Done n) refl (may_done n) h x f there
+  reals_more (Failed n) h x f there = reals_end n false (Failed n) refl (may_failed n) h x f there
 
   low_call : (n : ℕ) (writes : Bool) (v : ℕ) → Calls old n writes v new → IsExact start old sights → are_low new.last new.numbers.items
   low_call n writes v h x k there = rw h.last (elim (has_last old.numbers.items n k (subst (λ xs. Has xs k) h.numbers there)) [
@@ -526,6 +580,7 @@ exact_next start old new sights index d within x h some = record {
   covers = covers_next start old new sights index d within x h;
   reals = λ f there. subst (λ seen. IsReal start new.last new.numbers.items seen f) (sym (take_more sights index d within)) (reals_more start old new (take index sights) (get_or sights index d) h x f there);
   low = low_more start old new (take index sights) (get_or sights index d) h x;
+  tidy = subst (IsTidy new.last) (sym (take_more sights index d within)) (tidy_more start old new (take index sights) (get_or sights index d) h x.tidy);
   some = some;
 }
 

@@ -6,4 +6,5 @@ pub mod Adding
 pub mod Inserting
 pub mod Reaching
 pub mod Standing
+pub mod Pruning
 pub mod Judging

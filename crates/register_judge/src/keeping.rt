@@ -13,6 +13,7 @@ ghost use Rattle.register_judge.specs.inside.Registers.{
   without,
 };
 
+use crate::covering::uncovered;
 use crate::states::{State, Waiting, end_all};
 use register::Sight;
 use std::alloc::{AllocError, Global};
@@ -135,7 +136,8 @@ impl Register {
             return Ok(false);
         }
         self.numbers = without(alloc, number, self.numbers.as_slice())?;
-        self.states = end_all(alloc, must, number, self.states.as_slice())?;
+        let ended = end_all(alloc, must, number, self.states.as_slice())?;
+        self.states = uncovered(alloc, uncovered(alloc, ended)?)?;
         Ok(self.states.len() <= MOST)
     }
 }

@@ -9,6 +9,7 @@
 //! (`right`). It is `Undecided` with more than 1,024 states left, or where numbers don't rise or what isn't open ends.
 #![tactic(auto)]
 
+mod covering;
 mod keeping;
 mod states;
 #[cfg(test)]

@@ -194,7 +194,7 @@ fn add_turns(
     Ok(())
 }
 
-fn is_number(number: u64, wait: &Waiting) -> bool
+pub(crate) fn is_number(number: u64, wait: &Waiting) -> bool
     ensures { result ≡ is_number number wait.now }
 {
     wait.number == number

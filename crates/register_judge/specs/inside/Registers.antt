@@ -7,6 +7,7 @@ use Rattle.register_judge.specs.declared.states.Waiting.{Waiting}
 use Rattle.register_judge.specs.declared.states.State.{State}
 use Rattle.register_judge.specs.declared.keeping.Register.{Register}
 use Rattle.register_judge.specs.inside.States.{Form, form_of, forms_of, called, EndsAll}
+use Rattle.register_judge.specs.inside.Covering.{Prunes}
 
 abbrev pub is_this : ℕ → ℕ → Bool
 is_this n other = other == n
@@ -40,12 +41,20 @@ pub record Calls (old : Register) (number : ℕ) (writes : Bool) (value : ℕ) (
   pub numbers : new.numbers.items ≡ old.numbers.items ++ number ∷ []
   pub states : EachCalled (record { number = number; writes = writes; value = value; is_old = false }) old.states.items new.states.items
 
+-- what an end leaves, without what is needless
+pub record Left (must : Bool) (number : ℕ) (old new : List Form) : Type 0 where
+  pub ended : List Form
+  pub mid : List Form
+  pub ends : EndsAll must number old [] ended
+  pub once : Prunes ended mid
+  pub twice : Prunes mid new
+
 -- an operation is open no more
 pub record EndsAt (old : Register) (number : ℕ) (must : Bool) (new : Register) : Type 0 where
   pub was_open : list_any (is_this number) old.numbers.items ≡ true
   pub last : new.last ≡ old.last
   pub numbers : new.numbers.items ≡ without number [] old.numbers.items
-  pub states : EndsAll must number (forms_of old.states.items) [] (forms_of new.states.items)
+  pub states : Left must number (forms_of old.states.items) (forms_of new.states.items)
 
 abbrev pub Sees : Register → Sight → Register → Type 0
 Sees old (Write number value) new = Calls old number true value new

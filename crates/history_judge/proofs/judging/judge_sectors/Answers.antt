@@ -1,5 +1,3 @@
-use Rattle.std.proofs.Common.{subst}
-use Rattle.std.specs.Prelude.{IfOk}
 use Rattle.std.proofs.lemmas.Result.{IfOk-weaker}
 use Rattle.history_judge.specs.Verdicts.{IsRight}
 use Rattle.history_judge.specs.inside.Judging.{IsRightOf}
@@ -10,5 +8,5 @@ pub returns : goal.returns
 returns c = record {
   right = IfOk-weaker c.judge_all.result (IsRightOf c.args.service.now c.args.start.now c.args.labels.now c.sort.new.self.items) (IsRight c.args.service.now c.args.start.now c.args.labels.now)
       (λ verdict h. right_all c.args.service.now c.args.start.now c.args.labels.now c.in_ok-places.places.items c.sort.new.self.items verdict c.requires.fit c.in_ok-places.ensures c.sort.ensures.permutation h)
-      (subst (λ xs. IfOk c.judge_all.result (IsRightOf c.args.service.now c.args.start.now c.args.labels.now xs)) c.as_slice.ensures.value c.judge_all.ensures);
+      c.judge_all.ensures;
 }

@@ -1,0 +1,113 @@
+//! States that another one makes needless: whatever may still come of them may come of it.
+
+ghost use Rattle.std.specs.Prelude.{◌≡◌, ◌&&◌, All, IfOk, true};
+ghost use Rattle.std.specs.List.{list_any};
+ghost use Rattle.register_judge.specs.inside.Covering.{Covers, is_later, is_there, IsCovered, may_wait, Prunes};
+ghost use Rattle.register_judge.specs.inside.States.{form_of, forms_of, is_number};
+
+use crate::states::{State, Waiting, is_number};
+use std::alloc::{AllocError, Global};
+
+/// Whether an operation that waits may have taken effect wherever this other one of its number may.
+fn is_later(wait: &Waiting, other: &Waiting) -> bool
+    ensures { result ≡ is_later wait.now other.now }
+{
+    other.number == wait.number && (wait.is_old || !other.is_old)
+}
+
+/// Whether one of these is an operation of its number that may have taken effect no later.
+fn has_later(others: &[Waiting], wait: &Waiting) -> bool
+    ensures { result ≡ list_any (is_later wait.now) others.now }
+{
+    others.iter().any(|other| is_later(wait, other))
+}
+
+/// Whether an operation waits among these.
+fn has_number(number: u64, waits: &[Waiting]) -> bool
+    ensures { result ≡ list_any (is_number number) waits.now }
+{
+    waits.iter().any(|wait| is_number(number, wait))
+}
+
+fn is_free(wait: &Waiting) -> bool
+    ensures { result ≡ (wait.now.writes && wait.now.is_old) }
+{
+    wait.writes && wait.is_old
+}
+
+/// Whether an operation may wait in a state that covers one with these.
+fn may_wait(others: &[Waiting], wait: &Waiting) -> bool
+    ensures { result ≡ may_wait others.now wait.now }
+{
+    is_free(wait) | has_later(others, wait)
+}
+
+/// Whether a write waits among these, too.
+fn is_there(waits: &[Waiting], other: &Waiting) -> bool
+    ensures { result ≡ is_there waits.now other.now }
+{
+    !other.writes | has_number(other.number, waits)
+}
+
+/// Whether all that wait in one state may do so where it covers another.
+fn all_may_wait(others: &[Waiting], waits: &[Waiting]) -> bool
+    ensures { result ≡ true → All (λ wait. may_wait others.now wait ≡ true) waits.now }
+{
+    for wait in waits {
+        if !may_wait(others, wait) {
+            return false;
+        }
+    }
+    true
+}
+
+/// Whether the writes that wait in one state do so in another.
+fn all_are_there(waits: &[Waiting], others: &[Waiting]) -> bool
+    ensures { result ≡ true → All (λ other. is_there waits.now other ≡ true) others.now }
+{
+    for other in others {
+        if !is_there(waits, other) {
+            return false;
+        }
+    }
+    true
+}
+
+/// Whether a state makes another one needless.
+fn does_cover(state: &State, other: &State) -> bool
+    ensures { result ≡ true → Covers (form_of state.now) (form_of other.now) }
+{
+    if state.value != other.value {
+        return false;
+    }
+    if !all_may_wait(other.waits.as_slice(), state.waits.as_slice()) {
+        return false;
+    }
+    all_are_there(state.waits.as_slice(), other.waits.as_slice())
+}
+
+/// Whether one of these makes a state needless.
+fn is_covered(states: &[State], other: &State) -> bool
+    ensures { result ≡ true → IsCovered (forms_of states.now) (form_of other.now) }
+{
+    for state in states {
+        if does_cover(state, other) {
+            return true;
+        }
+    }
+    false
+}
+
+/// The states, from the last to the first, without those that a later one makes needless.
+pub(crate) fn uncovered(alloc: Global, mut states: Vec<State>) -> Result<Vec<State>, AllocError>
+    ensures { IfOk result (λ left. Prunes (forms_of states.items) (forms_of left.items)) }
+{
+    let mut states = states;
+    let mut left = Vec::new(alloc);
+    while let Some(state) = states.pop() {
+        if !is_covered(left.as_slice(), &state) {
+            left.push(state)?;
+        }
+    }
+    Ok(left)
+}
