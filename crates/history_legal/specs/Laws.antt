@@ -1,0 +1,22 @@
+-- What a passed history says of the runs of its service.
+use Rattle.std.specs.Prelude.{◌≡◌, ℕ, List, Some, slice_get}
+use Rattle.machine.specs.declared.ClientRequest.{ClientRequest}
+use Rattle.machine.specs.declared.Label.{Label}
+use Rattle.machine.specs.Sending.{array_at}
+use Rattle.machine_laws.specs.Reached.{AreWhole}
+use Rattle.history_laws.specs.History.{history_of, IsExplained}
+use Rattle.history_runs.specs.Laws.{IsAddressable, IsBusyWrite}
+use Rattle.history_judge.specs.declared.service.Service.{Service}
+use Rattle.history_judge.specs.Services.{rules_of}
+use Rattle.history_judge.specs.Verdicts.{IsPassed}
+
+-- each sector of the arrays has these bytes
+abbrev pub AreFilled : List ℕ → List (List (List ℕ)) → Type 0
+AreFilled start arrays = (p i : ℕ) (sector : List ℕ) → slice_get (array_at arrays p) i ≡ Some sector → sector ≡ start
+
+-- a history that passes, of which no write is answered DEVICE_BUSY, is explained by a run of a service of these sizes, from such arrays
+abbrev pub PassedAreExplained : Type 0
+PassedAreExplained = (service : Service) (start : List ℕ) (history : List Label) (arrays : List (List (List ℕ)))
+    → IsAddressable (rules_of service) → AreWhole (rules_of service) arrays → AreFilled start arrays
+    → history_of history ≡ history → ((n : ℕ) (q : ClientRequest) → IsBusyWrite history n q → ⊥) → IsPassed service start history
+    → IsExplained (rules_of service) arrays history

@@ -1,0 +1,15 @@
+pub mod Blocks
+pub mod Admitted
+pub mod Steps
+pub mod Marks
+pub mod Failing
+pub mod Arrays
+pub mod Tracking
+pub mod Advancing
+pub mod Catching
+pub mod Seeing
+pub mod Calling
+pub mod Answering
+pub mod Explaining
+pub mod Leaving
+pub mod Exact

@@ -1,0 +1,4 @@
+pub mod Turning
+pub mod Hearing
+pub mod Scheduling
+pub mod Explaining

@@ -1,0 +1,54 @@
+-- What a schedule of a register says of the sector that showed it.
+use Rattle.std.specs.Prelude.{◌≡◌, ◌<◌, ℕ, true, List, [], Some, All, Contains, slice_get}
+use Rattle.machine.specs.declared.ClientRequest.{ClientRequest}
+use Rattle.machine.specs.declared.Label.{Label}
+use Rattle.machine.specs.declared.Label.TheVariants.{Call}
+use Rattle.machine.specs.Rules.{Rules}
+use Rattle.machine.specs.Sending.{array_at}
+use Rattle.machine_laws.specs.Reached.{AreWhole}
+use Rattle.history_laws.specs.History.{history_of, IsExplained}
+use Rattle.history_laws.specs.Schedules.{IsScheduled}
+use Rattle.history_laws.specs.Fitting.{all_fit_at_first}
+use Rattle.history_runs.specs.Laws.{IsAddressable, IsBusyWrite}
+use Rattle.register.specs.declared.Sight.{Sight}
+use Rattle.register.specs.declared.Sight.TheVariants.{Write, Read, Done, Failed}
+use Rattle.register.specs.Schedules.{HasSchedule}
+use Rattle.history.specs.Sights.{has_sector, sights_of}
+
+-- different bytes are different values, where one of these is below the count
+abbrev pub Tells : (List ℕ → ℕ) → ℕ → Type 0
+Tells code count = (a b : List ℕ) → code a < count → code a ≡ code b → a ≡ b
+
+-- what is read has a value below it
+abbrev pub IsReadBelow : ℕ → Sight → Type 0
+IsReadBelow count (Read number value) = value < count
+IsReadBelow count (Write number value) = Unit {0}
+IsReadBelow count (Done number) = Unit {0}
+IsReadBelow count (Failed number) = Unit {0}
+
+-- in a history that fits, a sector that shows what has a schedule as a register has a schedule
+abbrev pub ShownAreScheduled : Type 0
+ShownAreScheduled = (code : List ℕ → ℕ) (count : ℕ) (rules : Rules) (p i : ℕ) (start : List ℕ) (history : List Label) → Tells code count → all_fit_at_first rules history ≡ true
+    → All (IsReadBelow count) (sights_of code rules p i [] history) → HasSchedule (code start) (sights_of code rules p i [] history) → IsScheduled rules p i start history
+
+-- some call moves the sector
+pub record IsMoved (rules : Rules) (p i : ℕ) (history : List Label) : Type 0 where
+  pub number : ℕ
+  pub request : ClientRequest
+  pub called : Contains history (Call number request)
+  pub moves : has_sector rules p i request ≡ true
+
+-- what the sector shows has a schedule as a register, from these bytes on, whose values tell its bytes apart
+pub record IsShown (rules : Rules) (p i : ℕ) (start : List ℕ) (history : List Label) : Type 0 where
+  pub code : List ℕ → ℕ
+  pub count : ℕ
+  pub tells : Tells code count
+  pub reads_below : All (IsReadBelow count) (sights_of code rules p i [] history)
+  pub schedule : HasSchedule (code start) (sights_of code rules p i [] history)
+
+-- a history that fits is explained, where no write is answered DEVICE_BUSY, and each sector that it moves shows what has a schedule
+abbrev pub ShownAreExplained : Type 0
+ShownAreExplained = (rules : Rules) (arrays : List (List (List ℕ))) (history : List Label) → IsAddressable rules → AreWhole rules arrays
+    → history_of history ≡ history → all_fit_at_first rules history ≡ true → ((n : ℕ) (q : ClientRequest) → IsBusyWrite history n q → ⊥)
+    → ((p i : ℕ) (start : List ℕ) → slice_get (array_at arrays p) i ≡ Some start → IsMoved rules p i history → IsShown rules p i start history)
+    → IsExplained rules arrays history
