@@ -175,13 +175,16 @@ run_picture() {
 }
 
 # Has the judge draw a trace of a folder, as a file there is named: each line of it is to be a piece of a line that is printed.
+# A folder may have `words` for that, and settings by which the trace is judged.
 run_drawing() {
-    local it line options=()
+    local it line options=() settings=()
     it=$(name_of "$1/$2")
     it=picture.${it#examples.judged.pictures.}
-    [ "$2" = picture ] || options=("--$2")
+    [ ! -f "$1/words" ] || read -r -a options < "$1/words"
+    [ "$2" = picture ] || options+=("--$2")
+    [ ! -f "$1/config.toml" ] || settings=("$1/config.toml")
     want "$it" 0 < "$1/$2"
-    run_case "$it" picture "${options[@]}" "$1/trace"
+    run_case "$it" picture "${options[@]}" "${settings[@]}" "$1/trace"
     mv "$scratch/found/$it.stdout" "$scratch/drawn"
     while IFS= read -r line; do
         ! grep -qF -- "$line" "$scratch/drawn" || echo "$line"

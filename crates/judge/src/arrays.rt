@@ -88,7 +88,11 @@ impl Sectors {
     }
 
     /// Puts sectors in the place of as many from one on; those that have no place stand behind all.
-    pub(crate) fn write(&mut self, first: u128, sectors: Vec<Bytes>) -> Result<(), AllocError>
+    ///
+    /// # Errors
+    ///
+    /// [`AllocError`] where memory was refused, or the number of sectors has no room left.
+    pub fn write(&mut self, first: u128, sectors: Vec<Bytes>) -> Result<(), AllocError>
         ensures { OnOk result (self.new ≡ splice self.old first sectors.items) }
     {
         let mut number = first.min(self.count as u128) as u64;

@@ -64,6 +64,7 @@ pub use open::Open as OpenRequest;
 pub use piece_rules::{ActRule, ReturnRule};
 pub use pieces::Started;
 pub use rules::MachineRules;
+pub use sectors::chunked;
 pub use start_rules::{Hindrance, Misfit, StartRule};
 use std::alloc::{AllocError, AllocFailed};
 use thiserror::Error;

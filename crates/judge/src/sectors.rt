@@ -12,7 +12,11 @@ use sector::Bytes;
 use std::alloc::{AllocError, Global};
 
 /// Bytes cut into this many sectors of a size; the last ones are shorter where there are too few bytes.
-fn chunked(alloc: Global, count: u64, size: u32, bytes: &[u8]) -> Result<Vec<Bytes>, AllocError>
+///
+/// # Errors
+///
+/// [`AllocError`] where memory was refused.
+pub fn chunked(alloc: Global, count: u64, size: u32, bytes: &[u8]) -> Result<Vec<Bytes>, AllocError>
     ensures { IfOk result (λ sectors. sectors.items ≡ chunked count size bytes.now) }
 {
     let mut sectors = Vec::new(alloc);

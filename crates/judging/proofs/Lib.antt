@@ -3,8 +3,6 @@ mod Courses
 mod Blaming
 mod SaidOfTraces
 mod Standards
-mod Flags
 mod Trying
-mod Names
 mod Cuts
 mod SessionsJudged

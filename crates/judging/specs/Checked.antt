@@ -27,7 +27,7 @@ use Rattle.judging.specs.Told.{AreTold, AreToldFirst, IsFirstBad}
 use Rattle.judging.specs.declared.misstep.Misstep.{Misstep}
 use Rattle.judging.specs.declared.misstep.Misstep.TheVariants.{Breaks, NoPartition, Tag}
 use Rattle.judging.specs.declared.opened.Standard.{Standard}
-use Rattle.judging.specs.declared.words.asked.Asked.{Asked}
+use Rattle.judge_words.specs.declared.asked.Asked.{Asked}
 use Rattle.judging.specs.declared.faults.Error.{Error}
 use Rattle.judging.specs.declared.faults.Error.TheVariants.{Usage, Startup, TraceUnreadable, ScriptUnreadable, BadLine, NoLabel, Readings, Script, OutputFailed, NoMemory}
 

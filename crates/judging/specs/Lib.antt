@@ -1,5 +1,4 @@
 pub mod Checked
-pub mod CommandLine
 pub mod Cutting
 pub mod Histories
 pub mod Recorded

@@ -10,7 +10,7 @@ use Rattle.startup.specs.declared.faults.Error.{Error as StartupError}
 use Rattle.startup.specs.declared.faults.Error.TheVariants.{Start}
 use Rattle.startup.specs.Reading.{AreRead, HasFault}
 use Rattle.judging.specs.declared.opened.Standard.{Standard}
-use Rattle.judging.specs.declared.words.asked.Asked.{Asked}
+use Rattle.judge_words.specs.declared.asked.Asked.{Asked}
 use Rattle.judging.specs.declared.faults.Error.{Error}
 use Rattle.judging.specs.declared.faults.Error.TheVariants.{Startup, NoMemory}
 

@@ -9,9 +9,9 @@ ghost use Rattle.judging.specs.Checked.{arrays_of, depth_by, extents_by, open_by
 ghost use Rattle.judging.specs.Standards.{IsStandard, IsStandardFault, IsTableFault};
 
 use crate::Error;
-use crate::words::asked::Asked;
 use compose::{LAST_BUSY_RETURN, LONGEST_REQUEST, StartFault};
 use judge::{MachineRules, Sectors};
+use judge_words::asked::Asked;
 use sector::{Bytes, Extent};
 use settings::{Config, Partition, table_sector};
 use startup::read_settings;

@@ -4,11 +4,13 @@ ghost use Rattle.std.specs.Prelude.{IfOk};
 ghost use Rattle.judging.specs.Sessions.{AreJudged, AreSessionRules};
 
 use crate::Error;
+use crate::fields::Fields;
 use crate::opened::{Standard, rules_of};
 use crate::reading::{is_ended, next_line, without_end};
 use crate::told::{Told, told_by};
 use judge::MachineRules;
-use session_judge::{Line, judge};
+use judge_words::asked::Asked;
+use session_judge::{Line, Reason, judge, reason_of};
 use startup::Verdict;
 use std::alloc::{AllocError, Global};
 use std::io;
@@ -16,6 +18,8 @@ use std::io::{BufRead, BufReader, Read, Write};
 
 /// How many bytes are read at once.
 const BUFFER: usize = 65_536;
+/// How many of the values that a sector may hold are written.
+const MOST_HELD: usize = 8;
 
 /// The lines of a trace that tell something.
 #[derive(Debug, Drop)]
@@ -73,11 +77,11 @@ impl Recorded {
 /// refused. It has passed where it is legal. A line `lost` says that power was lost, a line `ended` that the process ended; behind
 /// it requests, pieces and numbers begin anew. What the sectors hold before the first line isn't known.
 ///
-/// Of what is asked, any cut, many requests and a whole disk are heard.
+/// Of what may be asked of a trace any cut, many requests and a whole disk can be asked for.
 ///
 /// # Errors
 ///
-/// The first of these that comes: the trace can't be read, or has a bad line; it has no label; `out` failed. Where memory was
+/// The first of these that comes: something else is asked for ([`Error::Usage`]); the trace can't be read, or has a bad line; it has no label; `out` failed. Where memory was
 /// refused, or a number is too large, [`Error::NoMemory`].
 pub fn check_sessions<T: Read + Drop, O: Write>(
     alloc: Global,
@@ -85,6 +89,9 @@ pub fn check_sessions<T: Read + Drop, O: Write>(
     trace: T,
     out: &mut O,
 ) -> Result<Verdict, Error> {
+    if is_unheard(standard.asked) {
+        return Err(Error::Usage);
+    }
     let Ok(mut input) = BufReader::with_capacity(alloc, BUFFER, trace) else {
         return Err(Error::NoMemory);
     };
@@ -95,11 +102,19 @@ pub fn check_sessions<T: Read + Drop, O: Write>(
     }
     let verdict = verdict_of(alloc, standard, recorded.lines.as_slice())?;
     write_verdict(out, &recorded, labels, verdict)?;
+    if let session_judge::Verdict::Refused { .. } = verdict {
+        write_reason(alloc, standard, &recorded, out)?;
+    }
     out.flush()?;
     Ok(match verdict {
         session_judge::Verdict::Passed => Verdict::Passed,
         _ => Verdict::Failed,
     })
+}
+
+/// Whether something is asked for that can't be of several sessions.
+fn is_unheard(asked: Asked) -> bool {
+    asked.any_tag | asked.any_read | asked.settled | asked.ended | asked.json
 }
 
 /// What the lines of an input tell.
@@ -147,6 +162,41 @@ fn verdict_of(
     }
 }
 
+/// Writes what a sector may hold that can't hold what was told, and which line made that certain.
+fn write_reason<O: Write>(
+    alloc: Global,
+    standard: &Standard,
+    recorded: &Recorded,
+    out: &mut O,
+) -> Result<(), Error> {
+    let rules = session_rules(alloc, standard)?;
+    let Ok(reason) = reason_of(alloc, &rules, recorded.lines.as_slice()) else {
+        return Err(Error::NoMemory);
+    };
+    if let Some(Reason { held, certain }) = reason {
+        let mut fields = Fields::new(alloc, false);
+        let others = held.len().saturating_sub(MOST_HELD);
+        for held in held.iter().take(MOST_HELD) {
+            let line = match held.line {
+                Some(line) => Some(recorded.number_of(line)),
+                None => None,
+            };
+            fields.bytes("it may hold", held.bytes.as_slice(), line)?;
+        }
+        if others > 0 {
+            let others = format!(in alloc; "{others} other values")?;
+            fields.word("it may hold", others.as_str())?;
+        }
+        if let Some(line) = certain {
+            let line = format!(in alloc; "line {}", recorded.number_of(line))?;
+            fields.word("certain since", line.as_str())?;
+        }
+        out.write_all(fields.text.as_bytes())?;
+    }
+    out.write_all(b"\n")?;
+    Ok(())
+}
+
 /// Writes what is said of a trace.
 fn write_verdict<O: Write>(
     out: &mut O,
@@ -162,7 +212,7 @@ fn write_verdict<O: Write>(
         }
         session_judge::Verdict::Refused { line, sector } => {
             let line = recorded.number_of(line);
-            writeln!(
+            write!(
                 out,
                 "line {line}: sector {sector} of the disk can't hold that"
             )

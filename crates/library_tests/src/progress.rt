@@ -1,10 +1,10 @@
 //! How far a check came.
 
 use crate::expect::same;
+use judge_words::asked::Asked;
 use judging::checking::check;
 use judging::opened::read_standard;
 use judging::progress::Progress;
-use judging::words::asked::Asked;
 use startup::Verdict;
 use std::alloc::Global;
 use std::test::Fail;

@@ -56,6 +56,10 @@ abbrev pub told_of : Candidate → Option ℕ
 told_of First = None
 told_of (Told value) = Some value
 
+-- a read may give this value: it is told, or it can be the first one
+abbrev pub may_give : ℕ → Knowledge → Bool
+may_give value k = list_any (is_value value) k.held.now || (list_any is_first k.held.now && (k.any || list_any (λ other. other == value) k.firsts))
+
 -- it was changed, where the next piece to start has this number
 abbrev pub with_held : Knowledge → HeldOf Candidate → Knowledge
 with_held k h = record k { held = h }

@@ -4,7 +4,7 @@ ghost use Rattle.std.specs.Prelude.{◌≡◌, ◌++◌, [], ◌∷◌, true, fa
 ghost use Rattle.std.specs.List.{list_any};
 ghost use Rattle.loss.specs.Held.{Puts, Secures, Tries, Syncs, Doubts, changed, surely};
 ghost use Rattle.sector_judge.specs.declared.candidates.Candidate.TheVariants.{Told};
-ghost use Rattle.sector_judge.specs.Known.{Knowledge, ended, given, next, nothing_known, with_held};
+ghost use Rattle.sector_judge.specs.Known.{Knowledge, ended, given, may_give, next, nothing_known, with_held};
 ghost use Rattle.sector_judge.specs.inside.Lists.{as_held};
 
 use crate::Event;
@@ -49,6 +49,13 @@ impl Known {
         ensures { result.now ≡ self.now.held.now }
     {
         self.current.as_slice()
+    }
+
+    /// Whether a read may give this value.
+    pub fn may_give(&self, value: u64) -> bool
+        ensures { result ≡ may_give value self.now }
+    {
+        is_told(value, &self.current) || (has_first(&self.current) && self.may_begin(value))
     }
 
     /// Takes the next event, and says whether it can have happened. Where it can't, or memory was refused, the value is

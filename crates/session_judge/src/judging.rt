@@ -26,17 +26,21 @@ pub enum Verdict {
 
 /// What was read, up to the line that stops it.
 #[derive(Debug, Drop)]
-struct Reading {
-    deeds: Vec<Deed>,
+pub(crate) struct Reading {
+    pub deeds: Vec<Deed>,
     /// How many deeds there were behind each line.
-    ends: Vec<usize>,
+    pub ends: Vec<usize>,
     /// How many lines were read.
     count: usize,
     stop: Option<Stop>,
 }
 
 #[tactic(auto, using(crate::proofs::Walking::walked_next, crate::proofs::Saying::read_to, crate::proofs::Saying::read_all))]
-fn read(alloc: Global, rules: &MachineRules, lines: &[Line]) -> Result<Reading, NoVerdict>
+pub(crate) fn read(
+    alloc: Global,
+    rules: &MachineRules,
+    lines: &[Line],
+) -> Result<Reading, NoVerdict>
     ensures { IfOk result (IsRead (rules_of rules.now) lines.now) }
 {
     let mut walk = Walk::opening(alloc, rules)?;
@@ -61,7 +65,7 @@ fn read(alloc: Global, rules: &MachineRules, lines: &[Line]) -> Result<Reading, 
 }
 
 /// The line by which this many deeds were told.
-fn line_of(ends: &[usize], taken: usize) -> usize {
+pub(crate) fn line_of(ends: &[usize], taken: usize) -> usize {
     for line in 0..ends.len() {
         if taken <= ends[line] {
             return line;

@@ -10,14 +10,16 @@
 //! refuses only a line that no run of its session has (`IsBroken`), or deeds that can't have happened to the sector that it
 //! names (`IsRefused`). Deeds are what the labels say of the disk (`AreDeedsOf`), in the words of `loss`.
 //!
-//! It doesn't promise that the line of a refused deed is the first such line.
+//! It doesn't promise that the line of a refused deed is the first such line. What `reason_of` tells is only tested.
 #![tactic(auto)]
 
 mod deeds;
 mod judging;
 mod numbers;
+mod reasons;
 mod walk;
 
 pub use deeds::{Deed, Way};
 pub use judging::{Verdict, judge};
+pub use reasons::{Held, Reason, reason_of};
 pub use walk::Line;

@@ -55,6 +55,11 @@ fn number_in(table: &[Bytes], bytes: &[u8]) -> u64
 }
 
 impl Values {
+    /// The bytes, by their numbers.
+    pub fn all(&self) -> &[Bytes] {
+        self.values.as_slice()
+    }
+
     /// The number of a sector's bytes.
     fn number(&self, bytes: &[u8]) -> u64
         ensures { result ≡ number_in self.now bytes.now }

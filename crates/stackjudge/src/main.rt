@@ -6,18 +6,20 @@
 //! What `judging` and `startup` promise. Of files and output nothing is promised.
 #![tactic(auto)]
 
+use command_line::Refusal;
+use judge_words::asked::{Asked, Command};
+use judge_words::command;
 use judging::Error;
 use judging::checking::check;
 use judging::cutting::cut;
-use judging::drawing::draw;
+use judging::drawing::{Drawn, draw, draw_judged, lines_in};
 use judging::histories::judge_history;
 use judging::opened::{Standard, read_standard};
 use judging::progress::Progress;
 use judging::scripts::record_script;
 use judging::sessions::check_sessions;
-use judging::words::asked::{Asked, Command};
-use judging::words::command;
 use startup::{Verdict, ended, fault_of, hold_standard, open_input};
+use std::alloc::Global;
 use std::env;
 use std::io::{BufWriter, Write};
 use std::process::ExitCode;
@@ -35,7 +37,7 @@ fn run(rt: &HostRuntime) -> Result<Verdict, Error> {
         Ok(words) => words.collect::<Vec<String>>(alloc)?,
         Err(error) => return Err(fault_of(&error, Error::Usage)),
     };
-    match command(alloc, words.as_slice())? {
+    match asked_for(alloc, words.as_slice())? {
         Command::Check {
             config,
             trace,
@@ -63,8 +65,42 @@ fn run(rt: &HostRuntime) -> Result<Verdict, Error> {
         }
         Command::Record { config, script } => write_trace(rt, config, script),
         Command::History { config, history } => judge_history_at(rt, config, history),
-        Command::Picture { trace, events } => draw_trace(rt, trace, events),
+        Command::Picture {
+            config,
+            trace,
+            events,
+            lines,
+        } => {
+            let drawn = drawn_of(events, lines)?;
+            draw_trace(rt, config, trace, drawn)
+        }
     }
+}
+
+/// What words ask for.
+fn asked_for<'a>(alloc: Global, words: &'a [String]) -> Result<Command<'a>, Error> {
+    match command(alloc, words) {
+        Ok(command) => Ok(command),
+        Err(Refusal::Usage) => Err(Error::Usage),
+        Err(Refusal::NoMemory) => Err(Error::NoMemory),
+    }
+}
+
+/// What is drawn of a trace, where some lines may be asked for.
+fn drawn_of(events: bool, lines: Option<&str>) -> Result<Drawn, Error> {
+    let Some(text) = lines else {
+        return Ok(Drawn {
+            events,
+            lines: None,
+        });
+    };
+    let Some(lines) = lines_in(text) else {
+        return Err(Error::Usage);
+    };
+    Ok(Drawn {
+        events,
+        lines: Some(lines),
+    })
 }
 
 /// Judges the trace at a path, or the one on standard input.
@@ -131,16 +167,28 @@ fn judge_history_at(rt: &HostRuntime, config: &str, history: &str) -> Result<Ver
     judge_history(alloc, config, open_input(rt, history), &mut rt.stdout())
 }
 
-/// Draws the trace at a path, or the one on standard input.
-fn draw_trace(rt: &HostRuntime, trace: &str, events: bool) -> Result<Verdict, Error> {
+/// Draws the trace at a path, or the one on standard input, judged by the settings at a path, if there is one.
+fn draw_trace(
+    rt: &HostRuntime,
+    config: Option<&str>,
+    trace: &str,
+    drawn: Drawn,
+) -> Result<Verdict, Error> {
     let alloc = rt.alloc();
     let Ok(mut out) = BufWriter::with_capacity(alloc, BUFFER, rt.stdout()) else {
         return Err(Error::NoMemory);
     };
+    let Some(config) = config else {
+        if trace == "-" {
+            return draw(alloc, rt.stdin(), drawn, &mut out);
+        }
+        return draw(alloc, open_input(rt, trace), drawn, &mut out);
+    };
+    let standard = read_standard(alloc, open_input(rt, config), Asked::nothing())?;
     if trace == "-" {
-        return draw(alloc, rt.stdin(), events, &mut out);
+        return draw_judged(alloc, &standard, rt.stdin(), drawn, &mut out);
     }
-    draw(alloc, open_input(rt, trace), events, &mut out)
+    draw_judged(alloc, &standard, open_input(rt, trace), drawn, &mut out)
 }
 
 fn main(rt: HostRuntime) -> ExitCode {

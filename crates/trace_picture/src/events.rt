@@ -40,11 +40,20 @@ pub(crate) fn write_events<W: Write>(out: &mut W, scene: Scene<'_>) -> io::Resul
     write_names(out, scene)?;
     write_bands(out, scene)?;
     for (request, row) in scene.facts.requests.iter().zip(scene.layout.places.iter()) {
-        write_request(out, scene, request, row_track(*row))?;
+        if scene.layout.shows(request.call, request.end()) {
+            write_request(out, scene, request, row_track(*row))?;
+        }
     }
     write_pieces(out, scene)?;
     for line in scene.facts.strays.iter() {
-        write_instant(out, OTHERS, *line, "fits nothing before it")?;
+        if scene.layout.has(*line) {
+            write_instant(out, OTHERS, *line, "fits nothing before it")?;
+        }
+    }
+    if let Some(blamed) = &scene.facts.blamed
+        && scene.layout.has(blamed.line)
+    {
+        write_instant(out, OTHERS, blamed.line, "breaks a rule")?;
     }
     out.write_all(b"\n]}\n")
 }
@@ -52,6 +61,9 @@ pub(crate) fn write_events<W: Write>(out: &mut W, scene: Scene<'_>) -> io::Resul
 /// Writes the times in which the device is paused or removed.
 fn write_bands<W: Write>(out: &mut W, scene: Scene<'_>) -> io::Result<()> {
     for band in scene.facts.bands.iter() {
+        if !scene.layout.shows(band.start, band.end) {
+            continue;
+        }
         let length = span_of(scene, band.start, band.end);
         begin_slice(out, PHASES, band.start, length)?;
         write!(out, "}},\"name\":\"{}\"}}", band.word)?;
@@ -143,6 +155,9 @@ fn write_answer<W: Write>(out: &mut W, answer: Answer) -> io::Result<()> {
 fn write_pieces<W: Write>(out: &mut W, scene: Scene<'_>) -> io::Result<()> {
     let mut number = 0_u64;
     for piece in scene.facts.pieces.iter() {
+        if !scene.layout.shows(piece.start, piece.end()) {
+            continue;
+        }
         write_piece(out, scene, piece)?;
         number = number.saturating_add(1);
         if let Some(row) = scene.layout.row_of(piece) {
@@ -159,6 +174,7 @@ fn write_piece<W: Write>(out: &mut W, scene: Scene<'_>, piece: &Piece) -> io::Re
     begin_slice(out, track, piece.start, length)?;
     let (number, word) = (piece.number, class_word(piece.back));
     write!(out, ",\"piece\":{number},\"return\":\"{word}\"")?;
+    write!(out, ",\"bytes\":{}", piece.bytes)?;
     if let Some(request) = scene.facts.owner_of(piece) {
         write!(out, ",\"request\":{}", request.number)?;
     }

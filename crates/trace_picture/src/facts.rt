@@ -44,6 +44,11 @@ impl Request {
     pub fn end(&self) -> Option<u64> {
         Some(self.answer?.line)
     }
+
+    /// Whether a line is its call, its cancel or its answer.
+    pub fn is_in(&self, line: u64) -> bool {
+        self.call == line || self.cancel == Some(line) || self.end() == Some(line)
+    }
 }
 
 /// A piece, from its start on.
@@ -60,6 +65,8 @@ pub(crate) struct Piece {
     pub bytes: u64,
     /// How it came back, if it did, and in which line.
     pub back: Option<(u64, Class)>,
+    /// The request that its start names.
+    pub told: Option<u64>,
     /// The place of its request among the requests, where that was found.
     pub owner: Option<usize>,
     /// Its lane in the bar of its request.
@@ -70,6 +77,17 @@ impl Piece {
     /// The line of its return.
     pub fn end(&self) -> Option<u64> {
         let (line, _) = self.back?;
+        Some(line)
+    }
+
+    /// Whether a line is its start, its act or fault, or its return.
+    pub fn is_in(&self, line: u64) -> bool {
+        self.start == line || self.moved_in() == Some(line) || self.end() == Some(line)
+    }
+
+    /// The line of its act or its fault.
+    fn moved_in(&self) -> Option<u64> {
+        let (line, _) = self.fate?;
         Some(line)
     }
 }
@@ -91,10 +109,21 @@ pub(crate) enum Step {
     Answered(usize),
 }
 
+/// The label that broke a rule.
+#[derive(Drop)]
+pub(crate) struct Blamed {
+    pub line: u64,
+    /// What is said of it, in lines.
+    pub said: String,
+}
+
 /// All that a picture shows.
 #[derive(Drop)]
 pub(crate) struct Facts {
     pub alloc: Global,
+    /// The first and the last line that are shown, where not all are.
+    pub shown: Option<(u64, u64)>,
+    pub blamed: Option<Blamed>,
     pub labels: u64,
     /// The line of the last label.
     pub line: u64,
@@ -113,6 +142,8 @@ impl Facts {
     pub fn new(alloc: Global) -> Facts {
         Facts {
             alloc,
+            shown: None,
+            blamed: None,
             labels: 0,
             line: 0,
             requests: Vec::new(alloc),
@@ -125,13 +156,13 @@ impl Facts {
         }
     }
 
-    /// Adds what the label of a line says.
-    pub fn take(&mut self, line: u64, label: &Label) -> Result<(), AllocError> {
+    /// Adds what the label of a line says. Behind a start the line may name the request of the piece.
+    pub fn take(&mut self, line: u64, label: &Label, owner: Option<u64>) -> Result<(), AllocError> {
         self.line = line;
         self.labels = self.labels.saturating_add(1);
         match label {
             Label::Call { number, request } => self.call(*number, request),
-            Label::Device(label) => self.take_device(label),
+            Label::Device(label) => self.take_device(label, owner),
             Label::Answer {
                 number,
                 status,
@@ -152,10 +183,10 @@ impl Facts {
         self.requests.get(piece.owner?)
     }
 
-    fn take_device(&mut self, label: &DeviceLabel) -> Result<(), AllocError> {
+    fn take_device(&mut self, label: &DeviceLabel, owner: Option<u64>) -> Result<(), AllocError> {
         match label {
             DeviceLabel::Start { piece, tag, block } => {
-                self.start(*piece, *tag, decode(block.as_slice()).ok())
+                self.start(*piece, *tag, decode(block.as_slice()).ok(), owner)
             }
             DeviceLabel::Act { piece, bytes } => {
                 self.end(*piece, "act", bytes.as_slice().len() as u64)
@@ -186,7 +217,13 @@ impl Facts {
         Ok(())
     }
 
-    fn start(&mut self, number: u128, tag: u8, command: Option<Cdb>) -> Result<(), AllocError> {
+    fn start(
+        &mut self,
+        number: u128,
+        tag: u8,
+        command: Option<Cdb>,
+        told: Option<u64>,
+    ) -> Result<(), AllocError> {
         let place = self.pieces.len();
         self.piece_places.insert(number, place)?;
         self.steps.push(Step::Started(place))?;
@@ -198,6 +235,7 @@ impl Facts {
             fate: None,
             bytes: 0,
             back: None,
+            told,
             owner: None,
             lane: 0,
         })?;

@@ -25,6 +25,8 @@ pub(crate) const ROW: u64 = 26;
 pub(crate) const BAR: u64 = 20;
 /// The height of a piece in the bar of its request, where there are several.
 const LANE: u64 = 13;
+/// The row of a request that isn't shown.
+const NOWHERE: usize = usize::MAX;
 
 /// A row for requests.
 #[derive(Clone, Copy)]
@@ -61,8 +63,10 @@ impl Bar {
 
 #[derive(Drop)]
 pub(crate) struct Layout {
-    /// The lines of the trace.
-    lines: u64,
+    /// The first line that is shown.
+    first: u64,
+    /// The last.
+    last: u64,
     /// The width of the column of one line.
     pub column: u64,
     /// Where the lines begin, behind the names.
@@ -83,11 +87,15 @@ pub(crate) struct Layout {
 impl Layout {
     /// Returns where the parts of a picture stand.
     pub fn of(facts: &Facts) -> Result<Layout, AllocError> {
+        let (first, last) = facts.shown.unwrap_or((1, facts.line));
+        let last = last.min(facts.line);
+        let lines = last.saturating_add(1).saturating_sub(first);
         let mut layout = Layout {
-            lines: facts.line,
-            column: column_of(facts.line),
-            left: left_of(facts)?,
-            is_shared: facts.line > FEW,
+            first,
+            last,
+            column: column_of(lines),
+            left: left_of(facts, lines)?,
+            is_shared: lines > FEW,
             tags: [None; 256],
             requests: HEAD,
             rows: Vec::new(facts.alloc),
@@ -101,19 +109,36 @@ impl Layout {
 
     /// The width of the sheet: at least that of the legend.
     pub fn width(&self) -> u64 {
-        self.x_of(self.lines).saturating_add(STATUS).max(1000)
+        self.x_of(self.last).saturating_add(STATUS).max(1000)
     }
 
-    /// The middle of the column of a line.
+    /// Whether a line is shown.
+    pub fn has(&self, line: u64) -> bool {
+        self.first <= line && line <= self.last
+    }
+
+    /// Whether some line is shown from one to another, or to the end of the trace.
+    pub fn shows(&self, start: u64, end: Option<u64>) -> bool {
+        start <= self.last && self.first <= end.unwrap_or(self.last)
+    }
+
+    /// The lines that are shown, from the first to the last.
+    pub fn lines(&self) -> (u64, u64) {
+        (self.first, self.last)
+    }
+
+    /// The middle of the column of a line. What comes before the first line that is shown is at its left, and what comes
+    /// behind the last at its right.
     pub fn x_of(&self, line: u64) -> u64 {
-        let columns = line.saturating_mul(self.column);
-        self.left.saturating_add(columns)
+        let line = line.min(self.last.saturating_add(1));
+        let before = line.saturating_add(1).saturating_sub(self.first);
+        self.left.saturating_add(before.saturating_mul(self.column))
     }
 
     /// The bar from one line to another, or to the end of the trace, in the row that begins at `y`.
     pub fn bar_of(&self, start: u64, end: Option<u64>, y: u64) -> Bar {
         let x = self.x_of(start);
-        let right = self.x_of(end.unwrap_or(self.lines.saturating_add(1)));
+        let right = self.x_of(end.unwrap_or(self.last.saturating_add(1)));
         Bar {
             x,
             y: y.saturating_add(3),
@@ -153,7 +178,9 @@ impl Layout {
     /// Places a row for each tag that has pieces, below their caption.
     fn place_tags(&mut self, facts: &Facts) {
         for piece in facts.pieces.iter() {
-            self.tags[piece.tag as usize] = Some(0);
+            if self.shows(piece.start, piece.end()) {
+                self.tags[piece.tag as usize] = Some(0);
+            }
         }
         let mut y = HEAD + ROW;
         for tag in self.tags.iter_mut() {
@@ -168,10 +195,12 @@ impl Layout {
     /// Gives each request a row, and places the rows below their caption.
     fn place_requests(&mut self, facts: &Facts) -> Result<(), AllocError> {
         for request in facts.requests.iter() {
-            let row = first_free(self.rows.as_slice(), self.x_of(request.call));
-            let end = self.end_of(request);
+            let row = if self.shows(request.call, request.end()) {
+                self.row_for(request)?
+            } else {
+                NOWHERE
+            };
             self.places.push(row)?;
-            take_row(&mut self.rows, row, request.lanes, end)?;
         }
         let mut y = self.requests.saturating_add(ROW);
         for row in self.rows.iter_mut() {
@@ -180,6 +209,14 @@ impl Layout {
         }
         self.bottom = y;
         Ok(())
+    }
+
+    /// Gives a request the first row that is free.
+    fn row_for(&mut self, request: &Request) -> Result<usize, AllocError> {
+        let row = first_free(self.rows.as_slice(), self.x_of(request.call));
+        let end = self.end_of(request);
+        take_row(&mut self.rows, row, request.lanes, end)?;
+        Ok(row)
     }
 
     /// Returns up to where the row of a request is taken: to the end of its status where others may share it.
@@ -207,10 +244,10 @@ fn column_of(lines: u64) -> u64 {
 }
 
 /// The width of the column of names, which requests have where each has a row of its own.
-fn left_of(facts: &Facts) -> Result<u64, AllocError> {
+fn left_of(facts: &Facts, lines: u64) -> Result<u64, AllocError> {
     let mut letters = 12;
     for request in facts.requests.iter() {
-        if facts.line <= FEW {
+        if lines <= FEW {
             let name = format!(in facts.alloc; "{}", Name(request))?;
             letters = letters.max(name.len() as u64);
         }

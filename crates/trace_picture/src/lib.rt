@@ -3,8 +3,8 @@
 //! [`Picture::take`] is given the labels of a trace one after the other, legal or not, and keeps their numbers and no
 //! bytes. [`Picture::write_svg`] writes one self-contained SVG without scripts: the lines of the trace run to the
 //! right, a row a tag with its pieces, a row a request (shared above 400 lines) with its call, pieces, cancel and
-//! answer, and bands for pauses and removals. [`Picture::write_events`] writes what Perfetto and Chrome's tracing page
-//! open.
+//! answer, and bands for pauses and removals. A label that broke a rule has a ring ([`Picture::blame`]). Not all lines have
+//! to be shown ([`Picture::show`]). [`Picture::write_events`] writes what Perfetto and Chrome's tracing page open.
 //!
 //! # Promises
 //!
@@ -19,7 +19,7 @@ mod owners;
 mod svg;
 mod words;
 
-use facts::Facts;
+use facts::{Blamed, Facts};
 use layout::{Layout, Scene};
 use machine::Label;
 use std::alloc::{AllocError, Global};
@@ -40,13 +40,24 @@ impl Picture {
         }
     }
 
-    /// Adds the next label of the trace, which stands in this line of its text.
+    /// Adds the next label of the trace, which stands in this line of its text. Behind a start the line may name the request
+    /// of the piece; where it doesn't, that is guessed.
     ///
     /// # Errors
     ///
     /// [`AllocError`] where memory was refused; the label may be missing then.
-    pub fn take(&mut self, line: u64, label: &Label) -> Result<(), AllocError> {
-        self.facts.take(line, label)
+    pub fn take(&mut self, line: u64, label: &Label, owner: Option<u64>) -> Result<(), AllocError> {
+        self.facts.take(line, label, owner)
+    }
+
+    /// Tells that the label of a line broke a rule, and what is said of it, in lines.
+    pub fn blame(&mut self, line: u64, said: String) {
+        self.facts.blamed = Some(Blamed { line, said });
+    }
+
+    /// Has only what happens from one line on to another shown.
+    pub fn show(&mut self, first: u64, last: u64) {
+        self.facts.shown = Some((first, last));
     }
 
     /// Writes the SVG. The writer is not flushed.

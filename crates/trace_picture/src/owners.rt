@@ -1,6 +1,7 @@
-//! The request that each piece belongs to. No label says it; it is found by what the command of the piece asks for.
+//! The request that each piece belongs to: the open one that its start names, or else one that is found by what the command
+//! of the piece asks for.
 //!
-//! A piece belongs to the open request of lowest number that asks for its sectors in this way, has them still to send
+//! Where its start names none a piece belongs to the open request of lowest number that asks for its sectors in this way, has them still to send
 //! and isn't cancelled. A request whose last piece ended where this one begins comes first. The first piece of a
 //! partition's first request tells where the partition begins. An owner is therefore a guess where requests ask for the
 //! same sectors at once.
@@ -107,7 +108,10 @@ impl Search {
         let Some(asked) = asked_by(piece.command) else {
             return;
         };
-        piece.owner = self.best(&asked, requests, piece.start);
+        piece.owner = match piece.told {
+            Some(number) => self.named(number, requests),
+            None => self.best(&asked, requests, piece.start),
+        };
         let Some(request) = owner_among(requests, piece.owner) else {
             return;
         };
@@ -124,6 +128,18 @@ impl Search {
             let first = self.sectors(request.offset);
             self.bases[request.partition.unwrap_or(0) as usize] = asked.first.checked_sub(first);
         }
+    }
+
+    /// The open request of a number.
+    fn named(&self, number: u64, requests: &[Request]) -> Option<usize> {
+        for place in self.open.iter() {
+            if let Some(request) = requests.get(*place)
+                && request.number == number
+            {
+                return Some(*place);
+            }
+        }
+        None
     }
 
     /// The open request that fits best, and of these the first.

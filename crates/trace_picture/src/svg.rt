@@ -1,6 +1,6 @@
 //! The picture as one SVG: on a sheet, from behind to the front, bands, lines of time, rows, bars, marks.
 
-use crate::facts::{Answer, Facts, Piece, Request};
+use crate::facts::{Answer, Blamed, Facts, Piece, Request};
 use crate::layout::{Bar, HEAD, Layout, Scene, step_of};
 use crate::words::{Name, PieceTitle, ShortName, class_word};
 use ntstatus::NtStatus;
@@ -48,6 +48,9 @@ pub(crate) fn write_svg<W: Write>(out: &mut W, scene: Scene<'_>) -> io::Result<(
     write_requests(out, scene)?;
     write_pieces(out, scene)?;
     write_ends(out, scene)?;
+    if let Some(blamed) = &scene.facts.blamed {
+        write_ring(out, scene, blamed)?;
+    }
     out.write_all(b"</svg>\n")
 }
 
@@ -68,7 +71,63 @@ fn write_sheet<W: Write>(out: &mut W, scene: Scene<'_>) -> io::Result<()> {
 fn write_heading<W: Write>(out: &mut W, facts: &Facts) -> io::Result<()> {
     let (labels, requests, pieces) = (facts.labels, facts.requests.len(), facts.pieces.len());
     write!(out, "<text class=\"h\" x=\"8\" y=\"24\">{labels} labels")?;
-    writeln!(out, ", {requests} requests, {pieces} pieces</text>")
+    writeln!(out, ", {requests} requests, {pieces} pieces</text>")?;
+    match &facts.blamed {
+        Some(blamed) => write_text(out, "n", 420, 24, &first_line(blamed)),
+        None => Ok(()),
+    }
+}
+
+/// The first line of what is said of a label that broke a rule.
+fn first_line(blamed: &Blamed) -> &str {
+    let said = blamed.said.as_str();
+    match said.split_once('\n') {
+        Some((first, _)) => first,
+        None => said,
+    }
+}
+
+/// Writes a ring around the label that broke a rule, where it is shown, with what is said of it.
+fn write_ring<W: Write>(out: &mut W, scene: Scene<'_>, blamed: &Blamed) -> io::Result<()> {
+    let layout = scene.layout;
+    if !layout.has(blamed.line) {
+        return Ok(());
+    }
+    let (x, y) = (layout.x_of(blamed.line), height_of_line(scene, blamed.line));
+    write!(out, "<circle cx=\"{x}\" cy=\"{y}\" r=\"9\" fill=\"none\"")?;
+    out.write_all(b" stroke=\"#d00000\" stroke-width=\"2.4\">")?;
+    writeln!(out, "<title>{}</title></circle>", blamed.said.as_str())
+}
+
+/// The height at which the label of a line stands: in the row of its tag or of its request, or above all rows.
+fn height_of_line(scene: Scene<'_>, line: u64) -> u64 {
+    if let Some(y) = height_on_tag(scene, line) {
+        return y;
+    }
+    match height_of_request(scene, line) {
+        Some(y) => y,
+        None => HEAD + 14,
+    }
+}
+
+/// The height of the row of the piece that a line is of.
+fn height_on_tag(scene: Scene<'_>, line: u64) -> Option<u64> {
+    for piece in scene.facts.pieces.iter() {
+        if piece.is_in(line) {
+            return Some(scene.layout.tags[piece.tag as usize]?.saturating_add(13));
+        }
+    }
+    None
+}
+
+/// The height of the bar of the request that a line is of.
+fn height_of_request(scene: Scene<'_>, line: u64) -> Option<u64> {
+    for (place, request) in scene.facts.requests.iter().enumerate() {
+        if request.is_in(line) {
+            return Some(scene.layout.request_bar(request, place)?.middle());
+        }
+    }
+    None
 }
 
 /// Writes, behind all rows, when the device is paused or removed, and the labels that fit nothing.
@@ -76,6 +135,9 @@ fn write_bands<W: Write>(out: &mut W, scene: Scene<'_>) -> io::Result<()> {
     let layout = scene.layout;
     let height = layout.bottom.saturating_sub(HEAD);
     for band in scene.facts.bands.iter() {
+        if !layout.shows(band.start, band.end) {
+            continue;
+        }
         let bar = layout.bar_of(band.start, band.end, HEAD);
         let y = HEAD;
         write_bar(out, band.word, Bar { y, height, ..bar }, &band.word)?;
@@ -84,7 +146,9 @@ fn write_bands<W: Write>(out: &mut W, scene: Scene<'_>) -> io::Result<()> {
         }
     }
     for line in scene.facts.strays.iter() {
-        write_text(out, "c m", layout.x_of(*line), HEAD + 10, &"?")?;
+        if layout.has(*line) {
+            write_text(out, "c m", layout.x_of(*line), HEAD + 10, &"?")?;
+        }
     }
     Ok(())
 }
@@ -93,7 +157,9 @@ fn write_bands<W: Write>(out: &mut W, scene: Scene<'_>) -> io::Result<()> {
 fn write_times<W: Write>(out: &mut W, scene: Scene<'_>) -> io::Result<()> {
     let (layout, bottom) = (scene.layout, scene.layout.bottom);
     let step = step_of(layout.column);
-    for count in 1..=scene.facts.line.checked_div(step).unwrap_or(0) {
+    let (first, last) = layout.lines();
+    let before = first.saturating_sub(1).checked_div(step).unwrap_or(0);
+    for count in before.saturating_add(1)..=last.checked_div(step).unwrap_or(0) {
         let line = count.saturating_mul(step);
         let x = layout.x_of(line);
         writeln!(out, "<path class=\"line\" d=\"M{x} {HEAD}V{bottom}\"/>")?;
@@ -120,7 +186,9 @@ fn write_tags<W: Write>(out: &mut W, scene: Scene<'_>) -> io::Result<()> {
         }
     }
     for piece in scene.facts.pieces.iter() {
-        if let Some(y) = layout.tags[piece.tag as usize] {
+        if let Some(y) = layout.tags[piece.tag as usize]
+            && layout.shows(piece.start, piece.end())
+        {
             write_on_tag(out, scene, piece, y)?;
         }
     }
@@ -134,8 +202,8 @@ fn write_on_tag<W: Write>(out: &mut W, scene: Scene<'_>, piece: &Piece, y: u64) 
     write_piece(out, scene, piece, bar)?;
     let y = y.saturating_add(19);
     match piece.fate {
-        Some((line, word)) => write_mark(out, word, layout.x_of(line), y),
-        None => Ok(()),
+        Some((line, word)) if layout.has(line) => write_mark(out, word, layout.x_of(line), y),
+        _ => Ok(()),
     }
 }
 
@@ -162,33 +230,38 @@ fn write_requests<W: Write>(out: &mut W, scene: Scene<'_>) -> io::Result<()> {
     }
     for (place, request) in scene.facts.requests.iter().enumerate() {
         if let Some(bar) = layout.request_bar(request, place) {
-            write_request(out, layout.is_shared, request, bar)?;
+            write_request(out, layout, request, bar)?;
         }
     }
     Ok(())
 }
 
 /// Writes the bar of a request, and its name: a short one left of the bar where it shares the row.
-fn write_request<W: Write>(out: &mut W, shared: bool, of: &Request, bar: Bar) -> io::Result<()> {
+fn write_request<W: Write>(out: &mut W, layout: &Layout, of: &Request, bar: Bar) -> io::Result<()> {
     let class = if of.answer.is_some() {
         "request"
     } else {
         "open"
     };
     let y = bar.middle().saturating_add(4);
-    if shared {
+    if layout.is_shared {
         write_text(out, "e", bar.x.saturating_sub(8), y, &ShortName(of))?;
     } else {
         write_text(out, "n", 8, y, &Name(of))?;
     }
     write_bar(out, class, bar, &Name(of))?;
-    write_mark(out, "call", bar.x, bar.middle())
+    if layout.has(of.call) {
+        return write_mark(out, "call", bar.x, bar.middle());
+    }
+    Ok(())
 }
 
 /// Writes all pieces in the bars of their requests.
 fn write_pieces<W: Write>(out: &mut W, scene: Scene<'_>) -> io::Result<()> {
     for piece in scene.facts.pieces.iter() {
-        if let Some(bar) = scene.layout.piece_bar(scene.facts, piece) {
+        if let Some(bar) = scene.layout.piece_bar(scene.facts, piece)
+            && scene.layout.shows(piece.start, piece.end())
+        {
             write_piece(out, scene, piece, bar)?;
         }
     }
@@ -202,10 +275,14 @@ fn write_ends<W: Write>(out: &mut W, scene: Scene<'_>) -> io::Result<()> {
         let Some(bar) = layout.request_bar(request, place) else {
             continue;
         };
-        if let Some(line) = request.cancel {
+        if let Some(line) = request.cancel
+            && layout.has(line)
+        {
             write_cancel(out, layout.x_of(line), bar)?;
         }
-        if let Some(answer) = request.answer {
+        if let Some(answer) = request.answer
+            && layout.has(answer.line)
+        {
             write_answer(out, layout, answer, bar)?;
         }
     }

@@ -11,7 +11,7 @@ use Rattle.judging.specs.declared.course.Course.{Course}
 use Rattle.judging.specs.declared.course.Course.TheVariants.{Legal, Refused}
 use Rattle.judging.specs.declared.course.Tally.{Tally}
 use Rattle.judging.specs.declared.course.Trial.{Trial}
-use Rattle.judging.specs.declared.words.asked.Asked.{Asked}
+use Rattle.judge_words.specs.declared.asked.Asked.{Asked}
 use Rattle.judging.specs.declared.faults.Error.{Error}
 use Rattle.judging.specs.declared.faults.Error.TheVariants.{NoLabel}
 use Rattle.judging.specs.inside.Course.{IsCourse}

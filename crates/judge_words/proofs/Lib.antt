@@ -1,0 +1,3 @@
+mod Apps
+mod Flags
+mod Names

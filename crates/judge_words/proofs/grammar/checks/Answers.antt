@@ -1,0 +1,4 @@
+use Rattle.judge_words.proofs.grammar.checks.Goals as goal
+
+pub returns : goal.returns
+returns c = c.in_ok-sessions.ensures _ (c.in_ok-progress.ensures _ (c.in_ok-asked.ensures _ c.in_ok-command.ensures))
