@@ -1,2 +1,3 @@
+mod Acts
 mod Beside
 mod Blaming

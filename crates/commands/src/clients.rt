@@ -2,9 +2,12 @@
 
 ghost use Rattle.std.specs.Prelude.{◌≡◌, ◌≤◌, ◌++◌, ◌∷◌, ◌↔◌, [], OnOk, IfErr, IfOk, IsTrue, false, true};
 ghost use Rattle.std.specs.Io.KnownBytes.{Appends};
+ghost use Rattle.disk.specs.SparseDisk.{shown};
+ghost use Rattle.traced.specs.Entries.{labels_of};
 ghost use Rattle.traced.specs.Sizes.{AreSizes, sizes_of};
+ghost use Rattle.host.specs.Closing.{act_count, is_act};
 ghost use Rattle.settings.specs.InRange.{AreInRange};
-ghost use Rattle.commands.specs.Clients.{HasRoom, IsClientsFault, IsOutputFault, IsUntold, PrintsTally, tally_line, verdict_on};
+ghost use Rattle.commands.specs.Clients.{HasRoom, IsClientsFault, IsOutputFault, IsRunOver, IsUntold, PrintsTally, is_whole, tally_line, verdict_on};
 ghost use Rattle.settings.specs.declared.ConfigFault.TheVariants.{OutOfRange};
 ghost use Rattle.commands.specs.declared.faults.Error.TheVariants.{Startup};
 ghost use Rattle.startup.specs.declared.faults.Error.TheVariants.{Settings};
@@ -12,20 +15,33 @@ ghost use Rattle.startup.specs.Started.{rules_over};
 
 use crate::faults::Error;
 use compose::{LAST_BUSY_RETURN, LONGEST_REQUEST};
-use rounds::{Disk, Plan, RoundsFault, Tally, run};
+use disk::SparseDisk;
+use machine::Label;
+use rounds::{Disk, Done, Plan, RoundsFault, Tally, run};
 use script::ScriptFault;
 use settings::{Config, ConfigFault};
+use srb::DeviceLabel;
 use startup::{Verdict, fault_of, read_settings, start_apart};
 use std::alloc::Global;
 use std::io;
 use std::io::{Read, Write};
 use std::sync::Wait;
 use std::thread::Threads;
-use traced::StackSizes;
+use traced::{StackSizes, TraceEntry};
+
+/// What came of the clients.
+#[derive(Drop)]
+pub struct Outcome {
+    /// Passed where each call succeeded, each read gave what was written, and the trace has as many acts as there are
+    /// entries.
+    pub verdict: Verdict,
+    /// What is left of the rounds.
+    pub done: Done<SparseDisk>,
+}
 
 /// Runs clients on partition 0 of a stack over a disk in memory, as many as are asked for, each for the rounds that are
 /// asked for. Writes what came of them: how many calls succeeded, and how many reads gave other bytes than were
-/// written.
+/// written. Returns what is left of the run, with the verdict on it.
 ///
 /// # Errors
 ///
@@ -40,9 +56,11 @@ pub fn clients<C: Read + Drop, O: Write, R: Threads + Wait + Sync>(
     threads: u16,
     rounds: u16,
     out: &mut O,
-) -> Result<Verdict, Error>
+) -> Result<Outcome, Error>
     requires { (1 ≤ threads) × (threads ≤ 32) }
-    ensures printed { IfOk result (PrintsTally threads rounds (O.contents out.old) (O.contents out.new)) }
+    ensures printed { IfOk result (λ o. PrintsTally threads rounds o.done.tally (O.contents out.old) (O.contents out.new)) }
+    ensures verdict { IfOk result (λ o. o.verdict ≡ verdict_on threads rounds o.done.tally (is_whole (labels_of o.done.trace.items) o.done.entries.items)) }
+    ensures run { IfOk result (λ o. IsRunOver (C.remaining config) (labels_of o.done.trace.items) o.done.entries.items (shown o.done.medium).sectors) }
     ensures fault { IfErr result (IsClientsFault (C.remaining config) threads) }
     ensures untold { IfErr result (IsUntold (O.contents out.old) (O.contents out.new)) }
 {
@@ -66,13 +84,14 @@ pub fn clients<C: Read + Drop, O: Write, R: Threads + Wait + Sync>(
         sizes,
         slots,
     };
-    let tally = match run(rt, alloc, over, plan) {
-        Ok(done) => done.tally,
+    let done = match run(rt, alloc, over, plan) {
+        Ok(done) => done,
         Err(RoundsFault::NoMemory) => return Err(Error::NoMemory),
         Err(RoundsFault::NoPartition) => return Err(out_of_range()),
     };
-    match write_tally(out, threads, rounds, &tally) {
-        Ok(()) => Ok(verdict(threads, rounds, &tally)),
+    let verdict = verdict(threads, rounds, &done);
+    match write_tally(out, threads, rounds, &done.tally) {
+        Ok(()) => Ok(Outcome { verdict, done }),
         Err(error) => Err(output_fault(&error)),
     }
 }
@@ -132,12 +151,27 @@ fn write_tally<W: Write>(out: &mut W, threads: u16, rounds: u16, tally: &Tally) 
     out.flush()
 }
 
-/// Whether each call succeeded, and each read gave what was written.
-fn verdict(threads: u16, rounds: u16, tally: &Tally) -> Verdict
-    ensures { result ≡ verdict_on threads rounds tally.now }
+/// Whether the entry of a trace is an act.
+fn is_of_act(entry: &TraceEntry) -> bool
+    ensures { result ≡ is_act entry.now.label }
+{
+    matches!(entry.label, Label::Device(DeviceLabel::Act { .. }))
+}
+
+/// How many acts stand in a trace.
+fn acts_in(trace: &[TraceEntry]) -> usize
+    ensures { result ≡ act_count (labels_of trace.now) }
+{
+    trace.iter().filter(|entry| is_of_act(entry)).count()
+}
+
+/// Whether each call succeeded, each read gave what was written, and the trace has an act for each entry.
+fn verdict(threads: u16, rounds: u16, done: &Done<SparseDisk>) -> Verdict
+    ensures { result ≡ verdict_on threads rounds done.now.tally (is_whole (labels_of done.now.trace.items) done.now.entries.items) }
 {
     let calls = 2 * u64::from(threads) * u64::from(rounds);
-    if tally.differing == 0 && tally.answered == calls {
+    let is_whole = acts_in(done.trace.as_slice()) == done.entries.len();
+    if done.tally.differing == 0 && done.tally.answered == calls && is_whole {
         Verdict::Passed
     } else {
         Verdict::Failed

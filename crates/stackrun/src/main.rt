@@ -42,14 +42,11 @@ fn run<H: Threads + Wait + Sync>(rt: &HostRuntime, host: &H) -> Result<Verdict, 
             config,
             threads,
             rounds,
-        } => clients(
-            host,
-            alloc,
-            open_input(rt, config),
-            threads,
-            rounds,
-            &mut rt.stdout(),
-        ),
+        } => {
+            let config = open_input(rt, config);
+            let outcome = clients(host, alloc, config, threads, rounds, &mut rt.stdout())?;
+            Ok(outcome.verdict)
+        }
     }
 }
 

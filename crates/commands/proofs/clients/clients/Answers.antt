@@ -1,9 +1,10 @@
 use Rattle.std.proofs.Common.{◌≡◌, Err, ap, false, rules, sym, true}
 use Rattle.disk.specs.SparseDisk.{shown}
 use Rattle.machine.specs.Rules.{Rules}
+use Rattle.traced.specs.Entries.{labels_of}
 use Rattle.startup.specs.declared.faults.Error.TheVariants.{Start}
 use Rattle.commands.specs.declared.faults.Error.TheVariants.{Startup}
-use Rattle.commands.proofs.Beside.{disk_beside}
+use Rattle.commands.proofs.Beside.{disk_beside, run_beside}
 use Rattle.commands.proofs.Blaming.{no_output, no_partition, no_room}
 use Rattle.commands.proofs.clients.clients.Goals as goal
 
@@ -33,3 +34,8 @@ run-requires-clause-disk g c κs within =
 
 pub run-requires-clause-depth : goal.run-requires-clause-depth
 run-requires-clause-depth g c κs within = sym (ap (λ (r : Rules). r.depth) c.in_ok-stack.ensures.stack.rules)
+
+pub returns-in-Ok-write_tally-clause-run : goal.returns-in-Ok-write_tally-clause-run
+returns-in-Ok-write_tally-clause-run g c =
+    run_beside _ c.in_ok-config.config c.in_ok-stack.stack (shown c.in_ok-stack.disk) (labels_of c.in-Ok.done.trace.items) c.in-Ok.done.entries.items (shown c.in-Ok.done.medium).sectors
+    c.in_ok-config.ensures.read c.in_ok-stack.ensures.stack c.in_ok-stack.ensures.disk c.in-Ok.ensures.run
