@@ -5,7 +5,7 @@ pub use Rattle.adapter.specs.Booking.{Books, IsArmed, IsBookable, IsOfSrb, booke
 pub use Rattle.adapter.specs.Calls.{HasNoneFresh}
 pub use Rattle.adapter.specs.View.{AdapterView, IsInOrder, IsSpoiled, MovesByAll, MovesOn, ReservesMore, TagInUse, acted, faulted, in_use_from, met_by_reset}
 pub use Rattle.asking.specs.Asking.{bytes_of, kind_asked}
-pub use Rattle.book.specs.Acting.{BooksFailure, HoldsBooked, MayBook}
+pub use Rattle.book.specs.Acting.{BooksFailure, HasNoNext, HoldsBooked, IsAsLarge, MayBook, TakesEntry, TakesNot}
 pub use Rattle.book.specs.Arming.{Forgets, IsFreeOf, IsOfOther, IsOfTag, IsOfThis, IsReceipt, claimed_at}
 pub use Rattle.book.specs.Book.{ActsAreOf, BookView, BooksOne, CallsAfter, HasBooked, HoldsFailure, IsBlank, IsKept, IsLastAct, ServesAfter, ServesEvent, StaysKept, book_of}
 pub use Rattle.book.specs.Rooms.{ArmsTag, FailsAs, Follows, FollowsDevice, FollowsFrom, FollowsOn, IsDisarmed, IsDisarmedOn, IsLeft, KeepsRoom, MakesRoom, Transfers}

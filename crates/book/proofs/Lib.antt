@@ -11,5 +11,6 @@ pub mod Same
 pub mod Settled
 pub mod Staying
 pub mod Stepping
+pub mod Taking
 pub mod Telling
 mod Common

@@ -1,13 +1,11 @@
 -- The act of an entry that was booked goes on with what was told.
-use Rattle.book.proofs.Common.{◌≡◌, ℕ, Bool, true, false, List, [], ◌∷◌, ◌++◌, length, Option, Some, None, Ok, Result, IsFalse, refl, sym, ap, subst, ◌∙◌, if◌then◌else◌, map_push, Entry, Completion, AdapterView, IsInOrder, IsOfSrb, IsBookable, Books, with_booking, Label, Rules, State, opening, Run, AreDistinct-Run, AreDistinct-opening, IsReached, OpenHandle, Reply, ManagerView, FitsTogether, IsRight, ArmedMayBeBooked, BookedActsAddEntries, StepsStayApart, IsJournaled, ActsAsBooked, booked_step, Entered, Armed, JournalView, entries_in, of_srb, TracedView, IsCarried, IsServed, IsTraced, MayBook, HoldsBooked, IsOfThis, IsOfTag, claimed_at, BooksOne, IsKept, book_of, Claimed, IsOnTag, AreOnTags, HaveNotedAll, ArmedStays, TakesNext}
+use Rattle.book.proofs.Common.{◌≡◌, ℕ, Bool, true, false, List, [], ◌∷◌, ◌++◌, length, Option, Some, None, Ok, Result, IsFalse, refl, sym, ap, subst, ◌∙◌, if◌then◌else◌, map_push, Entry, Completion, AdapterView, IsInOrder, IsOfSrb, IsBookable, Books, with_booking, Label, Rules, State, opening, Run, AreDistinct-Run, AreDistinct-opening, IsReached, OpenHandle, Reply, ManagerView, FitsTogether, IsRight, ArmedMayBeBooked, BookedActsAddEntries, StepsStayApart, IsJournaled, ActsAsBooked, booked_step, Entered, JournalView, entries_in, TracedView, IsCarried, IsServed, IsTraced, MayBook, TakesEntry, HoldsBooked, BooksOne, IsKept, book_of, Claimed, AreOnTags, HaveNotedAll, ArmedStays, TakesNext}
 use Rattle.std.specs.Prelude.{slice_get}
 use Rattle.io_manager.specs.declared.Reply.TheVariants.{Ok as OkReply}
 use Rattle.compose.specs.declared.Event.TheVariants.{Act}
 use Rattle.traced.specs.Entries.{labels_of}
 use Rattle.book.proofs.Going.{labels_carried, act_carried, tags_booked, tags_kept}
-
-some_entered : {x y : Entered} → Some x ≡ Some y → x ≡ y
-some_entered {x} {y} e = cc
+use Rattle.book.proofs.Taking.{some_entered}
 
 pub apart_still : (old new : AdapterView) (tag piece : ℕ) (what : Result Entry Completion) → Books old tag piece what new → IsFalse old.faithful → IsFalse new.faithful
 apart_still old new tag piece what books apart = subst (λ (v : AdapterView). IsFalse v.faithful) (sym books.after) (by_choice books.booked)
@@ -16,33 +14,9 @@ apart_still old new tag piece what books apart = subst (λ (v : AdapterView). Is
     by_choice true = apart
     by_choice false = apart
 
--- what the entry was armed as, which is the piece on its tag
-record IsArmedThere (journal : JournalView) (view : AdapterView) (number : ℕ) (entered : Entered) : Type 0 where
-  armed : Armed
-  on_tag : IsOnTag view entered.entry.tag armed
-  piece_is : entered.entry.piece ≡ armed.piece
-  of_srb : IsOfSrb journal.medium.sector_size (length journal.medium.sectors) armed.srb entered.entry
-
-there_of : (journal : JournalView) (view : AdapterView) (claims : List (ℕ × Armed)) (number : ℕ) (entered : Entered) → slice_get journal.entered number ≡ Some entered
-    → (of_this : IsOfThis journal claims number) → ((n : ℕ) (armed : Armed) → claims ≡ (n, armed) ∷ [] → IsOnTag view entered.entry.tag armed) → IsArmedThere journal view number entered
-there_of journal view claims number entered there of_this on =
-    let same : of_this.entered ≡ entered = some_entered (sym of_this.there ∙ there) in
-    record {
-      armed = of_this.armed;
-      on_tag = on of_this.entered.arming of_this.armed of_this.claimed;
-      piece_is = ap (λ (e : Entered). e.entry.piece) (sym same) ∙ of_this.is_piece;
-      of_srb = subst (λ (e : Entered). IsOfSrb journal.medium.sector_size (length journal.medium.sectors) of_this.armed.srb e.entry) same of_this.of_srb;
-    }
-
-armed_there : (journal : JournalView) (view : AdapterView) (tags : Claimed) (claimed : Option (List (ℕ × Armed))) (number : ℕ) (entered : Entered) → slice_get journal.entered number ≡ Some entered → AreOnTags view tags
-    → claimed_at tags entered.entry.tag ≡ claimed → IsOfTag journal claimed number → IsArmedThere journal view number entered
-armed_there journal view tags (Some claims) number entered there on at of =
-    there_of journal view claims number entered there of (λ n armed e. on entered.entry.tag n armed (at ∙ ap Some e))
-armed_there journal view tags None number entered there on at of = absurd of
-
 module _ (armed : ArmedMayBeBooked) (adds : BookedActsAddEntries) (apart : StepsStayApart) (stays : ArmedStays) (rules : Rules) (start : State) (partitions : List ℕ) (handles : List (Option OpenHandle))
     (old held new : TracedView) (taken taken' : List Entered) (tags tags' : Claimed) (journal : JournalView) (entered : Entered) (reply : Reply)
-    (kept : IsKept rules start old taken tags) (is : IsTraced rules start partitions handles old) (fits : FitsTogether old.stack) (ordered : IsInOrder old.stack.adapter) (may : MayBook rules journal tags (length taken))
+    (kept : IsKept rules start old taken tags) (is : IsTraced rules start partitions handles old) (fits : FitsTogether old.stack) (ordered : IsInOrder old.stack.adapter) (may : MayBook rules old.stack.adapter journal (length taken))
     (there : slice_get journal.entered (length taken) ≡ Some entered) (holds : HoldsBooked old entered.entry.tag entered.entry.piece (Ok entered.entry) held)
     (order : IsInOrder held.stack.adapter) (fits' : FitsTogether held.stack) (reached : IsReached held.stack.rules held.stack.state)
     (served : IsServed 0 held (Act entered.entry.tag) reply new)
@@ -59,25 +33,19 @@ module _ (armed : ArmedMayBeBooked) (adds : BookedActsAddEntries) (apart : Steps
   same : may.entered ≡ entered
   same = some_entered (sym may.there ∙ there)
 
-  here : IsArmedThere journal old.stack.adapter (length taken) entered
-  here =
-      armed_there journal old.stack.adapter tags (claimed_at tags entered.entry.tag) (length taken) entered there kept.on_tags refl
-      (subst (λ (e : Entered). IsOfTag journal (claimed_at tags e.entry.tag) (length taken)) same may.of_tag)
+  takes_it : TakesEntry rules old.stack.adapter entered.entry
+  takes_it = subst (λ (e : Entered). TakesEntry rules old.stack.adapter e.entry) same may.takes
 
-  suits : IsOfSrb old.stack.adapter.sector_size (length old.stack.adapter.sectors) here.on_tag.srb entered.entry
+  suits : IsOfSrb old.stack.adapter.sector_size (length old.stack.adapter.sectors) takes_it.srb entered.entry
   suits =
-      let stack's : IsOfSrb journal.medium.sector_size (length journal.medium.sectors) here.on_tag.srb entered.entry =
-      of_srb journal.medium.sector_size (length journal.medium.sectors) here.armed.srb here.on_tag.srb entered.entry here.on_tag.same here.of_srb in
-      subst (λ (n : ℕ). IsOfSrb n (length old.stack.adapter.sectors) here.on_tag.srb entered.entry) (may.large.sector_size ∙ ap (λ (r : Rules). r.sector_size) (sym is.same_rules) ∙ fits.read.same_size)
-      (subst (λ (n : ℕ). IsOfSrb journal.medium.sector_size n here.on_tag.srb entered.entry) (may.large.sectors ∙ ap (λ (r : Rules). r.disk_sectors) (sym is.same_rules) ∙ fits.read.same_sectors) stack's)
+      subst (λ (n : ℕ). IsOfSrb n (length old.stack.adapter.sectors) takes_it.srb entered.entry) (ap (λ (r : Rules). r.sector_size) (sym is.same_rules) ∙ fits.read.same_size)
+      (subst (λ (n : ℕ). IsOfSrb rules.sector_size n takes_it.srb entered.entry) (ap (λ (r : Rules). r.disk_sectors) (sym is.same_rules) ∙ fits.read.same_sectors) takes_it.of_srb)
 
   run : Run old.stack.rules (opening kept.arrays) trace old.stack.state
   run = subst (λ (r : Rules). Run r (opening kept.arrays) trace old.stack.state) (sym is.same_rules) (subst (λ (s : State). Run rules s trace old.stack.state) kept.starts is.run)
 
   bookable : IsBookable old.stack.adapter entered.entry.tag entered.entry.piece (Ok entered.entry)
-  bookable =
-      subst (λ (k : ℕ). IsBookable old.stack.adapter entered.entry.tag k (Ok entered.entry)) (sym here.piece_is)
-      (armed kept.arrays trace (entries_in taken) old.stack entered.entry.tag here.armed.piece here.on_tag.srb (Ok entered.entry) run kept.journaled kept.apart here.on_tag.is_armed suits)
+  bookable = armed kept.arrays trace (entries_in taken) old.stack entered.entry.tag entered.entry.piece takes_it.srb (Ok entered.entry) run kept.journaled kept.apart takes_it.is_armed suits
 
   as_booked : ActsAsBooked trace entered.entry.piece entered.entry reply stepped
   as_booked =

@@ -14,6 +14,7 @@ ghost use Rattle.traced.specs.declared.TraceEntry.{TraceEntry as EntryView};
 ghost use Rattle.traced.specs.Entries.{IsAnswerAt, IsNoAnswerTo, calls, labels_of, places};
 ghost use Rattle.traced.specs.Serving.{is_call_event, is_handle_event};
 ghost use Rattle.traced.specs.Traced.{AreLooked, AreRowsOf, HasCounted, IsServed, IsTraced, TracedView, may_want};
+ghost use Rattle.book.specs.Acting.{HasNoNext};
 ghost use Rattle.book.specs.Book.{AreBooked, CallsAfter, ActsOrFails, FitsHandle, HasBooked, HoldsFailure, IsBlank, IsStepped, ServesAfter, ActsAreOf, book_of, call_handle};
 ghost use Rattle.book.specs.Rooms.{FailsAs, KeepsRoom, Opens, next_number};
 ghost use Rattle.book.specs.Taken.{BeginsWith, numbered_from};
@@ -88,8 +89,7 @@ fn moves_pieces(event: &Event) -> bool {
 }
 
 impl<N: BookNaming> Book<N> {
-    /// A book of a stack of which nothing was told yet, beside a journal, whose tags it has. Where the journal's
-    /// sectors aren't as many and as long as the disk's, nothing is ever booked.
+    /// A book of a stack of which nothing was told yet, beside a journal, whose tags it has.
     ///
     /// # Errors
     ///
@@ -202,7 +202,8 @@ impl<N: BookNaming> Book<N> {
         noting::look(&mut self.traced, &mut self.tags, records);
     }
 
-    // Books all entries that are there. Returns the tag of the last, if there was one.
+    // Books all entries that are there, up to the first that the stack can't take. Returns the tag of the last that it
+    // booked, if there was one.
     fn book_entries<M: Medium>(
         &mut self,
         records: &Records<N>,
@@ -421,9 +422,9 @@ impl<N: BookNaming> Book<N> {
 
     /// Carries out an event, any but an open and a close. First it looks once at each slot that has an open request,
     /// and carries out each mark that it sees there. Where the event may start or end a piece, it then takes the
-    /// journal's lock, and books entries in the order of their numbers, up to the first that isn't of what was armed on
-    /// its tag. For an act, the tag's piece first acts in the journal, if it may. A read, a write or a flush comes with
-    /// the share of its handle's client, any other event with none.
+    /// journal's lock, and books entries in the order of their numbers, up to the first that the stack can't take. For an
+    /// act, the tag's piece first acts in the journal, if it may. A read, a write or a flush comes with the share of its
+    /// handle's client, any other event with none.
     ///
     /// Reads, writes, flushes and query-remove are refused as `InsufficientResources`, before any step of theirs, where
     /// memory is refused for the labels that they may bring, or in the journal for their acts.
@@ -464,14 +465,15 @@ impl<N: BookNaming> Book<N> {
         self.act_or_fail(&beside.records, &mut journal, tag, completion)
     }
 
-    /// Books all entries that are there: what was booked is then the front of the journal's. The caller holds both
-    /// locks.
+    /// Books all entries that are there, up to the first that the stack can't take: what was booked is then the front of
+    /// the journal's. The caller holds both locks.
     pub fn book_rest<M: Medium>(&mut self, records: &Records<N>, journal: &mut Journal<M, N>)
         ensures books { (count : ℕ) × AreBooked count self.old self.new }
         ensures front { BeginsWith journal.old.entered self.new.taken }
+        ensures ends { HasNoNext N.rules self.new.traced.stack.adapter journal.old (length self.new.taken) }
         ensures same { journal.new ≡ journal.old }
     {
-        book_all(
+        let _last = book_all(
             &mut self.traced,
             &mut self.taken,
             &mut self.tags,

@@ -1,10 +1,11 @@
 //! How entries of the journal are booked, in the order of their numbers, and their acts made.
 
-ghost use Rattle.std.specs.Prelude.{◌≡◌, ◌<◌, ◌+◌, ℕ, Ok, None, Some, MatchOption, length, slice_get, true};
+ghost use Rattle.std.specs.Prelude.{◌≡◌, ◌<◌, ◌+◌, ℕ, Ok, None, Some, IfNone, MatchBool, MatchOption, length, slice_get, true};
 ghost use Rattle.sector_journal.specs.declared.acted.Entered.{Entered};
-ghost use Rattle.book.specs.Acting.{HoldsBooked, IsAsLarge, MayBook};
+ghost use Rattle.book.specs.Acting.{HasNoNext, HoldsBooked, IsAsLarge, MayBook, TakesEntry, TakesNot};
 ghost use Rattle.book.specs.Book.{BooksOne, HasBooked, IsKept, IsSameBook, book_of};
 ghost use Rattle.book.specs.Rooms.{HasActed};
+ghost use Rattle.book.specs.Staying.{AreOnTags};
 
 use crate::laws::laws_of_entries;
 use crate::name::BookNaming;
@@ -14,9 +15,9 @@ use crate::tags::Tags;
 use crate::taken::Taken;
 use compose::Event;
 use disk::Medium;
-use miniport::BookedAdapter;
+use miniport::{BookedAdapter, may_be_entry_of};
 use sector_journal::Journal;
-use srb::Booked;
+use srb::{Booked, Entry};
 use traced::Traced;
 
 /// Whether the journal has as many sectors as the stack's disk, of the same size.
@@ -53,7 +54,55 @@ pub(crate) fn has_acted<M: Medium, N: BookNaming>(
     }
 }
 
-/// Whether there is an entry of a number, and it is of what was armed on its tag.
+/// Whether receipts show the entry of a number to be of what was armed on its tag. No byte is compared for that.
+fn is_known<M: Medium, N: BookNaming>(
+    traced: &Traced<BookedAdapter, N>,
+    tags: &mut Tags<N>,
+    journal: &mut Journal<M, N>,
+    words: &sector_journal::History<N>,
+    number: u64,
+) -> bool
+    requires there { number < length journal.old.entered }
+    requires on_tags { AreOnTags traced.now.stack.adapter tags.old }
+    ensures same { (tags.new ≡ tags.old) × (journal.new ≡ journal.old) }
+    ensures known { result ≡ true → MayBook N.rules traced.now.stack.adapter journal.old number }
+{
+    if !is_as_large(traced, journal) {
+        return false;
+    }
+    let tag = tag_of(journal, number);
+    tags.is_of(journal, words, tag, number)
+}
+
+/// Whether the stack can take an entry: its piece may act on its tag, and asks for what the entry did.
+#[tactic(auto, using(crate::proofs::Taking::asked_taken))]
+fn can_take<N: BookNaming>(traced: &Traced<BookedAdapter, N>, entry: &Entry) -> bool
+    ensures { MatchBool result (TakesEntry N.rules traced.now.stack.adapter entry.now) (TakesNot N.rules traced.now.stack.adapter entry.now) }
+{
+    let Some((piece, srb)) = traced.armed(entry.tag) else {
+        return false;
+    };
+    if piece != entry.piece {
+        return false;
+    }
+    let sizes = traced.sizes();
+    may_be_entry_of(sizes.sector_size, sizes.sectors, srb, entry)
+}
+
+/// Whether the stack can take the entry of a number.
+fn can_take_next<M: Medium, N: BookNaming>(
+    traced: &Traced<BookedAdapter, N>,
+    journal: &Journal<M, N>,
+    number: u64,
+) -> bool
+    requires { number < length journal.now.entered }
+    ensures { (entered : Entered) × (slice_get journal.now.entered number ≡ Some entered) × MatchBool result (TakesEntry N.rules traced.now.stack.adapter entered.entry) (TakesNot N.rules traced.now.stack.adapter entered.entry) }
+{
+    can_take(traced, &journal.entries()[number as usize].entry)
+}
+
+/// Whether there is an entry of a number that the stack can take.
+#[tactic(auto, using(crate::proofs::Taking::next_taken))]
 fn may_book<M: Medium, N: BookNaming>(
     traced: &Traced<BookedAdapter, N>,
     tags: &mut Tags<N>,
@@ -61,15 +110,18 @@ fn may_book<M: Medium, N: BookNaming>(
     words: &sector_journal::History<N>,
     number: u64,
 ) -> bool
+    requires on_tags { AreOnTags traced.now.stack.adapter tags.old }
     ensures same { (tags.new ≡ tags.old) × (journal.new ≡ journal.old) }
     ensures there { result ≡ true → number < length journal.old.entered }
-    ensures may { result ≡ true → MayBook N.rules journal.old tags.old number }
+    ensures decides { MatchBool result (MayBook N.rules traced.now.stack.adapter journal.old number) (HasNoNext N.rules traced.now.stack.adapter journal.old number) }
 {
-    if number >= journal.entries().len() as u64 || !is_as_large(traced, journal) {
+    if number >= journal.entries().len() as u64 {
         return false;
     }
-    let tag = tag_of(journal, number);
-    tags.is_of(journal, words, tag, number)
+    if is_known(traced, tags, journal, words, number) {
+        return true;
+    }
+    can_take_next(traced, journal, number)
 }
 
 /// Books the entry of a number, and gives its tag.
@@ -87,7 +139,7 @@ fn book_entry<M: Medium, N: BookNaming>(
     tag
 }
 
-/// Books the next entry, if it is there and of what was armed on its tag, and makes its act. Returns the tag.
+/// Books the next entry, if there is one that the stack can take, and makes its act. Returns the tag.
 pub(crate) fn book_next<M: Medium, N: BookNaming>(
     traced: &mut Traced<BookedAdapter, N>,
     taken: &mut Taken<N>,
@@ -99,6 +151,7 @@ pub(crate) fn book_next<M: Medium, N: BookNaming>(
     ensures kept { IsKept N.rules N.start traced.new taken.new tags.new }
     ensures books { MatchOption result (IsSameBook traced.old taken.old traced.new taken.new) (λ tag. BooksOne tag (book_of traced.old taken.old) (book_of traced.new taken.new)) }
     ensures more { MatchOption result (length taken.new ≡ length taken.old) (λ _. (length taken.old < length journal.old.entered) × (length taken.new ≡ length taken.old + 1)) }
+    ensures ends { IfNone result (HasNoNext N.rules traced.new.stack.adapter journal.old (length taken.new)) }
     ensures journal { journal.new ≡ journal.old }
 {
     laws_of_entries();
@@ -115,7 +168,8 @@ pub(crate) fn book_next<M: Medium, N: BookNaming>(
     Some(tag)
 }
 
-/// Books all entries that are there. Returns the tag of the last, if there was one.
+/// Books all entries that are there, up to the first that the stack can't take. Returns the tag of the last that it
+/// booked, if there was one.
 pub(crate) fn book_all<M: Medium, N: BookNaming>(
     traced: &mut Traced<BookedAdapter, N>,
     taken: &mut Taken<N>,
@@ -126,6 +180,7 @@ pub(crate) fn book_all<M: Medium, N: BookNaming>(
     requires kept { IsKept N.rules N.start traced.old taken.old tags.old }
     ensures kept { IsKept N.rules N.start traced.new taken.new tags.new }
     ensures books { (count : ℕ) × HasBooked result count (book_of traced.old taken.old) (book_of traced.new taken.new) }
+    ensures ends { HasNoNext N.rules traced.new.stack.adapter journal.old (length taken.new) }
     ensures journal { journal.new ≡ journal.old }
 {
     let mut last = None;

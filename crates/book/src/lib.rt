@@ -12,7 +12,8 @@
 //!
 //! `Book::step` carries out the marks that it sees, then right acts of entries that weren't booked yet, in order, and
 //! then the event (`stepped`); only calls and queries want memory (`memory`). `act_failed` fails a piece by just the
-//! completion that is handed in. `into_rows`: act n is of the entry of receipt n (`receipts`, `acts`).
+//! completion that is handed in. `book_rest` leaves no entry, or a next one that the stack can't take (`ends`).
+//! `into_rows`: act n is of the entry of receipt n (`receipts`, `acts`).
 #![tactic(auto)]
 
 mod arming;

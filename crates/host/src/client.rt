@@ -115,6 +115,7 @@ impl<N: HostNaming> Client<N> {
     }
 
     /// Waits for the answer to a call of this client. It takes no memory.
+    #[tactic(auto, using(crate::proofs::Accounts::ends_with_taken))]
     pub fn wait<M: Medium, R: Wait>(
         &mut self,
         rt: &R,

@@ -5,7 +5,8 @@
 //! `MemAdapter` keeps [`Adapter`], faithfully, over any medium. It faults exactly where its table or a reset says
 //! (`by_table`, `completion`, `due`); failures stay within twice the pieces (`twice`). [`MemAdapter::noting`] keeps no
 //! label's bytes. `PlannedAdapter` is that adapter, but acts fail by rules (`planned`). `BookedAdapter`
-//! acts as was booked; how a booked failure comes back, and what `Taken` leaves, is only tested.
+//! acts as was booked; how a booked failure comes back, and what `Taken` leaves, is only tested. `may_be_entry_of` says
+//! whether an entry may be booked of an SRB.
 #![tactic(auto)]
 
 mod booked;
@@ -28,3 +29,4 @@ pub use completion::{MEDIUM_ERROR, failed_with};
 pub use fault_rule::{FaultKind, FaultRule};
 pub use memory::MemAdapter;
 pub use planned::PlannedAdapter;
+pub use suiting::may_be_entry_of;

@@ -88,6 +88,18 @@ fn suits_entry(sizes: &Sizes, srb: &Srb, entry: &Entry) -> bool
     }
 }
 
+/// Whether an entry may be of an act that the SRB asks for, on a disk of this many sectors, each of so many bytes.
+pub fn may_be_entry_of(sector_size: u32, sectors: u64, srb: &Srb, entry: &Entry) -> bool
+    ensures { Decides result (IsOfSrb sector_size sectors srb.now entry.now) }
+{
+    let sizes = Sizes {
+        sector_size,
+        sectors,
+        write_protected: false,
+    };
+    suits_entry(&sizes, srb, entry)
+}
+
 /// Whether sectors lie in the disk, and the SRB has just their bytes.
 fn is_whole(sizes: &Sizes, bytes: &[u8], lba: u64, count: u32) -> bool
     ensures { result ≡ is_whole_of sizes.now.sector_size sizes.now.sectors bytes.now lba count }

@@ -21,12 +21,12 @@ pub use Rattle.sector_journal.specs.Entering.{Enters, Names, Refuses, named}
 pub use Rattle.sector_journal.specs.Journal.{AreOfArmings, Arms, Disarms, GainsRoom, HoldsNear, IsHeld, IsOfArming, JournalView, MayArm, Releases, entries_in, of_arming, pieces_open}
 pub use Rattle.sector_journal.specs.Reserving.{covers, is_of, is_write, lies_in, of_length, pieces_of, pieces_with}
 pub use Rattle.sector_journal.specs.Slots.{IsFree, Takes, armed_at, armed_count, armed_with, one_if_armed, one_if_long}
-pub use Rattle.sector_journal.specs.Stocking.{ShelfView, count_at, count_on, is_for, is_not_for, pieces_at, promised_at}
+pub use Rattle.sector_journal.specs.Pooling.{SizeClassView, count_at, count_on, is_for, is_not_for, pieces_at, promised_at}
 pub use Rattle.sector_journal.specs.declared.acted.Entered.{Entered}
 pub use Rattle.sector_journal.specs.declared.reservation.Reservation.{Reservation}
 pub use Rattle.sector_journal.specs.declared.slots.Armed.{Armed}
 pub use Rattle.sector_journal.specs.inside.Journal.{CanEnter, JournalKept, MayAct}
-pub use Rattle.sector_journal.specs.inside.Stocking.{IsOfLength, TakesOne}
+pub use Rattle.sector_journal.specs.inside.Pooling.{IsOfLength, TakesOne}
 pub use Rattle.srb.specs.Replaying.{Replays, ReplaysKind}
 pub use Rattle.srb.specs.declared.Completion.{Completion}
 pub use Rattle.srb.specs.declared.Entry.{Entry}

@@ -1,5 +1,5 @@
 -- An SRB that may be armed, by what was reserved.
-use Rattle.sector_journal.proofs.Common.{◌≡◌, ◌≢◌, ◌<◌, ◌≤◌, ◌^◌, ℕ, ◌+◌, ◌-◌, ◌∷◌, ◌++◌, Bool, true, nat_le, List, [], length, All, Option, Some, None, slice_set, refl, sym, ap, subst, ◌∙◌, arith, inl, inr, leb-true, length-append, list_any, Any, and_parts, Any-from_list_any, Extent, IsIn, Cdb, Write10, Write16, Means, AsksToWrite, Srb, Kind, Read, Write, Flush, MediumView, IsReserved, Armed, Reservation, AskTheSame, IsCopy, named, Names, covers, is_write, lies_in, armed_count, IsFree, ShelfView, pieces_at, JournalView, IsHeld, MayArm, Arms, CanEnter}
+use Rattle.sector_journal.proofs.Common.{◌≡◌, ◌≢◌, ◌<◌, ◌≤◌, ◌^◌, ℕ, ◌+◌, ◌-◌, ◌∷◌, ◌++◌, Bool, true, nat_le, List, [], length, All, Option, Some, None, slice_set, refl, sym, ap, subst, ◌∙◌, arith, inl, inr, leb-true, length-append, list_any, Any, and_parts, Any-from_list_any, Extent, IsIn, Cdb, Write10, Write16, Means, AsksToWrite, Srb, Kind, Read, Write, Flush, MediumView, IsReserved, Armed, Reservation, AskTheSame, IsCopy, named, Names, covers, is_write, lies_in, armed_count, IsFree, SizeClassView, pieces_at, JournalView, IsHeld, MayArm, Arms, CanEnter}
 
 -- whatever the block asks for, it names this
 abbrev pub AlwaysNames : List ℕ → Kind × Extent → Type 0
@@ -75,7 +75,7 @@ ask_the_same kind extent srb copy names is = record {
 }
 
 module _ (old shown : JournalView) (tag piece : ℕ) (kind : Kind) (extent : Extent) (srb : Srb) (shown_is : shown ≡ old) where
-  pub may_arm : Names srb.block (kind, extent) → IsFree shown.slots tag → list_any (covers kind extent) shown.reservations ≡ true → (room' : List ShelfView) → pieces_at room' (length srb.data) + 1 ≡ pieces_at shown.room (length srb.data)
+  pub may_arm : Names srb.block (kind, extent) → IsFree shown.slots tag → list_any (covers kind extent) shown.reservations ≡ true → (room' : List SizeClassView) → pieces_at room' (length srb.data) + 1 ≡ pieces_at shown.room (length srb.data)
       → length shown.entered + armed_count shown.slots < shown.places → length shown.armings < 2 ^ 64 - 1 → MayArm old tag srb
   may_arm names free covered room' less place number = subst (λ (j : JournalView). MayArm j tag srb) shown_is (record {
     what = (kind, extent);
@@ -87,7 +87,7 @@ module _ (old shown : JournalView) (tag piece : ℕ) (kind : Kind) (extent : Ext
     number = number;
   })
 
-  pub arms : (armed : Armed) (slots' : List (Option Armed)) (armings' : List Armed) (room' : List ShelfView) → AlwaysNames srb.block (kind, extent) → IsCopy kind srb armed.srb → armed.tag ≡ tag → armed.piece ≡ piece
+  pub arms : (armed : Armed) (slots' : List (Option Armed)) (armings' : List Armed) (room' : List SizeClassView) → AlwaysNames srb.block (kind, extent) → IsCopy kind srb armed.srb → armed.tag ≡ tag → armed.piece ≡ piece
       → armed.number ≡ length shown.armings → pieces_at room' (length srb.data) + 1 ≡ pieces_at shown.room (length srb.data)
       → ((long : ℕ) → long ≢ length srb.data → pieces_at room' long ≡ pieces_at shown.room long) → slots' ≡ slice_set shown.slots tag (Some armed) → armings' ≡ shown.armings ++ armed ∷ []
       → Arms old tag piece srb (record shown { slots = slots'; armings = armings'; room = room' })

@@ -5,5 +5,5 @@ pub mod Counting
 pub mod Covered
 pub mod Kept
 pub mod Reserved
-pub mod Shelves
+pub mod SizeClasses
 mod Common

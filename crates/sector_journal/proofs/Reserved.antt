@@ -1,5 +1,5 @@
 -- A journal with more room.
-use Rattle.sector_journal.proofs.Common.{◌≡◌, ◌≤◌, ◌<◌, ℕ, ◌+◌, ◌-◌, List, [], ◌∷◌, ◌++◌, length, get_or, slice_index_or, Result, Ok, Err, OnErr, inl, refl, ap, subst, ◌∙◌, arith, sum_by, remove, sum_by_push, sum_by-remove, Kind, Read, Write, Flush, Extent, MediumView, Reserves, Entered, Reservation, pieces_of, ShelfView, pieces_at, JournalView, GainsRoom, HoldsNear}
+use Rattle.sector_journal.proofs.Common.{◌≡◌, ◌≤◌, ◌<◌, ℕ, ◌+◌, ◌-◌, List, [], ◌∷◌, ◌++◌, length, get_or, slice_index_or, Result, Ok, Err, OnErr, inl, refl, ap, subst, ◌∙◌, arith, sum_by, remove, sum_by_push, sum_by-remove, Kind, Read, Write, Flush, Extent, MediumView, Reserves, Entered, Reservation, pieces_of, SizeClassView, pieces_at, JournalView, GainsRoom, HoldsNear}
 
 pub reserves_none : (medium : MediumView) → Reserves medium medium
 reserves_none medium = record { lasts = λ extent h. h; after = refl }
@@ -20,7 +20,7 @@ on_err (Ok x) p = tt
 on_err (Err e) p = p
 
 -- more room for entries and in the medium, and as many buffers
-pub gains : (old shown : JournalView) (medium' : MediumView) (entered' : List Entered) (places' : ℕ) (reservations' : List Reservation) (room' : List ShelfView) → shown ≡ old → Reserves shown.medium medium' → shown.places ≤ places'
+pub gains : (old shown : JournalView) (medium' : MediumView) (entered' : List Entered) (places' : ℕ) (reservations' : List Reservation) (room' : List SizeClassView) → shown ≡ old → Reserves shown.medium medium' → shown.places ≤ places'
     → entered' ≡ shown.entered → reservations' ≡ shown.reservations → ((long : ℕ) → pieces_at room' long ≡ pieces_at shown.room long)
     → GainsRoom old (record shown { medium = medium'; places = places'; entered = entered'; reservations = reservations'; room = room' })
 gains old shown medium' entered' places' reservations' room' shown_is reserves more same same' buffers =

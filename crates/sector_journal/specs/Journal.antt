@@ -16,7 +16,7 @@ use Rattle.sector_journal.specs.Arming.{AskTheSame}
 use Rattle.sector_journal.specs.Entering.{Names, Enters, Refuses}
 use Rattle.sector_journal.specs.Slots.{armed_at, armed_count, armed_with, IsFree}
 use Rattle.sector_journal.specs.Reserving.{covers, is_of, pieces_of, pieces_with}
-use Rattle.sector_journal.specs.Stocking.{ShelfView, pieces_at}
+use Rattle.sector_journal.specs.Pooling.{SizeClassView, pieces_at}
 
 pub record JournalView : Type 0 where
   -- the sectors
@@ -33,7 +33,7 @@ pub record JournalView : Type 0 where
   -- the reservations: what open requests may move
   pub reservations : List Reservation
   -- for how many pieces of this many bytes there are buffers
-  pub room : List ShelfView
+  pub room : List SizeClassView
 
 -- what acts did, without their armings
 abbrev pub entries_in : List Entered → List Entry

@@ -3,5 +3,5 @@ pub mod Entering
 pub mod Journal
 pub mod Reserving
 pub mod Slots
-pub mod Stocking
+pub mod Pooling
 pub mod inside

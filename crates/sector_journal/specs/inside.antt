@@ -1,4 +1,4 @@
 -- What no reader of the public clauses needs.
 pub mod Journal
 pub mod Naming
-pub mod Stocking
+pub mod Pooling

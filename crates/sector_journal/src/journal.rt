@@ -16,16 +16,16 @@ ghost use Rattle.sector_journal.specs.Arming.{IsCopy};
 ghost use Rattle.sector_journal.specs.Journal.{Acts, Admits, AreOfArmings, Arms, Disarms, GainsRoom, HoldsNear, IsNew, MayArm, Releases, entries_in, entries_of};
 ghost use Rattle.sector_journal.specs.Reserving.{covers, is_of, of_length};
 ghost use Rattle.sector_journal.specs.Slots.{HasNone, armed_at};
-ghost use Rattle.sector_journal.specs.Stocking.{pieces_at, promised_at};
-ghost use Rattle.sector_journal.specs.inside.Stocking.{IsOfLength};
+ghost use Rattle.sector_journal.specs.Pooling.{pieces_at, promised_at};
+ghost use Rattle.sector_journal.specs.inside.Pooling.{IsOfLength};
 
 use crate::acted::Entered;
+use crate::buffer_pool::BufferPool;
 use crate::entering::{enter, named_in};
 use crate::name::{Naming, OfArmings, OfEntries};
 use crate::opened::{History, Opened};
-use crate::reservation::{Batch, Reservation, is_write};
+use crate::reservation::{Buffers, Reservation, is_write};
 use crate::slots::{Armed, Slots};
-use crate::stock::Stock;
 use chronicle::{Claims, Whole};
 use disk::Medium;
 use sector::{Bytes, Extent, LabelRoom};
@@ -46,7 +46,7 @@ pub struct Journal<M: Medium, N: Naming> {
     /// How many armings there were so far.
     armings: u64,
     reservations: Vec<Reservation>,
-    stock: Stock,
+    pool: BufferPool,
     armed: Whole<Armed, OfArmings<N>>,
     entered: Whole<Entered, OfEntries<N>>,
 }
@@ -55,7 +55,7 @@ impl<M: Medium, N: Naming> Model for Journal<M, N> {
     ghost use Rattle.std.specs.Prelude.{◌≡◌, ℕ, length, vec_capacity};
     ghost use Rattle.std.specs.List.{sum_by};
     ghost use Rattle.sector_journal.specs.Reserving.{pieces_of, pieces_with};
-    ghost use Rattle.sector_journal.specs.Stocking.{promised_at};
+    ghost use Rattle.sector_journal.specs.Pooling.{promised_at};
     ghost use Rattle.sector_journal.specs.Journal.{JournalView};
     ghost use Rattle.sector_journal.specs.inside.Journal.{JournalKept};
 
@@ -69,7 +69,7 @@ impl<M: Medium, N: Naming> Model for Journal<M, N> {
       slots = j.slots;
       armings = j.armed;
       reservations = j.reservations.items;
-      room = j.stock;
+      room = j.pool;
     } };
 
     ghost invariant = { λ j. record {
@@ -77,7 +77,7 @@ impl<M: Medium, N: Naming> Model for Journal<M, N> {
       numbers : j.armings ≡ length j.armed;
       promised : j.promised ≡ sum_by pieces_of j.reservations.items;
       entered : j.entered ≡ j.entries.items;
-      booked : (long : ℕ) → promised_at j.stock long ≡ sum_by (pieces_with (M.view j.medium).sector_size long) j.reservations.items;
+      booked : (long : ℕ) → promised_at j.pool long ≡ sum_by (pieces_with (M.view j.medium).sector_size long) j.reservations.items;
     } };
 }
 
@@ -108,12 +108,12 @@ fn own_srb(alloc: Global, srb: &Srb, kind: Kind, place: Bytes) -> Srb
     }
 }
 
-/// How many pieces both batches have.
-fn pieces_in(batches: &(Batch, Batch)) -> usize
-    requires { batches.now.0.pieces + batches.now.1.pieces < 2 ^ 64 }
-    ensures { result ≡ batches.now.0.pieces + batches.now.1.pieces }
+/// How many pieces both are for.
+fn pieces_in(both: &(Buffers, Buffers)) -> usize
+    requires { both.now.0.pieces + both.now.1.pieces < 2 ^ 64 }
+    ensures { result ≡ both.now.0.pieces + both.now.1.pieces }
 {
-    batches.0.pieces + batches.1.pieces
+    both.0.pieces + both.1.pieces
 }
 
 /// Reserves in the medium what a write may move.
@@ -130,16 +130,16 @@ fn hold<M: Medium>(medium: &mut M, kind: Kind, extent: Extent) -> Result<(), All
 }
 
 /// Makes the buffers of these pieces, or of none.
-fn promise(stock: &mut Stock, batches: (Batch, Batch)) -> Result<(), AllocError>
-    ensures made { OnOk result ((long : ℕ) → pieces_at stock.new long ≡ pieces_at stock.old long + (of_length batches.0.pieces batches.0.length long + of_length batches.1.pieces batches.1.length long)) }
-    ensures refused { OnErr result ((long : ℕ) → pieces_at stock.new long ≡ pieces_at stock.old long) }
-    ensures booked { OnOk result ((long : ℕ) → promised_at stock.new long ≡ promised_at stock.old long + (of_length batches.0.pieces batches.0.length long + of_length batches.1.pieces batches.1.length long)) }
-    ensures unbooked { OnErr result ((long : ℕ) → promised_at stock.new long ≡ promised_at stock.old long) }
+fn promise(pool: &mut BufferPool, both: (Buffers, Buffers)) -> Result<(), AllocError>
+    ensures made { OnOk result ((long : ℕ) → pieces_at pool.new long ≡ pieces_at pool.old long + (of_length both.0.pieces both.0.length long + of_length both.1.pieces both.1.length long)) }
+    ensures refused { OnErr result ((long : ℕ) → pieces_at pool.new long ≡ pieces_at pool.old long) }
+    ensures booked { OnOk result ((long : ℕ) → promised_at pool.new long ≡ promised_at pool.old long + (of_length both.0.pieces both.0.length long + of_length both.1.pieces both.1.length long)) }
+    ensures unbooked { OnErr result ((long : ℕ) → promised_at pool.new long ≡ promised_at pool.old long) }
 {
-    let (full, last) = batches;
-    stock.promise(full)?;
-    if stock.promise(last).is_err() {
-        stock.forget(full);
+    let (full, last) = both;
+    pool.promise(full)?;
+    if pool.promise(last).is_err() {
+        pool.forget(full);
         return Err(AllocError);
     }
     Ok(())
@@ -194,7 +194,7 @@ impl<M: Medium, N: Naming> Journal<M, N> {
             slots,
             armings: 0,
             reservations: Vec::new(alloc),
-            stock: Stock::new(alloc),
+            pool: BufferPool::new(alloc),
             armed,
             entered,
         };
@@ -293,14 +293,14 @@ impl<M: Medium, N: Naming> Journal<M, N> {
             extent,
             max_transfer,
         };
-        let batches = reservation.batches(self.medium.sector_size());
+        let both = reservation.buffers(self.medium.sector_size());
         self.reservations.reserve(1)?;
-        let Some(wanted) = self.promised.checked_add(pieces_in(&batches)) else {
+        let Some(wanted) = self.promised.checked_add(pieces_in(&both)) else {
             return Err(AllocError);
         };
         self.entries.reserve(wanted)?;
         hold(&mut self.medium, kind, extent)?;
-        promise(&mut self.stock, batches)?;
+        promise(&mut self.pool, both)?;
         self.promised = wanted;
         self.reservations.push_reserved(reservation);
         Ok(())
@@ -314,15 +314,13 @@ impl<M: Medium, N: Naming> Journal<M, N> {
             return;
         };
         let reservation = self.reservations.remove(at);
-        let (full, last) = reservation.batches(self.medium.sector_size());
+        let (full, last) = reservation.buffers(self.medium.sector_size());
         self.promised = self
             .promised
             .saturating_sub(full.pieces)
             .saturating_sub(last.pieces);
-        self.stock
-            .withdraw(full, self.slots.armed_with(full.length));
-        self.stock
-            .withdraw(last, self.slots.armed_with(last.length));
+        self.pool.withdraw(full, self.slots.armed_with(full.length));
+        self.pool.withdraw(last, self.slots.armed_with(last.length));
     }
 
     /// Lets a piece act on a tag, by a copy of its SRB in room that was reserved. True exactly where the tag is there
@@ -342,7 +340,7 @@ impl<M: Medium, N: Naming> Journal<M, N> {
         {
             return false;
         }
-        let Some(place) = self.stock.take(srb.data.len()) else {
+        let Some(place) = self.pool.take(srb.data.len()) else {
             return false;
         };
         let armed = Armed {
@@ -365,7 +363,7 @@ impl<M: Medium, N: Naming> Journal<M, N> {
         let Some(armed) = self.slots.clear(tag) else {
             return;
         };
-        self.stock.put(armed.srb.data);
+        self.pool.put(armed.srb.data);
     }
 
     /// Lets the piece of a tag act. Returns the number of its entry, or how it failed. It may not act again. `None`,

@@ -15,14 +15,14 @@
 #![tactic(auto)]
 
 mod acted;
+mod buffer_pool;
 mod entering;
 mod journal;
 mod name;
 mod opened;
 mod reservation;
-mod shelf;
+mod size_class;
 mod slots;
-mod stock;
 
 pub use acted::Entered;
 pub use entering::enter;

@@ -18,9 +18,9 @@ pub struct Reservation {
     pub max_transfer: u32,
 }
 
-/// A number of pieces of one length.
+/// Buffers of one length, for so many pieces.
 #[derive(Debug, Clone, Copy, PartialEq, Eq)]
-pub(crate) struct Batch {
+pub(crate) struct Buffers {
     pub pieces: usize,
     /// The length of a piece, in bytes.
     pub length: usize,
@@ -80,8 +80,8 @@ impl Reservation {
         is_same(kind, self.kind) && (is_flush(kind) || lies_in(extent, self.extent))
     }
 
-    /// The pieces of full length, and the piece of what is left, if there is one. A flush has only this one.
-    pub(crate) fn batches(&self, sector_size: u32) -> (Batch, Batch)
+    /// The buffers of the pieces of full length, and that of what is left, if there is one. A flush has only this one.
+    pub(crate) fn buffers(&self, sector_size: u32) -> (Buffers, Buffers)
         requires { 1 ≤ self.now.max_transfer }
         ensures together { result.0.pieces + result.1.pieces ≡ pieces_of self.now }
         ensures lengths { (long : ℕ) → of_length result.0.pieces result.0.length long + of_length result.1.pieces result.1.length long ≡ pieces_with sector_size long self.now }
@@ -92,21 +92,21 @@ impl Reservation {
         match self.kind {
             Kind::Read => cut(self.extent.count, most, size),
             Kind::Write => cut(self.extent.count, most, size),
-            Kind::Flush => (make_batch(0, 0), make_batch(1, 0)),
+            Kind::Flush => (buffers_for(0, 0), buffers_for(1, 0)),
         }
     }
 }
 
-fn make_batch(pieces: u64, length: u64) -> Batch
+fn buffers_for(pieces: u64, length: u64) -> Buffers
     ensures { (result.pieces ≡ pieces) × (result.length ≡ length) }
 {
-    Batch {
+    Buffers {
         pieces: pieces as usize,
         length: length as usize,
     }
 }
 
-fn cut(count: u64, most: u64, size: u64) -> (Batch, Batch)
+fn cut(count: u64, most: u64, size: u64) -> (Buffers, Buffers)
     requires some { 1 ≤ most }
     requires most { most < 2 ^ 32 }
     requires size { size < 2 ^ 32 }
@@ -116,7 +116,7 @@ fn cut(count: u64, most: u64, size: u64) -> (Batch, Batch)
 {
     let left = count % most;
     (
-        make_batch(count / most, most * size),
-        make_batch(left.min(1), left * size),
+        buffers_for(count / most, most * size),
+        buffers_for(left.min(1), left * size),
     )
 }

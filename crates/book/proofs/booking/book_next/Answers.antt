@@ -1,5 +1,5 @@
-use Rattle.book.proofs.Common.{◌≡◌, ◌++◌, ℕ, List, Some, length, rules, true, subst, Label, JournalView, IsServed, MayBook, Claimed, HaveNotedAll, TakesNext}
-use Rattle.std.specs.Prelude.{slice_get}
+use Rattle.book.proofs.Common.{◌≡◌, ◌++◌, ℕ, Bool, List, Some, length, rules, true, subst, Label, JournalView, IsServed, HasNoNext, MayBook, Claimed, HaveNotedAll, TakesNext}
+use Rattle.std.specs.Prelude.{MatchBool, slice_get}
 use Rattle.compose.specs.declared.Event.TheVariants.{Act}
 use Rattle.traced.specs.Entries.{labels_of}
 use Rattle.book.proofs.Telling.{books_one, kept_on}
@@ -11,7 +11,8 @@ returns-clause-kept g c =
     let s = c.shows_stack-2.ensures in
     let booked = c.book_entry-tag.ensures in
     let yes : c.may_book.result ≡ true = search rules in
-    let may = subst (λ (k : ℕ). MayBook g.N.TraceNaming.rules c.args.journal.now c.args.tags.now k) c.len-number.ensures (c.may_book.ensures.may yes) in
+    let decided = subst (λ (b : Bool). MatchBool b (MayBook g.N.TraceNaming.rules c.args.traced.now.stack.adapter c.args.journal.now c.len-number.result) (HasNoNext g.N.TraceNaming.rules c.args.traced.now.stack.adapter c.args.journal.now c.len-number.result)) yes c.may_book.ensures.decides in
+    let may = subst (λ (k : ℕ). MayBook g.N.TraceNaming.rules c.args.traced.now.stack.adapter c.args.journal.now k) c.len-number.ensures decided in
     let at = subst (λ (k : ℕ). slice_get c.may_book.new.journal.entered k ≡ Some booked.0) c.len-number.ensures booked.1 in
     let there = subst (λ (v : JournalView). slice_get v.entered (length c.args.taken.now) ≡ Some booked.0) c.may_book.ensures.same.1 at in
     let takes = subst (λ (v : JournalView). TakesNext v.entered c.args.taken.now c.add.new.self) c.may_book.ensures.same.1 c.add.ensures.takes in
@@ -26,7 +27,8 @@ returns-clause-books g c =
     let s = c.shows_stack-2.ensures in
     let booked = c.book_entry-tag.ensures in
     let yes : c.may_book.result ≡ true = search rules in
-    let may = subst (λ (k : ℕ). MayBook g.N.TraceNaming.rules c.args.journal.now c.args.tags.now k) c.len-number.ensures (c.may_book.ensures.may yes) in
+    let decided = subst (λ (b : Bool). MatchBool b (MayBook g.N.TraceNaming.rules c.args.traced.now.stack.adapter c.args.journal.now c.len-number.result) (HasNoNext g.N.TraceNaming.rules c.args.traced.now.stack.adapter c.args.journal.now c.len-number.result)) yes c.may_book.ensures.decides in
+    let may = subst (λ (k : ℕ). MayBook g.N.TraceNaming.rules c.args.traced.now.stack.adapter c.args.journal.now k) c.len-number.ensures decided in
     let at = subst (λ (k : ℕ). slice_get c.may_book.new.journal.entered k ≡ Some booked.0) c.len-number.ensures booked.1 in
     let there = subst (λ (v : JournalView). slice_get v.entered (length c.args.taken.now) ≡ Some booked.0) c.may_book.ensures.same.1 at in
     let takes = subst (λ (v : JournalView). TakesNext v.entered c.args.taken.now c.add.new.self) c.may_book.ensures.same.1 c.add.ensures.takes in

@@ -12,7 +12,7 @@ invariant_of-self-in-Ok g c = record {
   numbers = c.self.invariant.numbers;
   promised = c.self.invariant.promised;
   entered = c.add.ensures ∙ ap (λ es. es ++ of_arming c.in_ok-armed.armed.number c.in-Ok.entry ∷ []) c.self.invariant.entered ∙ sym c.push_reserved.ensures.items;
-  booked = still_booked (g.M.Medium.view c.self.inside.medium).sector_size _ c.self.inside.reservations.items _ c.self.inside.stock _ c.self.invariant.booked (ap (λ (v : MediumView). v.sector_size) c.in-Ok.ensures.after) refl (λ long. refl);
+  booked = still_booked (g.M.Medium.view c.self.inside.medium).sector_size _ c.self.inside.reservations.items _ c.self.inside.pool _ c.self.invariant.booked (ap (λ (v : MediumView). v.sector_size) c.in-Ok.ensures.after) refl (λ long. refl);
 }
 
 pub invariant_of-self-in-Err : goal.invariant_of-self-in-Err
@@ -21,7 +21,7 @@ invariant_of-self-in-Err g c = record {
   numbers = c.self.invariant.numbers;
   promised = c.self.invariant.promised;
   entered = c.self.invariant.entered;
-  booked = still_booked (g.M.Medium.view c.self.inside.medium).sector_size _ c.self.inside.reservations.items _ c.self.inside.stock _ c.self.invariant.booked (ap (λ (v : MediumView). v.sector_size) c.in-Err.ensures.after) refl (λ long. refl);
+  booked = still_booked (g.M.Medium.view c.self.inside.medium).sector_size _ c.self.inside.reservations.items _ c.self.inside.pool _ c.self.invariant.booked (ap (λ (v : MediumView). v.sector_size) c.in-Err.ensures.after) refl (λ long. refl);
 }
 
 pub enter-requires-clause-names : goal.enter-requires-clause-names

@@ -18,7 +18,7 @@ invariant_of-self-2 g c = record {
   numbers = c.self.invariant.numbers;
   promised = c.self.invariant.promised;
   entered = c.self.invariant.entered;
-  booked = still_booked (g.M.Medium.view c.self.inside.medium).sector_size _ c.self.inside.reservations.items _ c.self.inside.stock _ c.self.invariant.booked refl refl c.put.ensures.booked;
+  booked = still_booked (g.M.Medium.view c.self.inside.medium).sector_size _ c.self.inside.reservations.items _ c.self.inside.pool _ c.self.invariant.booked refl refl c.put.ensures.booked;
 }
 
 pub returns-in_default : goal.returns-in_default

@@ -18,7 +18,7 @@ invariant_of-self-in_err-hold g c = record {
   numbers = c.self.invariant.numbers;
   promised = c.self.invariant.promised ∙ ap (sum_by pieces_of) (sym c.reserve.ensures.items);
   entered = c.self.invariant.entered ∙ sym c.reserve-2.ensures.items;
-  booked = still_booked (g.M.Medium.view c.self.inside.medium).sector_size _ c.self.inside.reservations.items _ c.self.inside.stock _ c.self.invariant.booked (ap (λ (v : MediumView). v.sector_size) c.hold.ensures.reserves.after) c.reserve.ensures.items (λ long. refl);
+  booked = still_booked (g.M.Medium.view c.self.inside.medium).sector_size _ c.self.inside.reservations.items _ c.self.inside.pool _ c.self.invariant.booked (ap (λ (v : MediumView). v.sector_size) c.hold.ensures.reserves.after) c.reserve.ensures.items (λ long. refl);
 }
 
 pub invariant_of-self-in_err-promise : goal.invariant_of-self-in_err-promise
@@ -28,8 +28,8 @@ invariant_of-self-in_err-promise g c = record {
   promised = c.self.invariant.promised ∙ ap (sum_by pieces_of) (sym c.reserve.ensures.items);
   entered = c.self.invariant.entered ∙ sym c.reserve-2.ensures.items;
   booked =
-      let same : (long : ℕ) → promised_at c.promise.new.stock long ≡ promised_at c.self.inside.stock long = search rules in
-      still_booked (g.M.Medium.view c.self.inside.medium).sector_size _ c.self.inside.reservations.items _ c.self.inside.stock _ c.self.invariant.booked (ap (λ (v : MediumView). v.sector_size) c.hold.ensures.reserves.after) c.reserve.ensures.items same;
+      let same : (long : ℕ) → promised_at c.promise.new.pool long ≡ promised_at c.self.inside.pool long = search rules in
+      still_booked (g.M.Medium.view c.self.inside.medium).sector_size _ c.self.inside.reservations.items _ c.self.inside.pool _ c.self.invariant.booked (ap (λ (v : MediumView). v.sector_size) c.hold.ensures.reserves.after) c.reserve.ensures.items same;
 }
 
 pub invariant_of-self-2 : goal.invariant_of-self-2
@@ -42,14 +42,14 @@ invariant_of-self-2 g c =
       promised =
           let wanted : c.in-Some.wanted ≡ c.self.inside.promised + c.pieces_in.result = search rules in
           admitted c.self.inside.reservations.items _ _ (record { request = c.args.request; kind = c.args.kind; extent = c.args.extent; max_transfer = c.args.max_transfer }) c.self.inside.promised c.pieces_in.result _ _
-          c.self.invariant.promised c.pieces_in.ensures c.batches-batches.ensures.together wanted c.reserve.ensures.items c.push_reserved.ensures.items;
+          c.self.invariant.promised c.pieces_in.ensures c.buffers-both.ensures.together wanted c.reserve.ensures.items c.push_reserved.ensures.items;
       entered = c.self.invariant.entered ∙ sym c.reserve-2.ensures.items;
       booked =
-          let more : (long : ℕ) → promised_at c.promise.new.stock long ≡ promised_at c.self.inside.stock long + (of_length c.batches-batches.result.0.pieces c.batches-batches.result.0.length long + of_length c.batches-batches.result.1.pieces c.batches-batches.result.1.length long) = search rules in
+          let more : (long : ℕ) → promised_at c.promise.new.pool long ≡ promised_at c.self.inside.pool long + (of_length c.buffers-both.result.0.pieces c.buffers-both.result.0.length long + of_length c.buffers-both.result.1.pieces c.buffers-both.result.1.length long) = search rules in
           more_booked _ _ _ _ _ (record { request = c.args.request; kind = c.args.kind; extent = c.args.extent; max_transfer = c.args.max_transfer }) _ _
-          (λ long. of_length c.batches-batches.result.0.pieces c.batches-batches.result.0.length long + of_length c.batches-batches.result.1.pieces c.batches-batches.result.1.length long)
+          (λ long. of_length c.buffers-both.result.0.pieces c.buffers-both.result.0.length long + of_length c.buffers-both.result.1.pieces c.buffers-both.result.1.length long)
           c.self.invariant.booked (ap (λ (v : MediumView). v.sector_size) c.hold.ensures.reserves.after) c.reserve.ensures.items c.push_reserved.ensures.items
-          (λ long. c.batches-batches.ensures.lengths long ∙ ap (λ (n : ℕ). pieces_with n long (record { request = c.args.request; kind = c.args.kind; extent = c.args.extent; max_transfer = c.args.max_transfer })) c.sector_size.ensures) more;
+          (λ long. c.buffers-both.ensures.lengths long ∙ ap (λ (n : ℕ). pieces_with n long (record { request = c.args.request; kind = c.args.kind; extent = c.args.extent; max_transfer = c.args.max_transfer })) c.sector_size.ensures) more;
     }
 
 pub returns-in_default-clause-refused : goal.returns-in_default-clause-refused

@@ -1,7 +1,7 @@
 //! Buffers of one length.
 
 ghost use Rattle.std.specs.Prelude.{◌≡◌, ◌==◌, ◌≤◌, ◌<◌, ◌+◌, ◌-◌, min, IfOk, OnOk, OnErr, MatchOption, length, vec_len, vec_capacity, All};
-ghost use Rattle.sector_journal.specs.inside.Stocking.{IsOfLength, TakesOne};
+ghost use Rattle.sector_journal.specs.inside.Pooling.{IsOfLength, TakesOne};
 
 use sector::Bytes;
 use std::alloc::{AllocError, Global};
@@ -9,7 +9,7 @@ use std::marker::Model;
 
 /// The buffers of one length that are there. Contracts see the length, how many there are, and how many were promised.
 #[derive(Debug, Drop)]
-pub(crate) struct Shelf {
+pub(crate) struct SizeClass {
     /// The length of each buffer, in bytes.
     bytes: usize,
     free: Vec<Bytes>,
@@ -17,12 +17,12 @@ pub(crate) struct Shelf {
     promised: usize,
 }
 
-impl Model for Shelf {
+impl Model for SizeClass {
     ghost use Rattle.std.specs.Prelude.{◌≤◌, All, length, vec_capacity};
-    ghost use Rattle.sector_journal.specs.Stocking.{ShelfView};
-    ghost use Rattle.sector_journal.specs.inside.Stocking.{IsOfLength};
+    ghost use Rattle.sector_journal.specs.Pooling.{SizeClassView};
+    ghost use Rattle.sector_journal.specs.inside.Pooling.{IsOfLength};
 
-    ghost Value = { ShelfView };
+    ghost Value = { SizeClassView };
 
     ghost view = { λ s. record { bytes = s.bytes; pieces = length s.free.items; promised = s.promised } };
 
@@ -54,12 +54,12 @@ fn fill(alloc: Global, long: usize, missing: usize, free: &mut Vec<Bytes>) -> Re
     Ok(())
 }
 
-impl Shelf {
+impl SizeClass {
     /// No buffer of this length.
-    pub fn new(alloc: Global, length: usize) -> Shelf
+    pub fn new(alloc: Global, length: usize) -> SizeClass
         ensures { result ≡ record { bytes = length; pieces = 0; promised = 0 } }
     {
-        Shelf {
+        SizeClass {
             bytes: length,
             free: Vec::new(alloc),
             promised: 0,

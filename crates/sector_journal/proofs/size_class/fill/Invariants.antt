@@ -1,6 +1,6 @@
 use Rattle.std.proofs.Common.{◌≡◌, ◌≤◌, ◌+◌, All, length, vec_capacity}
-use Rattle.sector_journal.specs.inside.Stocking.{IsOfLength}
-use Rattle.sector_journal.proofs.shelf.fill.Given as goal
+use Rattle.sector_journal.specs.inside.Pooling.{IsOfLength}
+use Rattle.sector_journal.proofs.size_class.fill.Given as goal
 
 abbrev pub invariant-loop : goal.invariant-loop
 invariant-loop l = record {
