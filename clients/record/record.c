@@ -9,11 +9,12 @@
  *     call R read|write OFF LEN [through] in 0 [BYTES]    call R flush in 0
  *     answer R STATUS INFO [BYTES]
  *
- * BYTES are runs, a5*512,00*2. A request to write zeros is a write of them, and none to trim is offered, since what
- * that leaves nobody can judge. A broken connection is no answer, and a remark says so. A file that is there is gone on with, and
- * its numbers too. A request that can't be written down is not made, or has no answer in the file and fails. Whole
- * lines are written, as soon as they have more than BYTES (262,144) together, and when a client leaves: with a limit
- * of 0 the file has them all, also where this is killed. */
+ * BYTES are runs, a5*512,00*2, or, where that is shorter, x and two hexadecimal digits a byte. A request to write zeros
+ * is a write of them, and none to trim is offered, since what that leaves nobody can judge. A broken connection is no
+ * answer, and a remark says so. A file that is there is gone on with, and its numbers too. A request that can't be
+ * written down is not made, or has no answer in the file and fails. Whole lines are written, as soon as they have more
+ * than BYTES (262,144) together, and when a client leaves: with a limit of 0 the file has them all, also where this is
+ * killed. */
 #include <errno.h>
 #include <fcntl.h>
 #include <inttypes.h>
@@ -28,9 +29,9 @@
 #define NBDKIT_API_VERSION 2
 #include <nbdkit-filter.h>
 
-/* What a line has beside its bytes, and for a byte at most: ",a5*1", or less for each of more. */
+/* What a line has beside its bytes, and a run at most, with the comma before it. */
 #define HEAD 128
-#define RUN 5
+#define RUN 32
 
 static char *path;
 static int file = -1;
@@ -135,18 +136,43 @@ add_decimal(size_t number)
 	lines[length++] = '0' + number % 10;
 }
 
+static void
+add_byte(uint8_t byte)
+{
+	lines[length++] = "0123456789abcdef"[byte >> 4];
+	lines[length++] = "0123456789abcdef"[byte & 15];
+}
+
+/* The runs of bytes, as long as they take no more room than digits do. */
+static bool
+add_runs(const uint8_t *bytes, size_t count)
+{
+	size_t most = length + 1 + 2 * count;
+	for (size_t at = 0, run; at < count; at += run) {
+		run = run_of(bytes + at, count - at);
+		if (at > 0)
+			lines[length++] = ',';
+		add_byte(bytes[at]);
+		lines[length++] = '*';
+		add_decimal(run);
+		if (length > most)
+			return false;
+	}
+	return true;
+}
+
 /* The bytes of a line, behind a space. There is room. */
 static void
 add_bytes(const uint8_t *bytes, size_t count)
 {
-	for (size_t at = 0, run; at < count; at += run) {
-		run = run_of(bytes + at, count - at);
-		lines[length++] = at == 0 ? ' ' : ',';
-		lines[length++] = "0123456789abcdef"[bytes[at] >> 4];
-		lines[length++] = "0123456789abcdef"[bytes[at] & 15];
-		lines[length++] = '*';
-		add_decimal(run);
-	}
+	lines[length++] = ' ';
+	size_t begin = length;
+	if (add_runs(bytes, count))
+		return;
+	length = begin;
+	lines[length++] = 'x';
+	for (size_t at = 0; at < count; at++)
+		add_byte(bytes[at]);
 }
 
 /* Notes a line. There are bytes where `count` isn't 0. */
@@ -154,7 +180,7 @@ static bool
 note(const uint8_t *bytes, size_t count, const char *format, ...)
 {
 	va_list arguments;
-	if (!make_room(HEAD + RUN * count))
+	if (!make_room(HEAD + RUN + 2 * count))
 		return false;
 	va_start(arguments, format);
 	length += vsnprintf(lines + length, HEAD, format, arguments);

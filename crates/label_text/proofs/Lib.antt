@@ -4,11 +4,14 @@ mod Numbers
 mod Decimals
 mod Digits
 mod Hexed
+mod Filling
 mod LongestRuns
 mod Same
 mod Skipped
 mod RunsTaken
 mod RunsRead
+mod WordsOfBytes
+mod BytesLeft
 mod Spaced
 mod Names
 mod Written

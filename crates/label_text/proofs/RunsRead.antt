@@ -1,14 +1,17 @@
 -- Runs, as they are written and read.
-use Rattle.std.proofs.Common.{◌≡◌, ◌≤◌, ◌<◌, ◌^◌, ◌==◌, ◌+◌, ◌++◌, ◌∙◌, ℕ, Bool, true, false, List, [], ◌∷◌, Option, None, Some, All, ap, arith, cond, drop, length, map, nat_le, refl, replicate, slice_get, subst, sym}
+use Rattle.std.proofs.Common.{◌≡◌, ◌≤◌, ◌<◌, ◌^◌, ◌==◌, ◌+◌, ◌/◌, ◌%◌, ◌++◌, ◌∙◌, ℕ, Bool, true, false, List, [], ◌∷◌, Option, None, Some, All, ap, arith, cond, drop, get_or, length, map, nat_le, refl, replicate, slice_get, subst, sym}
 use Rattle.std.specs.Fmt.{decimal}
 use Rattle.std.specs.List.{join_with_byte}
+use Rattle.std.specs.Prelude.{IfSome}
 use Rattle.std.specs.Option.{option_and_then, option_map}
 use Rattle.std.proofs.lemmas.Bool.Decides.{nat_tests}
 use Rattle.std.proofs.lemmas.List.Elements.{All-append, All-cons, All-nil, All-head, All-tail, All-weaker}
 use Rattle.std.proofs.lemmas.List.Splits.{join_with_byte-slice_split}
-use Rattle.label_text.specs.Runs.{AreBytes, IsShort, Run, expanded, hex_of, most_bytes, run_text, runs_of, runs_text}
-use Rattle.label_text.specs.inside.Reading.{at_end, byte_at, byte_in, bytes_after, few_bytes, may_follow, number_at, number_in, parted, run_at, run_in, runs_in}
-use Rattle.label_text.proofs.Digits.{hex_above, hex_is, hex_some}
+use Rattle.label_text.specs.Runs.{AreBytes, IsShort, Run, digit_of, expanded, hex_of, most_bytes, run_text, runs_of, runs_text}
+use Rattle.label_text.specs.inside.Reading.{at_end, byte_at, byte_in, byte_of, bytes_after, few_bytes, may_follow, number_at, number_in, parted, run_at, run_in, run_told, runs_in}
+use Rattle.label_text.specs.declared.runs.Run.{Run as TakenRun}
+use Rattle.label_text.proofs.Decimals.{one}
+use Rattle.label_text.proofs.Digits.{byte_some, hex_above, hex_is, hex_some}
 use Rattle.label_text.proofs.Found.{end_some, first_is, if_some, map_some, then_some_of}
 use Rattle.label_text.proofs.Numbers.{IsAbove, decimal_above, number_is, number_some}
 use Rattle.label_text.proofs.Parting.{IsFree, parts_again, some_part}
@@ -48,11 +51,37 @@ run_parts r short =
     (All-cons (IsFree 42) (hex_of r.byte) (decimal r.count ∷ []) (free_of 42 (hex_of r.byte) (omega arith) (hex_above r.byte))
     (All-cons (IsFree 42) (decimal r.count) [] (free_of 42 (decimal r.count) (omega arith) (decimal_above 64 r.count (omega arith) short.count)) (All-nil (IsFree 42))))
 
-run_is : (r : Run) → IsShort r → run_in (run_text r) ≡ Some r
+pub run_is : (r : Run) → IsShort r → run_in (run_text r) ≡ Some r
 run_is r short =
     ap run_at (run_parts r short)
     ∙ ap (λ o. option_and_then (λ byte. option_and_then (λ count. Some (run byte count)) (number_in 64 (decimal r.count))) o) (hex_is r.byte short.byte)
     ∙ ap (λ o. option_and_then (λ count. Some (run r.byte count)) o) (number_is 64 r.count (omega arith) short.count)
+
+-- a run whose count has one digit
+pub short_is : (high low digit byte count : ℕ) → byte_of high low ≡ Some byte → digit ≡ 48 + count → count < 10 → run_in (high ∷ low ∷ 42 ∷ digit ∷ []) ≡ Some (run byte count)
+short_is high low digit byte count is told few =
+    let parts = byte_some high low byte is in
+    let text : high ∷ low ∷ 42 ∷ digit ∷ [] ≡ run_text (run byte count) =
+    ap (λ h. h ∷ low ∷ 42 ∷ digit ∷ []) parts.0 ∙ ap (λ l. digit_of (byte / 16) ∷ l ∷ 42 ∷ digit ∷ []) parts.1
+    ∙ ap (λ ds. digit_of (byte / 16) ∷ digit_of (byte % 16) ∷ 42 ∷ ds) (ap (λ d. d ∷ []) told ∙ sym (one count few)) in
+    ap run_in text ∙ run_is (run byte count) (record { byte = parts.2; count = omega arith })
+
+four_are : (xs : List ℕ) → 4 ≤ length xs → length xs < 5 → xs ≡ get_or xs 0 0 ∷ get_or xs 1 0 ∷ get_or xs 2 0 ∷ get_or xs 3 0 ∷ []
+four_are [] low high = absurd (omega arith)
+four_are (a ∷ []) low high = absurd (omega arith)
+four_are (a ∷ b ∷ []) low high = absurd (omega arith)
+four_are (a ∷ b ∷ c ∷ []) low high = absurd (omega arith)
+four_are (a ∷ b ∷ c ∷ d ∷ []) low high = refl
+four_are (a ∷ b ∷ c ∷ d ∷ e ∷ xs) low high = absurd (omega arith)
+
+-- what was counted is the run of four bytes
+pub counted_is : (part : List ℕ) (byte : ℕ) (told : Option ℕ) (found : Option TakenRun) → 4 ≤ length part → length part < 5 → told ≡ byte_of (get_or part 0 0) (get_or part 1 0) → told ≡ Some byte
+    → IfSome found (λ run. (run.byte ≡ byte) × (get_or part 2 0 ≡ 42) × (get_or part 3 0 ≡ 48 + run.count) × (run.count < 10)) → IfSome found (λ run. Some (run_told run) ≡ run_in part)
+counted_is part byte told None low high is some h = tt
+counted_is part byte told (Some r) low high is some h =
+    ap (λ b. Some (run b r.count)) h.0
+    ∙ sym (ap run_in (four_are part low high ∙ ap (λ star. get_or part 0 0 ∷ get_or part 1 0 ∷ star ∷ get_or part 3 0 ∷ []) h.1)
+    ∙ short_is (get_or part 0 0) (get_or part 1 0) (get_or part 3 0) byte r.count (sym is ∙ some) h.2 h.3)
 
 bytes_is : (last : Option ℕ) (runs : List Run) → AreLongest last runs → All IsShort runs → bytes_after last (map run_text runs) ≡ Some (expanded runs)
 bytes_is last [] longest short = refl
@@ -78,10 +107,10 @@ some_runs : (bytes : List ℕ) → 0 < length bytes → 0 < length (runs_of byte
 some_runs [] some = absurd (omega arith)
 some_runs (byte ∷ bytes) some = some_joined byte (runs_of bytes)
 
-few_is : (bytes : List ℕ) → length bytes ≤ most_bytes → few_bytes bytes ≡ Some bytes
+pub few_is : (bytes : List ℕ) → length bytes ≤ most_bytes → few_bytes bytes ≡ Some bytes
 few_is bytes few = let fits : nat_le (length bytes) most_bytes ≡ true = grind (arith, nat_tests) in ap (λ b. cond b (Some bytes) None) fits
 
-few_some : (found bytes : List ℕ) → few_bytes found ≡ Some bytes → (found ≡ bytes) × (length bytes ≤ most_bytes)
+pub few_some : (found bytes : List ℕ) → few_bytes found ≡ Some bytes → (found ≡ bytes) × (length bytes ≤ most_bytes)
 few_some found bytes h =
     let is = if_some (nat_le (length found) most_bytes) (Some found) bytes h in
     let same : found ≡ bytes = cc (is.1) in

@@ -21,15 +21,16 @@ use Rattle.machine.specs.declared.Label.{Label}
 use Rattle.machine.specs.declared.Label.TheVariants.{Call, Device, Answer, Cancel, Pause, Resume, Remove, Surprise, Removed}
 use Rattle.trace_line.specs.declared.Line.{Line}
 use Rattle.label_text.specs.Runs.{AreBytes, hex_bytes, hex_of}
-use Rattle.label_text.specs.Lines.{BlockFits, ClassFits, Fits, OwnerFits, OwnerIsSmall, PartitionFits, SenseFits, Spells, Words, block_words, class_words, extent_words, kind_word, owned, owner_words, partition_word, runs_words, sense_words, through_words, words_of}
-use Rattle.label_text.specs.inside.Reading.{act_at, answer_at, at_end, bare, behind, behind_block, behind_extent, behind_head, behind_placed, behind_start, block_at, block_in, byte_at, byte_in, bytes_at, bytes_in, call_at, cancel_at, class_at, class_by, completion_at, extent_at, fault_at, flushed_at, head_at, in_partition_at, is_next, is_no_block, is_some_extent, kind_in, label_by, line_at, line_by, line_in, number_at, number_in, outcome_at, owned_start_at, owner_at, parted, partition_in, placed_at, return_at, runs_in, sense_at, sense_behind, sense_from, short_block, short_by, start_at, status_in, tag_at, two_at, with_bytes}
+use Rattle.label_text.specs.Lines.{BlockFits, ClassFits, Fits, Form, InRuns, OwnerFits, OwnerIsSmall, PartitionFits, SenseFits, Spells, Words, block_words, bytes_words, class_words, extent_words, kind_word, owned, owner_words, partition_word, sense_words, through_words, words_as}
+use Rattle.label_text.specs.inside.Reading.{act_at, answer_at, at_end, bare, behind, behind_block, behind_extent, behind_head, behind_placed, behind_start, block_at, block_in, byte_at, byte_in, bytes_at, bytes_in, bytes_of, call_at, cancel_at, class_at, class_by, completion_at, extent_at, fault_at, flushed_at, head_at, in_partition_at, is_next, is_no_block, is_some_extent, kind_in, label_by, line_at, line_by, line_in, number_at, number_in, outcome_at, owned_start_at, owner_at, parted, partition_in, placed_at, return_at, sense_at, sense_behind, sense_from, short_block, short_by, start_at, status_in, tag_at, two_at, with_bytes}
 use Rattle.label_text.specs.declared.reading.Head.{Head}
 use Rattle.label_text.proofs.Digits.{hex_bytes_some, hex_some}
 use Rattle.label_text.proofs.Found.{end_some, first_is, if_none, if_some, map_some, then_some_of}
 use Rattle.label_text.proofs.Names.{status_some}
 use Rattle.label_text.proofs.Numbers.{number_some}
 use Rattle.label_text.proofs.Parting.{parts_again}
-use Rattle.label_text.proofs.RunsRead.{byte_at_some, number_at_some, runs_some}
+use Rattle.label_text.proofs.RunsRead.{byte_at_some, number_at_some}
+use Rattle.label_text.proofs.WordsOfBytes.{as_words, word_some}
 use Rattle.label_text.proofs.Written.{all_free, line_is}
 
 -- two words are one
@@ -54,20 +55,27 @@ next_is word words h = next_by word words (slice_get words 0) refl h
 
 -- BYTES
 
+-- words were read as bytes
+record AreRead (words : Words) (bytes : List ℕ) : Type 0 where
+  form : Form
+  is : words ≡ bytes_words form bytes
+  are : AreBytes bytes
+
 bytes_by : (words : Words) (o : Option (List ℕ)) (bytes : List ℕ) → slice_get words 0 ≡ o
-    → elim o [ Some word ↦ at_end (drop 1 words) (runs_in word) | None ↦ Some [] ] ≡ Some bytes → (words ≡ runs_words bytes) × AreBytes bytes
-bytes_by [] None bytes e h = let none : [] ≡ bytes = cc (h) in subst (λ bs. ([] ≡ runs_words bs) × AreBytes bs) none (refl, record { most = omega arith; each = All-nil _ })
+    → elim o [ Some word ↦ at_end (drop 1 words) (bytes_of word) | None ↦ Some [] ] ≡ Some bytes → AreRead words bytes
+bytes_by [] None bytes e h =
+    let none : [] ≡ bytes = cc (h) in subst (AreRead []) none (record { form = InRuns; is = refl; are = record { most = omega arith; each = All-nil _ } })
 bytes_by (w ∷ ws) None bytes e h = absurd (cc (e))
 bytes_by words (Some word) [] e h =
-    let last = end_some (drop 1 words) (runs_in word) [] h in
-    let is = runs_some word [] last.1 in
-    absurd (omega (arith, is.2))
+    let last = end_some (drop 1 words) (bytes_of word) [] h in
+    let is = word_some word [] last.1 in
+    absurd (omega (arith, is.some))
 bytes_by words (Some word) (b ∷ bs) e h =
-    let last = end_some (drop 1 words) (runs_in word) (b ∷ bs) h in
-    let is = runs_some word (b ∷ bs) last.1 in
-    (first_is words word e ∙ (λ i. is.0 i ∷ last.0 i), is.1)
+    let last = end_some (drop 1 words) (bytes_of word) (b ∷ bs) h in
+    let is = word_some word (b ∷ bs) last.1 in
+    record { form = is.form; is = first_is words word e ∙ (λ i. is.is i ∷ last.0 i) ∙ as_words is.form b bs; are = is.are }
 
-bytes_some : (words : Words) (bytes : List ℕ) → bytes_at words ≡ Some bytes → (words ≡ runs_words bytes) × AreBytes bytes
+bytes_some : (words : Words) (bytes : List ℕ) → bytes_at words ≡ Some bytes → AreRead words bytes
 bytes_some words bytes h = bytes_by words (slice_get words 0) bytes refl h
 
 -- COMMAND BLOCKS
@@ -241,7 +249,8 @@ head_some words h p =
 
 -- words are what is written of a label without an owner, behind its verb
 record Tells (verb : List ℕ) (words : Words) (l : Label) : Type 0 where
-  is : verb ∷ words ≡ words_of (bare l)
+  form : Form
+  is : verb ∷ words ≡ words_as form (bare l)
   fits : Fits l
   has_none : OwnerFits l None
 
@@ -254,11 +263,12 @@ call_some words l p =
     let head = head_some (drop 1 words) h.0 h.1 in
     let bytes = bytes_some (behind_head (drop 1 words)) b.0 b.1 in
     subst (Tells (codes "call") words) b.2 (record {
+      form = bytes.form;
       is =
           ap (λ more. codes "call" ∷ more)
           (number.0 ∙ ap (λ more. decimal n.0 ∷ more) (head.is
-          ∙ ap (λ rest. kind_word h.0.kind ∷ (extent_words h.0.kind h.0.offset h.0.length ++ (through_words h.0.through ++ (codes "in" ∷ partition_word h.0.partition ∷ rest)))) bytes.0));
-      fits = (number.1, record { offset = head.offset; bytes_long = head.bytes_long; partition = head.partition; bytes = bytes.1 });
+          ∙ ap (λ rest. kind_word h.0.kind ∷ (extent_words h.0.kind h.0.offset h.0.length ++ (through_words h.0.through ++ (codes "in" ∷ partition_word h.0.partition ∷ rest)))) bytes.is));
+      fits = (number.1, record { offset = head.offset; bytes_long = head.bytes_long; partition = head.partition; bytes = bytes.are });
       has_none = refl;
     })
 
@@ -269,8 +279,9 @@ act_some words l p =
     let piece = number_at_some 128 words n.0 n.1 in
     let bytes = bytes_some (drop 1 words) b.0 b.1 in
     subst (Tells (codes "act") words) b.2 (record {
-      is = ap (λ more. codes "act" ∷ more) (piece.0 ∙ ap (λ more. decimal n.0 ∷ more) bytes.0);
-      fits = (piece.1, bytes.1);
+      form = bytes.form;
+      is = ap (λ more. codes "act" ∷ more) (piece.0 ∙ ap (λ more. decimal n.0 ∷ more) bytes.is);
+      fits = (piece.1, bytes.are);
       has_none = refl;
     })
 
@@ -282,7 +293,8 @@ tag_some words tag h =
 
 -- words are what is written of a line behind its verb
 record TellsLine (verb : List ℕ) (words : Words) (line : Line) : Type 0 where
-  is : verb ∷ words ≡ words_of line
+  form : Form
+  is : verb ∷ words ≡ words_as form line
   fits : Fits line.label
   owner_fits : OwnerFits line.label line.owner
 
@@ -296,6 +308,7 @@ start_some words l owner p rest small =
     let tag = tag_some (drop 1 words) t.0 t.1 in
     let block = block_at_some (drop 1 (drop 1 (drop 1 words))) b.0 b.1 in
     subst (λ x. TellsLine (codes "start") words (owned x owner)) b.2 (record {
+      form = InRuns;
       is =
           ap (λ more. codes "start" ∷ more)
           (piece.0 ∙ ap (λ more. decimal n.0 ∷ more) (tag.0 ∙ ap (λ more. codes "tag" ∷ decimal t.0 ∷ more) (block.0 ∙ ap (λ more. block_words b.0 ++ more) rest)));
@@ -317,6 +330,7 @@ fault_some words l p =
     let piece = number_at_some 128 words n.0 n.1 in
     let same : Device (Fault n.0) ≡ l = cc (last.1) in
     subst (Tells (codes "fault") words) same (record {
+      form = InRuns;
       is = ap (λ more. codes "fault" ∷ more) (piece.0 ∙ ap (λ more. decimal n.0 ∷ more) last.0);
       fits = piece.1;
       has_none = refl;
@@ -329,6 +343,7 @@ cancel_some words l p =
     let number = number_at_some 64 words n.0 n.1 in
     let same : Cancel n.0 ≡ l = cc (last.1) in
     subst (Tells (codes "cancel") words) same (record {
+      form = InRuns;
       is = ap (λ more. codes "cancel" ∷ more) (number.0 ∙ ap (λ more. decimal n.0 ∷ more) last.0);
       fits = number.1;
       has_none = refl;
@@ -396,6 +411,7 @@ return_some words l p =
     let piece = number_at_some 128 words n.0 n.1 in
     let class = class_some w.0 (drop 1 (drop 1 words)) c.0 w.2 in
     subst (Tells (codes "return") words) c.2 (record {
+      form = InRuns;
       is = ap (λ more. codes "return" ∷ more) (piece.0 ∙ ap (λ more. decimal n.0 ∷ more) (first_is (drop 1 words) w.0 w.1 ∙ class.0));
       fits = (piece.1, class.1);
       has_none = refl;
@@ -419,16 +435,17 @@ answer_some words l p =
     let outcome = outcome_some (drop 1 words) o.0 o.1 in
     let bytes = bytes_some (drop 1 (drop 1 (drop 1 words))) b.0 b.1 in
     subst (Tells (codes "answer") words) b.2 (record {
-      is = ap (λ more. codes "answer" ∷ more) (number.0 ∙ ap (λ more. decimal n.0 ∷ more) (outcome.0 ∙ ap (λ more. name_of o.0.0 ∷ decimal o.0.1 ∷ more) bytes.0));
-      fits = (number.1, outcome.1, bytes.1);
+      form = bytes.form;
+      is = ap (λ more. codes "answer" ∷ more) (number.0 ∙ ap (λ more. decimal n.0 ∷ more) (outcome.0 ∙ ap (λ more. name_of o.0.0 ∷ decimal o.0.1 ∷ more) bytes.is));
+      fits = (number.1, outcome.1, bytes.are);
       has_none = refl;
     })
 
-alone_some : (verb : List ℕ) (words : Words) (one l : Label) → at_end words (Some one) ≡ Some l → verb ∷ [] ≡ words_of (bare one) → Fits one → OwnerFits one None → Tells verb words l
+alone_some : (verb : List ℕ) (words : Words) (one l : Label) → at_end words (Some one) ≡ Some l → verb ∷ [] ≡ words_as InRuns (bare one) → Fits one → OwnerFits one None → Tells verb words l
 alone_some verb words one l h is fits has_none =
     let last = end_some words (Some one) l h in
     let same : one ≡ l = cc (last.1) in
-    subst (Tells verb words) same (record { is = ap (λ more. verb ∷ more) last.0 ∙ is; fits = fits; has_none = has_none })
+    subst (Tells verb words) same (record { form = InRuns; is = ap (λ more. verb ∷ more) last.0 ∙ is; fits = fits; has_none = has_none })
 
 named_so : (v w : List ℕ) (words : Words) (l : Label) → v ≡ w → Tells w words l → Tells v words l
 named_so v w words l e h = subst (λ x. Tells x words l) (sym e) h
@@ -462,7 +479,7 @@ line_some verb words line h =
     (λ e is. subst (λ v. TellsLine v words line) (sym e) (owned_start_some words line is))
     (λ is. let l = map_some bare (label_by verb words) line is in
     let label = label_some verb words l.0 l.1 in
-    subst (TellsLine verb words) l.2 (record { is = label.is; fits = label.fits; owner_fits = label.has_none }))
+    subst (TellsLine verb words) l.2 (record { form = label.form; is = label.is; fits = label.fits; owner_fits = label.has_none }))
 
 -- what is read of a text spells it
 pub read_spells : (text : List ℕ) (line : Line) → line_in text ≡ Some line → Spells text line
@@ -470,6 +487,7 @@ read_spells text line h =
     let words = parted 32 text in
     let v = then_some_of (λ verb. line_by verb (drop 1 words)) (slice_get words 0) line h in
     let is = line_some v.0 (drop 1 words) line v.2 in record {
+      form = is.form;
       is = sym (join_with_byte-slice_split 32 text) ∙ ap (join_with_byte 32) (first_is words v.0 v.1 ∙ is.is);
       fits = is.fits;
       owner_fits = is.owner_fits;
@@ -478,7 +496,7 @@ read_spells text line h =
 -- and a text that spells a line is read as it
 pub spelled_is_read : (text : List ℕ) (line : Line) → Spells text line → line_in text ≡ Some line
 spelled_is_read text line h =
-    ap line_in h.is ∙ ap line_at (parts_again 32 (words_of line) (omega arith) (all_free line h.fits h.owner_fits)) ∙ line_is line.label line.owner h.fits h.owner_fits
+    ap line_in h.is ∙ ap line_at (parts_again 32 (words_as h.form line) (omega arith) (all_free h.form line h.fits h.owner_fits)) ∙ line_is h.form line.label line.owner h.fits h.owner_fits
 
 pub only_one : (text : List ℕ) (line other : Line) → line_in text ≡ Some line → Spells text other → other ≡ line
 only_one text line other h is = let again : line_in text ≡ Some other = spelled_is_read text other is in cc (h, again)

@@ -20,15 +20,16 @@ use Rattle.machine.specs.declared.ClientRequest.{ClientRequest}
 use Rattle.machine.specs.declared.Label.{Label}
 use Rattle.machine.specs.declared.Label.TheVariants.{Call, Device, Answer, Cancel, Pause, Resume, Remove, Surprise, Removed}
 use Rattle.trace_line.specs.declared.Line.{Line}
-use Rattle.label_text.specs.Runs.{AreBytes, digit_of, hex_bytes, hex_of, runs_of, runs_text}
-use Rattle.label_text.specs.Lines.{BlockFits, ClassFits, Fits, OwnerFits, OwnerIsSmall, PartitionFits, RequestFits, SenseFits, Words, block_words, class_words, extent_words, kind_word, owned, owner_words, partition_word, request_words, runs_words, sense_words, through_words, verb_of, words_behind, words_of}
+use Rattle.label_text.specs.Runs.{AreBytes, digit_of, digits_text, hex_bytes, hex_of, runs_of, runs_text}
+use Rattle.label_text.specs.Lines.{BlockFits, ClassFits, Fits, Form, InDigits, InRuns, OwnerFits, OwnerIsSmall, PartitionFits, RequestFits, SenseFits, Words, block_words, bytes_words, class_words, extent_words, kind_word, owned, owner_words, partition_word, request_words_as, sense_words, through_words, verb_of, words_as, words_behind, words_behind_as}
 use Rattle.label_text.specs.inside.Reading.{bare, behind, behind_block, behind_extent, behind_head, behind_placed, behind_start, block_at, block_in, byte_in, bytes_at, bytes_in, class_at, extent_at, flushed_at, head_at, in_partition_at, is_next, is_some_extent, kind_in, label_by, line_by, number_in, owned_start_at, owner_at, partition_in, placed_at, sense_at, sense_behind, short_block, start_at, status_in, two_at, with_bytes}
 use Rattle.label_text.specs.declared.reading.Head.{Head}
 use Rattle.label_text.proofs.Digits.{hex_above, hex_bytes_above, hex_bytes_is, hex_is}
 use Rattle.label_text.proofs.Names.{status_is}
-use Rattle.label_text.proofs.Numbers.{decimal_above, number_is}
+use Rattle.label_text.proofs.Numbers.{IsAbove, decimal_above, number_is}
 use Rattle.label_text.proofs.Parting.{IsFree}
-use Rattle.label_text.proofs.RunsRead.{free_of, runs_free, runs_is}
+use Rattle.label_text.proofs.RunsRead.{free_of, runs_free}
+use Rattle.label_text.proofs.WordsOfBytes.{word_is}
 
 -- NO WORD HAS A SPACE
 
@@ -55,12 +56,17 @@ none_free = All-nil (IsFree 32)
 decimal_free : (bits n : ℕ) → 2 ^ bits ≤ 10 ^ 64 → n < 2 ^ bits → IsFree 32 (decimal n)
 decimal_free bits n most small = free_of 32 (decimal n) (omega arith) (decimal_above bits n most small)
 
+digits_above : (bytes : List ℕ) → IsAbove 47 (digits_text bytes)
+digits_above bytes = All-cons (λ x. 47 < x) 120 (hex_bytes bytes) (omega arith) (hex_bytes_above bytes)
+
 hex_free : (b : ℕ) → IsFree 32 (hex_of b)
 hex_free b = free_of 32 (hex_of b) (omega arith) (hex_above b)
 
-runs_words_free : (bytes : List ℕ) → AreBytes bytes → AreFree (runs_words bytes)
-runs_words_free [] h = none_free
-runs_words_free (b ∷ bs) h = and_then_free (runs_text (runs_of (b ∷ bs))) [] (runs_free (runs_of (b ∷ bs)) h.each) none_free
+bytes_words_free : (form : Form) (bytes : List ℕ) → AreBytes bytes → AreFree (bytes_words form bytes)
+bytes_words_free InRuns [] h = none_free
+bytes_words_free InRuns (b ∷ bs) h = and_then_free (runs_text (runs_of (b ∷ bs))) [] (runs_free (runs_of (b ∷ bs)) h.each) none_free
+bytes_words_free InDigits [] h = none_free
+bytes_words_free InDigits (b ∷ bs) h = and_then_free (digits_text (b ∷ bs)) [] (free_of 32 (digits_text (b ∷ bs)) (omega arith) (digits_above (b ∷ bs))) none_free
 
 block_words_free : (bytes : List ℕ) → AreFree (block_words bytes)
 block_words_free [] = none_free
@@ -91,16 +97,16 @@ kind_free Read = plain (codes "read") refl
 kind_free Write = plain (codes "write") refl
 kind_free Flush = plain (codes "flush") refl
 
-request_free : (q : ClientRequest) → RequestFits q → AreFree (request_words q)
-request_free q h =
-    let last : AreFree (codes "in" ∷ partition_word q.partition ∷ runs_words q.bytes) =
-    and_then_free (codes "in") (partition_word q.partition ∷ runs_words q.bytes) (plain (codes "in") refl)
-    (and_then_free (partition_word q.partition) (runs_words q.bytes) (partition_free q.partition h.partition) (runs_words_free q.bytes h.bytes)) in
-    and_then_free (kind_word q.kind) (extent_words q.kind q.offset q.length ++ (through_words q.through ++ (codes "in" ∷ partition_word q.partition ∷ runs_words q.bytes)))
+request_free : (form : Form) (q : ClientRequest) → RequestFits q → AreFree (request_words_as form q)
+request_free form q h =
+    let last : AreFree (codes "in" ∷ partition_word q.partition ∷ bytes_words form q.bytes) =
+    and_then_free (codes "in") (partition_word q.partition ∷ bytes_words form q.bytes) (plain (codes "in") refl)
+    (and_then_free (partition_word q.partition) (bytes_words form q.bytes) (partition_free q.partition h.partition) (bytes_words_free form q.bytes h.bytes)) in
+    and_then_free (kind_word q.kind) (extent_words q.kind q.offset q.length ++ (through_words q.through ++ (codes "in" ∷ partition_word q.partition ∷ bytes_words form q.bytes)))
     (kind_free q.kind)
-    (All-append (IsFree 32) (extent_words q.kind q.offset q.length) (through_words q.through ++ (codes "in" ∷ partition_word q.partition ∷ runs_words q.bytes))
+    (All-append (IsFree 32) (extent_words q.kind q.offset q.length) (through_words q.through ++ (codes "in" ∷ partition_word q.partition ∷ bytes_words form q.bytes))
     (extent_free q.kind q.offset q.length h.offset h.bytes_long)
-    (All-append (IsFree 32) (through_words q.through) (codes "in" ∷ partition_word q.partition ∷ runs_words q.bytes) (through_free q.through) last))
+    (All-append (IsFree 32) (through_words q.through) (codes "in" ∷ partition_word q.partition ∷ bytes_words form q.bytes) (through_free q.through) last))
 
 sense_free : (sense : Option Sense) → AreFree (sense_words sense)
 sense_free None = none_free
@@ -159,36 +165,38 @@ owner_free : (owner : Option ℕ) → OwnerIsSmall owner → AreFree (owner_word
 owner_free None h = none_free
 owner_free (Some number) h = and_then_free (codes "of") (decimal number ∷ []) (plain (codes "of") refl) (number_free number [] h none_free)
 
-behind_free : (l : Label) (owner : Option ℕ) → Fits l → OwnerFits l owner → AreFree (words_behind l owner)
-behind_free (Call number q) owner h o = number_free number (request_words q) h.0 (request_free q h.1)
-behind_free (Device (Start piece tag block)) owner h o =
+behind_free : (form : Form) (l : Label) (owner : Option ℕ) → Fits l → OwnerFits l owner → AreFree (words_behind_as form l owner)
+behind_free form (Call number q) owner h o = number_free number (request_words_as form q) h.0 (request_free form q h.1)
+behind_free form (Device (Start piece tag block)) owner h o =
     let last : AreFree (block_words block ++ owner_words owner) = All-append (IsFree 32) (block_words block) (owner_words owner) (block_words_free block) (owner_free owner o) in
     piece_free piece (codes "tag" ∷ decimal tag ∷ (block_words block ++ owner_words owner)) h.0
     (and_then_free (codes "tag") (decimal tag ∷ (block_words block ++ owner_words owner)) (plain (codes "tag") refl)
     (and_then_free (decimal tag) (block_words block ++ owner_words owner) (decimal_free 8 tag (omega arith) h.1) last))
-behind_free (Device (Act piece bytes)) owner h o = piece_free piece (runs_words bytes) h.0 (runs_words_free bytes h.1)
-behind_free (Device (Fault piece)) owner h o = piece_free piece [] h none_free
-behind_free (Device (Return piece class)) owner h o = piece_free piece (class_words class) h.0 (class_free class)
-behind_free (Answer number s information bytes) owner h o =
-    number_free number (name_of s ∷ decimal information ∷ runs_words bytes) h.0
-    (and_then_free (name_of s) (decimal information ∷ runs_words bytes) (plain (name_of s) (name_free s))
-    (number_free information (runs_words bytes) h.1 (runs_words_free bytes h.2)))
-behind_free (Cancel number) owner h o = number_free number [] h none_free
-behind_free Pause owner h o = none_free
-behind_free Resume owner h o = none_free
-behind_free Remove owner h o = none_free
-behind_free Surprise owner h o = none_free
-behind_free Removed owner h o = none_free
+behind_free form (Device (Act piece bytes)) owner h o = piece_free piece (bytes_words form bytes) h.0 (bytes_words_free form bytes h.1)
+behind_free form (Device (Fault piece)) owner h o = piece_free piece [] h none_free
+behind_free form (Device (Return piece class)) owner h o = piece_free piece (class_words class) h.0 (class_free class)
+behind_free form (Answer number s information bytes) owner h o =
+    number_free number (name_of s ∷ decimal information ∷ bytes_words form bytes) h.0
+    (and_then_free (name_of s) (decimal information ∷ bytes_words form bytes) (plain (name_of s) (name_free s))
+    (number_free information (bytes_words form bytes) h.1 (bytes_words_free form bytes h.2)))
+behind_free form (Cancel number) owner h o = number_free number [] h none_free
+behind_free form Pause owner h o = none_free
+behind_free form Resume owner h o = none_free
+behind_free form Remove owner h o = none_free
+behind_free form Surprise owner h o = none_free
+behind_free form Removed owner h o = none_free
 
-pub all_free : (line : Line) → Fits line.label → OwnerFits line.label line.owner → AreFree (words_of line)
-all_free line h o =
-    and_then_free (verb_of line.label) (words_behind line.label line.owner) (plain (verb_of line.label) (verb_free line.label)) (behind_free line.label line.owner h o)
+pub all_free : (form : Form) (line : Line) → Fits line.label → OwnerFits line.label line.owner → AreFree (words_as form line)
+all_free form line h o =
+    and_then_free (verb_of line.label) (words_behind_as form line.label line.owner) (plain (verb_of line.label) (verb_free line.label)) (behind_free form line.label line.owner h o)
 
 -- EACH PART IS READ
 
-bytes_words_is : (bytes : List ℕ) → AreBytes bytes → bytes_at (runs_words bytes) ≡ Some bytes
-bytes_words_is [] h = refl
-bytes_words_is (b ∷ bs) h = runs_is (b ∷ bs) (omega arith) h
+bytes_words_is : (form : Form) (bytes : List ℕ) → AreBytes bytes → bytes_at (bytes_words form bytes) ≡ Some bytes
+bytes_words_is InRuns [] h = refl
+bytes_words_is InRuns (b ∷ bs) h = word_is InRuns b bs h _ refl
+bytes_words_is InDigits [] h = refl
+bytes_words_is InDigits (b ∷ bs) h = word_is InDigits b bs h _ refl
 
 some_length : (x : ℕ) (xs : List ℕ) → (length (x ∷ xs) == 0) ≡ false
 some_length x xs = grind (arith, nat_tests)
@@ -298,22 +306,22 @@ placed_by kind o l through partition words all fits extent rest = (
   ap (λ r. drop 1 (drop 1 (behind (codes "through") r))) rest ∙ ap (λ r. drop 1 (drop 1 r)) (behind_through through partition words),
 )
 
-head_is : (q : ClientRequest) → RequestFits q → (kind : Kind) → q.kind ≡ kind
-    → (option_and_then (λ k. placed_at k (extent_words q.kind q.offset q.length ++ last_words q.through q.partition (runs_words q.bytes))) (Some q.kind) ≡ Some (head_of q))
-    × (behind_placed q.kind (extent_words q.kind q.offset q.length ++ last_words q.through q.partition (runs_words q.bytes)) ≡ runs_words q.bytes)
-head_is q h kind e =
-    let x = extent_is q.kind q.offset q.length q.through q.partition (runs_words q.bytes) h.offset h.bytes_long in
-    placed_by q.kind q.offset q.length q.through q.partition (runs_words q.bytes) (extent_words q.kind q.offset q.length ++ last_words q.through q.partition (runs_words q.bytes)) h.partition x.0 x.1
+head_is : (form : Form) (q : ClientRequest) → RequestFits q → (kind : Kind) → q.kind ≡ kind
+    → (option_and_then (λ k. placed_at k (extent_words q.kind q.offset q.length ++ last_words q.through q.partition (bytes_words form q.bytes))) (Some q.kind) ≡ Some (head_of q))
+    × (behind_placed q.kind (extent_words q.kind q.offset q.length ++ last_words q.through q.partition (bytes_words form q.bytes)) ≡ bytes_words form q.bytes)
+head_is form q h kind e =
+    let x = extent_is q.kind q.offset q.length q.through q.partition (bytes_words form q.bytes) h.offset h.bytes_long in
+    placed_by q.kind q.offset q.length q.through q.partition (bytes_words form q.bytes) (extent_words q.kind q.offset q.length ++ last_words q.through q.partition (bytes_words form q.bytes)) h.partition x.0 x.1
 
 kind_is : (kind : Kind) → kind_in (kind_word kind) ≡ Some kind
 kind_is Read = refl
 kind_is Write = refl
 kind_is Flush = refl
 
-request_is : (q : ClientRequest) → RequestFits q → (head_at (request_words q) ≡ Some (head_of q)) × (behind_head (request_words q) ≡ runs_words q.bytes)
-request_is q h =
-    let x = head_is q h q.kind refl in
-    let rest : Words = extent_words q.kind q.offset q.length ++ last_words q.through q.partition (runs_words q.bytes) in (
+request_is : (form : Form) (q : ClientRequest) → RequestFits q → (head_at (request_words_as form q) ≡ Some (head_of q)) × (behind_head (request_words_as form q) ≡ bytes_words form q.bytes)
+request_is form q h =
+    let x = head_is form q h q.kind refl in
+    let rest : Words = extent_words q.kind q.offset q.length ++ last_words q.through q.partition (bytes_words form q.bytes) in (
       ap (option_and_then (λ k. placed_at k rest)) (kind_is q.kind) ∙ x.0,
       ap (λ o. elim o [ Some k ↦ behind_placed k rest | None ↦ [] ]) (kind_is q.kind) ∙ x.1,
     )
@@ -355,41 +363,41 @@ owned_start_is piece tag block owner h o =
 bare_is : (l : Label) (owner : Option ℕ) (found : Option Label) → owner ≡ None → found ≡ Some l → option_map bare found ≡ Some (owned l owner)
 bare_is l owner found none is = ap (option_map bare) is ∙ ap (λ x. Some (owned l x)) (sym none)
 
-call_is : (number : ℕ) (q : ClientRequest) → Fits (Call number q) → label_by (codes "call") (words_behind (Call number q) None) ≡ Some (Call number q)
-call_is number q h =
-    let x = request_is q h.1 in
-    ap (option_and_then (λ n. option_and_then (λ p. option_map (λ bytes. Call n (with_bytes p bytes)) (bytes_at (behind_head (request_words q)))) (head_at (request_words q))))
+call_is : (form : Form) (number : ℕ) (q : ClientRequest) → Fits (Call number q) → label_by (codes "call") (words_behind_as form (Call number q) None) ≡ Some (Call number q)
+call_is form number q h =
+    let x = request_is form q h.1 in
+    ap (option_and_then (λ n. option_and_then (λ p. option_map (λ bytes. Call n (with_bytes p bytes)) (bytes_at (behind_head (request_words_as form q)))) (head_at (request_words_as form q))))
     (number_is 64 number (omega arith) h.0)
-    ∙ ap (option_and_then (λ p. option_map (λ bytes. Call number (with_bytes p bytes)) (bytes_at (behind_head (request_words q))))) x.0
+    ∙ ap (option_and_then (λ p. option_map (λ bytes. Call number (with_bytes p bytes)) (bytes_at (behind_head (request_words_as form q))))) x.0
     ∙ ap (λ ws. option_map (λ bytes. Call number (with_bytes (head_of q) bytes)) (bytes_at ws)) x.1
-    ∙ ap (option_map (λ bytes. Call number (with_bytes (head_of q) bytes))) (bytes_words_is q.bytes h.1.bytes)
+    ∙ ap (option_map (λ bytes. Call number (with_bytes (head_of q) bytes))) (bytes_words_is form q.bytes h.1.bytes)
 
-answer_is : (number : ℕ) (s : NtStatus) (information : ℕ) (bytes : List ℕ) → Fits (Answer number s information bytes)
-    → label_by (codes "answer") (words_behind (Answer number s information bytes) None) ≡ Some (Answer number s information bytes)
-answer_is number s information bytes h =
-    ap (option_and_then (λ n. option_and_then (λ (o : NtStatus × ℕ). option_map (λ bs. Answer n o.0 o.1 bs) (bytes_at (runs_words bytes)))
+answer_is : (form : Form) (number : ℕ) (s : NtStatus) (information : ℕ) (bytes : List ℕ) → Fits (Answer number s information bytes)
+    → label_by (codes "answer") (words_behind_as form (Answer number s information bytes) None) ≡ Some (Answer number s information bytes)
+answer_is form number s information bytes h =
+    ap (option_and_then (λ n. option_and_then (λ (o : NtStatus × ℕ). option_map (λ bs. Answer n o.0 o.1 bs) (bytes_at (bytes_words form bytes)))
     (option_and_then (λ x. option_map (λ i. (x, i)) (number_in 64 (decimal information))) (status_in (name_of s))))) (number_is 64 number (omega arith) h.0)
-    ∙ ap (λ o. option_and_then (λ (o : NtStatus × ℕ). option_map (λ bs. Answer number o.0 o.1 bs) (bytes_at (runs_words bytes)))
+    ∙ ap (λ o. option_and_then (λ (o : NtStatus × ℕ). option_map (λ bs. Answer number o.0 o.1 bs) (bytes_at (bytes_words form bytes)))
     (option_and_then (λ x. option_map (λ i. (x, i)) (number_in 64 (decimal information))) o)) (status_is s)
-    ∙ ap (λ o. option_and_then (λ (o : NtStatus × ℕ). option_map (λ bs. Answer number o.0 o.1 bs) (bytes_at (runs_words bytes)))
+    ∙ ap (λ o. option_and_then (λ (o : NtStatus × ℕ). option_map (λ bs. Answer number o.0 o.1 bs) (bytes_at (bytes_words form bytes)))
     (option_map (λ i. (s, i)) o)) (number_is 64 information (omega arith) h.1)
-    ∙ ap (option_map (λ bs. Answer number s information bs)) (bytes_words_is bytes h.2)
+    ∙ ap (option_map (λ bs. Answer number s information bs)) (bytes_words_is form bytes h.2)
 
 -- a line is read of its words
-pub line_is : (l : Label) (owner : Option ℕ) → Fits l → OwnerFits l owner → line_by (verb_of l) (words_behind l owner) ≡ Some (owned l owner)
-line_is (Device (Start piece tag block)) owner h o = owned_start_is piece tag block owner h o
-line_is (Call number q) owner h o = bare_is _ owner _ o (call_is number q h)
-line_is (Device (Act piece bytes)) owner h o = bare_is _ owner _ o
-    (ap (option_and_then (λ p. option_map (λ bs. Device (Act p bs)) (bytes_at (runs_words bytes)))) (number_is 128 piece (omega arith) h.0)
-    ∙ ap (option_map (λ bs. Device (Act piece bs))) (bytes_words_is bytes h.1))
-line_is (Device (Fault piece)) owner h o = bare_is _ owner _ o (ap (option_and_then (λ p. Some (Device (Fault p)))) (number_is 128 piece (omega arith) h))
-line_is (Device (Return piece class)) owner h o = bare_is _ owner _ o
+pub line_is : (form : Form) (l : Label) (owner : Option ℕ) → Fits l → OwnerFits l owner → line_by (verb_of l) (words_behind_as form l owner) ≡ Some (owned l owner)
+line_is form (Device (Start piece tag block)) owner h o = owned_start_is piece tag block owner h o
+line_is form (Call number q) owner h o = bare_is _ owner _ o (call_is form number q h)
+line_is form (Device (Act piece bytes)) owner h o = bare_is _ owner _ o
+    (ap (option_and_then (λ p. option_map (λ bs. Device (Act p bs)) (bytes_at (bytes_words form bytes)))) (number_is 128 piece (omega arith) h.0)
+    ∙ ap (option_map (λ bs. Device (Act piece bs))) (bytes_words_is form bytes h.1))
+line_is form (Device (Fault piece)) owner h o = bare_is _ owner _ o (ap (option_and_then (λ p. Some (Device (Fault p)))) (number_is 128 piece (omega arith) h))
+line_is form (Device (Return piece class)) owner h o = bare_is _ owner _ o
     (ap (option_and_then (λ p. option_map (λ c. Device (Return p c)) (class_at (class_words class)))) (number_is 128 piece (omega arith) h.0)
     ∙ ap (option_map (λ c. Device (Return piece c))) (class_is class h.1))
-line_is (Answer number s information bytes) owner h o = bare_is _ owner _ o (answer_is number s information bytes h)
-line_is (Cancel number) owner h o = bare_is _ owner _ o (ap (option_and_then (λ n. Some (Cancel n))) (number_is 64 number (omega arith) h))
-line_is Pause owner h o = bare_is _ owner _ o refl
-line_is Resume owner h o = bare_is _ owner _ o refl
-line_is Remove owner h o = bare_is _ owner _ o refl
-line_is Surprise owner h o = bare_is _ owner _ o refl
-line_is Removed owner h o = bare_is _ owner _ o refl
+line_is form (Answer number s information bytes) owner h o = bare_is _ owner _ o (answer_is form number s information bytes h)
+line_is form (Cancel number) owner h o = bare_is _ owner _ o (ap (option_and_then (λ n. Some (Cancel n))) (number_is 64 number (omega arith) h))
+line_is form Pause owner h o = bare_is _ owner _ o refl
+line_is form Resume owner h o = bare_is _ owner _ o refl
+line_is form Remove owner h o = bare_is _ owner _ o refl
+line_is form Surprise owner h o = bare_is _ owner _ o refl
+line_is form Removed owner h o = bare_is _ owner _ o refl

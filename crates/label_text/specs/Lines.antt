@@ -13,7 +13,7 @@ use Rattle.machine.specs.declared.ClientRequest.{ClientRequest}
 use Rattle.machine.specs.declared.Label.{Label}
 use Rattle.machine.specs.declared.Label.TheVariants.{Call, Device, Answer, Cancel, Pause, Resume, Remove, Surprise, Removed}
 use Rattle.trace_line.specs.declared.Line.{Line}
-use Rattle.label_text.specs.Runs.{AreBytes, hex_bytes, hex_of, runs_of, runs_text}
+use Rattle.label_text.specs.Runs.{AreBytes, digits_text, hex_bytes, hex_of, runs_of, runs_text}
 
 -- several words
 abbrev pub Words : Type 0
@@ -23,6 +23,20 @@ Words = List (List ℕ)
 abbrev pub runs_words : List ℕ → Words
 runs_words [] = []
 runs_words (byte ∷ bytes) = runs_text (runs_of (byte ∷ bytes)) ∷ []
+
+-- so are their digits behind x
+abbrev pub digits_words : List ℕ → Words
+digits_words [] = []
+digits_words (byte ∷ bytes) = digits_text (byte ∷ bytes) ∷ []
+
+-- how a line tells its bytes
+pub data Form : Type 0 where
+  InRuns : Form
+  InDigits : Form
+
+abbrev pub bytes_words : Form → List ℕ → Words
+bytes_words InRuns bytes = runs_words bytes
+bytes_words InDigits bytes = digits_words bytes
 
 -- the digits of a command block are a word, where it has bytes
 abbrev pub block_words : List ℕ → Words
@@ -50,10 +64,13 @@ partition_word None = codes "-"
 partition_word (Some partition) = decimal partition
 
 -- the words of a call behind its number
-abbrev pub request_words : ClientRequest → Words
-request_words q =
+abbrev pub request_words_as : Form → ClientRequest → Words
+request_words_as form q =
     kind_word q.kind ∷ (extent_words q.kind q.offset q.length
-    ++ (through_words q.through ++ (codes "in" ∷ partition_word q.partition ∷ runs_words q.bytes)))
+    ++ (through_words q.through ++ (codes "in" ∷ partition_word q.partition ∷ bytes_words form q.bytes)))
+
+abbrev pub request_words : ClientRequest → Words
+request_words q = request_words_as InRuns q
 
 abbrev pub sense_words : Option Sense → Words
 sense_words None = []
@@ -90,30 +107,40 @@ verb_of Surprise = codes "surprise"
 verb_of Removed = codes "removed"
 
 -- the other words of a line
+abbrev pub words_behind_as : Form → Label → Option ℕ → Words
+words_behind_as form (Call number request) owner = decimal number ∷ request_words_as form request
+words_behind_as form (Device (Start piece tag block)) owner = decimal piece ∷ codes "tag" ∷ decimal tag ∷ (block_words block ++ owner_words owner)
+words_behind_as form (Device (Act piece bytes)) owner = decimal piece ∷ bytes_words form bytes
+words_behind_as form (Device (Fault piece)) owner = decimal piece ∷ []
+words_behind_as form (Device (Return piece class)) owner = decimal piece ∷ class_words class
+words_behind_as form (Answer number status information bytes) owner = decimal number ∷ name_of status ∷ decimal information ∷ bytes_words form bytes
+words_behind_as form (Cancel number) owner = decimal number ∷ []
+words_behind_as form Pause owner = []
+words_behind_as form Resume owner = []
+words_behind_as form Remove owner = []
+words_behind_as form Surprise owner = []
+words_behind_as form Removed owner = []
+
 abbrev pub words_behind : Label → Option ℕ → Words
-words_behind (Call number request) owner = decimal number ∷ request_words request
-words_behind (Device (Start piece tag block)) owner = decimal piece ∷ codes "tag" ∷ decimal tag ∷ (block_words block ++ owner_words owner)
-words_behind (Device (Act piece bytes)) owner = decimal piece ∷ runs_words bytes
-words_behind (Device (Fault piece)) owner = decimal piece ∷ []
-words_behind (Device (Return piece class)) owner = decimal piece ∷ class_words class
-words_behind (Answer number status information bytes) owner = decimal number ∷ name_of status ∷ decimal information ∷ runs_words bytes
-words_behind (Cancel number) owner = decimal number ∷ []
-words_behind Pause owner = []
-words_behind Resume owner = []
-words_behind Remove owner = []
-words_behind Surprise owner = []
-words_behind Removed owner = []
+words_behind label owner = words_behind_as InRuns label owner
+
+abbrev pub words_as : Form → Line → Words
+words_as form line = verb_of line.label ∷ words_behind_as form line.label line.owner
 
 abbrev pub words_of : Line → Words
-words_of line = verb_of line.label ∷ words_behind line.label line.owner
+words_of line = words_as InRuns line
 
 -- a line of a label, and of the request that its piece is of, where it tells that
 abbrev pub owned : Label → Option ℕ → Line
 owned label owner = record { label = label; owner = owner }
 
 -- the text of a line, without its end
+abbrev pub line_as : Form → Line → List ℕ
+line_as form line = join_with_byte 32 (words_as form line)
+
+-- as it is written: in runs
 abbrev pub line_of : Line → List ℕ
-line_of line = join_with_byte 32 (words_of line)
+line_of line = line_as InRuns line
 
 -- the end of a line
 abbrev pub line_end : List ℕ
@@ -187,7 +214,8 @@ OwnerFits _ owner = owner ≡ None
 
 -- a text spells a line of a trace
 pub record Spells (text : List ℕ) (line : Line) : Type 0 where
-  pub is : text ≡ line_of line
+  pub form : Form
+  pub is : text ≡ line_as form line
   pub fits : Fits line.label
   pub owner_fits : OwnerFits line.label line.owner
 

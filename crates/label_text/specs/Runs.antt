@@ -1,4 +1,4 @@
--- Bytes in print: each run of equal bytes as BYTE*COUNT, the runs joined by commas.
+-- Bytes in print: each run of equal bytes as BYTE*COUNT, the runs joined by commas; or x and two digits a byte.
 use Rattle.std.specs.Prelude.{ℕ, ◌+◌, ◌/◌, ◌%◌, ◌==◌, ◌^◌, ◌<◌, ◌≤◌, length, nat_lt, All, List, [], ◌∷◌, ◌++◌, map, replicate, if◌then◌else◌}
 use Rattle.std.specs.Fmt.{decimal}
 use Rattle.std.specs.List.{join_with_byte}
@@ -15,6 +15,10 @@ hex_of byte = digit_of (byte / 16) ∷ digit_of (byte % 16) ∷ []
 abbrev pub hex_bytes : List ℕ → List ℕ
 hex_bytes [] = []
 hex_bytes (byte ∷ bytes) = hex_of byte ++ hex_bytes bytes
+
+-- bytes in print without runs: x, and their digits
+abbrev pub digits_text : List ℕ → List ℕ
+digits_text bytes = 120 ∷ hex_bytes bytes
 
 -- a run of equal bytes: the byte, and how many
 pub record Run : Type 0 where

@@ -4,10 +4,11 @@
 //! # Promises
 //!
 //! Behind a text in memory `write_line` writes just a line's text, with the request of a start where it is given (`text`,
-//! `spelled`); `write_short_line` a label in short (`text`). `read_line` gives a text's one line (`spelled`, `only`), and
-//! blames a word only where there is none (`fault`).
+//! `spelled`); `write_short_line` a label in short (`text`). `read_line` gives a text's one line (`spelled`, `only`), whose
+//! bytes are told in runs or in digits, and blames a word only where there is none (`fault`).
 #![tactic(auto)]
 
+mod decoding;
 mod numerals;
 mod reading;
 mod runs;

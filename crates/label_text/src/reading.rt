@@ -6,9 +6,10 @@ ghost use Rattle.trace_line.specs.declared.Line.{Line};
 ghost use Rattle.label_text.specs.declared.LineFault.TheVariants.{NoMemory};
 ghost use Rattle.label_text.specs.Faults.{IsFaultOf};
 ghost use Rattle.label_text.specs.Lines.{Spells, is_told};
-ghost use Rattle.label_text.specs.inside.Reading.{act_at, answer_at, at_end, behind_block, behind_extent, behind_head, behind_start, block_at, block_in, bytes_at, call_at, cancel_at, class_at, completion_at, extent_at, fault_at, head_at, in_partition_at, kind_in, label_by, line_at, named, outcome_at, owned_start_at, owner_at, partition_in, place_of, return_at, sense_at, sense_behind, sense_from, short_by, start_at, status_in, tag_at, two_at};
+ghost use Rattle.label_text.specs.inside.Reading.{IsOther, act_at, answer_at, at_end, behind_block, behind_extent, behind_head, behind_start, block_at, block_in, bytes_at, call_at, cancel_at, class_at, completion_at, extent_at, fault_at, head_at, in_partition_at, kind_in, label_by, line_at, named, outcome_at, owned_start_at, owner_at, partition_in, place_of, return_at, sense_at, sense_behind, sense_from, short_by, start_at, status_in, tag_at, two_at};
 
 use crate::LineFault;
+use crate::decoding::decoded;
 use crate::runs::expanded;
 use crate::words::{Words, byte, byte_of, small};
 use arrayvec::ArrayVec;
@@ -239,8 +240,22 @@ fn partition_in(word: &str) -> Option<Option<u8>>
     Some(Some(small(word)?))
 }
 
-/// The bytes that are the last word; none where no word is left.
+/// The bytes that are the last word, in digits or in runs; none where no word is left.
 fn bytes(alloc: Global, words: &mut Words<'_>) -> Result<Option<Bytes>, AllocError>
+    ensures { IfOk result (λ found. found ≡ bytes_at words.old) }
+{
+    let Some(digits) = words.digits() else {
+        return runs(alloc, words);
+    };
+    let Some(bytes) = decoded(alloc, digits)? else {
+        return Ok(None);
+    };
+    Ok(Some(Bytes::new(bytes)))
+}
+
+/// The bytes that are the last word, in runs; none where no word is left.
+fn runs(alloc: Global, words: &mut Words<'_>) -> Result<Option<Bytes>, AllocError>
+    requires { IsOther 120 words.old }
     ensures { IfOk result (λ found. found ≡ bytes_at words.old) }
 {
     let Some(word) = words.word() else {

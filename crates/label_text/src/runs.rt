@@ -1,17 +1,17 @@
 //! Bytes as runs of equal ones.
 
-ghost use Rattle.std.specs.Prelude.{◌≡◌, ◌≢◌, ◌<◌, ◌≤◌, ◌+◌, ◌^◌, ◌++◌, nat_le, All, IfOk, IsTrue, OnOk, codes, length, option_map, replicate, slice_index, take};
+ghost use Rattle.std.specs.Prelude.{◌≡◌, ◌≢◌, ◌<◌, ◌≤◌, ◌+◌, ◌^◌, ◌++◌, nat_le, All, IfOk, IfSome, IsTrue, OnOk, Some, codes, length, option_map, replicate, slice_index, take};
 ghost use Rattle.std.specs.Fmt.{decimal};
 ghost use Rattle.label_text.specs.Runs.{hex_of, most_bytes, runs_of, runs_text};
 ghost use Rattle.label_text.specs.inside.Spacing.{comma};
 ghost use Rattle.label_text.specs.inside.Reading.{may_follow, run_in, run_told, runs_in};
 
 use crate::numerals::{write_byte, write_number};
-use crate::words::Words;
+use crate::words::{Words, byte_of};
 use std::alloc::{AllocError, Global};
 
 /// The most bytes of a label: those of the longest request, which has 65,536 sectors of 4,096.
-const MOST_BYTES: usize = 1 << 28;
+pub(crate) const MOST_BYTES: usize = 1 << 28;
 
 /// How many bytes are compared at once.
 const BLOCK: usize = 128;
@@ -73,6 +73,39 @@ fn append(bytes: &mut Vec<u8>, run: Run) -> Result<(), AllocError>
 
 /// The run that a part of a word tells: its byte, *, and how many.
 fn run_in(part: &str) -> Option<Run>
+    ensures { option_map run_told result ≡ run_in part.now }
+{
+    match short_run(part.as_bytes()) {
+        Some(run) => Some(run),
+        None => any_run(part),
+    }
+}
+
+/// The run that a part tells whose count has one digit, as most of random bytes have.
+fn short_run(part: &[u8]) -> Option<Run>
+    ensures { IfSome result (λ run. Some (run_told run) ≡ run_in part.now) }
+{
+    match part {
+        [high, low, star, digit] => counted(byte_of(*high, *low)?, *star, *digit),
+        _ => None,
+    }
+}
+
+/// As many of a byte as the decimal digit behind a star tells.
+fn counted(byte: u8, star: u8, digit: u8) -> Option<Run>
+    ensures { IfSome result (λ run. (run.byte ≡ byte) × (star ≡ 42) × (digit ≡ 48 + run.count) × (run.count < 10)) }
+{
+    if star != b'*' || !digit.is_ascii_digit() {
+        return None;
+    }
+    Some(Run {
+        byte,
+        count: (digit - b'0') as u64,
+    })
+}
+
+/// The run that a part tells, however many digits its count has.
+fn any_run(part: &str) -> Option<Run>
     ensures { option_map run_told result ≡ run_in part.now }
 {
     let mut words = Words::new(b'*', part);

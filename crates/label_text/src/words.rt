@@ -1,8 +1,8 @@
 //! The parts of a text between single bytes that separate them: the words of a line, the runs of a word.
 
-ghost use Rattle.std.specs.Prelude.{◌≡◌, ◌<◌, ℕ, List, IfSome, drop, option_copied, slice_get};
+ghost use Rattle.std.specs.Prelude.{◌≡◌, ◌<◌, ◌∷◌, ℕ, List, IfSome, MatchOption, drop, option_copied, slice_get};
 ghost use Rattle.std.specs.Str.{bytes_eq};
-ghost use Rattle.label_text.specs.inside.Reading.{behind, byte_at, byte_in, byte_of, digit_in, is_end, is_next, number_at, number_in, parted, parts_left, SplitsFirst, TakesFirst};
+ghost use Rattle.label_text.specs.inside.Reading.{behind, byte_at, byte_in, byte_of, digit_in, is_end, is_next, number_at, number_in, parted, parts_left, HasLeft, IsOther, SplitsFirst, TakesFirst};
 
 use itoa::{Buffer, Integer};
 use std::marker::Model;
@@ -24,13 +24,13 @@ impl<'a> Model for Words<'a> {
 
     ghost view = { λ words. parts_left words.separator (option_copied words.rest) };
 
-    ghost invariant = { λ words. words.separator < 128 };
+    ghost invariant = { λ words. words.separator < 48 };
 }
 
 impl<'a> Words<'a> {
     /// The parts of a text, none of which was taken.
     pub fn new(separator: u8, text: &'a str) -> Words<'a>
-        requires { separator < 128 }
+        requires { separator < 48 }
         ensures { result ≡ parted separator text.entry.now }
     {
         Words {
@@ -66,6 +66,15 @@ impl<'a> Words<'a> {
         Some(word)
     }
 
+    /// What stands behind the letter x, to the end of the text, if the next part begins with one. It is not taken.
+    pub fn digits(&mut self) -> Option<&'a [u8]>
+        ensures left { MatchOption result (IsOther 120 self.old) (λ digits. HasLeft self.old (120 ∷ digits.now)) }
+        ensures rest { self.new ≡ self.old }
+    {
+        self.column = self.next;
+        digits(self.separator, self.rest)
+    }
+
     /// Whether no part is left. If one is left, it is taken.
     pub fn are_over(&mut self) -> bool
         ensures { result ≡ is_end self.old }
@@ -87,6 +96,17 @@ impl<'a> Words<'a> {
             }
             _ => false,
         }
+    }
+}
+
+/// What stands behind the letter x, if what is left begins with one.
+fn digits<'a>(separator: u8, rest: Option<&'a str>) -> Option<&'a [u8]>
+    requires { separator < 48 }
+    ensures { MatchOption result (IsOther 120 (parts_left separator (option_copied rest.entry))) (λ digits. HasLeft (parts_left separator (option_copied rest.entry)) (120 ∷ digits.now)) }
+{
+    match rest?.as_bytes().split_first() {
+        Some((first, digits)) if *first == b'x' => Some(digits),
+        _ => None,
     }
 }
 

@@ -1,6 +1,6 @@
 -- What is read of words, one after the other. It is proved that a label is written as what is read as this label.
 use denote.Ref.{Bor}
-use Rattle.std.specs.Prelude.{◌≡◌, ℕ, ◌+◌, ◌-◌, ◌*◌, ◌^◌, ◌==◌, ◌&&◌, ◌||◌, not, nat_lt, nat_le, Bool, false, List, [], ◌∷◌, ◌++◌, Option, Some, None, codes, drop, length, replicate, slice_get, is_none, if◌then◌else◌}
+use Rattle.std.specs.Prelude.{◌≡◌, ◌<◌, ℕ, ◌+◌, ◌-◌, ◌*◌, ◌^◌, ◌==◌, ◌&&◌, ◌||◌, not, nat_lt, nat_le, Bool, false, List, [], ◌∷◌, ◌++◌, Option, Some, None, codes, drop, length, replicate, slice_get, is_none, if◌then◌else◌}
 use Rattle.std.specs.Fmt.{decimal}
 use Rattle.std.specs.List.{position, slice_split}
 use Rattle.std.specs.Option.{option_and_then, option_copied, option_map}
@@ -133,9 +133,35 @@ few_bytes bytes = if nat_le (length bytes) most_bytes then Some bytes else None
 abbrev pub runs_in : List ℕ → Option (List ℕ)
 runs_in word = option_and_then few_bytes (bytes_after None (parted 44 word))
 
+-- the bytes of digits: some, and no more than a label can have
+abbrev pub digits_in : List ℕ → Option (List ℕ)
+digits_in digits = if length digits == 0 then None else option_and_then few_bytes (bytes_in digits)
+
+-- the bytes of digits behind x, or of runs
+abbrev pub bytes_of : List ℕ → Option (List ℕ)
+bytes_of [] = runs_in []
+bytes_of (first ∷ digits) = if first == 120 then digits_in digits else runs_in (first ∷ digits)
+
 -- the bytes that are the last word, or none where no word is left
 abbrev pub bytes_at : Words → Option (List ℕ)
-bytes_at words = elim (word_at words) [ Some word ↦ at_end (drop 1 words) (runs_in word) | None ↦ Some [] ]
+bytes_at words = elim (word_at words) [ Some word ↦ at_end (drop 1 words) (bytes_of word) | None ↦ Some [] ]
+
+-- a number below 16 is the value of a digit
+abbrev pub digit_told : ℕ → Option ℕ
+digit_told value = if nat_lt value 16 then Some value else None
+
+abbrev pub decimal_in : ℕ → Option ℕ
+decimal_in c = if nat_le 48 c && nat_le c 57 then Some (c - 48) else None
+
+-- what is left of a text, of which these are the parts: no digit and no letter parts them
+pub record HasLeft (words : Words) (text : List ℕ) : Type 0 where
+  pub separator : ℕ
+  pub small : separator < 48
+  pub parts : words ≡ parted separator text
+
+-- the next word does not begin with this byte
+abbrev pub IsOther : ℕ → Words → Type 0
+IsOther first words = (rest : List ℕ) → word_at words ≡ Some (first ∷ rest) → ⊥
 
 -- CALLS
 
