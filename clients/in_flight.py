@@ -1,17 +1,22 @@
 #!/usr/bin/env python3
 """Sixteen requests out at once, and something goes wrong.
 
-usage: in_flight.py gone|short|full FOLDER | target FOLDER PROCESS
+usage: in_flight.py gone|short|full FOLDER | target FOLDER PROCESS | unread SERVER..
 
 A server of the file FOLDER/disk, of a mebibyte of zeros, listens on FOLDER/socket. gone: a client goes with sixteen
 writes out, and the next finds each written or not, and each sector whole. short: the file has half of its bytes: a read
 of the rest fails, and those beside it don't. full: the file system has room for some of the writes alone; each that
 succeeded is read. target: PROCESS is the target below the server; it is killed with sixteen writes out, each of which
-fails; FOLDER/down is made, and once FOLDER/up is there all goes on. Its status is 0 where all was as it should be."""
+fails; FOLDER/down is made, and once FOLDER/up is there all goes on. unread: SERVER.. serves a client on its standard
+input and output, which sends on and reads no reply, until nobody takes more; the server then has little memory, and
+answers each request once it is read. Its status is 0 where all was as it should be."""
 
 import os
+import select
 import signal
+import struct
 import sys
+import threading
 import time
 
 from nbd_client import ENOSPC, FLUSH, READ, WRITE, Client
@@ -19,6 +24,9 @@ from nbd_client import ENOSPC, FLUSH, READ, WRITE, Client
 LENGTH = 4096
 OUT = 16
 EIO = 5
+# The bytes of each request of a client that reads nothing, and the most that its server may have in memory.
+UNREAD = 64 << 10
+RESIDENT = 96 << 20
 
 
 def connected(folder):
@@ -111,6 +119,46 @@ def target(folder, process):
     return client.leave()
 
 
+def resident(process):
+    """Returns how many bytes a process had in memory at most."""
+    with open(f"/proc/{process}/status") as lines:
+        (line,) = [it for it in lines if it.startswith("VmHWM:")]
+    return int(line.split()[1]) << 10
+
+
+def sent_unread(client, message):
+    """Sends a message over and over until nobody takes more for two seconds, and returns the bytes that were taken."""
+    pipe = client.server.stdin.fileno()
+    os.set_blocking(pipe, False)
+    count = 0
+    while select.select([], [pipe], [], 2)[1]:
+        try:
+            count += os.write(pipe, message[count % len(message) :])
+        except BlockingIOError:
+            pass
+    os.set_blocking(pipe, True)
+    return count
+
+
+def unread(*words):
+    for kind in READ, WRITE:
+        client = Client(words)
+        data = bytes(UNREAD) if kind == WRITE else b""
+        message = struct.pack(">IHHQQI", 0x25609513, 0, kind, 7, 0, UNREAD) + data
+        count = sent_unread(client, message)
+        assert resident(client.server.pid) < RESIDENT, resident(client.server.pid)
+        rest = -count % len(message)
+        sender = threading.Thread(target=client.put, args=[message[len(message) - rest :]])
+        sender.start()
+        for _ in range((count + rest) // len(message)):
+            assert struct.unpack(">IIQ", client.take(16)) == (0x67446698, 0, 7)
+            client.take(UNREAD if kind == READ else 0)
+        sender.join()
+        assert client.leave() == 0
+    return 0
+
+
 if __name__ == "__main__":
-    what, folder, *more = sys.argv[1:]
-    sys.exit({"gone": gone, "short": short, "full": full, "target": target}[what](folder, *map(int, more)))
+    what, *more = sys.argv[1:]
+    case = {"gone": gone, "short": short, "full": full, "target": target, "unread": unread}[what]
+    sys.exit(case(*[int(it) if it.isdecimal() and what == "target" else it for it in more]))

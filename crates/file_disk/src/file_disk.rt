@@ -1,13 +1,15 @@
 //! The pieces of a stack, moved by the calls of a storage.
 
-ghost use Rattle.std.specs.Prelude.{◌≡◌, ◌⊎◌, ◌≤◌, ◌<◌, ◌*◌, ◌+◌, ◌^◌, false, length, IfOk, MatchResult};
+ghost use Rattle.std.specs.Prelude.{◌≡◌, ◌⊎◌, ◌≤◌, ◌<◌, ◌*◌, ◌+◌, ◌^◌, false, length, IfOk, IfSome, MatchResult};
 ghost use Rattle.adapter.specs.Booking.{Suits};
 ghost use Rattle.miniport.specs.Faults.{invalid_request};
+ghost use Rattle.file_disk.specs.Asked.{Asks};
 ghost use Rattle.file_disk.specs.Calls.{Since};
 ghost use Rattle.file_disk.specs.Noting.{full_behind};
 ghost use Rattle.file_disk.specs.Transfers.{Carries, IsOfPiece, IsSentOr, LacksMemory, ReadsBytes, Syncs, TellsRoom, Transfers, WritesBytes, entry_moved, full_after, hardware_fault, kind_of, moved_by, read_fault, task_in, write_fault};
 
 use crate::moving::{read_all, write_all};
+use crate::record::Record;
 use crate::storage::{Failure, Storage};
 use cdb::Cdb;
 use disk::{Medium, SparseDisk};
@@ -238,6 +240,41 @@ impl<S: Storage + Drop> FileDisk<S> {
         }
     }
 
+    /// Its sizes.
+    pub fn sizes(&self) -> Sizes
+        ensures { (result.sector_size ≡ self.now.sector_size) × (result.sectors ≡ self.now.sectors) × (result.write_protected ≡ self.now.write_protected) }
+    {
+        Sizes {
+            sector_size: self.shape.sector_size(),
+            sectors: self.shape.sectors(),
+            write_protected: self.write_protected,
+        }
+    }
+
+    /// What an SRB asks of the storage, and of which sectors, if it asks anything.
+    pub fn asked(&self, srb: &Srb) -> Option<(Task, Extent)>
+        ensures { IfSome result (Asks self.now srb.now) }
+    {
+        match check_on(&self.shape, self.write_protected, srb) {
+            Ok(command) => task_in(command),
+            Err(_) => None,
+        }
+    }
+
+    /// Its storage.
+    pub fn storage(&self) -> &S
+        ensures { S.calls result.now ≡ self.now.calls }
+    {
+        &self.storage
+    }
+
+    /// The record of the calls so far.
+    pub fn record(&self) -> &Record
+        ensures { result.now.calls ≡ self.now.calls }
+    {
+        self.storage.record()
+    }
+
     /// Returns whether the storage had no room for the newest of the writes that it refused.
     pub fn is_full(&self) -> bool
         ensures { result ≡ self.now.full }
@@ -327,6 +364,7 @@ impl<S: Storage + Drop> FileDisk<S> {
         ensures transfers { Transfers self.old tag piece srb.now (entry_moved tag piece srb.now result) self.new }
         ensures suits { Suits self.old.sector_size self.old.sectors srb.now (entry_moved tag piece srb.now result) }
         ensures of_piece { IsOfPiece tag piece (entry_moved tag piece srb.now result) }
+        ensures after { self.new ≡ record self.old { calls = self.new.calls; full = self.new.full } }
     {
         let command = check_on(&self.shape, self.write_protected, srb)?;
         let Some((task, extent)) = task_in(command) else {

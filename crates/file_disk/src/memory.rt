@@ -140,4 +140,8 @@ impl Storage for MemoryFile {
         self.noted.note_sync();
         Ok(())
     }
+
+    fn record(&self) -> &Record {
+        &self.noted
+    }
 }

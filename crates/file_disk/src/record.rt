@@ -28,6 +28,9 @@ impl Model for Record {
     ghost also_owns = { λ _. ftrue };
 }
 
+// The type owns nothing, so it may go to another thread.
+unsafe impl Send for Record {}
+
 impl Record {
     /// A record of no calls.
     pub fn new() -> Record

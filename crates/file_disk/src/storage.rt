@@ -1,5 +1,6 @@
 //! What is asked of a file.
 
+use crate::record::Record;
 use thiserror::Error;
 
 /// Why a call failed.
@@ -54,4 +55,8 @@ pub trait Storage {
     /// As [`Failure`] says.
     fn sync(&mut self) -> Result<(), Failure>
         ensures noted { calls self.new ≡ Sync (result_err result) ∷ calls self.old };
+
+    /// The record of the calls so far.
+    fn record(&self) -> &Record
+        ensures same { result.now.calls ≡ calls self.now };
 }

@@ -7,6 +7,7 @@
 //! Nothing.
 #![tactic(auto)]
 
+pub mod desk;
 #[cfg(test)]
 mod expect;
 #[cfg(test)]

@@ -1,5 +1,6 @@
 -- The options, one after another.
-use Rattle.std.proofs.Common.{◌≡◌, inl, inr, ℕ, Bool, List, [], ◌∷◌, ◌++◌, length, append-nil, Option, refl, sym, subst, ◌∙◌, ap}
+use Rattle.std.proofs.Common.{◌≡◌, inl, inr, ℕ, Bool, List, [], ◌∷◌, ◌++◌, length, append-nil, append_assoc, Option, Result, Ok, Err, refl, sym, subst, ◌∙◌, ap}
+use Rattle.std.specs.Prelude.{IfErr, OnOk}
 use Rattle.std.specs.Io.KnownBytes.{Consumes, Appends}
 use Rattle.nbd.specs.declared.End.{End}
 use Rattle.nbd.specs.declared.arrays.Sizes.{Sizes}
@@ -13,7 +14,7 @@ use Rattle.nbd.specs.inside.Options.{TakesOption, TakesOptionHeader}
 use Rattle.nbd.specs.Carrying.{Faulting}
 use Rattle.nbd.specs.Session.{Begins, IsTold, said}
 use Rattle.nbd.specs.inside.Session.{Ends}
-use Rattle.nbd.specs.Handshake.{IsLastEarly, IsLastOption, IsSession, Leads, answers_to, EndsGreeting}
+use Rattle.nbd.specs.Handshake.{EndsGreeting, EndsOptions, EndsUnasked, IsLastEarly, IsLastOption, IsSession, Leads, Opens, answers_to}
 use Rattle.nbd.specs.inside.Handshake.{AsksOnce, EndsHaggling, Greets, Haggles, TakesLastOption}
 use Rattle.nbd.proofs.Streaming.{takes_more, tells_more}
 use Rattle.nbd.proofs.Serving.{begins_after, begins_nothing, begins_with, said_append, told_after, told_nothing}
@@ -111,44 +112,93 @@ at_sizes P old sizes eb es er h =
     (subst (λ (size : ℕ). P (record { block = old.block; bytes = size; read_only = sizes.read_only })) es
     (subst (λ (block : ℕ). P (record { block = block; bytes = sizes.bytes; read_only = sizes.read_only })) eb h))
 
-pub ends_in_options : (F : Faulting) (old : Content) (sizes : Sizes) (no_zeroes : Bool) (i x j y z : Option (List ℕ)) (end : End) → sizes.block ≡ old.block → sizes.bytes ≡ length old.bytes
-    → sizes.read_only ≡ old.read_only → Greets i x j y no_zeroes → EndsHaggling sizes no_zeroes j y end z → IsSession F old i x end old z
-ends_in_options F old sizes no_zeroes i x j y z end eb es er g h' =
-    let h : EndsHaggling (sizes_of old) no_zeroes j y end z = at_sizes (λ (s : Sizes). EndsHaggling s no_zeroes j y end z) old sizes eb es er h' in
-    let ans = answers_to (sizes_of old) no_zeroes in
+-- what begins a session, and what ends it before its requests
+
+pub opens : (sizes : Sizes) (no_zeroes : Bool) (i x j y k z : Option (List ℕ)) → Greets i x j y no_zeroes → Haggles sizes no_zeroes j y k z Requests → Opens sizes i x k z
+opens sizes no_zeroes i x j y k z g h = record {
+  flags = g.flags;
+  no_zeroes = no_zeroes;
+  are_flags = g.are_flags;
+  options = h.options;
+  leads = h.leads;
+  taken = takes_more i j k g.flags (said option_bytes h.options) g.taken h.taken;
+  told = tells_more x y z greeting (said (answers_to sizes no_zeroes) h.options) g.told h.told;
+}
+
+pub ends_unasked : (sizes : Sizes) (no_zeroes : Bool) (i x j y z : Option (List ℕ)) (end : End) → Greets i x j y no_zeroes → EndsHaggling sizes no_zeroes j y end z → EndsUnasked sizes i x end z
+ends_unasked sizes no_zeroes i x j y z end g h = inr (record {
+  flags = g.flags;
+  no_zeroes = no_zeroes;
+  are_flags = g.are_flags;
+  options = h.options;
+  next = h.next;
+  leads = h.leads;
+  last = h.last;
+  why = h.why;
+  asked = begins_after i j g.flags (said option_bytes h.options ++ h.last) g.taken h.asked;
+  told = told_after end x y z greeting (said (answers_to sizes no_zeroes) h.options) g.told h.told;
+})
+
+pub opens_by : {T E : Type 0} (r : Result T E) (sizes : Sizes) (no_zeroes : Bool) (i x j y k z : Option (List ℕ)) → Greets i x j y no_zeroes → OnOk r (Haggles sizes no_zeroes j y k z Requests)
+    → OnOk r (Opens sizes i x k z)
+opens_by (Ok _) sizes no_zeroes i x j y k z g h = opens sizes no_zeroes i x j y k z g h
+opens_by (Err _) sizes no_zeroes i x j y k z g h = tt
+
+pub ends_by : {T : Type 0} (r : Result T End) (sizes : Sizes) (no_zeroes : Bool) (i x j y z : Option (List ℕ)) → Greets i x j y no_zeroes → IfErr r (λ end. EndsHaggling sizes no_zeroes j y end z)
+    → IfErr r (λ end. EndsUnasked sizes i x end z)
+ends_by (Ok _) sizes no_zeroes i x j y z g h = tt
+ends_by (Err end) sizes no_zeroes i x j y z g h = ends_unasked sizes no_zeroes i x j y z end g h
+
+-- the bytes of a session's requests come behind those that opened it
+pub asked_behind : (sizes : Sizes) (i x k z : Option (List ℕ)) (o : Opens sizes i x k z) (rest : List ℕ) → Begins k rest → Begins i (o.flags ++ (said option_bytes o.options ++ rest))
+asked_behind sizes i x k z o rest h =
+    subst (Begins i) (append_assoc o.flags (said option_bytes o.options) rest) (begins_after i k (o.flags ++ said option_bytes o.options) rest o.taken h)
+
+pub told_behind : (sizes : Sizes) (i x k z w : Option (List ℕ)) (o : Opens sizes i x k z) (end : End) (rest : List ℕ) → IsTold end z w rest
+    → IsTold end x w (greeting ++ (said (answers_to sizes o.no_zeroes) o.options ++ rest))
+told_behind sizes i x k z w o end rest h =
+    let ans = said (answers_to sizes o.no_zeroes) o.options in
+    subst (IsTold end x w) (append_assoc greeting ans rest) (told_after end x z w (greeting ++ ans) rest o.told h)
+
+-- the replies to options alone
+pub told_options : (end : End) (x z : Option (List ℕ)) (ans : List ℕ) → IsTold end x z (greeting ++ ans) → IsTold end x z (greeting ++ (ans ++ []))
+told_options end x z ans h = subst (λ (l : List ℕ). IsTold end x z (greeting ++ l)) (sym (append-nil ans)) h
+
+pub ended_unasked : (F : Faulting) (old : Content) (sizes : Sizes) (i x z : Option (List ℕ)) (end : End) → sizes.block ≡ old.block → sizes.bytes ≡ length old.bytes
+    → sizes.read_only ≡ old.read_only → EndsUnasked sizes i x end z → IsSession F old i x end old z
+ended_unasked F old sizes i x z end eb es er (inl g) = inl (record { same = refl; ended = g })
+ended_unasked F old sizes i x z end eb es er (inr h') =
+    let h : EndsOptions (sizes_of old) i x end z = at_sizes (λ (s : Sizes). EndsOptions s i x end z) old sizes eb es er h' in
     inr (record {
-      flags = g.flags;
-      no_zeroes = no_zeroes;
-      are_flags = g.are_flags;
+      flags = h.flags;
+      no_zeroes = h.no_zeroes;
+      are_flags = h.are_flags;
       options = h.options;
       next = h.next;
       leads = h.leads;
       exchanges = [];
       last = h.last;
       in_turn = inr (refl, h.why);
-      asked = begins_after i j g.flags (said option_bytes h.options ++ h.last) g.taken h.asked;
-      told =
-          told_after end x y z greeting (said ans h.options ++ []) g.told (subst (IsTold end y z) (sym (append-nil (said ans h.options))) h.told);
+      asked = h.asked;
+      told = told_options end x z (said (answers_to (sizes_of old) h.no_zeroes) h.options) h.told;
       run = refl;
     })
 
-pub whole_session : (F : Faulting) (old new : Content) (sizes : Sizes) (no_zeroes : Bool) (i x j y k z w : Option (List ℕ)) (end : End) → sizes.block ≡ old.block → sizes.bytes ≡ length old.bytes
-    → sizes.read_only ≡ old.read_only → Greets i x j y no_zeroes → Haggles sizes no_zeroes j y k z Requests → Ends F old k z end new w → IsSession F old i x end new w
-whole_session F old new sizes no_zeroes i x j y k z w end eb es er g h' e =
-    let h : Haggles (sizes_of old) no_zeroes j y k z Requests = at_sizes (λ (s : Sizes). Haggles s no_zeroes j y k z Requests) old sizes eb es er h' in
-    let ans = answers_to (sizes_of old) no_zeroes in
+pub whole_session : (F : Faulting) (old new : Content) (sizes : Sizes) (i x k z w : Option (List ℕ)) (end : End) → sizes.block ≡ old.block → sizes.bytes ≡ length old.bytes
+    → sizes.read_only ≡ old.read_only → Opens sizes i x k z → Ends F old k z end new w → IsSession F old i x end new w
+whole_session F old new sizes i x k z w end eb es er o' e =
+    let o : Opens (sizes_of old) i x k z = at_sizes (λ (s : Sizes). Opens s i x k z) old sizes eb es er o' in
     inr (record {
-      flags = g.flags;
-      no_zeroes = no_zeroes;
-      are_flags = g.are_flags;
-      options = h.options;
+      flags = o.flags;
+      no_zeroes = o.no_zeroes;
+      are_flags = o.are_flags;
+      options = o.options;
       next = Requests;
-      leads = h.leads;
+      leads = o.leads;
       exchanges = e.exchanges;
       last = e.last;
       in_turn = inl (refl, e.is_last);
-      asked =
-          begins_after i j g.flags _ g.taken (begins_after j k (said option_bytes h.options) _ h.taken e.asked);
-      told = told_after end x y w greeting _ g.told (told_after end y z w (said ans h.options) _ h.told e.told);
+      asked = asked_behind (sizes_of old) i x k z o _ e.asked;
+      told = told_behind (sizes_of old) i x k z w o end _ e.told;
       run = e.run;
     })

@@ -4,3 +4,6 @@ pub mod Serving
 pub mod Haggling
 pub mod Spelling
 pub mod Overs
+pub mod Besides
+pub mod Desking
+pub mod Arriving

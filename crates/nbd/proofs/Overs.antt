@@ -1,5 +1,5 @@
 -- A session over storage whose content isn't shown, one exchange after another.
-use Rattle.std.proofs.Common.{◌≡◌, ℕ, Bool, List, [], ◌∷◌, ◌++◌, length, append-nil, append_assoc, inl, inr, Option, Result, Ok, Err, MatchResult, refl, sym, subst, ◌∙◌, ap}
+use Rattle.std.proofs.Common.{◌≡◌, ℕ, List, [], ◌∷◌, ◌++◌, length, append-nil, append_assoc, inl, inr, Option, Result, Ok, Err, MatchResult, refl, sym, subst, ◌∙◌, ap}
 use Rattle.std.specs.Io.KnownBytes.{Consumes, Appends}
 use Rattle.nbd.specs.declared.End.{End}
 use Rattle.nbd.specs.declared.End.TheVariants.{Input, Output}
@@ -11,15 +11,14 @@ use Rattle.nbd.specs.declared.options.Next.TheVariants.{Requests}
 use Rattle.nbd.specs.Requests.{command_in, payload_count}
 use Rattle.nbd.specs.Replies.{Outcome, failure, reply_bytes}
 use Rattle.nbd.specs.inside.Streams.{Skips}
-use Rattle.nbd.specs.Options.{greeting, option_bytes}
-use Rattle.nbd.specs.Session.{Begins, Exchange, IsLast, IsTold, asked_by, said, told_by}
-use Rattle.nbd.specs.inside.Session.{TakesLast, TakesRequest}
-use Rattle.nbd.specs.Handshake.{answers_to}
-use Rattle.nbd.specs.inside.Handshake.{EndsHaggling, Greets, Haggles}
+use Rattle.nbd.specs.Session.{Begins, Exchange, IsLast, IsTold, TakesLast, asked_by, said, told_by}
+use Rattle.nbd.specs.inside.Session.{TakesRequest}
+use Rattle.nbd.specs.Handshake.{EndsOptions, EndsUnasked, Opens, answers_to}
 use Rattle.nbd.specs.Over.{CarriesOver, IsExchangeOver, IsSessionOver, RunOver}
 use Rattle.nbd.specs.inside.Over.{EndsOver, IsExchangedOver, IsServedOver, ServedOver}
 use Rattle.nbd.proofs.Streaming.{takes_more, tells_more}
 use Rattle.nbd.proofs.Serving.{begins_after, begins_nothing, begins_with, said_append, told_after, told_nothing}
+use Rattle.nbd.proofs.Haggling.{asked_behind, told_behind, told_options}
 
 module _ {S : Type 0} (Carries : Command → List ℕ → S → Outcome → S → Type 0) (sizes : Sizes) where
   -- one request
@@ -144,43 +143,40 @@ module _ {S : Type 0} (Carries : Command → List ℕ → S → Outcome → S �
 
   -- whole sessions
 
-  pub ends_in_options : (old : S) (told_sizes : Sizes) (no_zeroes : Bool) (i x j y z : Option (List ℕ)) (end : End) → told_sizes ≡ sizes
-      → Greets i x j y no_zeroes → EndsHaggling told_sizes no_zeroes j y end z → IsSessionOver Carries sizes old i x end old z
-  ends_in_options old told_sizes no_zeroes i x j y z end same g h' =
-      let h : EndsHaggling sizes no_zeroes j y end z = subst (λ (s : Sizes). EndsHaggling s no_zeroes j y end z) same h' in
-      let ans = answers_to sizes no_zeroes in
+  pub ended_unasked : (old : S) (told_sizes : Sizes) (i x z : Option (List ℕ)) (end : End) → told_sizes ≡ sizes → EndsUnasked told_sizes i x end z → IsSessionOver Carries sizes old i x end old z
+  ended_unasked old told_sizes i x z end same (inl g) = inl (record { same = refl; ended = g })
+  ended_unasked old told_sizes i x z end same (inr h') =
+      let h : EndsOptions sizes i x end z = subst (λ (s : Sizes). EndsOptions s i x end z) same h' in
       inr (record {
-        flags = g.flags;
-        no_zeroes = no_zeroes;
-        are_flags = g.are_flags;
+        flags = h.flags;
+        no_zeroes = h.no_zeroes;
+        are_flags = h.are_flags;
         options = h.options;
         next = h.next;
         leads = h.leads;
         exchanges = [];
         last = h.last;
         in_turn = inr (refl, h.why);
-        asked = begins_after i j g.flags (said option_bytes h.options ++ h.last) g.taken h.asked;
-        told =
-            told_after end x y z greeting (said ans h.options ++ []) g.told (subst (IsTold end y z) (sym (append-nil (said ans h.options))) h.told);
+        asked = h.asked;
+        told = told_options end x z (said (answers_to sizes h.no_zeroes) h.options) h.told;
         run = refl;
       })
 
-  pub whole_session : (old new : S) (told_sizes : Sizes) (no_zeroes : Bool) (i x j y k z w : Option (List ℕ)) (end : End) → told_sizes ≡ sizes
-      → Greets i x j y no_zeroes → Haggles told_sizes no_zeroes j y k z Requests → EndsOver Carries sizes old k z end new w → IsSessionOver Carries sizes old i x end new w
-  whole_session old new told_sizes no_zeroes i x j y k z w end same g h' e =
-      let h : Haggles sizes no_zeroes j y k z Requests = subst (λ (s : Sizes). Haggles s no_zeroes j y k z Requests) same h' in
-      let ans = answers_to sizes no_zeroes in
+  pub whole_session : (old new : S) (told_sizes : Sizes) (i x k z w : Option (List ℕ)) (end : End) → told_sizes ≡ sizes → Opens told_sizes i x k z → EndsOver Carries sizes old k z end new w
+      → IsSessionOver Carries sizes old i x end new w
+  whole_session old new told_sizes i x k z w end same o' e =
+      let o : Opens sizes i x k z = subst (λ (s : Sizes). Opens s i x k z) same o' in
       inr (record {
-        flags = g.flags;
-        no_zeroes = no_zeroes;
-        are_flags = g.are_flags;
-        options = h.options;
+        flags = o.flags;
+        no_zeroes = o.no_zeroes;
+        are_flags = o.are_flags;
+        options = o.options;
         next = Requests;
-        leads = h.leads;
+        leads = o.leads;
         exchanges = e.exchanges;
         last = e.last;
         in_turn = inl (refl, e.is_last);
-        asked = begins_after i j g.flags _ g.taken (begins_after j k (said option_bytes h.options) _ h.taken e.asked);
-        told = told_after end x y w greeting _ g.told (told_after end y z w (said ans h.options) _ h.told e.told);
+        asked = asked_behind sizes i x k z o _ e.asked;
+        told = told_behind sizes i x k z w o end _ e.told;
         run = e.run;
       })

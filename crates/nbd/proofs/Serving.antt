@@ -11,8 +11,8 @@ use Rattle.nbd.specs.Requests.{command_in, payload_count, payload_of}
 use Rattle.nbd.specs.Replies.{Outcome, failure, reply_bytes}
 use Rattle.nbd.specs.Carrying.{Carries, Faulting}
 use Rattle.nbd.specs.inside.Carrying.{IsCarried, IsServed}
-use Rattle.nbd.specs.Session.{Begins, Exchange, IsExchange, IsLast, IsTold, Run, asked_by, said, told_by}
-use Rattle.nbd.specs.inside.Session.{Ends, IsExchanged, Served, TakesLast, TakesRequest}
+use Rattle.nbd.specs.Session.{Begins, Exchange, IsExchange, IsLast, IsTold, Run, asked_by, said, told_by, TakesLast}
+use Rattle.nbd.specs.inside.Session.{Ends, IsExchanged, Served, TakesRequest}
 use Rattle.nbd.proofs.Streaming.{takes_more, tells_nothing, tells_more}
 
 -- a command that a request asks for, once it was carried out

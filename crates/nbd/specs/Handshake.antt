@@ -1,5 +1,6 @@
 -- What is said before a client's requests.
 use Rattle.std.specs.Prelude.{◌≡◌, ◌⊎◌, ℕ, Bool, List, [], ◌∷◌, ◌++◌, length, Option, IsTrue, IsFalse}
+use Rattle.std.specs.Io.KnownBytes.{Appends, Consumes}
 use Rattle.byteorder.specs.Endian.{big_from}
 use Rattle.nbd.specs.declared.End.{End}
 use Rattle.nbd.specs.declared.arrays.Sizes.{Sizes}
@@ -66,6 +67,33 @@ pub record EndsGreeting (input out : Option (List ℕ)) (end : End) (after : Opt
   pub is_last : IsLastEarly end last
   pub asked : Begins input last
   pub told : IsTold end out after greeting
+
+-- a client was greeted, and its options were answered up to one that leads to requests
+pub record Opens (sizes : Sizes) (input out rest after : Option (List ℕ)) : Type 0 where
+  pub flags : List ℕ
+  pub no_zeroes : Bool
+  pub are_flags : AreFlags flags no_zeroes
+  pub options : List Asked
+  pub leads : Leads options Requests
+  pub taken : Consumes input rest (flags ++ said option_bytes options)
+  pub told : Appends out after (greeting ++ said (answers_to sizes no_zeroes) options)
+
+-- a session that ended among its options: by one of them, or where none came
+pub record EndsOptions (sizes : Sizes) (input out : Option (List ℕ)) (end : End) (after : Option (List ℕ)) : Type 0 where
+  pub flags : List ℕ
+  pub no_zeroes : Bool
+  pub are_flags : AreFlags flags no_zeroes
+  pub options : List Asked
+  pub next : Next
+  pub leads : Leads options next
+  pub last : List ℕ
+  pub why : ((next ≡ Ended end) × (last ≡ [])) ⊎ ((next ≡ Options) × IsLastOption end last)
+  pub asked : Begins input (flags ++ (said option_bytes options ++ last))
+  pub told : IsTold end out after (greeting ++ said (answers_to sizes no_zeroes) options)
+
+-- a session that ended before its requests
+abbrev pub EndsUnasked : Sizes → Option (List ℕ) → Option (List ℕ) → End → Option (List ℕ) → Type 0
+EndsUnasked sizes input out end after = EndsGreeting input out end after ⊎ EndsOptions sizes input out end after
 
 -- a session ended before its options, and the array is as it was
 pub record EndsEarly (old : Content) (input out : Option (List ℕ)) (end : End) (new : Content) (after : Option (List ℕ)) : Type 0 where

@@ -1,10 +1,14 @@
 -- What the definitions of this crate come to.
-use Rattle.std.specs.Prelude.{◌≡◌, ◌≤◌, ◌<◌, ◌^◌, ◌+◌, ◌↔◌, ℕ, List, ◌++◌, length, slice_index}
+use Rattle.std.specs.Prelude.{◌≡◌, ◌≤◌, ◌<◌, ◌^◌, ◌+◌, ◌↔◌, ℕ, List, ◌++◌, length, slice_index, Option}
 use Rattle.byteorder.specs.Endian.{big_bytes}
 use Rattle.nbd.specs.declared.requests.Request.{Request}
 use Rattle.nbd.specs.declared.constants.TheConstants.{NBD_REQUEST_MAGIC}
 use Rattle.nbd.specs.Content.{Content, IsSameOutside, written}
+use Rattle.nbd.specs.declared.End.{End}
+use Rattle.nbd.specs.declared.arrays.Sizes.{Sizes}
 use Rattle.nbd.specs.Requests.{IsRequest}
+use Rattle.nbd.specs.Handshake.{Opens}
+use Rattle.nbd.specs.Beside.{Account, EndsBeside, IsSessionBeside}
 
 -- the 28 bytes that a client sends for a request
 abbrev pub request_bytes : Request → List ℕ
@@ -30,3 +34,8 @@ HasOneSpelling = (r : Request) (bytes : List ℕ) → FitsRequest r → AreBytes
 -- what is written in an array changes nothing outside
 abbrev pub WritesInside : Type 0
 WritesInside = (c : Content) (offset : ℕ) (bytes : List ℕ) → offset + length bytes ≤ length c.bytes → IsSameOutside c offset (length bytes) (written c offset bytes)
+
+-- a client that was greeted and came to its requests had a whole session, once these ended
+abbrev pub MakesASession : Type 0
+MakesASession = (sizes : Sizes) (input out rest mid after : Option (List ℕ)) (a : Account) (end : End) → Opens sizes input out rest mid → EndsBeside rest mid a end after
+    → IsSessionBeside sizes input out a end after

@@ -1,3 +1,6 @@
+pub mod Beside
+pub mod Desks
+pub mod Incoming
 pub mod Content
 pub mod Requests
 pub mod Replies

@@ -68,3 +68,9 @@ abbrev pub IsLast : End → List ℕ → Type 0
 IsLast Left bytes = IsDisconnect bytes
 IsLast Malformed bytes = IsNoRequest bytes
 IsLast _ bytes = bytes ≡ []
+
+-- a stream began with bytes that end the requests
+pub record TakesLast (input : Option (List ℕ)) (end : End) : Type 0 where
+  pub last : List ℕ
+  pub asked : Begins input last
+  pub is_last : IsLast end last

@@ -1,4 +1,5 @@
 -- What no reader of the public clauses needs.
+pub mod Beside
 pub mod Carrying
 pub mod Handshake
 pub mod Options

@@ -5,7 +5,7 @@ ghost use Rattle.std.specs.Io.KnownBytes.{Appends};
 ghost use Rattle.nbd.specs.declared.options.Next.TheVariants.{Requests};
 ghost use Rattle.nbd.specs.Options.{greeting, replies_to};
 ghost use Rattle.nbd.specs.Session.{IsTold};
-ghost use Rattle.nbd.specs.Handshake.{EndsGreeting};
+ghost use Rattle.nbd.specs.Handshake.{EndsGreeting, EndsUnasked, Opens};
 ghost use Rattle.nbd.specs.inside.Handshake.{AsksOnce, EndsHaggling, Greets, Haggles, TakesLastOption};
 
 use crate::End;
@@ -19,12 +19,27 @@ use crate::streams::take;
 use byteorder::{BigEndian, ByteOrder};
 use std::io::{Read, Write};
 
+/// Greets a client and answers its options, of an export of these sizes, up to its first request.
+///
+/// # Errors
+///
+/// How the session ended before.
+pub fn begin<R: Read, W: Write>(input: &mut R, out: &mut W, sizes: Sizes) -> Result<(), End>
+    ensures opened { OnOk result (Opens sizes (R.remaining input.old) (W.contents out.old) (R.remaining input.new) (W.contents out.new)) }
+    ensures ended { IfErr result (λ end. EndsUnasked sizes (R.remaining input.old) (W.contents out.old) end (W.contents out.new)) }
+{
+    match greet(input, out) {
+        Ok(no_zeroes) => answer_options(input, out, sizes, no_zeroes),
+        Err(end) => Err(end),
+    }
+}
+
 /// Greets, and takes the client's flags: whether it wants no zeros behind the reply to NBD_OPT_EXPORT_NAME.
 ///
 /// # Errors
 ///
 /// [`End::Malformed`] where there is a flag that isn't known, [`End::Input`], [`End::Output`].
-pub(crate) fn greet<R: Read, W: Write>(input: &mut R, out: &mut W) -> Result<bool, End>
+fn greet<R: Read, W: Write>(input: &mut R, out: &mut W) -> Result<bool, End>
     ensures greeted { IfOk result (Greets (R.remaining input.old) (W.contents out.old) (R.remaining input.new) (W.contents out.new)) }
     ensures ended { IfErr result (λ end. EndsGreeting (R.remaining input.old) (W.contents out.old) end (W.contents out.new)) }
 {
@@ -63,7 +78,7 @@ fn greeting_bytes() -> [u8; 18]
 /// # Errors
 ///
 /// How the session ends.
-pub(crate) fn answer_options<R: Read, W: Write>(
+fn answer_options<R: Read, W: Write>(
     input: &mut R,
     out: &mut W,
     sizes: Sizes,

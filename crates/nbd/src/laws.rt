@@ -1,6 +1,6 @@
 //! What the definitions come to.
 
-ghost use Rattle.nbd.specs.Laws.{HasOneSpelling, WritesInside};
+ghost use Rattle.nbd.specs.Laws.{HasOneSpelling, MakesASession, WritesInside};
 
 /// A request is read from the 28 bytes that a client sends for it, and from no others.
 #[tactic(auto, using(crate::proofs::Spelling::one_spelling))]
@@ -13,4 +13,9 @@ pub fn one_spelling()
 #[tactic(auto, using(crate::proofs::Clearing::written_inside))]
 pub fn written_inside()
     ensures { WritesInside }
+{}
+
+/// What [`begin`](crate::begin) and then [`serve_beside`](crate::serve_beside) said is a whole session.
+pub fn makes_a_session()
+    ensures { MakesASession }
 {}

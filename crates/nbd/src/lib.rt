@@ -7,17 +7,21 @@
 //!
 //! `serve` is a session (`IsSession`): the handshake tells write protection (NBD_FLAG_READ_ONLY), then come just the
 //! replies to the requests read, in order; the array moved by just these, failures within their bytes. In bounds only
-//! the array or memory fails (`Fails`), a flush by the array alone (`Flushes`). `serve_over`: the same over a
-//! storage's own relation (`Backing`, `IsSessionOver`). `parse_request`, `command_of`, `parse_option`, `write_reply`,
-//! `write_replies` are exact, with one spelling a request (`one_spelling`). Only tested: that a flush and a write past
-//! caches reach the array as such.
+//! the array or memory fails (`Fails`), a flush by the array alone (`Flushes`). `serve_over`: the same over a storage's
+//! own relation (`Backing`, `IsSessionOver`). `parse_request`, `command_of`, `parse_option`, `write_reply`,
+//! `write_replies` are exact, with one spelling a request (`one_spelling`). `begin` is what comes before the requests
+//! (`Opens`, `EndsUnasked`), `serve_beside` just one reply to each request read, by its cookie, in the order of answers
+//! (`EndsSince`), for which `take_request` reads; together a whole session (`IsSessionBeside`, `makes_a_session`). No
+//! program calls these yet. Only tested: that a flush and a write past caches reach the array as such.
 #![tactic(auto)]
 
 mod arrays;
 mod backing;
+mod beside;
 mod carrying;
 mod constants;
 mod handshake;
+mod incoming;
 mod laws;
 mod memory;
 mod options;
@@ -31,8 +35,11 @@ mod waiting;
 
 pub use arrays::{Array, ArrayFault, Sizes};
 pub use backing::Backing;
+pub use beside::{Desk, Happening, serve_beside};
 pub use constants::LONGEST;
-pub use laws::{one_spelling, written_inside};
+pub use handshake::begin;
+pub use incoming::{Incoming, begins_whole, take_request};
+pub use laws::{makes_a_session, one_spelling, written_inside};
 pub use memory::MemArray;
 pub use options::{Next, OptionError, Wish, parse_option, write_replies};
 pub use over::serve_over;

@@ -8,7 +8,7 @@ ghost use Rattle.nbd.specs.inside.Over.{EndsOver, IsExchangedOver, IsServedOver}
 
 use crate::End;
 use crate::backing::Backing;
-use crate::handshake::{answer_options, greet};
+use crate::handshake::begin;
 use crate::replies::{Answer, write_reply};
 use crate::requests::{ReplyError, Request, command_of, payload_count};
 use crate::session::next_request;
@@ -29,11 +29,7 @@ pub fn serve_over<R: Ahead, W: Write, B: Backing>(
 ) -> End
     ensures { IsSessionOver B.Carries (B.shape backing.old) backing.old (R.remaining input.old) (W.contents out.old) result backing.new (W.contents out.new) }
 {
-    let no_zeroes = match greet(input, out) {
-        Ok(no_zeroes) => no_zeroes,
-        Err(end) => return end,
-    };
-    match answer_options(input, out, backing.sizes(), no_zeroes) {
+    match begin(input, out, backing.sizes()) {
         Ok(()) => serve_requests(alloc, backing, input, out),
         Err(end) => end,
     }

@@ -4,13 +4,14 @@ ghost use Rattle.std.specs.Prelude.{◌≡◌, IfErr, IfOk, MatchResult, OnOk};
 ghost use Rattle.std.specs.Io.KnownBytes.{Appends};
 ghost use Rattle.nbd.specs.Replies.{outcome_of, reply_bytes};
 ghost use Rattle.nbd.specs.Handshake.{IsSession};
-ghost use Rattle.nbd.specs.inside.Session.{Ends, IsExchanged, TakesLast, TakesRequest};
+ghost use Rattle.nbd.specs.Session.{TakesLast};
+ghost use Rattle.nbd.specs.inside.Session.{Ends, IsExchanged, TakesRequest};
 
 use crate::End;
 use crate::arrays::Array;
 use crate::carrying::serve_request;
 use crate::constants::NBD_CMD_DISC;
-use crate::handshake::{answer_options, greet};
+use crate::handshake::begin;
 use crate::replies::{Answer, write_reply};
 use crate::requests::{Request, parse_request};
 use crate::streams::take;
@@ -26,11 +27,7 @@ pub fn serve<R: Read, W: Write, A: Array>(
 ) -> End
     ensures { IsSession A.fails (A.content array.old) (R.remaining input.old) (W.contents out.old) result (A.content array.new) (W.contents out.new) }
 {
-    let no_zeroes = match greet(input, out) {
-        Ok(no_zeroes) => no_zeroes,
-        Err(end) => return end,
-    };
-    match answer_options(input, out, array.sizes(), no_zeroes) {
+    match begin(input, out, array.sizes()) {
         Ok(()) => serve_requests(alloc, array, input, out),
         Err(end) => end,
     }

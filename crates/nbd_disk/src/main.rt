@@ -315,7 +315,9 @@ fn filled(rt: &HostRuntime, path: &str, file: File, config: &Config) -> Result<D
     if let Err(error) = file.set_len(disk_bytes(config)) {
         return Err(failed(rt, path, &error, DiskFault::NotCreated));
     }
-    let mut storage = DiskFile::new(file);
+    let Ok(mut storage) = DiskFile::made(rt.alloc(), file) else {
+        return Err(Error::NoMemory);
+    };
     put_table(rt.alloc(), &mut storage, config)?;
     match sync_folder(rt, path) {
         Ok(()) => Ok(storage),

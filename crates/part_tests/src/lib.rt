@@ -1,6 +1,6 @@
 //! Tests of the parts below the layers and beside them, by their public calls: statuses, sectors, command blocks, SRBs,
-//! IRPs, disks, adapters, a disk in a file, queues, partition tables, the probe, removal, the gate, marks, histories
-//! and lanes. Tests of the layers `port`, `class_disk`, `hold_filter` and `partition`, each over an adapter in memory
+//! IRPs, disks, adapters, a disk in a file, queues, partition tables, the probe, removal, the gate, marks, histories,
+//! movers and lanes. Tests of the layers `port`, `class_disk`, `hold_filter` and `partition`, each over an adapter in memory
 //! and by the contract of a layer.
 //!
 //! A test ends well, or for want of memory: `.ci/refused_memory.py` refuses each request for memory in turn.
@@ -28,6 +28,8 @@ mod extents;
 mod files;
 #[cfg(test)]
 mod gates;
+#[cfg(test)]
+mod handed;
 #[cfg(test)]
 mod held;
 #[cfg(test)]

@@ -38,9 +38,3 @@ pub record TakesRequest (input rest : Option (List ℕ)) (request : Request) : T
   pub is_request : IsRequest header request
   pub goes_on : request.kind ≢ NBD_CMD_DISC
   pub taken : Consumes input rest header
-
--- a stream began with bytes that end the requests
-pub record TakesLast (input : Option (List ℕ)) (end : End) : Type 0 where
-  pub last : List ℕ
-  pub asked : Begins input last
-  pub is_last : IsLast end last

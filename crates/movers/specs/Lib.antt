@@ -1,0 +1,3 @@
+pub mod Flight
+pub mod Moving
+pub mod Order
