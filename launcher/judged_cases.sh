@@ -280,7 +280,7 @@ run_judge_cases() {
     local folder it
     make_case_folders
     while IFS= read -r folder; do run_recorded "$folder"; done < <(recorded_folders)
-    for it in rules large overlap sessions; do run_labels "$it" "$top/examples/judged/$it"; done
+    for it in rules large overlap gaps sessions; do run_labels "$it" "$top/examples/judged/$it"; done
     each_row bad_lines "$top/examples/judged/bad_lines" run_bad_line
     each_row wrong "$top/examples/judged/wrong_bodies" run_wrong_body
     for it in "$top"/examples/judged/readings/*/trace; do

@@ -3,17 +3,6 @@
 import tomllib
 
 
-def runs(size, values):
-    """Returns the bytes of sectors of this size, each full of one byte, as runs."""
-    found = []
-    for value in values:
-        if found and found[-1][0] == value:
-            found[-1][1] += size
-        else:
-            found.append([value, size])
-    return ",".join(f"{value:02x}*{count}" for value, count in found)
-
-
 class Piece:
     """A command: its number, its tag and its sectors of the partition."""
 
@@ -27,42 +16,34 @@ class Request:
 
     def __init__(self, number, kind, first, count):
         self.number, self.kind, self.first, self.count = number, kind, first, count
-        self.through, self.fill, self.block, self.pieces = False, 0, None, []
+        self.through, self.block, self.pieces = False, None, []
 
 
 class Lines:
-    """Prints the lines of one run. A log has no bytes: each write has one byte throughout, and a read brings what
-    stands there."""
+    """Prints the lines of one run, with `?` for bytes that the log doesn't have."""
 
     def __init__(self, config, out):
         with open(config, "rb") as file:
             settings = tomllib.load(file)
         self.size, self.longest, self.depth = settings["sector_size"], settings["max_transfer"], settings["depth"]
         self.base = settings["partition"][0]["first"]
-        self.out, self.sectors = out, {}
+        self.out = out
         self.requests = self.pieces = 0
         self.waiting, self.tags = [], [None] * self.depth
 
     def say(self, line):
         print(line, file=self.out)
 
-    def values(self, piece):
-        """Returns what a piece moves."""
-        sectors = range(piece.first, piece.first + piece.count)
-        if piece.request.kind == "write":
-            return [piece.request.fill] * piece.count
-        return [self.sectors.get(it, 0) for it in sectors]
-
-    def call(self, kind, offset=0, length=0, through=False, fill=0, block=None):
+    def call(self, kind, offset=0, length=0, through=False, told="?", block=None):
         """A request comes in, and goes to the device as far as tags are free: by its block, or by what is due."""
         self.requests += 1
         first, count = offset // self.size, length // self.size
         request = Request(self.requests, kind, first, count)
-        request.through, request.fill, request.block = through, fill, block
+        request.through, request.block = through, block
         words = f"call {request.number} {kind}"
         if kind != "flush":
             words += f" {offset} {length}{' through' if through else ''}"
-        self.say(f"{words} in 0" + (f" {fill:02x}*{length}" if kind == "write" else ""))
+        self.say(f"{words} in 0" + (f" {told}" if kind == "write" else ""))
         cuts = range(first, first + count, self.longest) if kind != "flush" else [0]
         request.pieces = [Piece(request, at, min(self.longest, first + count - at)) for at in cuts]
         self.waiting += request.pieces
@@ -76,7 +57,7 @@ class Lines:
             self.pieces += 1
             piece.number, piece.tag = self.pieces, self.tags.index(None)
             self.tags[piece.tag] = piece
-            self.say(f"start {piece.number} tag {piece.tag} {self.block(piece).hex()}")
+            self.say(f"start {piece.number} tag {piece.tag} {self.block(piece).hex()} of {piece.request.number}")
 
     def block(self, piece):
         """Returns the command block of a piece."""
@@ -94,22 +75,16 @@ class Lines:
 
     def end(self, request, sense=None, status="SUCCESS"):
         """The device has ended a request, with sense data where it failed."""
-        brought = []
         for piece in request.pieces:
             if piece.tag is None:
                 raise SystemExit(f"request {request.number} ended, and no tag of {self.depth} was free for it")
-            values = self.values(piece)
             if sense is None:
-                told = f" {runs(self.size, values)}" if values and request.kind != "flush" else ""
-                self.say(f"act {piece.number}{told}")
-                brought += values
+                self.say(f"act {piece.number}{' ?' if request.kind != 'flush' else ''}")
             else:
                 self.say(f"fault {piece.number}")
             self.say(f"return {piece.number} {'good' if sense is None else f'bad 84 02 {sense}'}")
-            if request.kind == "write" and sense is None:
-                self.sectors.update(dict.fromkeys(range(piece.first, piece.first + piece.count), request.fill))
             self.tags[piece.tag] = None
         moved = request.count * self.size if sense is None and request.kind != "flush" else 0
-        told = f" {runs(self.size, brought)}" if moved and request.kind == "read" else ""
+        told = " ?" if moved and request.kind == "read" else ""
         self.say(f"answer {request.number} {status} {moved}{told}")
         self.start()

@@ -1,16 +1,14 @@
 #!/usr/bin/env python3
 """Turns a log of nbdkit's filter `log` into a trace that stackjudge judges.
 
-usage: nbdkit_log.py CONFIG LOG [BYTE] > TRACE
+usage: nbdkit_log.py CONFIG LOG > TRACE
 
     nbdkit --filter=log file disk.img logfile=LOG
-    stackjudge check CONFIG TRACE
+    stackjudge check --gaps CONFIG TRACE
 
 The export is partition 0 of CONFIG. The log tells requests and answers: each request is taken to go to the device when
 it comes in, or as soon as one of CONFIG's tags is free, and the device to end it just before its answer. The log has no
-bytes: BYTE, in hexadecimal digits, is what each write wrote throughout (fio: --buffer_pattern=0xa5), and a read is taken
-to have brought what stood there. So sizes, bounds, tags, order and statuses are judged, and that each request is
-answered once; not what was read."""
+bytes, so sizes, bounds, tags, order and statuses are judged, and that each request is answered once; not what was read."""
 
 import re
 import sys
@@ -25,7 +23,7 @@ FAILURES = {"EPERM": PROTECTED, "EROFS": PROTECTED, "ENOSPC": ("07 27 07", "MEDI
 OTHER = ("04 00 00", "IO_DEVICE_ERROR")
 
 
-def convert(lines, log, fill):
+def convert(lines, log):
     """Writes the lines of a log. Requests that are neither reads, writes nor flushes have none."""
     found = {}
     for line in log:
@@ -36,7 +34,7 @@ def convert(lines, log, fill):
             kind = {"Zero": "write"}.get(what, what.lower())
             place = (int(offset, 16), int(length, 16)) if offset else (0, 0)
             through = "fua=1" in words
-            found[connection, number] = lines.call(kind, *place, through, 0 if what == "Zero" else fill)
+            found[connection, number] = lines.call(kind, *place, through, f"00*{place[1]}" if what == "Zero" else "?")
         elif answer := ANSWER.search(line):
             connection, number, result, error = answer.groups()
             request = found.pop((connection, number), None)
@@ -45,7 +43,7 @@ def convert(lines, log, fill):
 
 
 if __name__ == "__main__":
-    if len(sys.argv) not in (3, 4):
-        sys.exit("usage: nbdkit_log.py CONFIG LOG [BYTE] > TRACE")
+    if len(sys.argv) != 3:
+        sys.exit("usage: nbdkit_log.py CONFIG LOG > TRACE")
     with open(sys.argv[2], encoding="utf-8") as it:
-        convert(Lines(sys.argv[1], sys.stdout), it, int(sys.argv[3], 16) if len(sys.argv) == 4 else 0)
+        convert(Lines(sys.argv[1], sys.stdout), it)

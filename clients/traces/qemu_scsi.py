@@ -1,16 +1,15 @@
 #!/usr/bin/env python3
 """Turns what qemu traces of a SCSI disk into a trace that stackjudge judges.
 
-usage: qemu_scsi.py CONFIG LOG [BYTE] > TRACE
+usage: qemu_scsi.py CONFIG LOG > TRACE
 
     printf '%s\\n' scsi_req_dequeue scsi_disk_new_request scsi_disk_check_condition > events
     qemu-system-x86_64 .. -device virtio-scsi-pci -device scsi-hd,drive=.. -trace events=events -D LOG
-    stackjudge check CONFIG TRACE
+    stackjudge check --gaps CONFIG TRACE
 
 The disk is that of CONFIG, and the commands are those of the guest's driver, block for block: a READ, a WRITE or a
 SYNCHRONIZE CACHE is a request and its one piece. Other commands, and transfers in front of partition 0, are left out.
-qemu's tags are addresses: in their place stand the lowest that are free. The log has no bytes: BYTE, in hexadecimal
-digits, is what each write wrote throughout, and a read is taken to have brought what stood there."""
+qemu's tags are addresses: in their place stand the lowest that are free. The log has no bytes."""
 
 import re
 import sys
@@ -34,7 +33,7 @@ def transfer(block):
     return "read" if block[0] in (0x28, 0x88) else "write", first, count, block[1] & 8 != 0
 
 
-def begin(lines, block, fill):
+def begin(lines, block):
     """Calls what a block asks for, or returns None where it is left out."""
     asked = transfer(block)
     if asked is None or asked[1] is not None and asked[1] < lines.base:
@@ -42,16 +41,16 @@ def begin(lines, block, fill):
     kind, first, count, through = asked
     if kind == "flush":
         return lines.call(kind, block=block)
-    return lines.call(kind, (first - lines.base) * lines.size, count * lines.size, through, fill, block)
+    return lines.call(kind, (first - lines.base) * lines.size, count * lines.size, through, block=block)
 
 
-def convert(lines, log, fill):
+def convert(lines, log):
     """Writes the lines of a log."""
     found, sense = {}, {}
     for line in log:
         if new := NEW.search(line):
             tag = int(new[1], 16)
-            found[tag] = begin(lines, bytes(int(it, 16) for it in new[2].split()), fill)
+            found[tag] = begin(lines, bytes(int(it, 16) for it in new[2].split()))
         elif told := SENSE.search(line):
             sense[int(told[1], 16)] = tuple(map(int, told.groups()[1:]))
         elif (end := END.search(line)) and int(end[1]) in found:
@@ -63,7 +62,7 @@ def convert(lines, log, fill):
 
 
 if __name__ == "__main__":
-    if len(sys.argv) not in (3, 4):
-        sys.exit("usage: qemu_scsi.py CONFIG LOG [BYTE] > TRACE")
+    if len(sys.argv) != 3:
+        sys.exit("usage: qemu_scsi.py CONFIG LOG > TRACE")
     with open(sys.argv[2], encoding="utf-8") as it:
-        convert(Lines(sys.argv[1], sys.stdout), it, int(sys.argv[3], 16) if len(sys.argv) == 4 else 0)
+        convert(Lines(sys.argv[1], sys.stdout), it)

@@ -20,10 +20,10 @@ pub record IsApp (app : App) (command : Grammar) : Type 0 where
 abbrev pub with_flag : App → Text → App
 with_flag app name = with_rule app (flag_rule name)
 
--- how a trace is judged: [--any-cut] [--any-tag] [--any-read] [--many] [--whole-disk]
+-- how a trace is judged: [--any-cut] [--any-tag] [--any-read] [--many] [--whole-disk] [--gaps]
 abbrev pub judged_words : App → App
 judged_words app =
-    with_flag (with_flag (with_flag (with_flag (with_flag app (codes "any-cut")) (codes "any-tag")) (codes "any-read")) (codes "many")) (codes "whole-disk")
+    with_flag (with_flag (with_flag (with_flag (with_flag (with_flag app (codes "any-cut")) (codes "any-tag")) (codes "any-read")) (codes "many")) (codes "whole-disk")) (codes "gaps")
 
 -- what is asked of a trace: how it is judged, [--settled] [--ended] [--json]
 abbrev pub asked_words : App → App
@@ -81,6 +81,7 @@ pub record HasFlags (rows : List Row) (asked : Asked) : Type 0 where
   pub any_read : IsRead rows (codes "any-read") asked.any_read
   pub many : IsRead rows (codes "many") asked.many
   pub whole_disk : IsRead rows (codes "whole-disk") asked.whole_disk
+  pub gaps : IsRead rows (codes "gaps") asked.gaps
   pub settled : IsRead rows (codes "settled") asked.settled
   pub ended : IsRead rows (codes "ended") asked.ended
   pub json : IsRead rows (codes "json") asked.json

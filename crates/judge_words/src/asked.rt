@@ -51,6 +51,8 @@ pub struct Asked {
     pub many: bool,
     /// Whether there is one partition, which is the whole disk, whatever the settings say.
     pub whole_disk: bool,
+    /// Whether some bytes were not recorded.
+    pub gaps: bool,
     /// Whether it has to leave nothing undone.
     pub settled: bool,
     /// Whether it has to leave no request open and no piece at the adapter.
@@ -68,6 +70,7 @@ impl Asked {
             any_read: false,
             many: false,
             whole_disk: false,
+            gaps: false,
             settled: false,
             ended: false,
             json: false,

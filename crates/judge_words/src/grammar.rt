@@ -39,7 +39,8 @@ fn judged<'a>(alloc: Global, command: Command<'a>) -> Result<Command<'a>, AllocE
     let read = with_flag(alloc, tag, "any-read")?;
     let many = with_flag(alloc, read, "many")?;
     let disk = with_flag(alloc, many, "whole-disk")?;
-    Ok(disk)
+    let gaps = with_flag(alloc, disk, "gaps")?;
+    Ok(gaps)
 }
 
 /// What is asked of a trace.

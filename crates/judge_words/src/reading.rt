@@ -93,6 +93,7 @@ fn asked_of(words: &ArgMatches<'_>) -> Asked
         any_read: words.get_flag("any-read"),
         many: words.get_flag("many"),
         whole_disk: words.get_flag("whole-disk"),
+        gaps: words.get_flag("gaps"),
         settled: words.get_flag("settled"),
         ended: words.get_flag("ended"),
         json: words.get_flag("json"),

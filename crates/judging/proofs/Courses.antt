@@ -8,24 +8,25 @@ use Rattle.std.proofs.lemmas.List.Elements.{All-nil, All-cons, All-head, All-tai
 use Rattle.std.proofs.lemmas.List.Sums.{count_by-le-length, sum_by-append, sum_by-cons}
 use Rattle.machine.specs.Rules.{Rules}
 use Rattle.machine.specs.State.{State, opening}
-use Rattle.trace_line.specs.declared.Line.{Line}
+use Rattle.trace_reader.specs.declared.Recorded.{Recorded}
+use Rattle.trace_reader.specs.declared.Reader.{Reader}
+use Rattle.trace_reader.specs.Readers.{CanRead, CantRead, read_line, reader_after}
+use Rattle.trace_reader.proofs.Reading.{after_more, can_more, read_more}
 use Rattle.trace_line.specs.Lines.{LineRun}
 use Rattle.judge.specs.Following.{HasTakenLines, IsLineRefused, JudgeView}
 use Rattle.judge.specs.Judging.{AreLinesReached, IsLineRun}
 use Rattle.judge.specs.Refusals.{most_readings}
-use Rattle.trace_tags.specs.Tags.{BreaksTagBy, HasFreeTagBy, TagsView, read_line_by, tags_after}
-use Rattle.trace_tags.proofs.Reading.{free_by_more, read_by_more, tags_by_more}
-use Rattle.label_text.specs.Lines.{Spells, is_told}
+use Rattle.label_text.specs.Lines.{is_told}
 use Rattle.startup.specs.Reading.{IsAllOf}
-use Rattle.judging.specs.Checked.{IsCheckFault, IsFirstRefused, IsInTable, IsMisstep, IsRefusalTold, IsToldBefore, IsToldSoFar, arrays_of, count_of, first_tags, is_call, is_start, judged, opening_of, refused_line, rules_by}
-use Rattle.judging.specs.Told.{AreTold, IsBad, IsFirstBad, numbers_from}
+use Rattle.judging.specs.Checked.{IsCheckFault, IsFirstRefused, IsInTable, IsMisstep, IsRefusalTold, IsToldBefore, IsToldSoFar, arrays_of, count_of, first_reader, is_call, is_start, judged, opening_of, refused_line, rules_by}
+use Rattle.judging.specs.Told.{AreTold, IsBad, IsFirstBad, Records, numbers_from}
 use Rattle.judging.specs.declared.course.Course.{Course}
 use Rattle.judging.specs.declared.course.Course.TheVariants.{Legal, Refused}
 use Rattle.judging.specs.declared.course.Trial.{Trial}
 use Rattle.judging.specs.declared.faults.Error.{Error}
 use Rattle.judging.specs.declared.faults.Error.TheVariants.{Usage, Startup, TraceUnreadable, ScriptUnreadable, BadLine, NoLabel, Readings, Script, OutputFailed, NoMemory}
 use Rattle.judging.specs.declared.misstep.Misstep.{Misstep}
-use Rattle.judging.specs.declared.misstep.Misstep.TheVariants.{Breaks, NoPartition, Tag}
+use Rattle.judging.specs.declared.misstep.Misstep.TheVariants.{Breaks, NoPartition, Read}
 use Rattle.judging.specs.declared.opened.Standard.{Standard}
 use Rattle.judging.specs.declared.told.Told.{Told}
 use Rattle.judging.specs.declared.told.Told.TheVariants.{Line as TellsLine, Nothing, BadWord}
@@ -58,41 +59,41 @@ IsText text = IsUtf8 text
 text_more : (texts : List (List ℕ)) (text : List ℕ) → All IsText texts → IsText text → All IsText (texts ++ text ∷ [])
 text_more texts text are is = All-append IsText texts (text ∷ []) are (All-cons IsText text [] is (All-nil IsText))
 
-none_told : (texts : List (List ℕ)) (text : List ℕ) (told_lines : List Line) (numbers : List ℕ) → AreTold texts told_lines numbers → is_told text ≡ false → IsText text
+none_told : (texts : List (List ℕ)) (text : List ℕ) (told_lines : List Recorded) (numbers : List ℕ) → AreTold texts told_lines numbers → is_told text ≡ false → IsText text
     → AreTold (texts ++ text ∷ []) told_lines numbers
 none_told texts text told_lines numbers h none is = record {
-  spelled = subst (λ xs. AllZip Spells xs told_lines) (sym (kept_more texts text false none ∙ append-nil (filter is_told texts))) h.spelled;
+  spelled = subst (λ xs. AllZip Records xs told_lines) (sym (kept_more texts text false none ∙ append-nil (filter is_told texts))) h.spelled;
   counted = h.counted ∙ sym (numbers_more 1 texts text false none ∙ append-nil (numbers_from 1 texts));
   as_many = h.as_many;
   are_text = text_more texts text h.are_text is;
 }
 
-all_zip_append : (xs : List (List ℕ)) (ys : List Line) (x : List ℕ) (y : Line) → AllZip Spells xs ys → Spells x y → AllZip Spells (xs ++ x ∷ []) (ys ++ y ∷ [])
+all_zip_append : (xs : List (List ℕ)) (ys : List Recorded) (x : List ℕ) (y : Recorded) → AllZip Records xs ys → Records x y → AllZip Records (xs ++ x ∷ []) (ys ++ y ∷ [])
 all_zip_append [] [] x y h is = (is, tt)
 all_zip_append [] (w ∷ ys) x y h is = absurd h
 all_zip_append (v ∷ xs) [] x y h is = absurd h
 all_zip_append (v ∷ xs) (w ∷ ys) x y h is = (h.0, all_zip_append xs ys x y h.1 is)
 
-one_told : (texts : List (List ℕ)) (text : List ℕ) (told_lines : List Line) (numbers : List ℕ) (line : Line) (n : ℕ) → AreTold texts told_lines numbers
-    → is_told text ≡ true → Spells text line → IsText text → n ≡ length texts + 1 → AreTold (texts ++ text ∷ []) (told_lines ++ line ∷ []) (numbers ++ n ∷ [])
+one_told : (texts : List (List ℕ)) (text : List ℕ) (told_lines : List Recorded) (numbers : List ℕ) (line : Recorded) (n : ℕ) → AreTold texts told_lines numbers
+    → is_told text ≡ true → Records text line → IsText text → n ≡ length texts + 1 → AreTold (texts ++ text ∷ []) (told_lines ++ line ∷ []) (numbers ++ n ∷ [])
 one_told texts text told_lines numbers line n h some spells is e =
     let here : n ≡ 1 + length texts = omega (arith, e) in
     record {
       spelled =
-          subst (λ xs. AllZip Spells xs (told_lines ++ line ∷ [])) (sym (kept_more texts text true some)) (all_zip_append (filter is_told texts) told_lines text line h.spelled spells);
+          subst (λ xs. AllZip Records xs (told_lines ++ line ∷ [])) (sym (kept_more texts text true some)) (all_zip_append (filter is_told texts) told_lines text line h.spelled spells);
       counted = (λ i. h.counted i ++ here i ∷ []) ∙ sym (numbers_more 1 texts text true some);
       as_many = omega (arith, h.as_many, length-append told_lines (line ∷ []), length-append numbers (n ∷ []));
       are_text = text_more texts text h.are_text is;
     }
 
 -- there are no more labels than lines
-few_by : (text : List ℕ) (texts : List (List ℕ)) (told_lines : List Line) (t : Bool) → AllZip Spells (cond t (text ∷ filter is_told texts) (filter is_told texts)) told_lines
-    → ((ls : List Line) → AllZip Spells (filter is_told texts) ls → length ls ≤ length texts) → length told_lines ≤ length (text ∷ texts)
+few_by : (text : List ℕ) (texts : List (List ℕ)) (told_lines : List Recorded) (t : Bool) → AllZip Records (cond t (text ∷ filter is_told texts) (filter is_told texts)) told_lines
+    → ((ls : List Recorded) → AllZip Records (filter is_told texts) ls → length ls ≤ length texts) → length told_lines ≤ length (text ∷ texts)
 few_by text texts told_lines false h rest = omega (arith, rest told_lines h)
 few_by text texts [] true h rest = omega arith
 few_by text texts (line ∷ told_lines) true h rest = omega (arith, rest told_lines h.1)
 
-few : (texts : List (List ℕ)) (told_lines : List Line) → AllZip Spells (filter is_told texts) told_lines → length told_lines ≤ length texts
+few : (texts : List (List ℕ)) (told_lines : List Recorded) → AllZip Records (filter is_told texts) told_lines → length told_lines ≤ length texts
 few [] [] h = omega arith
 few [] (line ∷ told_lines) h = absurd h
 few (text ∷ texts) told_lines h = few_by text texts told_lines (is_told text) h (few texts)
@@ -102,39 +103,39 @@ good_untold : (text : List ℕ) → is_told text ≡ false → IsText text → I
 good_untold text e is (inl bad) = absurd (cc (bad.0, e))
 good_untold text e is (inr no_text) = no_text is
 
-good_told : (text : List ℕ) (line : Line) → Spells text line → IsText text → IsBad text → ⊥
+good_told : (text : List ℕ) (line : Recorded) → Records text line → IsText text → IsBad text → ⊥
 good_told text line spells is (inl bad) = bad.1 line spells
 good_told text line spells is (inr no_text) = no_text is
 
 abbrev IsGood : List ℕ → Type 0
 IsGood text = ¬ (IsBad text)
 
-good_at : (text : List ℕ) (texts : List (List ℕ)) (told_lines : List Line) (t : Bool) → is_told text ≡ t → IsText text
-    → AllZip Spells (cond t (text ∷ filter is_told texts) (filter is_told texts)) told_lines
-    → ((ls : List Line) → AllZip Spells (filter is_told texts) ls → All IsGood texts) → All IsGood (text ∷ texts)
+good_at : (text : List ℕ) (texts : List (List ℕ)) (told_lines : List Recorded) (t : Bool) → is_told text ≡ t → IsText text
+    → AllZip Records (cond t (text ∷ filter is_told texts) (filter is_told texts)) told_lines
+    → ((ls : List Recorded) → AllZip Records (filter is_told texts) ls → All IsGood texts) → All IsGood (text ∷ texts)
 good_at text texts told_lines false e is h rest = All-cons IsGood text texts (good_untold text e is) (rest told_lines h)
 good_at text texts [] true e is h rest = absurd h
 good_at text texts (line ∷ told_lines) true e is h rest = All-cons IsGood text texts (good_told text line h.0 is) (rest told_lines h.1)
 
-all_good : (texts : List (List ℕ)) (told_lines : List Line) → AllZip Spells (filter is_told texts) told_lines → All IsText texts → All IsGood texts
+all_good : (texts : List (List ℕ)) (told_lines : List Recorded) → AllZip Records (filter is_told texts) told_lines → All IsText texts → All IsGood texts
 all_good [] told_lines h are = All-nil IsGood
 all_good (text ∷ texts) told_lines h are =
     good_at text texts told_lines (is_told text) refl (All-head IsText text texts are) h (λ ls told. all_good texts ls told (All-tail IsText text texts are))
 
 -- COUNTS
 
-abbrev calls : Line → Bool
-calls line = is_call line.label
+abbrev calls : Recorded → Bool
+calls line = is_call line.line.label
 
-abbrev starts : Line → Bool
-starts line = is_start line.label
+abbrev starts : Recorded → Bool
+starts line = is_start line.line.label
 
-count_more : (p : Line → Bool) (told_lines : List Line) (line : Line) → count_by p (told_lines ++ line ∷ []) ≡ count_by p told_lines + cond (p line) 1 0
+count_more : (p : Recorded → Bool) (told_lines : List Recorded) (line : Recorded) → count_by p (told_lines ++ line ∷ []) ≡ count_by p told_lines + cond (p line) 1 0
 count_more p told_lines line =
     let last : count_by p (line ∷ []) ≡ cond (p line) 1 0 + count_by p [] = sum_by-cons (λ y. cond (p y) 1 0) line [] in
     sum_by-append (λ y. cond (p y) 1 0) told_lines (line ∷ []) ∙ ap (λ n. count_by p told_lines + n) (last ∙ omega arith)
 
-counted_more : (p : Line → Bool) (told_lines : List Line) (line : Line) (old new : ℕ) → length told_lines + 1 < 2 ^ 64 → old ≡ count_by p told_lines
+counted_more : (p : Recorded → Bool) (told_lines : List Recorded) (line : Recorded) (old new : ℕ) → length told_lines + 1 < 2 ^ 64 → old ≡ count_by p told_lines
     → new ≡ min (old + cond (p line) 1 0) (2 ^ 64 - 1) → new ≡ count_by p (told_lines ++ line ∷ [])
 counted_more p told_lines line old new short is more = at (p line) more (count_more p told_lines line)
   where
@@ -163,43 +164,43 @@ some_state P (s ∷ states) all some = (s, All-head P s states all)
 -- ONE LINE MORE
 
 module _ (c : Standard) where
-  abbrev InTable : Line → Type 0
-  InTable line = IsInTable (count_of c) line.label
+  abbrev InTable : Recorded → Type 0
+  InTable line = IsInTable (count_of c) line.line.label
 
   count_is : (trial : Trial) → trial.judge.rules ≡ rules_by c → length trial.judge.rules.partitions ≡ count_of c
   count_is trial e = ap (λ (r : Rules). length r.partitions) e
 
-  pub reached : (told_lines : List Line) (trial : Trial) → HasTried c told_lines trial → AreLinesReached (rules_by c) (opening_of c) (judged c told_lines) trial.judge.states
+  pub reached : (told_lines : List Recorded) (trial : Trial) → HasTried c told_lines trial → AreLinesReached (rules_by c) (opening_of c) (judged c told_lines) trial.judge.states
   reached told_lines trial h = subst (λ (r : Rules). AreLinesReached r (opening_of c) (judged c told_lines) trial.judge.states) h.rules_are h.taken.reached
 
-  pub is_run : (told_lines : List Line) (trial : Trial) → HasTried c told_lines trial → IsLineRun (rules_by c) (opening_of c) (judged c told_lines)
+  pub is_run : (told_lines : List Recorded) (trial : Trial) → HasTried c told_lines trial → IsLineRun (rules_by c) (opening_of c) (judged c told_lines)
   is_run told_lines trial h =
       some_state (LineRun (rules_by c) (opening_of c) (judged c told_lines)) trial.judge.states (reached told_lines trial h).each h.taken.some
 
-  tried_more : (told_lines : List Line) (line : Line) (old new : Trial) (n : ℕ) (a b : Option (List ℕ)) → length told_lines + 1 < 2 ^ 64 → HasTried c told_lines old
+  tried_more : (told_lines : List Recorded) (line : Recorded) (old new : Trial) (n : ℕ) (a b : Option (List ℕ)) → length told_lines + 1 < 2 ^ 64 → HasTried c told_lines old
       → Tries old line n a b (Legal new) → HasTried c (told_lines ++ line ∷ []) new
   tried_more told_lines line old new n a b short h tries = record {
     rules_are = tries.same_rules ∙ h.rules_are;
     form_is = tries.same_form ∙ h.form_is;
-    taken = subst (λ ls. HasTakenLines new.judge (arrays_of c) ls) (sym (read_by_more (first_tags c) told_lines line)) (subst (λ (t : Option TagsView). HasTakenLines new.judge (arrays_of c) (judged c told_lines ++ read_line_by t line ∷ [])) h.tags_are (tries.takes (arrays_of c) (judged c told_lines) h.taken));
-    tags_are = tries.tags ∙ ap (λ (t : Option TagsView). tags_after t line) h.tags_are ∙ sym (tags_by_more (first_tags c) told_lines line);
-    free_tags = free_by_more (first_tags c) told_lines line h.free_tags (subst (λ (t : Option TagsView). HasFreeTagBy t line) h.tags_are tries.fit.free_tag);
+    taken = subst (λ ls. HasTakenLines new.judge (arrays_of c) ls) (sym (read_more (first_reader c) told_lines line)) (subst (λ (v : Reader). HasTakenLines new.judge (arrays_of c) (judged c told_lines ++ read_line v line ∷ [])) h.reader_is (tries.takes (arrays_of c) (judged c told_lines) h.taken));
+    reader_is = tries.reader ∙ ap (λ (v : Reader). reader_after v line) h.reader_is ∙ sym (after_more (first_reader c) told_lines line);
+    can_be_read = can_more (first_reader c) told_lines line h.can_be_read (subst (λ (v : Reader). CanRead v line) h.reader_is tries.fit.can_read);
     in_table =
         All-append InTable told_lines (line ∷ []) h.in_table
-        (All-cons InTable line [] (subst (λ k. IsInTable k line.label) (count_is old h.rules_are) tries.fit.in_table) (All-nil InTable));
+        (All-cons InTable line [] (subst (λ k. IsInTable k line.line.label) (count_is old h.rules_are) tries.fit.in_table) (All-nil InTable));
     labels_are = omega (arith, h.labels_are, tries.tallies.labels_are, length-append told_lines (line ∷ []));
     calls_are = counted_more calls told_lines line old.tally.calls new.tally.calls short h.calls_are tries.tallies.calls_are;
     starts_are = counted_more starts told_lines line old.tally.starts new.tally.starts short h.starts_are tries.tallies.starts_are;
   }
 
-  misstep_of : (told_lines : List Line) (line : Line) (trial : Trial) (misstep : Misstep) → HasTried c told_lines trial → IsRefusedFor trial line misstep → IsMisstep c told_lines line misstep
+  misstep_of : (told_lines : List Recorded) (line : Recorded) (trial : Trial) (misstep : Misstep) → HasTried c told_lines trial → IsRefusedFor trial line misstep → IsMisstep c told_lines line misstep
   misstep_of told_lines line trial (Breaks rule) h why =
-      subst (λ (t : Option TagsView). IsLineRefused (rules_by c) (arrays_of c) (judged c told_lines) (read_line_by t line) rule) h.tags_are
-      (subst (λ (r : Rules). IsLineRefused r (arrays_of c) (judged c told_lines) (read_line_by trial.tags line) rule) h.rules_are (why (arrays_of c) (judged c told_lines) h.taken))
+      subst (λ (v : Reader). IsLineRefused (rules_by c) (arrays_of c) (judged c told_lines) (read_line v line) rule) h.reader_is
+      (subst (λ (r : Rules). IsLineRefused r (arrays_of c) (judged c told_lines) (read_line trial.reader line) rule) h.rules_are (why (arrays_of c) (judged c told_lines) h.taken))
   misstep_of told_lines line trial (NoPartition partition most) h why = (why.0, why.1 ∙ count_is trial h.rules_are, why.2)
-  misstep_of told_lines line trial (Tag rule) h why = subst (λ (t : Option TagsView). BreaksTagBy t line rule) h.tags_are why
+  misstep_of told_lines line trial (Read rule) h why = subst (λ (v : Reader). CantRead v line rule) h.reader_is why
 
-  refused_last : (told_lines : List Line) (numbers : List ℕ) (line : Line) (n : ℕ) (trial : Trial) (misstep : Misstep) → length numbers ≡ length told_lines → HasTried c told_lines trial
+  refused_last : (told_lines : List Recorded) (numbers : List ℕ) (line : Recorded) (n : ℕ) (trial : Trial) (misstep : Misstep) → length numbers ≡ length told_lines → HasTried c told_lines trial
       → IsRefusedFor trial line misstep → IsFirstRefused c (told_lines ++ line ∷ []) (numbers ++ n ∷ []) n misstep
   refused_last told_lines numbers line n trial misstep as_many h why = record {
     before = told_lines;
@@ -208,12 +209,12 @@ module _ (c : Standard) where
     split = refl;
     is_number = got_last numbers n (length told_lines) (sym as_many);
     run = is_run told_lines trial h;
-    free_tags = h.free_tags;
+    can_be_read = h.can_be_read;
     in_table = h.in_table;
     is_misstep = misstep_of told_lines line trial misstep h why;
   }
 
-  refused_still : (told_lines : List Line) (numbers : List ℕ) (line : Line) (n number : ℕ) (misstep : Misstep) → length numbers ≡ length told_lines
+  refused_still : (told_lines : List Recorded) (numbers : List ℕ) (line : Recorded) (n number : ℕ) (misstep : Misstep) → length numbers ≡ length told_lines
       → IsFirstRefused c told_lines numbers number misstep → IsFirstRefused c (told_lines ++ line ∷ []) (numbers ++ n ∷ []) number misstep
   refused_still told_lines numbers line n number misstep as_many h = record {
     before = h.before;
@@ -222,20 +223,20 @@ module _ (c : Standard) where
     split = ap (λ l. l ++ line ∷ []) h.split ∙ append_assoc h.before (h.line ∷ h.after) (line ∷ []);
     is_number = got_before numbers (n ∷ []) (length h.before) (omega (arith, as_many, ap length h.split, length-append h.before (h.line ∷ h.after))) ∙ h.is_number;
     run = h.run;
-    free_tags = h.free_tags;
+    can_be_read = h.can_be_read;
     in_table = h.in_table;
     is_misstep = h.is_misstep;
   }
 
 -- what these lines come to
 pub record IsReadTo (c : Standard) (texts : List (List ℕ)) (a b : Option (List ℕ)) (course : Course) : Type 0 where
-  pub told_lines : List Line
+  pub told_lines : List Recorded
   pub numbers : List ℕ
   pub told : AreTold texts told_lines numbers
   pub is : IsCourse c told_lines numbers a b course
 
 module _ (c : Standard) (texts : List (List ℕ)) (text : List ℕ) (n : ℕ) (a b d : Option (List ℕ)) (here : n ≡ length texts + 1) (short : n < 2 ^ 64) where
-  tried : (trial : Trial) (line : Line) (new : Course) → IsReadTo c texts a b (Legal trial) → is_told text ≡ true → Spells text line → IsText text → Tries trial line n b d new
+  tried : (trial : Trial) (line : Recorded) (new : Course) → IsReadTo c texts a b (Legal trial) → is_told text ≡ true → Records text line → IsText text → Tries trial line n b d new
       → IsReadTo c (texts ++ text ∷ []) a d new
   tried trial line (Legal next) h some spells is tries = record {
     told_lines = h.told_lines ++ line ∷ [];
@@ -308,7 +309,7 @@ whole c start a b text texts course all same h = record {
 
 -- what is told so far
 module _ (c : Standard) (start a b : Option (List ℕ)) where
-  told_by_course : (told_lines : List Line) (numbers : List ℕ) (course : Course) → IsCourse c told_lines numbers a b course
+  told_by_course : (told_lines : List Recorded) (numbers : List ℕ) (course : Course) → IsCourse c told_lines numbers a b course
       → (IsLineRun (rules_by c) (opening_of c) (judged c told_lines) × (b ≡ a)) ⊎ IsRefusalTold c told_lines numbers a b
   told_by_course told_lines numbers (Legal trial) is = inl (is_run c told_lines trial is.0, is.1)
   told_by_course told_lines numbers (Refused stop) is =

@@ -1,3 +1,4 @@
+mod Gaps
 mod LinesRead
 mod Courses
 mod Blaming

@@ -5,7 +5,7 @@ use Rattle.std.specs.Io.KnownBytes.{Appends, prepend_known}
 use Rattle.std.specs.Io.Buffered.{reader_buffer, reader_capacity, reader_inner, reader_remaining}
 use Rattle.std.specs.declared.io.buffered.BufReader.{BufReader}
 use Rattle.machine.specs.Rules.{Rules}
-use Rattle.trace_line.specs.declared.Line.{Line}
+use Rattle.trace_reader.specs.declared.Recorded.{Recorded}
 use Rattle.startup.specs.declared.ending.Verdict.{Verdict}
 use Rattle.startup.specs.declared.ending.Verdict.TheVariants.{Passed, Failed}
 use Rattle.judging.specs.Checked.{IsCheckFault, IsLegal, IsOutputFault, IsPassedIf, IsToldBefore, IsToldSoFar, Meets, PrintsVerdict, legal_by, legal_line, refused_line, rules_by}
@@ -32,7 +32,7 @@ known_is remaining reader input room none same =
     ∙ ap (λ b. prepend_known b (remaining (reader_inner reader))) none ∙ behind_none (remaining (reader_inner reader)) ∙ ap remaining same
 
 -- labels that are a run, by their numbers
-counted : (c : Standard) (told_lines : List Line) (trial : Trial) (json : Bool) (left : List ℕ) → HasTried c told_lines trial → tally_line json trial.tally left ≡ legal_line json told_lines left
+counted : (c : Standard) (told_lines : List Recorded) (trial : Trial) (json : Bool) (left : List ℕ) → HasTried c told_lines trial → tally_line json trial.tally left ≡ legal_line json told_lines left
 counted c told_lines trial json left h = (λ i. legal_by json (h.labels_are i) (h.calls_are i) (h.starts_are i) left)
 
 none_in : {A : Type 0} (xs : List A) → length xs ≡ 0 → xs ≡ []
@@ -40,13 +40,13 @@ none_in [] e = refl
 none_in (x ∷ xs) e = absurd (omega (arith, e))
 
 module _ (c : Standard) where
-  legal : (told_lines : List Line) (trial : Trial) (a b : Option (List ℕ)) (verdict : Verdict) → HasTried c told_lines trial → (says : SaysLegal c.asked trial a b verdict)
+  legal : (told_lines : List Recorded) (trial : Trial) (a b : Option (List ℕ)) (verdict : Verdict) → HasTried c told_lines trial → (says : SaysLegal c.asked trial a b verdict)
       → IsLegal c told_lines verdict (tally_line c.asked.json trial.tally says.left)
   legal told_lines trial a b verdict h says = record {
     some_label = λ none. says.some_label (h.labels_are ∙ ap length none);
     states = trial.judge.states;
     reached = reached c told_lines trial h;
-    free_tags = h.free_tags;
+    can_be_read = h.can_be_read;
     some_state = h.taken.some;
     in_table = h.in_table;
     verdict_is = subst (λ (r : Rules). IsPassedIf (Meets c.asked r trial.judge.states) verdict) h.rules_are (says.meets h.taken.some);

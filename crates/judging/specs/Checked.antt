@@ -1,5 +1,5 @@
 -- What is said of a trace, and why nothing is.
-use Rattle.std.specs.Prelude.{◌≡◌, ◌≢◌, ◌⊎◌, ◌<◌, ◌≤◌, ◌+◌, ℕ, ◌==◌, ◌&&◌, Bool, true, false, List, [], ◌∷◌, ◌++◌, All, Any, Option, None, Some, codes, count_by, if◌then◌else◌, length, map, not, slice_get}
+use Rattle.std.specs.Prelude.{◌≡◌, ◌≢◌, ◌⊎◌, ◌<◌, ◌≤◌, ◌+◌, ℕ, ◌==◌, ◌&&◌, ◌||◌, Bool, true, false, List, [], ◌∷◌, ◌++◌, All, Any, Option, None, Some, codes, count_by, if◌then◌else◌, length, map, not, slice_get}
 use Rattle.std.specs.Fmt.{decimal}
 use Rattle.std.specs.List.{list_any}
 use Rattle.std.specs.Io.KnownBytes.{Appends}
@@ -11,12 +11,16 @@ use Rattle.machine.specs.declared.Label.TheVariants.{Call, Device}
 use Rattle.machine.specs.State.{State, opening}
 use Rattle.machine.specs.Rules.{Rules}
 use Rattle.trace_line.specs.declared.Line.{Line}
+use Rattle.trace_reader.specs.declared.Recorded.{Recorded}
+use Rattle.trace_reader.specs.declared.Reader.{Reader}
+use Rattle.trace_reader.specs.Known.{KnownView}
+use Rattle.trace_reader.specs.Readers.{CanReadAll, CantRead, after_all, read_all, read_line, read_text}
 use Rattle.judge.specs.Judging.{AreLinesReached, IsLineRun}
 use Rattle.judge.specs.Following.{IsLineRefused}
 use Rattle.judge.specs.LeftUndone.{IsSettled}
 use Rattle.judge.specs.Refusals.{most_readings}
 use Rattle.judge.specs.RuleTexts.{rule_text}
-use Rattle.trace_tags.specs.Tags.{AllFreeBy, BreaksTagBy, TagsView, read_by, read_line_by, tag_text, tags_by}
+use Rattle.trace_tags.specs.Tags.{TagsView}
 use Rattle.settings.specs.declared.Config.{Config}
 use Rattle.settings.specs.Medium.{extents_of, zeros}
 use Rattle.startup.specs.Reading.{IsAllOf}
@@ -25,7 +29,7 @@ use Rattle.startup.specs.declared.ending.Verdict.{Verdict}
 use Rattle.startup.specs.declared.ending.Verdict.TheVariants.{Passed, Failed}
 use Rattle.judging.specs.Told.{AreTold, AreToldFirst, IsFirstBad}
 use Rattle.judging.specs.declared.misstep.Misstep.{Misstep}
-use Rattle.judging.specs.declared.misstep.Misstep.TheVariants.{Breaks, NoPartition, Tag}
+use Rattle.judging.specs.declared.misstep.Misstep.TheVariants.{Breaks, NoPartition, Read}
 use Rattle.judging.specs.declared.opened.Standard.{Standard}
 use Rattle.judge_words.specs.declared.asked.Asked.{Asked}
 use Rattle.judging.specs.declared.faults.Error.{Error}
@@ -53,7 +57,7 @@ rules_by standard = record (rules_of standard.config) {
   depth = depth_by standard.config standard.asked;
   open_requests = Some (open_by standard.config standard.asked);
   any_cut = standard.asked.any_cut;
-  faithful = not standard.asked.any_read;
+  faithful = not (standard.asked.any_read || standard.asked.gaps);
 }
 
 -- the machine before its first label
@@ -64,16 +68,33 @@ opening_of standard = opening (arrays_of standard)
 abbrev pub tags_for : Asked → ℕ → Option TagsView
 tags_for asked depth = if asked.any_tag then Some (record { depth = depth; out = [] }) else None
 
-abbrev pub first_tags : Standard → Option TagsView
-first_tags standard = tags_for standard.asked (rules_by standard).depth
+-- what is known of bytes before the first line, where some were not recorded: the sectors are zeros
+abbrev pub first_known : Standard → KnownView
+first_known standard = record {
+  size = standard.config.sector_size;
+  partitions = extents_by standard;
+  asked = [];
+  sent = [];
+  moved = [];
+  sectors = zeros standard.config standard.config.sectors;
+}
 
--- the lines that are judged: where any free tag will do each start has the lowest in place of its own
-abbrev pub judged : Standard → List Line → List Line
-judged standard lines = read_by (first_tags standard) lines
+-- how the first line is read
+abbrev pub first_reader : Standard → Reader
+first_reader standard = record {
+  tags = tags_for standard.asked (rules_by standard).depth;
+  known = if standard.asked.gaps then Some (first_known standard) else None;
+}
 
--- where any free tag will do, each start's own is free
-abbrev pub HaveFreeTags : Standard → List Line → Type 0
-HaveFreeTags standard lines = AllFreeBy (first_tags standard) lines
+-- the lines that are judged: where any free tag will do each start has the lowest in place of its own, and where bytes were not recorded
+-- zeros stand for all
+abbrev pub judged : Standard → List Recorded → List Line
+judged standard lines = read_all (first_reader standard) lines
+
+-- where any free tag will do, each start's own is free; bytes are not otherwise than what was told, and none is missing but where some were
+-- not recorded
+abbrev pub CanBeRead : Standard → List Recorded → Type 0
+CanBeRead standard lines = CanReadAll (first_reader standard) lines
 
 abbrev pub is_call : Label → Bool
 is_call (Call number request) = true
@@ -118,53 +139,53 @@ legal_by false labels calls starts left =
 legal_by true labels calls starts left =
     codes "{\"verdict\": \"legal\", \"labels\": " ++ (decimal labels ++ (codes ", \"requests\": " ++ (decimal calls ++ (codes ", \"pieces\": " ++ (decimal starts ++ (left ++ codes "}\n"))))))
 
-abbrev pub legal_line : Bool → List Line → List ℕ → List ℕ
-legal_line json lines left = legal_by json (length lines) (count_by (λ line. is_call line.label) lines) (count_by (λ line. is_start line.label) lines) left
+abbrev pub legal_line : Bool → List Recorded → List ℕ → List ℕ
+legal_line json lines left = legal_by json (length lines) (count_by (λ r. is_call r.line.label) lines) (count_by (λ r. is_start r.line.label) lines) left
 
 abbrev pub IsPassedIf : Type 0 → Verdict → Type 0
 IsPassedIf P Passed = P
 IsPassedIf P Failed = ¬ P
 
 -- there are lines, they are a run in the partitions that are there, and the verdict goes by what is asked for
-pub record IsLegal (standard : Standard) (lines : List Line) (verdict : Verdict) (said : List ℕ) : Type 0 where
+pub record IsLegal (standard : Standard) (lines : List Recorded) (verdict : Verdict) (said : List ℕ) : Type 0 where
   pub some_label : lines ≢ []
   pub states : List State
   pub reached : AreLinesReached (rules_by standard) (opening_of standard) (judged standard lines) states
-  pub free_tags : HaveFreeTags standard lines
+  pub can_be_read : CanBeRead standard lines
   pub some_state : 0 < length states
-  pub in_table : All (λ line. IsInTable (count_of standard) line.label) lines
+  pub in_table : All (λ r. IsInTable (count_of standard) r.line.label) lines
   pub verdict_is : IsPassedIf (Meets standard.asked (rules_by standard) states) verdict
   pub left : List ℕ
   pub line : said ≡ legal_line standard.asked.json lines left
 
 -- A LINE THAT IS REFUSED
 
--- the line behind these is no step, and breaks the rule; or it is a call in a partition that isn't there; or a start on a tag
--- that isn't free
-abbrev pub IsMisstep : Standard → List Line → Line → Misstep → Type 0
+-- the line behind these is no step, and breaks the rule; or it is a call in a partition that isn't there; or it can't be
+-- read
+abbrev pub IsMisstep : Standard → List Recorded → Recorded → Misstep → Type 0
 IsMisstep standard before line (Breaks rule) =
-    IsLineRefused (rules_by standard) (arrays_of standard) (judged standard before) (read_line_by (tags_by (first_tags standard) before) line) rule
+    IsLineRefused (rules_by standard) (arrays_of standard) (judged standard before) (read_line (after_all (first_reader standard) before) line) rule
 IsMisstep standard before line (NoPartition partition count) =
-    (partition_of line.label ≡ Some partition) × (count ≡ count_of standard) × (count ≤ partition)
-IsMisstep standard before line (Tag rule) = BreaksTagBy (tags_by (first_tags standard) before) line rule
+    (partition_of line.line.label ≡ Some partition) × (count ≡ count_of standard) × (count ≤ partition)
+IsMisstep standard before line (Read rule) = CantRead (after_all (first_reader standard) before) line rule
 
 -- the lines before are a run in the partitions that are there, and the one of this number is refused
-pub record IsFirstRefused (standard : Standard) (lines : List Line) (numbers : List ℕ) (number : ℕ) (misstep : Misstep) : Type 0 where
-  pub before : List Line
-  pub line : Line
-  pub after : List Line
+pub record IsFirstRefused (standard : Standard) (lines : List Recorded) (numbers : List ℕ) (number : ℕ) (misstep : Misstep) : Type 0 where
+  pub before : List Recorded
+  pub line : Recorded
+  pub after : List Recorded
   pub split : lines ≡ before ++ line ∷ after
   pub is_number : slice_get numbers (length before) ≡ Some number
   pub run : IsLineRun (rules_by standard) (opening_of standard) (judged standard before)
-  pub free_tags : HaveFreeTags standard before
-  pub in_table : All (λ line. IsInTable (count_of standard) line.label) before
+  pub can_be_read : CanBeRead standard before
+  pub in_table : All (λ r. IsInTable (count_of standard) r.line.label) before
   pub is_misstep : IsMisstep standard before line misstep
 
 -- why a line is refused, in words
 abbrev pub misstep_text : Misstep → List ℕ
 misstep_text (Breaks rule) = rule_text rule
 misstep_text (NoPartition partition count) = codes "there is no partition " ++ (decimal partition ++ (codes ": there are " ++ (decimal count ++ codes ", counted from 0")))
-misstep_text (Tag rule) = tag_text rule
+misstep_text (Read rule) = read_text rule
 
 -- what is said of a line that is refused, with more behind it: a line, or a JSON object
 abbrev pub refused_line : Bool → ℕ → Misstep → List ℕ → List ℕ
@@ -173,7 +194,7 @@ refused_line true number misstep more =
     codes "{\"verdict\": \"refused\", \"line\": " ++ (decimal number ++ (codes ", \"rule\": \"" ++ (misstep_text misstep ++ (codes "\"" ++ (more ++ codes "}\n")))))
 
 -- the first of these lines that is refused is told
-pub record IsRefusalTold (standard : Standard) (lines : List Line) (numbers : List ℕ) (old new : Option (List ℕ)) : Type 0 where
+pub record IsRefusalTold (standard : Standard) (lines : List Recorded) (numbers : List ℕ) (old new : Option (List ℕ)) : Type 0 where
   pub number : ℕ
   pub misstep : Misstep
   pub first : IsFirstRefused standard lines numbers number misstep
@@ -182,12 +203,12 @@ pub record IsRefusalTold (standard : Standard) (lines : List Line) (numbers : Li
 
 -- THE WHOLE
 
-pub record IsLegalTold (standard : Standard) (lines : List Line) (verdict : Verdict) (old new : Option (List ℕ)) : Type 0 where
+pub record IsLegalTold (standard : Standard) (lines : List Recorded) (verdict : Verdict) (old new : Option (List ℕ)) : Type 0 where
   pub said : List ℕ
   pub is_legal : IsLegal standard lines verdict said
   pub appends : Appends old new said
 
-abbrev pub IsVerdictTold : Standard → List Line → List ℕ → Verdict → Option (List ℕ) → Option (List ℕ) → Type 0
+abbrev pub IsVerdictTold : Standard → List Recorded → List ℕ → Verdict → Option (List ℕ) → Option (List ℕ) → Type 0
 IsVerdictTold standard lines numbers verdict old new =
     IsLegalTold standard lines verdict old new ⊎ ((verdict ≡ Failed) × IsRefusalTold standard lines numbers old new)
 
@@ -195,7 +216,7 @@ IsVerdictTold standard lines numbers verdict old new =
 pub record PrintsVerdict (standard : Standard) (trace : Option (List ℕ)) (old new : Option (List ℕ)) (verdict : Verdict) : Type 0 where
   pub text : List ℕ
   pub all : IsAllOf trace text
-  pub told_lines : List Line
+  pub told_lines : List Recorded
   pub numbers : List ℕ
   pub are_told : AreTold (lines text) told_lines numbers
   pub is_told : IsVerdictTold standard told_lines numbers verdict old new
@@ -206,7 +227,7 @@ pub record PrintsVerdict (standard : Standard) (trace : Option (List ℕ)) (old 
 pub record MeetsBound (standard : Standard) (trace : Option (List ℕ)) (number readings : ℕ) : Type 0 where
   pub text : List ℕ
   pub all : IsAllOf trace text
-  pub told_lines : List Line
+  pub told_lines : List Recorded
   pub numbers : List ℕ
   pub first : AreToldFirst (lines text) told_lines numbers
   pub is_number : number ≡ length first.front + 1
@@ -235,7 +256,7 @@ IsOutputFault fault = (fault ≡ OutputFailed) ⊎ (fault ≡ NoMemory)
 pub record IsToldSoFar (standard : Standard) (trace old new : Option (List ℕ)) : Type 0 where
   pub text : List ℕ
   pub all : IsAllOf trace text
-  pub told_lines : List Line
+  pub told_lines : List Recorded
   pub numbers : List ℕ
   pub first : AreToldFirst (lines text) told_lines numbers
   pub so_far : (IsLineRun (rules_by standard) (opening_of standard) (judged standard told_lines) × (new ≡ old)) ⊎ IsRefusalTold standard told_lines numbers old new

@@ -2,7 +2,7 @@
 use Rattle.std.specs.Prelude.{◌≡◌, ◌||◌, ℕ, Bool, List, Option, codes, filter, nat_lt}
 use Rattle.std.specs.Io.KnownBytes.{Appends}
 use Rattle.std.specs.Str.Lines.{lines}
-use Rattle.trace_line.specs.declared.Line.{Line}
+use Rattle.trace_reader.specs.declared.Recorded.{Recorded}
 use Rattle.judge.specs.Judging.{IsLineRun}
 use Rattle.startup.specs.Reading.{IsAllOf}
 use Rattle.startup.specs.declared.ending.Verdict.{Verdict}
@@ -14,14 +14,14 @@ use Rattle.judging.specs.declared.opened.Standard.{Standard}
 
 -- the labels of a text are a run
 pub record IsRunIn (standard : Standard) (text : List ℕ) : Type 0 where
-  pub told_lines : List Line
+  pub told_lines : List Recorded
   pub numbers : List ℕ
   pub are_told : AreTold (lines text) told_lines numbers
   pub run : IsLineRun (rules_by standard) (opening_of standard) (judged standard told_lines)
 
 -- the line of this number is the first of a text that is refused, for this
 pub record IsRefusedIn (standard : Standard) (text : List ℕ) (number : ℕ) (misstep : Misstep) : Type 0 where
-  pub told_lines : List Line
+  pub told_lines : List Recorded
   pub numbers : List ℕ
   pub are_told : AreTold (lines text) told_lines numbers
   pub first : IsFirstRefused standard told_lines numbers number misstep

@@ -2,8 +2,7 @@
 
 ghost use Rattle.std.specs.Prelude.{◌≡◌, [], IfErr, IfOk, MatchOption, OnOk, length, string_bytes};
 ghost use Rattle.std.specs.Io.KnownBytes.{Appends};
-ghost use Rattle.trace_tags.specs.Tags.{BreaksTagBy, HasFreeTagBy, read_line_by, tags_after};
-ghost use Rattle.judging.specs.Checked.{IsInTable, IsOutputFault, is_call, is_start, partition_of, refused_line, tags_for};
+ghost use Rattle.judging.specs.Checked.{IsInTable, IsOutputFault, first_known, first_reader, is_call, is_start, partition_of, refused_line, rules_by, tags_for};
 ghost use Rattle.judge.specs.Views.{rules_of};
 ghost use Rattle.judging.specs.inside.Course.{GoesByLine, GoesOn, HasTried, IsAbsent, IsCounted, IsFit, IsLineRead, IsOpening, IsRefusedFor, IsStop, IsStopByLine, IsStopOf, IsStopped, SaysRefused, Tallies, Tries, unjudged};
 ghost use Rattle.judging.specs.declared.faults.Error.TheVariants.{NoMemory};
@@ -12,7 +11,7 @@ use crate::Error;
 use crate::details::Scene;
 use crate::fields::Fields;
 use crate::misstep::Misstep;
-use crate::opened::{Standard, arrays_of, rules_of};
+use crate::opened::{Standard, arrays_of, extents_by, rules_of, zeros};
 use crate::past::Past;
 use crate::progress::Progress;
 use crate::told::Told;
@@ -25,7 +24,9 @@ use std::alloc::{AllocError, Global};
 use std::io;
 use std::io::Write;
 use trace_line::Line;
-use trace_tags::{TagRule, Tags};
+use trace_reader::known::Known;
+use trace_reader::{Reader, Recorded};
+use trace_tags::Tags;
 
 /// What the lines of a trace come to, as far as it was read.
 #[derive(Debug, Drop)]
@@ -41,8 +42,8 @@ pub(crate) enum Course {
 pub(crate) struct Trial {
     /// The judge that has taken them.
     pub judge: Judge,
-    /// The tags of the pieces that are out, where any free tag will do.
-    pub tags: Option<Tags>,
+    /// How its lines are read.
+    pub reader: Reader,
     /// The counts of their labels.
     pub tally: Tally,
     /// What a refusal tells of them.
@@ -148,15 +149,33 @@ fn first_tags(alloc: Global, rules: &MachineRules, asked: Asked) -> Option<Tags>
     }
 }
 
-/// Returns the line as it is read, and notes its tag, where any free tag will do.
-fn read_by(tags: &mut Option<Tags>, line: Line) -> Result<Line, AllocError>
-    ensures told { IfOk result (λ told. told ≡ read_line_by tags.old line) }
-    ensures after { OnOk result (tags.new ≡ tags_after tags.old line) }
+/// What is known of bytes before the first line.
+fn known_at_first(alloc: Global, standard: &Standard) -> Result<Known, AllocError>
+    ensures { IfOk result (λ known. known ≡ first_known standard.now) }
 {
-    match tags {
-        Some(tags) => tags.read(line),
-        None => Ok(line),
+    let partitions = extents_by(alloc, standard)?;
+    let config = &standard.config;
+    let sectors = zeros(alloc, config, config.sectors)?;
+    Ok(Known::new(alloc, config.sector_size, partitions, sectors))
+}
+
+/// How the first line is read.
+fn first_reader(
+    alloc: Global,
+    standard: &Standard,
+    rules: &MachineRules,
+) -> Result<Reader, AllocError>
+    ensures { IfOk result (λ reader. (rules_of rules.now).depth ≡ (rules_by standard.now).depth → reader ≡ first_reader standard.now) }
+{
+    let tags = first_tags(alloc, rules, standard.asked);
+    if !standard.asked.gaps {
+        return Ok(Reader { tags, known: None });
     }
+    let known = known_at_first(alloc, standard)?;
+    Ok(Reader {
+        tags,
+        known: Some(known),
+    })
 }
 
 impl Trial {
@@ -166,50 +185,40 @@ impl Trial {
         ensures fault { IfErr result (λ fault. fault ≡ NoMemory) }
     {
         let rules = rules_of(alloc, standard)?;
-        let tags = first_tags(alloc, &rules, standard.asked);
+        let reader = first_reader(alloc, standard, &rules)?;
         let arrays = arrays_of(alloc, standard)?;
         let Ok(judge) = Judge::new(alloc, rules, arrays) else {
             return Err(Error::NoMemory);
         };
         Ok(Trial {
             judge,
-            tags,
+            reader,
             tally: Tally::none(),
             past: Past::new(alloc),
             json: standard.asked.json,
         })
     }
 
-    /// Why the line's tag is not free, where any free tag will do.
-    fn broken_tag(&self, line: &Line) -> Option<TagRule>
-        ensures { MatchOption result (HasFreeTagBy self.now.tags line.now) (BreaksTagBy self.now.tags line.now) }
-    {
-        match &self.tags {
-            Some(tags) => tags.broken(line),
-            None => None,
-        }
-    }
-
-    /// Why a line is refused before it is judged: there is no such partition, or its tag is not free.
-    fn unfit(&self, line: &Line) -> Option<Misstep>
+    /// Why a line is refused before it is judged: there is no such partition, or it can't be read.
+    fn unfit(&self, line: &Recorded) -> Option<Misstep>
         ensures { MatchOption result (IsFit self.now line.now) (IsRefusedFor self.now line.now) }
     {
         let count = count_of(&self.judge);
-        if let Some(partition) = absent_of(&line.label, count) {
+        if let Some(partition) = absent_of(&line.line.label, count) {
             return Some(Misstep::NoPartition { partition, count });
         }
-        if let Some(rule) = self.broken_tag(line) {
-            return Some(Misstep::Tag(rule));
+        if let Some(rule) = self.reader.broken(line) {
+            return Some(Misstep::Read(rule));
         }
         None
     }
 
-    /// Returns the line as it is read, and notes its tag, where any free tag will do.
-    fn read(&mut self, line: Line) -> Result<Line, Error>
+    /// Returns the line as it is judged.
+    fn read(&mut self, alloc: Global, line: Recorded) -> Result<Line, Error>
         ensures read { IfOk result (λ told. IsLineRead self.old line told self.new) }
         ensures fault { IfErr result (λ fault. fault ≡ NoMemory) }
     {
-        let told = read_by(&mut self.tags, line)?;
+        let told = self.reader.read(alloc, line)?;
         Ok(told)
     }
 
@@ -218,7 +227,7 @@ impl Trial {
     fn with<O: Write>(
         mut self,
         alloc: Global,
-        line: Line,
+        line: Recorded,
         number: u64,
         out: &mut O,
     ) -> Result<Course, Error>
@@ -230,10 +239,11 @@ impl Trial {
                 line: number,
                 misstep,
             };
-            return self.stopped(alloc, &line, stop, out);
+            self.past.note_own(&line, self.reader.known.is_some())?;
+            return self.stopped(alloc, &line.line, stop, out);
         }
-        self.count(&line.label, number)?;
-        let told = self.read(line)?;
+        self.count(&line, number)?;
+        let told = self.read(alloc, line)?;
         match self.judge.take_line(alloc, &told) {
             Ok(()) => Ok(Course::Legal(self)),
             Err(Refusal::Breaks(rule)) => {
@@ -263,10 +273,12 @@ impl Trial {
     }
 
     /// Counts the label of the line of this number.
-    fn count(&mut self, label: &Label, number: u64) -> Result<(), Error>
-        ensures counted { OnOk result (IsCounted self.old label.now self.new) }
+    fn count(&mut self, line: &Recorded, number: u64) -> Result<(), Error>
+        ensures counted { OnOk result (IsCounted self.old line.now.line.label self.new) }
         ensures fault { IfErr result (λ fault. fault ≡ NoMemory) }
     {
+        let label = &line.line.label;
+        self.past.note_own(line, self.reader.known.is_some())?;
         self.past.note(&self.judge, label, number)?;
         self.tally = self.tally.with(label);
         Ok(())
@@ -371,7 +383,7 @@ impl Course {
     fn with<O: Write>(
         self,
         alloc: Global,
-        line: Line,
+        line: Recorded,
         number: u64,
         out: &mut O,
     ) -> Result<Course, Error>

@@ -164,7 +164,7 @@ impl<'a> Scene<'a> {
     fn rule(&self) -> Option<Rule> {
         match self.misstep {
             Misstep::Breaks(rule) => Some(rule),
-            Misstep::NoPartition { .. } | Misstep::Tag(_) => None,
+            Misstep::NoPartition { .. } | Misstep::Read(_) => None,
         }
     }
 
@@ -319,11 +319,13 @@ impl<'a> Scene<'a> {
         }
     }
 
-    /// Repeats the line, or how it begins.
+    /// Repeats the line, or how it begins. A line that was read with zeros for its bytes has its own.
     fn tell_line(&self, alloc: Global, fields: &mut Fields) -> Result<(), AllocError> {
-        let mut text = Vec::new(alloc);
-        self.write(&mut text)?;
-        text.pop();
+        let mut text = Vec::from_slice(alloc, self.past.own.as_slice())?;
+        if text.is_empty() {
+            self.write(&mut text)?;
+            text.pop();
+        }
         let is_long = text.len() > REPEATED;
         text.truncate(REPEATED);
         if is_long {

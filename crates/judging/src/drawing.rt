@@ -115,7 +115,10 @@ fn taken<B: BufRead>(alloc: Global, input: &mut B) -> Result<Picture, Error> {
         next_line(input, &mut line)?;
         let told = told_by(alloc, without_end(line.as_slice()))?;
         match told {
-            Told::Line(line) => picture.take(index + 1, &line.label, line.owner)?,
+            Told::Line(told) => {
+                let line = &told.line;
+                picture.take(index + 1, &line.label, line.owner)?;
+            }
             Told::Nothing => {}
             Told::BadWord { column } => {
                 let line = index + 1;

@@ -54,7 +54,7 @@ impl fmt::Display for Error {
     fn fmt<W: fmt::Write>(&self, f: &mut fmt::Formatter<W>) -> fmt::Result {
         match self {
             Error::Usage => f.write_str(
-                "usage: stackjudge check [--any-cut] [--any-tag] [--any-read] [--many] [--whole-disk] [--settled] \
+                "usage: stackjudge check [--any-cut] [--any-tag] [--any-read] [--many] [--whole-disk] [--gaps] [--settled] \
                 [--ended] [--json] [--sessions] CONFIG TRACE | stackjudge cut CONFIG TRACE | stackjudge record CONFIG SCRIPT \
                 | stackjudge history CONFIG HISTORY | stackjudge picture [--events] [--lines A-B] [CONFIG] TRACE \
                 | stackjudge picture --html CONFIG TRACE",

@@ -7,7 +7,7 @@ ghost use Rattle.judging.specs.Histories.{IsJudged};
 use crate::Error;
 use crate::opened::{extents, zero_sector};
 use crate::reading::{is_ended, next_line, without_end};
-use crate::told::{Told, told_by};
+use crate::told::{Told, told_whole};
 use compose::LONGEST_REQUEST;
 use history_judge::{Misfit, Place, Service, judge};
 use machine::{ClientRequest, Kind, Label};
@@ -188,8 +188,8 @@ fn read_history<B: BufRead>(alloc: Global, input: &mut B) -> Result<Recorded, Er
     for index in 0..u64::MAX {
         next_line(input, &mut line)?;
         let number = index + 1;
-        match told_by(alloc, without_end(line.as_slice()))? {
-            Told::Line(told) => recorded.take(number, told.label)?,
+        match told_whole(alloc, without_end(line.as_slice()))? {
+            Told::Line(told) => recorded.take(number, told.line.label)?,
             Told::Nothing => {}
             Told::BadWord { column } => {
                 return Err(Error::BadLine {

@@ -5,16 +5,15 @@
 //! # Promises
 //!
 //! `read_standard`: an input's settings, whose partitions are a map (`read`), or why not (`fault`). `check` prints
-//! `legal` exactly for a run of the settings' machine, as it is asked (`rules_by`), and passes exactly where for each
-//! end that is asked for some state that it leads to has it (`IsLegal`, `Meets`); else it prints the first line that
-//! is refused, and the rule (`IsFirstRefused`, `printed`). Without a verdict: why (`fault`), and what was written
-//! before (`told`). `cut`: a text is written that is refused for the same as the trace, but for numbers, or only a
-//! remark where the trace is a run (`printed`); that it is small is only tested. `record_script`: the labels of a
-//! script's steps, or why not (`text`, `fault`). Inside: a
-//! history is judged as one of the settings' stack, from sectors of zeros (`IsJudged`), and a trace of several
-//! sessions by the settings' rules, with its sectors apart (`AreJudged`). How `judge_history` and `check_sessions`
-//! read, and what they write, is only tested, and so is what stands behind a verdict's rule or numbers, and pictures
-//! and progress.
+//! `legal` exactly for a trace that can be read and is then a run of the settings' machine, as it is asked (`CanBeRead`,
+//! `rules_by`), and passes exactly where for each end that is asked for some state that it leads to has it (`IsLegal`,
+//! `Meets`); else it prints the first line that is refused, and the rule (`IsFirstRefused`, `printed`). Without a verdict:
+//! why (`fault`), and what was written before (`told`). `cut`: a text is written that is refused for the same as the
+//! trace, but for numbers, or only a remark where the trace is a run (`printed`); that it is small is only tested.
+//! `record_script`: the labels of a script's steps, or why not (`text`, `fault`). Inside: a history is judged as one of
+//! the settings' stack, from sectors of zeros (`IsJudged`), and a trace of several sessions by the settings' rules, with
+//! its sectors apart (`AreJudged`). How `judge_history` and `check_sessions` read, and what they write, is only tested,
+//! and so is what stands behind a verdict's rule or numbers, and pictures and progress.
 #![tactic(auto)]
 
 pub mod checking;

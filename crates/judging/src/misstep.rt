@@ -2,7 +2,7 @@
 
 use judge::Rule;
 use std::fmt;
-use trace_tags::TagRule;
+use trace_reader::ReadRule;
 
 /// Why a line of a trace is refused.
 #[derive(Debug, Clone, Copy, PartialEq, Eq)]
@@ -11,8 +11,8 @@ pub enum Misstep {
     Breaks(Rule),
     /// The line is a call in this partition, and there are no more partitions than this.
     NoPartition { partition: u8, count: u64 },
-    /// Any free tag will do, and the line's is not free.
-    Tag(TagRule),
+    /// The line can't be read.
+    Read(ReadRule),
 }
 
 /// The text that is said of it.
@@ -29,7 +29,7 @@ impl fmt::Display for Misstep {
                 f,
                 "there is no partition {partition}: there are {count}, counted from 0"
             ),
-            Misstep::Tag(rule) => write!(f, "{rule}"),
+            Misstep::Read(rule) => write!(f, "{rule}"),
         }
     }
 }

@@ -100,12 +100,12 @@ pub(crate) fn rules_of(alloc: Global, standard: &Standard) -> Result<MachineRule
         one_piece: false,
         busy_limit: LAST_BUSY_RETURN as u64,
         any_cut: asked.any_cut,
-        faithful: !asked.any_read,
+        faithful: !(asked.any_read || asked.gaps),
     })
 }
 
 /// The sectors of each partition that a trace is judged by.
-fn extents_by(alloc: Global, standard: &Standard) -> Result<Vec<Extent>, AllocError>
+pub(crate) fn extents_by(alloc: Global, standard: &Standard) -> Result<Vec<Extent>, AllocError>
     ensures { IfOk result (λ extents. extents.items ≡ extents_by standard.now) }
 {
     let Standard { config, asked } = standard;
@@ -170,7 +170,7 @@ fn arrays(alloc: Global, config: &Config, extents: &[Extent]) -> Result<Vec<Sect
 }
 
 /// Makes this many sectors of zeros.
-fn zeros(alloc: Global, config: &Config, count: u64) -> Result<Sectors, AllocError>
+pub(crate) fn zeros(alloc: Global, config: &Config, count: u64) -> Result<Sectors, AllocError>
     ensures { IfOk result (λ sectors. sectors ≡ zeros config.now count) }
 {
     let sector = zero_sector(alloc, config.sector_size)?;

@@ -3,10 +3,13 @@
 use crate::left::Calls;
 use judge::stepwise::Judge;
 use judge::{Machine, MachineRules, OpenRequest, Started};
+use label_text::write_line;
 use machine::{ClientRequest, Kind, Label};
 use srb::DeviceLabel;
 use std::alloc::{AllocError, Global};
 use std::collections::BTreeMap;
+use trace_line::Line;
+use trace_reader::Recorded;
 
 /// Where a call asks for bytes.
 #[derive(Debug, Clone, Copy)]
@@ -35,6 +38,8 @@ pub(crate) struct Past {
     pub newest: Option<Range>,
     /// The tag of the newest start, as its line tells it.
     pub tag: u8,
+    /// How the newest line begins, where some bytes were not recorded.
+    pub own: Vec<u8>,
     /// The line that wrote each block of the disk last.
     writers: BTreeMap<u64, u64>,
 }
@@ -80,6 +85,7 @@ impl Past {
             calls: Calls::new(alloc),
             newest: None,
             tag: 0,
+            own: Vec::new(alloc),
             writers: BTreeMap::new(alloc),
         }
     }
@@ -94,6 +100,21 @@ impl Past {
                 return self.note_act(judge, *piece, line);
             }
             _ => {}
+        }
+        Ok(())
+    }
+
+    /// Notes how a line begins, where some bytes were not recorded.
+    pub fn note_own(&mut self, recorded: &Recorded, has_gaps: bool) -> Result<(), AllocError> {
+        let Line { label, owner } = &recorded.line;
+        self.own.clear();
+        if !has_gaps && !recorded.untold {
+            return Ok(());
+        }
+        write_line(&mut self.own, label, *owner)?;
+        self.own.pop();
+        if recorded.untold {
+            self.own.extend_from_slice(b" ?")?;
         }
         Ok(())
     }

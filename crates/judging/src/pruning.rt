@@ -64,7 +64,7 @@ pub(crate) fn parted(text: &str) -> (&str, &str) {
 /// The piece whose start is told.
 fn started(told: &Told) -> Option<u128> {
     match told {
-        Told::Line(line) => match &line.label {
+        Told::Line(told) => match &told.line.label {
             Label::Device(DeviceLabel::Start { piece, .. }) => Some(*piece),
             _ => None,
         },

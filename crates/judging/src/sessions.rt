@@ -7,7 +7,7 @@ use crate::Error;
 use crate::fields::Fields;
 use crate::opened::{Standard, rules_of};
 use crate::reading::{is_ended, next_line, without_end};
-use crate::told::{Told, told_by};
+use crate::told::{Told, told_whole};
 use judge::MachineRules;
 use judge_words::asked::Asked;
 use session_judge::{Line, Reason, judge, reason_of};
@@ -48,8 +48,8 @@ impl Recorded {
             self.add(number, Line::Ended)?;
             return Ok(());
         }
-        match told_by(alloc, line)? {
-            Told::Line(told) => self.add(number, Line::Told(told))?,
+        match told_whole(alloc, line)? {
+            Told::Line(told) => self.add(number, Line::Told(told.line))?,
             Told::Nothing => {}
             Told::BadWord { column } => {
                 return Err(Error::BadLine {
@@ -114,7 +114,7 @@ pub fn check_sessions<T: Read + Drop, O: Write>(
 
 /// Whether something is asked for that can't be of several sessions.
 fn is_unheard(asked: Asked) -> bool {
-    asked.any_tag | asked.any_read | asked.settled | asked.ended | asked.json
+    asked.any_tag | asked.any_read | asked.gaps | asked.settled | asked.ended | asked.json
 }
 
 /// What the lines of an input tell.

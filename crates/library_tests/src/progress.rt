@@ -30,6 +30,7 @@ fn said(alloc: Global, every: u64) -> Option<Vec<u8>> {
         any_read: false,
         many: false,
         whole_disk: false,
+        gaps: false,
         settled: false,
         ended: false,
         json: false,

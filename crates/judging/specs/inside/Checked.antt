@@ -2,7 +2,7 @@
 use Rattle.std.specs.Prelude.{◌≡◌, ◌≢◌, ◌⊎◌, ◌<◌, ℕ, Bool, List, Option, length}
 use Rattle.std.specs.Io.KnownBytes.{Appends}
 use Rattle.std.specs.Str.Lines.{lines}
-use Rattle.trace_line.specs.declared.Line.{Line}
+use Rattle.trace_reader.specs.declared.Recorded.{Recorded}
 use Rattle.startup.specs.Reading.{IsAllOf}
 use Rattle.startup.specs.declared.ending.Verdict.{Verdict}
 use Rattle.startup.specs.declared.ending.Verdict.TheVariants.{Failed}
@@ -22,7 +22,7 @@ use Rattle.judging.specs.Checked.{IsOutputFault, IsPassedIf, Meets, legal_by}
 pub record IsCourseOf (standard : Standard) (trace a b : Option (List ℕ)) (course : Course) : Type 0 where
   pub text : List ℕ
   pub all : IsAllOf trace text
-  pub told_lines : List Line
+  pub told_lines : List Recorded
   pub numbers : List ℕ
   pub are_told : AreTold (lines text) told_lines numbers
   pub is : IsCourse standard told_lines numbers a b course

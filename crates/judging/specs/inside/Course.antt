@@ -3,12 +3,14 @@ use Rattle.std.specs.Prelude.{◌≡◌, ◌<◌, ◌≤◌, ◌+◌, ◌-◌, �
 use Rattle.std.specs.Io.KnownBytes.{Appends}
 use Rattle.machine.specs.declared.Label.{Label}
 use Rattle.trace_line.specs.declared.Line.{Line}
+use Rattle.trace_reader.specs.declared.Recorded.{Recorded}
+use Rattle.trace_reader.specs.declared.Reader.{Reader}
+use Rattle.trace_reader.specs.Readers.{CanRead, CantRead, after_all, read_line, reader_after}
 use Rattle.judge.specs.Following.{HasTakenLines, RefusesLine, TakesLine}
 use Rattle.judge.specs.Refusals.{most_readings}
-use Rattle.trace_tags.specs.Tags.{BreaksTagBy, HasFreeTagBy, read_line_by, tags_after, tags_by}
 use Rattle.judge.specs.declared.NoVerdict.{NoVerdict}
 use Rattle.judge.specs.declared.NoVerdict.TheVariants.{NoMemory as WantOfMemory, Readings as TooMany}
-use Rattle.judging.specs.Checked.{HaveFreeTags, IsFirstRefused, IsInTable, IsOutputFault, arrays_of, count_of, first_tags, is_call, is_start, judged, partition_of, refused_line, rules_by}
+use Rattle.judging.specs.Checked.{CanBeRead, IsFirstRefused, IsInTable, IsOutputFault, arrays_of, count_of, first_reader, is_call, is_start, judged, partition_of, refused_line, rules_by}
 use Rattle.judging.specs.declared.course.Course.{Course}
 use Rattle.judging.specs.declared.course.Course.TheVariants.{Legal, Refused}
 use Rattle.judging.specs.declared.course.Tally.{Tally}
@@ -16,7 +18,7 @@ use Rattle.judging.specs.declared.course.Trial.{Trial}
 use Rattle.judging.specs.declared.faults.Error.{Error}
 use Rattle.judging.specs.declared.faults.Error.TheVariants.{BadLine, Readings, OutputFailed, NoMemory}
 use Rattle.judging.specs.declared.misstep.Misstep.{Misstep}
-use Rattle.judging.specs.declared.misstep.Misstep.TheVariants.{Breaks, NoPartition, Tag}
+use Rattle.judging.specs.declared.misstep.Misstep.TheVariants.{Breaks, NoPartition, Read}
 use Rattle.judging.specs.declared.opened.Standard.{Standard}
 use Rattle.judging.specs.declared.told.Told.{Told}
 use Rattle.judging.specs.declared.told.Told.TheVariants.{Line as TellsLine, Nothing, BadWord}
@@ -36,16 +38,16 @@ abbrev pub IsAbsent : ℕ → Label → ℕ → Type 0
 IsAbsent count label partition = (partition_of label ≡ Some partition) × (count ≤ partition)
 
 -- why the judge of a trial refuses a line
-abbrev pub IsRefusedFor : Trial → Line → Misstep → Type 0
-IsRefusedFor trial line (Breaks rule) = RefusesLine trial.judge (read_line_by trial.tags line) rule
+abbrev pub IsRefusedFor : Trial → Recorded → Misstep → Type 0
+IsRefusedFor trial line (Breaks rule) = RefusesLine trial.judge (read_line trial.reader line) rule
 IsRefusedFor trial line (NoPartition partition most) =
-    (partition_of line.label ≡ Some partition) × (most ≡ length trial.judge.rules.partitions) × (most ≤ partition)
-IsRefusedFor trial line (Tag rule) = BreaksTagBy trial.tags line rule
+    (partition_of line.line.label ≡ Some partition) × (most ≡ length trial.judge.rules.partitions) × (most ≤ partition)
+IsRefusedFor trial line (Read rule) = CantRead trial.reader line rule
 
--- the line is in the table, and its tag is free
-pub record IsFit (trial : Trial) (line : Line) : Type 0 where
-  pub in_table : IsInTable (length trial.judge.rules.partitions) line.label
-  pub free_tag : HasFreeTagBy trial.tags line
+-- the line is in the table, and can be read
+pub record IsFit (trial : Trial) (line : Recorded) : Type 0 where
+  pub in_table : IsInTable (length trial.judge.rules.partitions) line.line.label
+  pub can_read : CanRead trial.reader line
 
 -- the refusal of the line of this number is written
 pub record SaysRefused (json : Bool) (number : ℕ) (misstep : Misstep) (a b : Option (List ℕ)) : Type 0 where
@@ -55,17 +57,17 @@ pub record SaysRefused (json : Bool) (number : ℕ) (misstep : Misstep) (a b : O
 -- one label more is counted
 pub record IsCounted (old : Trial) (label : Label) (new : Trial) : Type 0 where
   pub same_judge : new.judge ≡ old.judge
-  pub same_tags : new.tags ≡ old.tags
+  pub same_reader : new.reader ≡ old.reader
   pub same_form : new.json ≡ old.json
   pub counted : Tallies old.tally label new.tally
 
--- a line is read, whose tag may be another
-pub record IsLineRead (old : Trial) (line told : Line) (new : Trial) : Type 0 where
+-- a line is read
+pub record IsLineRead (old : Trial) (line : Recorded) (told : Line) (new : Trial) : Type 0 where
   pub same_judge : new.judge ≡ old.judge
   pub same_form : new.json ≡ old.json
   pub same_tally : new.tally ≡ old.tally
-  pub tags : new.tags ≡ tags_after old.tags line
-  pub is_told : told ≡ read_line_by old.tags line
+  pub reader : new.reader ≡ reader_after old.reader line
+  pub is_told : told ≡ read_line old.reader line
 
 -- the fault of a line on which there is no verdict
 abbrev pub unjudged : ℕ → NoVerdict → Error
@@ -73,12 +75,12 @@ unjudged line (TooMany readings) = Readings line readings
 unjudged line WantOfMemory = NoMemory
 
 -- one line more is taken, and nothing is written
-pub record IsTaken (old : Trial) (line : Line) (a b : Option (List ℕ)) (new : Trial) : Type 0 where
+pub record IsTaken (old : Trial) (line : Recorded) (a b : Option (List ℕ)) (new : Trial) : Type 0 where
   pub same_rules : new.judge.rules ≡ old.judge.rules
   pub same_form : new.json ≡ old.json
-  pub takes : TakesLine old.judge (read_line_by old.tags line) new.judge
-  pub tags : new.tags ≡ tags_after old.tags line
-  pub tallies : Tallies old.tally line.label new.tally
+  pub takes : TakesLine old.judge (read_line old.reader line) new.judge
+  pub reader : new.reader ≡ reader_after old.reader line
+  pub tallies : Tallies old.tally line.line.label new.tally
   pub fit : IsFit old line
   pub untold : b ≡ a
 
@@ -88,7 +90,7 @@ IsStopped json number misstep a b (Legal new) = ⊥
 IsStopped json number misstep a b (Refused stop) = (stop.line ≡ number) × (stop.misstep ≡ misstep) × SaysRefused json number misstep a b
 
 -- one line more is taken, or refused
-abbrev pub Tries : Trial → Line → ℕ → Option (List ℕ) → Option (List ℕ) → Course → Type 0
+abbrev pub Tries : Trial → Recorded → ℕ → Option (List ℕ) → Option (List ℕ) → Course → Type 0
 Tries old line number a b (Legal new) = IsTaken old line a b new
 Tries old line number a b (Refused stop) = (stop.line ≡ number) × IsRefusedFor old line stop.misstep × SaysRefused old.json number stop.misstep a b
 
@@ -100,7 +102,7 @@ IsStopByLine trial number a b NoMemory = Unit {0}
 IsStopByLine trial number a b _ = ⊥
 
 -- one line more is judged
-abbrev pub GoesByLine : Course → Line → ℕ → Option (List ℕ) → Option (List ℕ) → Course → Type 0
+abbrev pub GoesByLine : Course → Recorded → ℕ → Option (List ℕ) → Option (List ℕ) → Course → Type 0
 GoesByLine (Legal trial) line number a b new = Tries trial line number a b new
 GoesByLine (Refused stop) line number a b new = (new ≡ Refused stop) × (b ≡ a)
 
@@ -120,16 +122,16 @@ IsStop old Nothing number a b fault = ⊥
 IsStop old (BadWord column) number a b fault = (fault ≡ BadLine number column) × (b ≡ a)
 
 -- the judge has taken these lines over the settings' machine, and they are counted
-pub record HasTried (standard : Standard) (lines : List Line) (trial : Trial) : Type 0 where
+pub record HasTried (standard : Standard) (lines : List Recorded) (trial : Trial) : Type 0 where
   pub rules_are : trial.judge.rules ≡ rules_by standard
   pub form_is : trial.json ≡ standard.asked.json
   pub taken : HasTakenLines trial.judge (arrays_of standard) (judged standard lines)
-  pub tags_are : trial.tags ≡ tags_by (first_tags standard) lines
-  pub free_tags : HaveFreeTags standard lines
-  pub in_table : All (λ line. IsInTable (count_of standard) line.label) lines
+  pub reader_is : trial.reader ≡ after_all (first_reader standard) lines
+  pub can_be_read : CanBeRead standard lines
+  pub in_table : All (λ r. IsInTable (count_of standard) r.line.label) lines
   pub labels_are : trial.tally.labels ≡ length lines
-  pub calls_are : trial.tally.calls ≡ count_by (λ line. is_call line.label) lines
-  pub starts_are : trial.tally.starts ≡ count_by (λ line. is_start line.label) lines
+  pub calls_are : trial.tally.calls ≡ count_by (λ r. is_call r.line.label) lines
+  pub starts_are : trial.tally.starts ≡ count_by (λ r. is_start r.line.label) lines
 
 -- no line is taken yet
 abbrev pub IsOpening : Standard → Course → Type 0
@@ -137,6 +139,6 @@ IsOpening standard (Legal trial) = HasTried standard [] trial
 IsOpening standard (Refused stop) = ⊥
 
 -- what these lines come to
-abbrev pub IsCourse : Standard → List Line → List ℕ → Option (List ℕ) → Option (List ℕ) → Course → Type 0
+abbrev pub IsCourse : Standard → List Recorded → List ℕ → Option (List ℕ) → Option (List ℕ) → Course → Type 0
 IsCourse standard lines numbers a b (Legal trial) = HasTried standard lines trial × (b ≡ a)
 IsCourse standard lines numbers a b (Refused stop) = IsFirstRefused standard lines numbers stop.line stop.misstep × SaysRefused standard.asked.json stop.line stop.misstep a b

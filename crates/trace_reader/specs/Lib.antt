@@ -1,0 +1,3 @@
+pub mod Known
+pub mod Gaps
+pub mod Readers
