@@ -10,8 +10,8 @@
 //! (`all_fit_at_first`), and each sector that it touches has a schedule (`Passes`), in which different bytes of the sector
 //! are different values (`numbers_tell`).
 //!
-//! It doesn't promise that a run explains what passes, nor that there is a verdict: a sector that may be in more
-//! than 1,024 states is undecided.
+//! The crate history_legal says that a run explains what passes, where no write is answered DEVICE_BUSY. There may be no
+//! verdict: a sector that may be in more than 1,024 states is undecided.
 #![tactic(auto)]
 
 mod fitting;

@@ -89,8 +89,16 @@ impl Table {
     pub fn number(&self, bytes: &[u8]) -> u64
         ensures { result ≡ number_in self.now bytes.now }
     {
+        self.number_by(digest(bytes), bytes)
+    }
+
+    /// The same of bytes that have this digest.
+    fn number_by(&self, key: u64, bytes: &[u8]) -> u64
+        requires { key ≡ digest bytes.now }
+        ensures { result ≡ number_in self.now bytes.now }
+    {
         let values = self.values.as_slice();
-        let row = row_of(self.rows.as_slice(), digest(bytes));
+        let row = row_of(self.rows.as_slice(), key);
         for place in row {
             if *place < values.len() && is_same(bytes, values[*place].as_slice()) {
                 return *place as u64;
@@ -102,11 +110,12 @@ impl Table {
     /// Adds a sector's bytes, unless they stand there.
     pub fn add(&mut self, alloc: Global, bytes: &[u8]) -> Result<(), AllocError> {
         let count = self.values.len();
-        if self.number(bytes) < count as u64 {
+        let key = digest(bytes);
+        if self.number_by(key, bytes) < count as u64 {
             return Ok(());
         }
         let value = Bytes::new(Vec::from_slice(alloc, bytes)?);
-        add(&mut self.rows, digest(bytes), count)?;
+        add(&mut self.rows, key, count)?;
         self.values.push(value)?;
         Ok(())
     }

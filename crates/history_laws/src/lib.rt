@@ -9,8 +9,8 @@
 //!
 //! Each sector of an explained history has a schedule as a register (`explained_are_scheduled`), so a history of which
 //! some sector has none is explained by no run. Calls count from 1 (`explained_are_numbered`). A schedule stays one
-//! where a call is seen earlier or an answer later (`schedules_widen`). That schedules of all sectors make a run is not
-//! said.
+//! where a call is seen earlier or an answer later (`schedules_widen`). The crate
+//! history_runs says that schedules of all sectors make a run.
 #![tactic(auto)]
 
 ghost use Rattle.history_laws.specs.Laws.{ExplainedAreNumbered, ExplainedAreScheduled, ExplainedFit};

@@ -16,11 +16,11 @@ invariant_of-self-in_err-push c =
 pub invariant_of-self-2 : goal.invariant_of-self-2
 invariant_of-self-2 c =
     let counted : c.len-count.result ≡ length c.self.inside.values.items = c.len-count.ensures ∙ c.self.inside.values.ok.0 in
-    let found : c.number.result ≡ number_in c.self.inside.values.items c.args.bytes.now = c.number.ensures ∙ ap (λ values. number_in values c.args.bytes.now) (sym c.self.view_is) in
-    let absent : length c.self.inside.values.items ≤ number_in c.self.inside.values.items c.args.bytes.now = omega (arith, counted, found, c.if-number-count.false) in
+    let found : c.number_by.result ≡ number_in c.self.inside.values.items c.args.bytes.now = c.number_by.ensures ∙ ap (λ values. number_in values c.args.bytes.now) (sym c.self.view_is) in
+    let absent : length c.self.inside.values.items ≤ number_in c.self.inside.values.items c.args.bytes.now = omega (arith, counted, found, c.if-number_by-count.false) in
     subst (λ values. IsTable values c.add.new.rows.items)
     (sym (c.in_ok-push.ensures.items ∙ ap (λ bytes. c.self.inside.values.items ++ bytes ∷ []) (c.new-value.ensures ∙ c.in_ok-from_slice.ensures.items)))
     (table_more c.self.inside.values.items c.self.inside.rows.items c.add.new.rows.items c.args.bytes.now c.in_ok-add.ensures.some
     (subst (λ n. AddsTo c.self.inside.rows.items (digest c.args.bytes.now) n c.add.new.rows.items) counted
-    (subst (λ n. AddsTo c.self.inside.rows.items n c.len-count.result c.add.new.rows.items) c.digest.ensures c.in_ok-add.ensures.added))
+    (subst (λ n. AddsTo c.self.inside.rows.items n c.len-count.result c.add.new.rows.items) c.digest-key.ensures c.in_ok-add.ensures.added))
     absent c.self.invariant)

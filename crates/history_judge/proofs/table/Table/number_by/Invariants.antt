@@ -1,5 +1,5 @@
 use Rattle.history_judge.proofs.Tables.{NoneHere}
-use Rattle.history_judge.proofs.table.Table.number.Given as goal
+use Rattle.history_judge.proofs.table.Table.number_by.Given as goal
 
 -- no place so far has the bytes
 abbrev pub invariant-loop-place : goal.invariant-loop-place

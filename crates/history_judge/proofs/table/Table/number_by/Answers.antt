@@ -5,8 +5,8 @@ use Rattle.history_judge.specs.Values.{number_in}
 use Rattle.history_judge.specs.inside.Rows.{row_of}
 use Rattle.history_judge.specs.inside.Tables.{digest, IsTable}
 use Rattle.history_judge.proofs.Tables.{NoneHere, none_more, number_at, number_behind}
-use Rattle.history_judge.proofs.table.Table.number.Goals as goal
-use Rattle.history_judge.proofs.table.Table.number.Goals.{else-place-values-via-then-place-values+else-is_same, else-place-values-via-else-place-values}
+use Rattle.history_judge.proofs.table.Table.number_by.Goals as goal
+use Rattle.history_judge.proofs.table.Table.number_by.Goals.{else-place-values-via-then-place-values+else-is_same, else-place-values-via-else-place-values}
 
 pub loop-place-init : goal.loop-place-init
 loop-place-init c = λ i below low. absurd (omega arith)
@@ -34,7 +34,7 @@ returns-then-is_same c =
 pub returns : goal.returns
 returns c =
     let row_is : c.row_of-row.result.now ≡ row_of c.self.inside.rows.items (digest c.args.bytes.now) =
-    c.row_of-row.ensures ∙ ap (λ rows. row_of rows c.digest.result) c.as_slice.ensures.value ∙ ap (row_of c.self.inside.rows.items) c.digest.ensures in
+    c.row_of-row.ensures ∙ ap (λ rows. row_of rows c.args.key) c.as_slice.ensures.value ∙ ap (row_of c.self.inside.rows.items) c.requires in
     number_behind c.as_slice-values.result.now c.self.inside.rows.items c.args.bytes.now c.loop-place.place-index
     (subst (λ values. IsTable values c.self.inside.rows.items) (sym c.as_slice-values.ensures.value) c.self.invariant)
     (subst (λ row. length row ≤ c.loop-place.place-index) row_is c.loop-place-test.false)
