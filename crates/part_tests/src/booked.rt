@@ -4,7 +4,7 @@ ghost use Rattle.std.specs.Prelude.{◌≡◌, ◌<◌, ◌^◌, length, IfOk};
 
 use crate::adapters::{End, SCSI, act, completion_of, finish, put, srb_of};
 use crate::expect::same;
-use miniport::{Adapter, BookedAdapter};
+use miniport::{Adapter, BookedAdapter, may_be_entry_of};
 use sector::{Bytes, Extent};
 use srb::{Booked, Completion, DeviceLabel, Entry, Kind, Srb};
 use std::alloc::{AllocError, Global};
@@ -160,6 +160,48 @@ fn acts_are_as_booked(rt: HostRuntime) -> Result<(), Fail> {
     let alloc = rt.alloc();
     for row in &BOOKED {
         comes_back(&rt, alloc, elsewhere(alloc)?, row)?;
+    }
+    Ok(())
+}
+
+const OTHER_WRITE: Done = (Kind::Write, 0, 1, 512, 0x5A);
+
+const A_SYNC: Done = (Kind::Flush, 0, 0, 0, 0);
+
+/// What an SRB asks for, an entry, of how many sectors the disk is, and whether the entry may be of an act of it.
+type OfRow = (Asked<'static>, Done, u64, bool);
+
+const OF_ACTS: [OfRow; 13] = [
+    (A_READ, ONE_READ, 4, true),
+    (A_READ, ONE_READ, 1, true),
+    (A_READ, ONE_READ, 0, false),
+    (A_READ, ONE_READ, u64::MAX, true),
+    (A_READ, OTHER_READ, 4, false),
+    (A_READ, OTHER_READ, u64::MAX, false),
+    (A_READ, ONE_WRITE, 4, false),
+    (A_WRITE, ONE_WRITE, 4, true),
+    (A_WRITE, OTHER_WRITE, 4, false),
+    (A_WRITE, ONE_READ, 4, false),
+    (A_FLUSH, A_SYNC, 4, true),
+    (A_FLUSH, ONE_READ, 4, false),
+    (A_QUESTION, ONE_READ, 4, false),
+];
+
+/// Says whether the entry of a row may be of its SRB's act, as the row has it.
+fn is_of(rt: &impl Abort, alloc: Global, row: &OfRow) -> Result<(), Fail> {
+    let ((flags, block, count), done, sectors, expected) = *row;
+    assert!(rt; count <= 512 && done.3 <= 512);
+    let srb = srb_of(alloc, SCSI, flags, block, count, 0xA5)?;
+    let entry = entry(alloc, done)?;
+    same(rt, &may_be_entry_of(512, sectors, &srb, &entry), &expected);
+    Ok(())
+}
+
+#[test]
+fn entries_may_be_of_acts(rt: HostRuntime) -> Result<(), Fail> {
+    let alloc = rt.alloc();
+    for row in &OF_ACTS {
+        is_of(&rt, alloc, row)?;
     }
     Ok(())
 }
