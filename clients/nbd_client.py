@@ -1,6 +1,7 @@
-"""A client of the NBD protocol for tests: it starts a server on pipes, and may have many requests out."""
+"""Clients of the NBD protocol for tests, which may have many requests out: one starts a server on pipes, one calls a socket."""
 
 import signal
+import socket
 import struct
 import subprocess
 
@@ -15,6 +16,11 @@ class Client:
     def __init__(self, words, env=None, errors=subprocess.DEVNULL):
         pipe = subprocess.PIPE
         self.server = subprocess.Popen(words, stdin=pipe, stdout=pipe, stderr=errors, env=env, bufsize=0)
+        self.greet(self.server.stdout, self.server.stdin)
+
+    def greet(self, incoming, outgoing):
+        """Begins the session on these streams."""
+        self.incoming, self.outgoing = incoming, outgoing
         self.out = {}
         self.number = 0
         greeting = self.take(18)
@@ -26,7 +32,7 @@ class Client:
         """Returns so many bytes from the server. EOFError: it ended."""
         got = b""
         while len(got) < count:
-            some = self.server.stdout.read(count - len(got))
+            some = self.incoming.read(count - len(got))
             if not some:
                 raise EOFError
             got += some
@@ -36,7 +42,7 @@ class Client:
         """Sends bytes."""
         rest = memoryview(data)
         while rest:
-            rest = rest[self.server.stdin.write(rest) :]
+            rest = rest[self.outgoing.write(rest) :]
 
     def send(self, kind, offset=0, length=0, data=b"", fua=False):
         """Sends a request, and returns its number."""
@@ -62,3 +68,18 @@ class Client:
         self.put(struct.pack(">IHHQQI", 0x25609513, 0, LEAVE, 0, 0, 0))
         self.server.stdin.close()
         return self.server.wait(30)
+
+
+class Caller(Client):
+    """A session over a socket."""
+
+    def __init__(self, path):
+        self.socket = socket.socket(socket.AF_UNIX)
+        self.socket.connect(path)
+        stream = self.socket.makefile("rwb", buffering=0)
+        self.greet(stream, stream)
+
+    def leave(self):
+        """Ends the session as a client should."""
+        self.put(struct.pack(">IHHQQI", 0x25609513, 0, LEAVE, 0, 0, 0))
+        self.socket.close()
