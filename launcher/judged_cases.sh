@@ -111,6 +111,19 @@ run_labels_of() {
     keep_wanted_lines "$it"
 }
 
+# Runs the judge on the trace of a folder, with its words. A legal one ends with status 0 where the folder doesn't say another.
+run_judged() {
+    local it=judged.${1##*/} words=() said='' status=1
+    [ ! -f "$1/words" ] || read -r -a words < "$1/words"
+    [ ! -f "$1/stderr" ] || said=$(cat "$1/stderr")$'\n'
+    ! grep -qs '^legal' "$1/stdout" || status=0
+    [ ! -f "$1/status" ] || status=$(cat "$1/status")
+    copy_or "$1/stdout" "$scratch/printed"
+    want "$it" "$status" "$said" < "$scratch/printed"
+    run_case "$it" check "${words[@]}" "$(settings_of "$1")" "$1/trace"
+    keep_wanted_lines "$it"
+}
+
 # Runs the judge on a trace whose starts have many readings: with the request of each start, which is read in one way, and
 # without them, where `untold` has what is printed, or said where that is a fault.
 run_readings() {
@@ -160,18 +173,35 @@ run_labels() {
     for it in "$scratch/split.$1"/*.words; do run_labels_of "labels_of.$1" "$it" "$2"; done
 }
 
-# Judges the history of a folder, which says what is printed: a legal one ends with status 0, any other with 1.
+# Judges the history of a folder, which says what is printed, and may have `words`: a legal one ends with status 0, any other
+# with 1.
 run_history() {
-    local it=history.${1##*/} status=1
-    ! grep -q '^legal' "$1/stdout" || status=0
+    local it=history.${1##*/} status=1 options=()
+    ! grep -q '^legal\|"legal"' "$1/stdout" || status=0
+    [ ! -f "$1/words" ] || read -r -a options < "$1/words"
     want "$it" "$status" < "$1/stdout"
-    run_case "$it" history "$top/examples/history/config.toml" "$1/history"
+    run_case "$it" history "${options[@]}" "$top/examples/history/config.toml" "$1/history"
 }
 
 # Has the judge draw the picture that the pages show.
 run_picture() {
     want picture.pages 0 < "$top/docs/cancelled_in_three_places.svg"
     run_case picture.pages picture "$top/examples/cancelled_in_three_places/trace"
+}
+
+# Has the judge draw a trace of more than 400 lines, in which a request is named by the letter of its kind, and its first lines.
+run_letters() {
+    local it
+    awk 'BEGIN { print "call 1 read 0 512 in 0\ncall 2 write 0 512 in 0\ncall 3 flush in 0"; for (k = 0; k < 200; k++) print "pause\nresume" }' \
+        > "$scratch/trace"
+    want picture.letters 0 <<< $'r1\nw2\nf3'
+    run_case picture.letters picture "$scratch/trace"
+    want picture.words 0 <<< $'1 read 0 512\n2 write 0 512\n3 flush'
+    run_case picture.words picture --lines 1-9 "$scratch/trace"
+    for it in letters words; do
+        sed -n 's/<text class="[en]" x="[0-9]*" y="[0-9]*">\(..*\)<.text>/\1/p' "$scratch/found/picture.$it.stdout" > "$scratch/drawn"
+        mv "$scratch/drawn" "$scratch/found/picture.$it.stdout"
+    done
 }
 
 # Has the judge draw a trace of a folder, as a file there is named: each line of it is to be a piece of a line that is printed.
@@ -281,6 +311,7 @@ run_judge_cases() {
     make_case_folders
     while IFS= read -r folder; do run_recorded "$folder"; done < <(recorded_folders)
     for it in rules large overlap gaps sessions; do run_labels "$it" "$top/examples/judged/$it"; done
+    for it in "$top"/examples/judged/rules/*/trace; do run_judged "${it%/*}"; done
     each_row bad_lines "$top/examples/judged/bad_lines" run_bad_line
     each_row wrong "$top/examples/judged/wrong_bodies" run_wrong_body
     for it in "$top"/examples/judged/readings/*/trace; do
@@ -289,6 +320,7 @@ run_judge_cases() {
     done
     run_told_at_once
     run_picture
+    run_letters
     for it in "$top"/examples/judged/pictures/*/{picture,events}; do run_drawing "${it%/*}" "${it##*/}"; done
     run_cuts
     run_cut
@@ -301,6 +333,7 @@ run_judge_cases() {
     count_cases "stackjudge, labels of their traces" labels.
     count_cases "stackjudge, their traces judged" check.
     count_cases "stackjudge, rules" labels_of.
+    count_cases "stackjudge, traces of folders" judged.
     count_cases "stackjudge, lines of no label" bad_lines.
     count_cases "stackjudge, wrong bodies" wrong.
     count_cases "stackjudge, starts of many readings" readings.

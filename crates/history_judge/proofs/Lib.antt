@@ -9,3 +9,4 @@ mod Judged
 mod Shown
 mod Thinning
 mod Picked
+mod Begun

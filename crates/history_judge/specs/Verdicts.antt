@@ -51,3 +51,25 @@ IsRight service start history Passed = IsPassed service start history
 IsRight service start history (Misfit label why) = IsUnfit service history
 IsRight service start history (Refused place label) = IsUnexplained service start history place
 IsRight service start history (Undecided place) = Unit {0}
+
+-- the sector has a schedule from some bytes on
+pub record PassesFromSome (service : Service) (history : List Label) (place : Place) : Type 0 where
+  pub start : List ℕ
+  pub whole : length start ≡ service.sector_size
+  pub passes : Passes service start history place
+
+-- the labels fit behind each other, and each touched sector has a schedule from some bytes on
+pub record IsPassedFromSome (service : Service) (history : List Label) : Type 0 where
+  pub fit : all_fit_at_first (rules_of service) history ≡ true
+  pub passes : (place : Place) → IsTouched (rules_of service) place history → PassesFromSome service history place
+
+-- no run explains it from any bytes on
+abbrev pub IsUnexplainedFromAny : Service → List Label → Place → Type 0
+IsUnexplainedFromAny service history place = (start : List ℕ) → IsUnexplained service start history place
+
+-- what passes fits, and has schedules from some bytes on; no run explains what is refused, from any
+abbrev pub IsRightFromAny : Service → List Label → Verdict → Type 0
+IsRightFromAny service history Passed = IsPassedFromSome service history
+IsRightFromAny service history (Misfit label why) = IsUnfit service history
+IsRightFromAny service history (Refused place label) = IsUnexplainedFromAny service history place
+IsRightFromAny service history (Undecided place) = Unit {0}

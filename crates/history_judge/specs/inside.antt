@@ -4,3 +4,4 @@ pub mod Rows
 pub mod Picking
 pub mod Indexing
 pub mod Tables
+pub mod Starting

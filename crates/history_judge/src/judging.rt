@@ -5,10 +5,12 @@ ghost use Rattle.std.specs.Bool.{OnTrue};
 ghost use Rattle.history_laws.specs.Fitting.{all_fit_at_first};
 ghost use Rattle.history_judge.specs.declared.service.Place.{Place};
 ghost use Rattle.history_judge.specs.Services.{rules_of};
-ghost use Rattle.history_judge.specs.Verdicts.{IsRight};
+ghost use Rattle.history_judge.specs.Verdicts.{IsRight, IsRightFromAny};
 ghost use Rattle.history_judge.specs.inside.Indexing.{IsIndex};
-ghost use Rattle.history_judge.specs.inside.Judging.{IsOneOf, IsRightOf};
-ghost use Rattle.history_judge.specs.inside.Picking.{HasRow};
+ghost use Rattle.history_judge.specs.Values.{number_in};
+ghost use Rattle.history_judge.specs.inside.Judging.{IsOneOf, IsRightBy, IsRightOf};
+ghost use Rattle.history.specs.Sights.{sights_of};
+ghost use Rattle.history_judge.specs.inside.Picking.{HasRow, picked};
 ghost use Rattle.history_judge.specs.inside.Rows.{row_of};
 
 use crate::fitting::{Misfit, first_misfit};
@@ -16,13 +18,12 @@ use crate::index::{Index, index_of};
 use crate::rising::are_rising;
 use crate::sectors::{Watched, sights_of, values_of};
 use crate::service::{Place, Service};
+use crate::starting::{Shown, Start, judge_shown};
 use crate::touched::touched;
-use crate::values::are_below;
 use history::refused_are_unexplained;
 use history_laws::explained_fit;
 use machine::Label;
 use register::{Sight, prefixes_are_scheduled};
-use register_judge::judge as judge_register;
 use std::alloc::{AllocError, Global};
 
 /// What the judge says of a history. Labels are counted from 0.
@@ -67,40 +68,50 @@ fn end_of(sights: &[Sight], labels: &[Label]) -> usize {
     0
 }
 
-/// Judges one sector.
-fn judge_sector(
+/// What a history shows of a sector, by the numbers of its bytes, of which those of the start are some.
+fn shown_of(
     alloc: Global,
     service: &Service,
     start: &[u8],
     labels: &[Label],
     looked: &Looked,
+) -> Result<Shown, AllocError>
+    requires sized { 0 < service.now.sector_size }
+    ensures { IfOk result (λ shown. shown.sights.items ≡ sights_of (number_in shown.watched.table) (rules_of service.now) looked.now.place.partition looked.now.place.sector [] (picked labels.now looked.now.indexes.items)) }
+{
+    let place = looked.place;
+    let indexes = looked.indexes.as_slice();
+    let mut table = values_of(alloc, service, place, labels, indexes)?;
+    table.add(alloc, start)?;
+    let watched = Watched { place, table };
+    let sights = sights_of(alloc, service, &watched, labels, indexes)?;
+    Ok(Shown { watched, sights })
+}
+
+/// Judges one sector.
+fn judge_sector(
+    alloc: Global,
+    service: &Service,
+    start: &Start,
+    labels: &[Label],
+    looked: &Looked,
 ) -> Result<Verdict, AllocError>
     requires sized { 0 < service.now.sector_size }
     requires found { HasRow (rules_of service.now) looked.now.place labels.now looked.now.indexes.items }
-    ensures { IfOk result (IsRightOf service.now start.now labels.now (looked.now.place ∷ [])) }
+    ensures { IfOk result (IsRightOf start.now.any service.now start.now.bytes.items labels.now (looked.now.place ∷ [])) }
 {
     prefixes_are_scheduled();
     refused_are_unexplained();
     let place = looked.place;
-    let indexes = looked.indexes.as_slice();
-    if !are_rising(indexes, labels.len()) {
+    if !are_rising(looked.indexes.as_slice(), labels.len()) {
         return Ok(Verdict::Undecided { place });
     }
-    let mut table = values_of(alloc, service, place, labels, indexes)?;
-    table.add(alloc, start)?;
-    let watched = Watched { place, table };
-    let count = watched.table.count();
-    let value = watched.table.number(start);
-    let sights = sights_of(alloc, service, &watched, labels, indexes)?;
-    match judge_register(alloc, value, sights.as_slice())? {
-        register_judge::Verdict::Passed => {
-            if value < count && are_below(count, sights.as_slice()) {
-                return Ok(Verdict::Passed);
-            }
-            Ok(Verdict::Undecided { place })
-        }
+    let shown = shown_of(alloc, service, start.bytes.as_slice(), labels, looked)?;
+    match judge_shown(alloc, service.sector_size, &shown, start)? {
+        register_judge::Verdict::Passed => Ok(Verdict::Passed),
         register_judge::Verdict::Refused { sights: count } => {
-            let label = end_of(&sights.as_slice()[..count], labels);
+            let sights = shown.sights.as_slice();
+            let label = end_of(&sights[..count.min(sights.len())], labels);
             Ok(Verdict::Refused { place, label })
         }
         register_judge::Verdict::Undecided => Ok(Verdict::Undecided { place }),
@@ -148,13 +159,13 @@ fn look(alloc: Global, index: &Index, place: Place) -> Result<Looked, AllocError
 fn judge_all(
     alloc: Global,
     service: &Service,
-    start: &[u8],
+    start: &Start,
     labels: &[Label],
     found: &Found,
 ) -> Result<Verdict, AllocError>
     requires sized { 0 < service.now.sector_size }
     requires found { IsIndex (rules_of service.now) labels.now found.now.index }
-    ensures { IfOk result (IsRightOf service.now start.now labels.now found.now.places.items) }
+    ensures { IfOk result (IsRightOf start.now.any service.now start.now.bytes.items labels.now found.now.places.items) }
 {
     let places = found.places.as_slice();
     let mut verdict = Verdict::Passed;
@@ -173,12 +184,12 @@ fn judge_all(
 fn judge_sectors(
     alloc: Global,
     service: &Service,
-    start: &[u8],
+    start: &Start,
     labels: &[Label],
 ) -> Result<Verdict, AllocError>
     requires sized { 0 < service.now.sector_size }
     requires fit { all_fit_at_first (rules_of service.now) labels.now ≡ true }
-    ensures right { IfOk result (IsRight service.now start.now labels.now) }
+    ensures right { IfOk result (IsRightBy start.now.any service.now start.now.bytes.items labels.now) }
 {
     let mut places = touched(alloc, service, labels)?;
     places.sort()?;
@@ -194,6 +205,23 @@ const NOWHERE: Place = Place {
     partition: 0,
     sector: 0,
 };
+
+/// Judges a history.
+fn judge_by(
+    alloc: Global,
+    service: &Service,
+    start: &Start,
+    labels: &[Label],
+) -> Result<Verdict, AllocError>
+    requires { 0 < service.now.sector_size }
+    ensures { IfOk result (IsRightBy start.now.any service.now start.now.bytes.items labels.now) }
+{
+    explained_fit();
+    match first_misfit(alloc, service, labels)? {
+        Some((label, why)) => Ok(Verdict::Misfit { label, why }),
+        None => judge_sectors(alloc, service, start, labels),
+    }
+}
 
 /// Judges a history of a service whose sectors all had these bytes at the start. Labels of its device are passed over.
 ///
@@ -211,9 +239,26 @@ pub fn judge(
     requires { 0 < service.now.sector_size }
     ensures right { IfOk result (IsRight service.now start.now labels.now) }
 {
-    explained_fit();
-    match first_misfit(alloc, service, labels)? {
-        Some((label, why)) => Ok(Verdict::Misfit { label, why }),
-        None => judge_sectors(alloc, service, start, labels),
-    }
+    let bytes = Vec::from_slice(alloc, start)?;
+    judge_by(alloc, service, &Start { bytes, any: false }, labels)
+}
+
+/// Judges a history of a service whose sectors had any bytes at the start, each its own. Labels of its device are passed over.
+///
+/// The sectors have bytes, more than none. A refusal tells the earliest answer at which some sector has no schedule,
+/// whatever it had.
+///
+/// # Errors
+///
+/// [`AllocError`] where memory was refused.
+pub fn judge_any_start(
+    alloc: Global,
+    service: &Service,
+    labels: &[Label],
+) -> Result<Verdict, AllocError>
+    requires { 0 < service.now.sector_size }
+    ensures right { IfOk result (IsRightFromAny service.now labels.now) }
+{
+    let bytes = vec![in alloc; 0; service.sector_size as usize]?;
+    judge_by(alloc, service, &Start { bytes, any: true }, labels)
 }

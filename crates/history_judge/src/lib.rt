@@ -8,7 +8,8 @@
 //! at once, an answer is to no open call, or by a status or with a length that no run gives; or a sector has no schedule,
 //! and then that is said of runs that begin with the given bytes in it. It passes a history only if none of that is so
 //! (`all_fit_at_first`), and each sector that it touches has a schedule (`Passes`), in which different bytes of the sector
-//! are different values (`numbers_tell`).
+//! are different values (`numbers_tell`). `judge_any_start` (`right`) does so of sectors that begin with anything: each has
+//! a schedule from some bytes on (`PassesFromSome`), or one has none from any (`IsUnexplainedFromAny`).
 //!
 //! The crate history_legal says that a run explains what passes, where no write is answered DEVICE_BUSY. There may be no
 //! verdict: a sector that may be in more than 1,024 states is undecided.
@@ -21,6 +22,7 @@ mod rising;
 mod rows;
 mod sectors;
 mod service;
+mod starting;
 mod table;
 #[cfg(test)]
 mod tests;
@@ -30,7 +32,7 @@ mod values;
 ghost use Rattle.history_judge.specs.Values.{NumbersTell};
 
 pub use fitting::Misfit;
-pub use judging::{Verdict, judge};
+pub use judging::{Verdict, judge, judge_any_start};
 pub use service::{Place, Service};
 
 /// Different bytes have different numbers, where one of them is in the table.

@@ -1,8 +1,10 @@
 //! The bytes that a sector may have, numbered.
 
 ghost use Rattle.std.specs.Prelude.{◌≡◌, ◌<◌, IfOk, drop, length};
+ghost use Rattle.std.specs.Bool.{OnTrue};
 ghost use Rattle.std.specs.Str.{bytes_eq};
 ghost use Rattle.history_judge.specs.Values.{number_in};
+ghost use Rattle.history_judge.specs.inside.Starting.{IsFound};
 ghost use Rattle.history_judge.specs.inside.Tables.{digest, next_digest};
 
 use crate::rows::{Row, add, row_of, rows};
@@ -20,6 +22,7 @@ pub(crate) struct Table {
 
 impl Model for Table {
     ghost use Rattle.std.specs.Prelude.{List, ℕ};
+    ghost use Rattle.history_judge.specs.inside.Starting.{IsFound};
     ghost use Rattle.history_judge.specs.inside.Tables.{IsTable};
 
     ghost Value = { List (List ℕ) };
@@ -105,6 +108,22 @@ impl Table {
             }
         }
         values.len() as u64
+    }
+
+    /// Whether this is the number of some bytes of the table, so many.
+    pub fn has(&self, size: u32, number: u64) -> bool
+        ensures { OnTrue result (IsFound size self.now number) }
+    {
+        match self.values.get(number as usize) {
+            Some(bytes) => self.stands(size, number, bytes.as_slice()),
+            None => false,
+        }
+    }
+
+    fn stands(&self, size: u32, number: u64, bytes: &[u8]) -> bool
+        ensures { OnTrue result (IsFound size self.now number) }
+    {
+        bytes.len() == size as usize && self.number(bytes) == number
     }
 
     /// Adds a sector's bytes, unless they stand there.

@@ -1,14 +1,15 @@
 -- What a passed history says of the runs of its service.
-use Rattle.std.specs.Prelude.{◌≡◌, ℕ, List, Some, slice_get}
+use Rattle.std.specs.Prelude.{◌≡◌, ℕ, List, Some, slice_get, length}
 use Rattle.machine.specs.declared.ClientRequest.{ClientRequest}
 use Rattle.machine.specs.declared.Label.{Label}
+use Rattle.machine.specs.Rules.{Rules}
 use Rattle.machine.specs.Sending.{array_at}
 use Rattle.machine_laws.specs.Reached.{AreWhole}
 use Rattle.history_laws.specs.History.{history_of, IsExplained}
 use Rattle.history_runs.specs.Laws.{IsAddressable, IsBusyWrite}
 use Rattle.history_judge.specs.declared.service.Service.{Service}
 use Rattle.history_judge.specs.Services.{rules_of}
-use Rattle.history_judge.specs.Verdicts.{IsPassed}
+use Rattle.history_judge.specs.Verdicts.{IsPassed, IsPassedFromSome}
 
 -- each sector of the arrays has these bytes
 abbrev pub AreFilled : List ℕ → List (List (List ℕ)) → Type 0
@@ -20,3 +21,16 @@ PassedAreExplained = (service : Service) (start : List ℕ) (history : List Labe
     → IsAddressable (rules_of service) → AreWhole (rules_of service) arrays → AreFilled start arrays
     → history_of history ≡ history → ((n : ℕ) (q : ClientRequest) → IsBusyWrite history n q → ⊥) → IsPassed service start history
     → IsExplained (rules_of service) arrays history
+
+-- a run explains the history from some arrays of sectors of the right size
+pub record IsExplainedFromSome (rules : Rules) (history : List Label) : Type 0 where
+  pub arrays : List (List (List ℕ))
+  pub whole : AreWhole rules arrays
+  pub sized : (p i : ℕ) (sector : List ℕ) → slice_get (array_at arrays p) i ≡ Some sector → length sector ≡ rules.sector_size
+  pub explained : IsExplained rules arrays history
+
+-- the same of a history that passes where each sector had any bytes: it is explained from some
+abbrev pub PassedFromSomeAreExplained : Type 0
+PassedFromSomeAreExplained = (service : Service) (history : List Label) → IsAddressable (rules_of service)
+    → history_of history ≡ history → ((n : ℕ) (q : ClientRequest) → IsBusyWrite history n q → ⊥) → IsPassedFromSome service history
+    → IsExplainedFromSome (rules_of service) history

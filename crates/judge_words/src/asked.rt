@@ -23,16 +23,21 @@ pub enum Command<'a> {
         config: &'a str,
         script: &'a str,
     },
-    /// Judges a history, given the paths of the settings and of the history.
+    /// Judges a history, given the paths of the settings and of the history. With `any_start` its sectors may begin with
+    /// anything, with `progress` it is told how many lines were read, with `json` the verdict is a JSON object.
     History {
         config: &'a str,
         history: &'a str,
+        any_start: bool,
+        progress: bool,
+        json: bool,
     },
     /// Draws the trace at a path, as an SVG, or as Trace Event JSON where `events` are asked for. Where the path of settings
-    /// is given too the trace is judged by them. With `lines` only some lines are drawn.
+    /// is given too the trace is judged by them, and by what is asked of it. With `lines` only some lines are drawn.
     Picture {
         config: Option<&'a str>,
         trace: &'a str,
+        asked: Asked,
         events: bool,
         lines: Option<&'a str>,
     },

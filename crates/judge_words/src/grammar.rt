@@ -3,7 +3,7 @@
 ghost use Rattle.std.specs.Prelude.{◌≡◌, IfOk, codes, false, true};
 ghost use Rattle.clap.specs.Words.{App, new_app, rule_of, with_rule, with_subcommand};
 ghost use Rattle.command_line.specs.Grammar.{option_rule, word_rule};
-ghost use Rattle.judge_words.specs.CommandLine.{IsApp, asked_words, check_words, cut_words, judged_words, picture_words, program, two_words, with_flag};
+ghost use Rattle.judge_words.specs.CommandLine.{IsApp, asked_words, check_words, cut_words, history_words, judged_words, picture_words, program, two_words, with_flag};
 
 use clap::{Arg, Command};
 use command_line::{flag, option, word};
@@ -96,13 +96,24 @@ fn cuts<'a>(alloc: Global) -> Result<Command<'a>, AllocError>
     Ok(judged)
 }
 
+fn histories<'a>(alloc: Global) -> Result<Command<'a>, AllocError>
+    ensures { IfOk result (IsApp history_words) }
+{
+    let command = two_words(alloc, "history", "CONFIG", "HISTORY")?;
+    let start = with_flag(alloc, command, "any-start")?;
+    let progress = with_flag(alloc, start, "progress")?;
+    let json = with_flag(alloc, progress, "json")?;
+    Ok(json)
+}
+
 fn pictures<'a>(alloc: Global) -> Result<Command<'a>, AllocError>
     ensures { IfOk result (IsApp picture_words) }
 {
     let command = named(alloc, "picture");
     let one = with(command, word(alloc, "FIRST", true))?;
     let both = with(one, word(alloc, "SECOND", false))?;
-    let events = with_flag(alloc, both, "events")?;
+    let judged = judged(alloc, both)?;
+    let events = with_flag(alloc, judged, "events")?;
     let lines = with(events, option(alloc, "lines"))?;
     Ok(lines)
 }
@@ -126,7 +137,7 @@ pub(crate) fn grammar<'a>(alloc: Global) -> Result<Command<'a>, AllocError>
     let cut = with_command(check, cutting)?;
     let recording = two_words(alloc, "record", "CONFIG", "SCRIPT")?;
     let record = with_command(cut, recording)?;
-    let telling = two_words(alloc, "history", "CONFIG", "HISTORY")?;
+    let telling = histories(alloc)?;
     let history = with_command(record, telling)?;
     let drawing = pictures(alloc)?;
     let picture = with_command(history, drawing)?;

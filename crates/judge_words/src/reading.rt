@@ -138,7 +138,16 @@ fn history_of<'a>(words: &ArgMatches<'a>) -> Option<Command<'a>>
     let Some(history) = words.get_str("HISTORY") else {
         return None;
     };
-    Some(Command::History { config, history })
+    let any_start = words.get_flag("any-start");
+    let watched = words.get_flag("progress");
+    let json = words.get_flag("json");
+    Some(Command::History {
+        config,
+        history,
+        any_start,
+        progress: watched,
+        json,
+    })
 }
 
 fn picture_of<'a>(matches: &ArgMatches<'a>) -> Option<Command<'a>>
@@ -150,9 +159,11 @@ fn picture_of<'a>(matches: &ArgMatches<'a>) -> Option<Command<'a>>
         return None;
     };
     let (config, trace) = files(first, matches.get_str("SECOND"));
+    let asked = asked_of(matches);
     Some(Command::Picture {
         config,
         trace,
+        asked,
         events,
         lines,
     })

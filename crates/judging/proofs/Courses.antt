@@ -1,5 +1,5 @@
 -- The lines of a trace, judged one by one.
-use Rattle.std.proofs.Common.{◌≡◌, ◌<◌, ◌≤◌, ◌+◌, ◌++◌, ◌∙◌, ◌-◌, ◌^◌, ◌⊎◌, inl, inr, min, ℕ, zero, suc, Bool, List, [], ◌∷◌, All, Option, Some, arith, ap, append-nil, append_assoc, cond, count_by, false, filter, length, length-append, refl, slice_get, subst, sym, true, IfSome, IsUtf8, MatchBool}
+use Rattle.std.proofs.Common.{◌≡◌, ◌<◌, ◌≤◌, ◌+◌, ◌++◌, ◌∙◌, ◌-◌, ◌^◌, ◌⊎◌, inl, inr, min, ℕ, zero, suc, Bool, List, [], ◌∷◌, All, Option, None, Some, arith, ap, append-nil, append_assoc, cond, count_by, false, filter, if◌then◌else◌, is_some, length, length-append, refl, slice_get, subst, sym, true, IfSome, IsUtf8, MatchBool}
 use Rattle.std.specs.List.{AllZip}
 use Rattle.std.specs.Io.{StopsAt}
 use Rattle.std.specs.Io.KnownBytes.{Appends, Consumes, IsAtEnd}
@@ -10,15 +10,17 @@ use Rattle.machine.specs.Rules.{Rules}
 use Rattle.machine.specs.State.{State, opening}
 use Rattle.trace_reader.specs.declared.Recorded.{Recorded}
 use Rattle.trace_reader.specs.declared.Reader.{Reader}
+use Rattle.trace_reader.specs.Known.{KnownView}
 use Rattle.trace_reader.specs.Readers.{CanRead, CantRead, read_line, reader_after}
-use Rattle.trace_reader.proofs.Reading.{after_more, can_more, read_more}
+use Rattle.trace_reader.proofs.Reading.{after_more, can_more, known_still, read_more}
 use Rattle.trace_line.specs.Lines.{LineRun}
-use Rattle.judge.specs.Following.{HasTakenLines, IsLineRefused, JudgeView}
+use Rattle.judge.specs.Following.{HasTakenLines, IsLineRefused, JudgeView, RefusesLine}
+use Rattle.judge.specs.declared.label_rules.Rule.{Rule}
 use Rattle.judge.specs.Judging.{AreLinesReached, IsLineRun}
 use Rattle.judge.specs.Refusals.{most_readings}
 use Rattle.label_text.specs.Lines.{is_told}
 use Rattle.startup.specs.Reading.{IsAllOf}
-use Rattle.judging.specs.Checked.{IsCheckFault, IsFirstRefused, IsInTable, IsMisstep, IsRefusalTold, IsToldBefore, IsToldSoFar, arrays_of, count_of, first_reader, is_call, is_start, judged, opening_of, refused_line, rules_by}
+use Rattle.judging.specs.Checked.{BreaksRule, IsCheckFault, IsFirstRefused, IsInTable, IsMisstep, IsRefusalTold, IsToldBefore, IsToldSoFar, arrays_of, count_of, first_known, first_reader, is_call, is_start, judged, opening_of, refused_line, rules_by}
 use Rattle.judging.specs.Told.{AreTold, IsBad, IsFirstBad, Records, numbers_from}
 use Rattle.judging.specs.declared.course.Course.{Course}
 use Rattle.judging.specs.declared.course.Course.TheVariants.{Legal, Refused}
@@ -26,7 +28,7 @@ use Rattle.judging.specs.declared.course.Trial.{Trial}
 use Rattle.judging.specs.declared.faults.Error.{Error}
 use Rattle.judging.specs.declared.faults.Error.TheVariants.{Usage, Startup, TraceUnreadable, ScriptUnreadable, BadLine, NoLabel, Readings, Script, OutputFailed, NoMemory}
 use Rattle.judging.specs.declared.misstep.Misstep.{Misstep}
-use Rattle.judging.specs.declared.misstep.Misstep.TheVariants.{Breaks, NoPartition, Read}
+use Rattle.judging.specs.declared.misstep.Misstep.TheVariants.{Blank, Breaks, NoPartition, Read}
 use Rattle.judging.specs.declared.opened.Standard.{Standard}
 use Rattle.judging.specs.declared.told.Told.{Told}
 use Rattle.judging.specs.declared.told.Told.TheVariants.{Line as TellsLine, Nothing, BadWord}
@@ -163,6 +165,10 @@ some_state P (s ∷ states) all some = (s, All-head P s states all)
 
 -- ONE LINE MORE
 
+first_gaps : (known : KnownView) (gaps : Bool) → is_some (if gaps then Some known else None) ≡ gaps
+first_gaps known true = refl
+first_gaps known false = refl
+
 module _ (c : Standard) where
   abbrev InTable : Recorded → Type 0
   InTable line = IsInTable (count_of c) line.line.label
@@ -193,10 +199,20 @@ module _ (c : Standard) where
     starts_are = counted_more starts told_lines line old.tally.starts new.tally.starts short h.starts_are tries.tallies.starts_are;
   }
 
-  misstep_of : (told_lines : List Recorded) (line : Recorded) (trial : Trial) (misstep : Misstep) → HasTried c told_lines trial → IsRefusedFor trial line misstep → IsMisstep c told_lines line misstep
-  misstep_of told_lines line trial (Breaks rule) h why =
+  breaks_of : (told_lines : List Recorded) (line : Recorded) (trial : Trial) (rule : Rule) → HasTried c told_lines trial → RefusesLine trial.judge (read_line trial.reader line) rule
+      → BreaksRule c told_lines line rule
+  breaks_of told_lines line trial rule h why =
       subst (λ (v : Reader). IsLineRefused (rules_by c) (arrays_of c) (judged c told_lines) (read_line v line) rule) h.reader_is
       (subst (λ (r : Rules). IsLineRefused r (arrays_of c) (judged c told_lines) (read_line trial.reader line) rule) h.rules_are (why (arrays_of c) (judged c told_lines) h.taken))
+
+  -- some bytes were not recorded just where that was said
+  gaps_are : (told_lines : List Recorded) (trial : Trial) → HasTried c told_lines trial → is_some trial.reader.known ≡ c.asked.gaps
+  gaps_are told_lines trial h =
+      ap (λ (v : Reader). is_some v.known) h.reader_is ∙ known_still (first_reader c) told_lines ∙ first_gaps (first_known c) c.asked.gaps
+
+  misstep_of : (told_lines : List Recorded) (line : Recorded) (trial : Trial) (misstep : Misstep) → HasTried c told_lines trial → IsRefusedFor trial line misstep → IsMisstep c told_lines line misstep
+  misstep_of told_lines line trial (Breaks rule) h why = (sym (gaps_are told_lines trial h) ∙ why.0, breaks_of told_lines line trial rule h why.1)
+  misstep_of told_lines line trial (Blank rule) h why = (sym (gaps_are told_lines trial h) ∙ why.0, breaks_of told_lines line trial rule h why.1)
   misstep_of told_lines line trial (NoPartition partition most) h why = (why.0, why.1 ∙ count_is trial h.rules_are, why.2)
   misstep_of told_lines line trial (Read rule) h why = subst (λ (v : Reader). CantRead v line rule) h.reader_is why
 

@@ -7,3 +7,4 @@ mod Standards
 mod Trying
 mod Cuts
 mod SessionsJudged
+mod SaidOfHistories

@@ -1,9 +1,10 @@
 -- One line more, as its trial takes it.
-use Rattle.std.proofs.Common.{◌≡◌, ◌<◌, ◌∙◌, ℕ, Bool, List, [], Option, None, Some, Result, Ok, Err, ap, inl, inr, length, refl, subst, sym, IfOk}
+use Rattle.std.proofs.Common.{◌≡◌, ◌<◌, ◌∙◌, ℕ, Bool, List, [], Option, None, Some, Result, Ok, Err, ap, inl, inr, is_some, length, refl, subst, sym, IfOk}
 use Rattle.trace_line.specs.declared.Line.{Line}
 use Rattle.trace_reader.specs.declared.Recorded.{Recorded}
 use Rattle.trace_reader.specs.declared.Reader.{Reader}
-use Rattle.trace_reader.specs.Readers.{CanRead, read_line, reader_after}
+use Rattle.trace_reader.specs.Known.{KnownView}
+use Rattle.trace_reader.specs.Readers.{CanRead, known_after, read_line, reader_after}
 use Rattle.std.proofs.lemmas.List.Elements.{All-nil}
 use Rattle.judge.specs.Following.{HasTakenLines, JudgeView, RefusesLine, TakesLine}
 use Rattle.judge.specs.Refusals.{IsNoVerdict}
@@ -18,7 +19,7 @@ use Rattle.judging.specs.declared.course.Tally.{Tally}
 use Rattle.judging.specs.declared.course.Trial.{Trial}
 use Rattle.judging.specs.declared.faults.Error.{Error}
 use Rattle.judging.specs.declared.misstep.Misstep.{Misstep}
-use Rattle.judging.specs.inside.Course.{HasTried, IsCounted, IsFit, IsLineRead, IsRefusedFor, IsStopByLine, IsStopped, IsTaken, SaysRefused, Tallies, Tries, unjudged}
+use Rattle.judging.specs.inside.Course.{HasTried, IsCounted, IsFit, IsLineRead, IsRefusedFor, IsStopByLine, IsStopped, IsTaken, SaysRefused, Tallies, Tries, broken_as, unjudged}
 
 pub below_none : (count : ℕ) (partition : Option ℕ) → partition ≡ None → IsBelow count partition
 below_none count partition is = subst (IsBelow count) (sym is) tt
@@ -53,6 +54,18 @@ pub refused_so : (old counted read : Trial) (line : Recorded) (told : Line) (rul
 refused_so old counted read line told rule count reads refuses =
     let is_told : told ≡ read_line old.reader line = reads.is_told ∙ ap (λ (v : Reader). read_line v line) count.same_reader in
     subst (λ (j : JudgeView). RefusesLine j (read_line old.reader line) rule) (reads.same_judge ∙ count.same_judge) (subst (λ (l : Line). RefusesLine read.judge l rule) is_told refuses)
+
+by_known : (old : Trial) (line : Recorded) (known : Option KnownView) (rule : Rule) → old.reader.known ≡ known → RefusesLine old.judge (read_line old.reader line) rule
+    → IsRefusedFor old line (broken_as (known_after known line) rule)
+by_known old line None rule is refuses = (ap (λ (k : Option KnownView). is_some k) is, refuses)
+by_known old line (Some known) rule is refuses = (ap (λ (k : Option KnownView). is_some k) is, refuses)
+
+-- a rule that it breaks is told by what was known of bytes
+pub broken_so : (old counted read : Trial) (line : Recorded) (told : Line) (rule : Rule) → IsCounted old line.line.label counted → IsLineRead counted line told read
+    → RefusesLine old.judge (read_line old.reader line) rule → IsRefusedFor old line (broken_as read.reader.known rule)
+broken_so old counted read line told rule count reads refuses =
+    let after : read.reader ≡ reader_after old.reader line = reads.reader ∙ ap (λ (v : Reader). reader_after v line) count.same_reader in
+    subst (λ (v : Reader). IsRefusedFor old line (broken_as v.known rule)) (sym after) (by_known old line old.reader.known rule refl refuses)
 
 -- a stop at a misstep of the line
 pub stops_so : (old : Trial) (line : Recorded) (number : ℕ) (misstep : Misstep) (json : Bool) (a b : Option (List ℕ)) (result : Result Course Error) → json ≡ old.json → IsRefusedFor old line misstep

@@ -20,6 +20,10 @@ use Rattle.judge.specs.Following.{IsLineRefused}
 use Rattle.judge.specs.LeftUndone.{IsSettled}
 use Rattle.judge.specs.Refusals.{most_readings}
 use Rattle.judge.specs.RuleTexts.{rule_text}
+use Rattle.judge.specs.declared.label_rules.AnswerRule.TheVariants as answer_rules
+use Rattle.judge.specs.declared.label_rules.Difference.{Difference}
+use Rattle.judge.specs.declared.label_rules.Rule.{Rule}
+use Rattle.judge.specs.declared.label_rules.Rule.TheVariants as rules
 use Rattle.trace_tags.specs.Tags.{TagsView}
 use Rattle.settings.specs.declared.Config.{Config}
 use Rattle.settings.specs.Medium.{extents_of, zeros}
@@ -29,7 +33,7 @@ use Rattle.startup.specs.declared.ending.Verdict.{Verdict}
 use Rattle.startup.specs.declared.ending.Verdict.TheVariants.{Passed, Failed}
 use Rattle.judging.specs.Told.{AreTold, AreToldFirst, IsFirstBad}
 use Rattle.judging.specs.declared.misstep.Misstep.{Misstep}
-use Rattle.judging.specs.declared.misstep.Misstep.TheVariants.{Breaks, NoPartition, Read}
+use Rattle.judging.specs.declared.misstep.Misstep.TheVariants.{Blank, Breaks, NoPartition, Read}
 use Rattle.judging.specs.declared.opened.Standard.{Standard}
 use Rattle.judge_words.specs.declared.asked.Asked.{Asked}
 use Rattle.judging.specs.declared.faults.Error.{Error}
@@ -160,11 +164,16 @@ pub record IsLegal (standard : Standard) (lines : List Recorded) (verdict : Verd
 
 -- A LINE THAT IS REFUSED
 
--- the line behind these is no step, and breaks the rule; or it is a call in a partition that isn't there; or it can't be
--- read
-abbrev pub IsMisstep : Standard → List Recorded → Recorded → Misstep → Type 0
-IsMisstep standard before line (Breaks rule) =
+-- the line behind these is no step, and breaks the rule
+abbrev pub BreaksRule : Standard → List Recorded → Recorded → Rule → Type 0
+BreaksRule standard before line rule =
     IsLineRefused (rules_by standard) (arrays_of standard) (judged standard before) (read_line (after_all (first_reader standard) before) line) rule
+
+-- it is no step, as it is judged or with zeros for its bytes; or it is a call in a partition that isn't there; or it can't
+-- be read
+abbrev pub IsMisstep : Standard → List Recorded → Recorded → Misstep → Type 0
+IsMisstep standard before line (Breaks rule) = (standard.asked.gaps ≡ false) × BreaksRule standard before line rule
+IsMisstep standard before line (Blank rule) = (standard.asked.gaps ≡ true) × BreaksRule standard before line rule
 IsMisstep standard before line (NoPartition partition count) =
     (partition_of line.line.label ≡ Some partition) × (count ≡ count_of standard) × (count ≤ partition)
 IsMisstep standard before line (Read rule) = CantRead (after_all (first_reader standard) before) line rule
@@ -181,9 +190,28 @@ pub record IsFirstRefused (standard : Standard) (lines : List Recorded) (numbers
   pub in_table : All (λ r. IsInTable (count_of standard) r.line.label) before
   pub is_misstep : IsMisstep standard before line misstep
 
+-- the first byte of an answer that differs from what is due, if a rule says that
+abbrev pub bytes_handed : Rule → Option Difference
+bytes_handed (rules.Answer (answer_rules.Bytes difference)) = Some difference
+bytes_handed _ = None
+
+-- an answer has too few bytes, or too many
+abbrev pub count_as : ℕ → Option ℕ → List ℕ
+count_as at (Some due) = codes "the bytes of the answer: byte " ++ (decimal at ++ codes " is missing")
+count_as at None = codes "the bytes of the answer: no more than " ++ (decimal at ++ codes " are due")
+
+abbrev pub count_text : Difference → List ℕ
+count_text difference = count_as difference.at difference.due
+
+-- of zeros that stand for bytes only their number is told
+abbrev pub blank_by : Option Difference → Rule → List ℕ
+blank_by (Some difference) rule = count_text difference
+blank_by None rule = rule_text rule
+
 -- why a line is refused, in words
 abbrev pub misstep_text : Misstep → List ℕ
 misstep_text (Breaks rule) = rule_text rule
+misstep_text (Blank rule) = blank_by (bytes_handed rule) rule
 misstep_text (NoPartition partition count) = codes "there is no partition " ++ (decimal partition ++ (codes ": there are " ++ (decimal count ++ codes ", counted from 0")))
 misstep_text (Read rule) = read_text rule
 

@@ -5,3 +5,4 @@ pub mod Cut
 pub mod Faults
 pub mod Reading
 pub mod Telling
+pub mod Saying

@@ -4,7 +4,7 @@ ghost use Rattle.std.specs.Prelude.{◌≡◌, [], IfErr, IfOk, MatchOption, OnO
 ghost use Rattle.std.specs.Io.KnownBytes.{Appends};
 ghost use Rattle.judging.specs.Checked.{IsInTable, IsOutputFault, first_known, first_reader, is_call, is_start, partition_of, refused_line, rules_by, tags_for};
 ghost use Rattle.judge.specs.Views.{rules_of};
-ghost use Rattle.judging.specs.inside.Course.{GoesByLine, GoesOn, HasTried, IsAbsent, IsCounted, IsFit, IsLineRead, IsOpening, IsRefusedFor, IsStop, IsStopByLine, IsStopOf, IsStopped, SaysRefused, Tallies, Tries, unjudged};
+ghost use Rattle.judging.specs.inside.Course.{GoesByLine, GoesOn, HasTried, IsAbsent, IsCounted, IsFit, IsLineRead, IsOpening, IsRefusedFor, IsStop, IsStopByLine, IsStopOf, IsStopped, SaysRefused, Tallies, Tries, broken_as, unjudged};
 ghost use Rattle.judging.specs.declared.faults.Error.TheVariants.{NoMemory};
 
 use crate::Error;
@@ -16,7 +16,7 @@ use crate::past::Past;
 use crate::progress::Progress;
 use crate::told::Told;
 use judge::stepwise::{Judge, Refusal};
-use judge::{MachineRules, NoVerdict};
+use judge::{MachineRules, NoVerdict, Rule};
 use judge_words::asked::Asked;
 use machine::Label;
 use srb::DeviceLabel;
@@ -222,6 +222,16 @@ impl Trial {
         Ok(told)
     }
 
+    /// Why a line is refused that breaks a rule, as it is judged.
+    fn broken(&self, rule: Rule) -> Misstep
+        ensures { result ≡ broken_as self.now.reader.known rule }
+    {
+        match self.reader.known {
+            Some(_) => Misstep::Blank(rule),
+            None => Misstep::Breaks(rule),
+        }
+    }
+
     /// What comes of one line more, of this number.
     #[tactic(auto, using(crate::proofs::Trying::output_stops))]
     fn with<O: Write>(
@@ -249,7 +259,7 @@ impl Trial {
             Err(Refusal::Breaks(rule)) => {
                 let stop = Stop {
                     line: number,
-                    misstep: Misstep::Breaks(rule),
+                    misstep: self.broken(rule),
                 };
                 self.stopped(alloc, &told, stop, out)
             }
@@ -279,7 +289,8 @@ impl Trial {
     {
         let label = &line.line.label;
         self.past.note_own(line, self.reader.known.is_some())?;
-        self.past.note(&self.judge, label, number)?;
+        self.past
+            .note(&self.judge, &self.reader.known, label, number)?;
         self.tally = self.tally.with(label);
         Ok(())
     }
@@ -306,6 +317,7 @@ impl Trial {
         let scene = Scene {
             judge: &self.judge,
             past: &self.past,
+            known: &self.reader.known,
             line,
             misstep,
         };

@@ -160,7 +160,9 @@ fn are_same(a: &[u8], b: &[u8]) -> bool
 /// Whether bytes differ in the same way.
 fn differ_alike(a: Misstep, b: Misstep) -> bool {
     match (a, b) {
-        (Misstep::Breaks(a), Misstep::Breaks(b)) => difference_of(a) == difference_of(b),
+        (Misstep::Breaks(a), Misstep::Breaks(b)) | (Misstep::Blank(a), Misstep::Blank(b)) => {
+            difference_of(a) == difference_of(b)
+        }
         _ => true,
     }
 }

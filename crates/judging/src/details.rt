@@ -1,5 +1,6 @@
 //! What a refused line is about: its request, its piece, its place on the disk, and the bytes that differ.
 
+use crate::clashes::{Before, Clash};
 use crate::fields::Fields;
 use crate::misstep::Misstep;
 use crate::past::{Past, Range, block_of, first_of, first_sector, piece_at, request_at};
@@ -15,6 +16,8 @@ use ntstatus::NtStatus;
 use srb::DeviceLabel;
 use std::alloc::{AllocError, Global};
 use trace_line::Line;
+use trace_reader::ReadRule;
+use trace_reader::known::Known;
 
 /// How many bytes of a line are repeated, at most.
 const REPEATED: usize = 200;
@@ -24,6 +27,8 @@ const REPEATED: usize = 200;
 pub(crate) struct Scene<'a> {
     pub judge: &'a Judge,
     pub past: &'a Past,
+    /// What is known of bytes, where some were not recorded.
+    pub known: &'a Option<Known>,
     pub line: &'a Line,
     pub misstep: Misstep,
 }
@@ -104,6 +109,14 @@ pub(crate) fn difference_of(rule: Rule) -> Option<Difference> {
     }
 }
 
+/// The byte that a difference is about: the last one that is due where there are more.
+fn found_at(difference: Difference) -> u64 {
+    match difference.due {
+        Some(_) => difference.at,
+        None => difference.at.saturating_sub(1),
+    }
+}
+
 /// Whether a rule says that a call is refused with INVALID_PARAMETER.
 fn is_invalid(rule: Rule) -> bool {
     match rule {
@@ -163,13 +176,43 @@ impl<'a> Scene<'a> {
 
     fn rule(&self) -> Option<Rule> {
         match self.misstep {
-            Misstep::Breaks(rule) => Some(rule),
+            Misstep::Breaks(rule) | Misstep::Blank(rule) => Some(rule),
             Misstep::NoPartition { .. } | Misstep::Read(_) => None,
         }
     }
 
     fn machine(&self) -> Option<&'a Machine> {
         first_of(self.judge)
+    }
+
+    /// Where the bytes of the line are not those that were told.
+    fn clash(&self) -> Option<Clash<'a>> {
+        let Misstep::Read(ReadRule::Bytes(rule)) = self.misstep else {
+            return None;
+        };
+        let Some(known) = self.known else {
+            return None;
+        };
+        let before = Before {
+            known,
+            past: self.past,
+            size: self.judge.rules().sector_size as u64,
+        };
+        before.clash(self.label(), rule)
+    }
+
+    /// The piece that the line is about.
+    fn piece_number(&self) -> Option<u128> {
+        match self.clash() {
+            Some(clash) => Some(clash.piece),
+            None => piece_of(self.label()),
+        }
+    }
+
+    /// The place of its request that a block of the disk is.
+    fn place_of(&self, block: u64) -> Option<u64> {
+        let first = block_of(self.judge.rules(), self.request()?.request(), 0)?;
+        block.checked_sub(first)
     }
 
     /// The piece at the adapter that the label is of.
@@ -201,6 +244,9 @@ impl<'a> Scene<'a> {
 
     /// The place of its request that the line is about.
     fn place(&self) -> Option<u64> {
+        if let Some(clash) = self.clash() {
+            return self.place_of(clash.block);
+        }
         let first = match self.piece() {
             Some(piece) => Some(piece.places().first),
             None => None,
@@ -212,7 +258,9 @@ impl<'a> Scene<'a> {
                 | AnswerRule::NotDone { place }
                 | AnswerRule::Status { place, .. },
             ) => Some(place),
-            Rule::Answer(AnswerRule::Bytes(difference)) => Some(self.sectors_to(difference.at)),
+            Rule::Answer(AnswerRule::Bytes(difference)) => Some(self.sectors_to(found_at(
+                difference,
+            ))),
             Rule::Act(ActRule::Write(difference) | ActRule::Disk(difference)) => {
                 Some(first?.saturating_add(self.sectors_to(difference.at)))
             }
@@ -223,6 +271,9 @@ impl<'a> Scene<'a> {
 
     /// The block of the disk that the line is about.
     fn block(&self) -> Option<u64> {
+        if let Some(clash) = self.clash() {
+            return Some(clash.block);
+        }
         if let (Some(request), Some(place)) = (self.request(), self.place()) {
             return block_of(self.judge.rules(), request.request(), place);
         }
@@ -268,14 +319,22 @@ impl<'a> Scene<'a> {
     fn writer(&self, rule: Rule) -> Option<u64> {
         match rule {
             Rule::Act(ActRule::Write(_)) => self.past.calls.line_of(self.number()?),
-            Rule::Act(ActRule::Disk(_)) => self.past.writer_of(self.block()?),
+            Rule::Act(ActRule::Disk(_)) => self.past.teller_of(self.block()?),
             _ => None,
+        }
+    }
+
+    /// The first byte that differs. Where zeros stand for the bytes there is none but in a block.
+    fn difference(&self, rule: Rule) -> Option<Difference> {
+        match (self.misstep, rule) {
+            (Misstep::Blank(_), Rule::Act(_) | Rule::Answer(_)) => None,
+            _ => difference_of(rule),
         }
     }
 
     /// Writes the bytes that differ.
     fn tell_bytes(&self, rule: Rule, fields: &mut Fields) -> Result<(), AllocError> {
-        let Some(difference) = difference_of(rule) else {
+        let Some(difference) = self.difference(rule) else {
             return Ok(());
         };
         let found = from(bytes_of(self.label()), difference.at);
@@ -341,9 +400,13 @@ impl<'a> Scene<'a> {
     pub fn tell(&self, alloc: Global, fields: &mut Fields) -> Result<(), AllocError> {
         self.tell_line(alloc, fields)?;
         fields.number("request", widened(self.number()))?;
-        fields.number("piece", piece_of(self.label()))?;
+        fields.number("piece", self.piece_number())?;
         fields.number("place", widened(self.place()))?;
         fields.number("block", widened(self.block()))?;
+        if let Some(clash) = self.clash() {
+            fields.bytes("found", clash.found, None)?;
+            fields.bytes("due", clash.due, clash.line)?;
+        }
         let Some(rule) = self.rule() else {
             return Ok(());
         };

@@ -10,6 +10,7 @@ use std::alloc::{AllocError, Global};
 use std::collections::BTreeMap;
 use trace_line::Line;
 use trace_reader::Recorded;
+use trace_reader::known::{Known, Sent};
 
 /// Where a call asks for bytes.
 #[derive(Debug, Clone, Copy)]
@@ -40,8 +41,21 @@ pub(crate) struct Past {
     pub tag: u8,
     /// How the newest line begins, where some bytes were not recorded.
     pub own: Vec<u8>,
-    /// The line that wrote each block of the disk last.
-    writers: BTreeMap<u64, u64>,
+    /// The line that told what stands in each block of the disk: that wrote it last, or read it first where nobody told
+    /// what was written.
+    tellers: BTreeMap<u64, u64>,
+    /// The blocks that pieces of open requests read, where some bytes were not recorded.
+    read: Vec<Read>,
+}
+
+/// A block that a piece read.
+#[derive(Debug, Clone, Copy)]
+struct Read {
+    owner: u64,
+    piece: u128,
+    block: u64,
+    /// The line that told what it read.
+    line: Option<u64>,
 }
 
 /// The first of the judge's readings.
@@ -86,18 +100,32 @@ impl Past {
             newest: None,
             tag: 0,
             own: Vec::new(alloc),
-            writers: BTreeMap::new(alloc),
+            tellers: BTreeMap::new(alloc),
+            read: Vec::new(alloc),
         }
     }
 
-    /// Notes a label, of the line of this number.
-    pub fn note(&mut self, judge: &Judge, label: &Label, line: u64) -> Result<(), AllocError> {
+    /// Notes a label, of the line of this number, before which this was known of bytes if some were not recorded.
+    pub fn note(
+        &mut self,
+        judge: &Judge,
+        known: &Option<Known>,
+        label: &Label,
+        line: u64,
+    ) -> Result<(), AllocError> {
         self.calls.note(label, line)?;
         match label {
             Label::Call { request, .. } => self.newest = Some(Range::of(request)),
+            Label::Answer { number, .. } => self.read.retain(|read| read.owner != *number),
             Label::Device(DeviceLabel::Start { tag, .. }) => self.tag = *tag,
-            Label::Device(DeviceLabel::Act { piece, .. }) => {
-                return self.note_act(judge, *piece, line);
+            Label::Device(DeviceLabel::Act { piece, bytes }) => {
+                return match known {
+                    Some(known) => {
+                        let line = (bytes.len() > 0).then_some(line);
+                        self.note_told(known, *piece, line)
+                    }
+                    None => self.note_act(judge, *piece, line),
+                };
             }
             _ => {}
         }
@@ -125,14 +153,91 @@ impl Past {
             return Ok(());
         };
         for block in first..first.saturating_add(count) {
-            self.writers.insert(block, line)?;
+            self.tellers.insert(block, line)?;
         }
         Ok(())
     }
 
-    /// The line that wrote a block of the disk last.
-    pub fn writer_of(&self, block: u64) -> Option<u64> {
-        self.writers.get(&block).copied()
+    /// Notes a piece's act, which told its bytes in this line if it did.
+    fn note_told(
+        &mut self,
+        known: &Known,
+        piece: u128,
+        line: Option<u64>,
+    ) -> Result<(), AllocError> {
+        let Some(sent) = known.sent_at(piece) else {
+            return Ok(());
+        };
+        match sent.kind {
+            Kind::Write => self.note_write(sent, line),
+            Kind::Read => self.note_read(known, sent, line),
+            Kind::Flush => Ok(()),
+        }
+    }
+
+    /// Notes the line that told what a piece wrote: that of its act, or else of its call.
+    fn note_write(&mut self, sent: Sent, line: Option<u64>) -> Result<(), AllocError> {
+        let call = match sent.owner {
+            Some(owner) => self.calls.line_of(owner),
+            None => None,
+        };
+        let Some(line) = line.or(call) else {
+            return Ok(());
+        };
+        let first = sent.extent.first;
+        for block in first..first.saturating_add(sent.extent.count) {
+            self.tellers.insert(block, line)?;
+        }
+        Ok(())
+    }
+
+    /// Notes the line that told what a piece read: that of its act, or else the one that told what the block holds.
+    fn note_read(
+        &mut self,
+        known: &Known,
+        sent: Sent,
+        line: Option<u64>,
+    ) -> Result<(), AllocError> {
+        let first = sent.extent.first;
+        for block in first..first.saturating_add(sent.extent.count) {
+            let is_new = known.sector(block as u128).is_empty();
+            if let Some(line) = line
+                && is_new
+            {
+                self.tellers.insert(block, line)?;
+            }
+            self.add_read(sent, block, line)?;
+        }
+        Ok(())
+    }
+
+    fn add_read(&mut self, sent: Sent, block: u64, line: Option<u64>) -> Result<(), AllocError> {
+        let Some(owner) = sent.owner else {
+            return Ok(());
+        };
+        let line = line.or(self.teller_of(block));
+        self.read.push(Read {
+            owner,
+            piece: sent.number,
+            block,
+            line,
+        })?;
+        Ok(())
+    }
+
+    /// The line that told what stands in a block of the disk.
+    pub fn teller_of(&self, block: u64) -> Option<u64> {
+        self.tellers.get(&block).copied()
+    }
+
+    /// The line that told what a piece read of a block.
+    pub fn teller_to(&self, piece: u128, block: u64) -> Option<u64> {
+        for read in self.read.as_slice() {
+            if read.piece == piece && read.block == block {
+                return read.line;
+            }
+        }
+        None
     }
 }
 

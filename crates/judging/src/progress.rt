@@ -2,7 +2,7 @@
 
 use std::io::Write;
 
-/// Where it is told how far a check came, on a line of its own after each `every` labels that are a run.
+/// Where it is told how far a check came, on a line of its own after each `every` labels that are a run, or of a history were read.
 #[derive(Debug, Drop)]
 pub struct Progress<W> {
     /// The writer of these lines. What it doesn't take is left out.
@@ -18,6 +18,16 @@ impl<W: Write> Progress<W> {
             return;
         }
         let Ok(()) = writeln!(self.out, "stackjudge: {labels} labels, legal so far") else {
+            return;
+        };
+    }
+
+    /// Says that this many labels were read, where a line is due.
+    pub(crate) fn say_read(&mut self, labels: u64) {
+        if labels == 0 || self.every == 0 || labels % self.every != 0 {
+            return;
+        }
+        let Ok(()) = writeln!(self.out, "stackjudge: {labels} labels read") else {
             return;
         };
     }

@@ -13,7 +13,7 @@ use judging::Error;
 use judging::checking::check;
 use judging::cutting::cut;
 use judging::drawing::{Drawn, draw, draw_judged, lines_in};
-use judging::histories::judge_history;
+use judging::histories::{Listeners, Terms, judge_history};
 use judging::opened::{Standard, read_standard};
 use judging::progress::Progress;
 use judging::scripts::record_script;
@@ -64,15 +64,38 @@ fn run(rt: &HostRuntime) -> Result<Verdict, Error> {
             cut_trace(rt, &standard, trace)
         }
         Command::Record { config, script } => write_trace(rt, config, script),
-        Command::History { config, history } => judge_history_at(rt, config, history),
+        Command::History {
+            config,
+            history,
+            any_start,
+            progress,
+            json,
+        } => {
+            let mut listeners = Listeners {
+                out: rt.stdout(),
+                progress: Progress {
+                    out: rt.stderr(),
+                    every: if progress { EVERY } else { 0 },
+                },
+            };
+            let terms = Terms { any_start, json };
+            judge_history_at(rt, config, history, terms, &mut listeners)
+        }
         Command::Picture {
             config,
             trace,
+            asked,
             events,
             lines,
         } => {
             let drawn = drawn_of(events, lines)?;
-            draw_trace(rt, config, trace, drawn)
+            if let Some(config) = config {
+                return draw_judged_trace(rt, config, trace, asked, drawn);
+            }
+            if asked != Asked::nothing() {
+                return Err(Error::Usage);
+            }
+            draw_trace(rt, trace, drawn)
         }
     }
 }
@@ -158,33 +181,46 @@ fn write_trace(rt: &HostRuntime, config: &str, script: &str) -> Result<Verdict, 
 }
 
 /// Judges the history at a path, or the one on standard input.
-fn judge_history_at(rt: &HostRuntime, config: &str, history: &str) -> Result<Verdict, Error> {
+fn judge_history_at<O: Write, W: Write>(
+    rt: &HostRuntime,
+    config: &str,
+    history: &str,
+    terms: Terms,
+    listeners: &mut Listeners<O, W>,
+) -> Result<Verdict, Error> {
     let alloc = rt.alloc();
     let config = open_input(rt, config);
     if history == "-" {
-        return judge_history(alloc, config, rt.stdin(), &mut rt.stdout());
+        return judge_history(alloc, config, rt.stdin(), terms, listeners);
     }
-    judge_history(alloc, config, open_input(rt, history), &mut rt.stdout())
+    judge_history(alloc, config, open_input(rt, history), terms, listeners)
 }
 
-/// Draws the trace at a path, or the one on standard input, judged by the settings at a path, if there is one.
-fn draw_trace(
+/// Draws the trace at a path, or the one on standard input.
+fn draw_trace(rt: &HostRuntime, trace: &str, drawn: Drawn) -> Result<Verdict, Error> {
+    let alloc = rt.alloc();
+    let Ok(mut out) = BufWriter::with_capacity(alloc, BUFFER, rt.stdout()) else {
+        return Err(Error::NoMemory);
+    };
+    if trace == "-" {
+        return draw(alloc, rt.stdin(), drawn, &mut out);
+    }
+    draw(alloc, open_input(rt, trace), drawn, &mut out)
+}
+
+/// Draws the trace at a path, or the one on standard input, judged by the settings at a path and by what is asked of it.
+fn draw_judged_trace(
     rt: &HostRuntime,
-    config: Option<&str>,
+    config: &str,
     trace: &str,
+    asked: Asked,
     drawn: Drawn,
 ) -> Result<Verdict, Error> {
     let alloc = rt.alloc();
     let Ok(mut out) = BufWriter::with_capacity(alloc, BUFFER, rt.stdout()) else {
         return Err(Error::NoMemory);
     };
-    let Some(config) = config else {
-        if trace == "-" {
-            return draw(alloc, rt.stdin(), drawn, &mut out);
-        }
-        return draw(alloc, open_input(rt, trace), drawn, &mut out);
-    };
-    let standard = read_standard(alloc, open_input(rt, config), Asked::nothing())?;
+    let standard = read_standard(alloc, open_input(rt, config), asked)?;
     if trace == "-" {
         return draw_judged(alloc, &standard, rt.stdin(), drawn, &mut out);
     }

@@ -272,8 +272,8 @@ impl Known {
         }
     }
 
-    /// The open request of this number.
-    fn asked_at(&self, number: u64) -> Option<&Asked>
+    /// The open request of this number, as its call told it.
+    pub fn asked_at(&self, number: u64) -> Option<&Asked>
         ensures { option_copied result ≡ find (is_asked number) self.now.asked }
     {
         self.asked.iter().find(|asked| asked.is(number))
@@ -286,8 +286,8 @@ impl Known {
         self.sent.iter().find(|piece| piece.is(number))
     }
 
-    /// The transfer of this number that is out.
-    fn sent_at(&self, number: u128) -> Option<Sent>
+    /// The transfer of this number that is out, as its start told it.
+    pub fn sent_at(&self, number: u128) -> Option<Sent>
         ensures { result ≡ find (is_sent number) self.now.sent }
     {
         match self.lent_at(number) {
@@ -306,8 +306,15 @@ impl Known {
         }
     }
 
-    /// What the call of a piece has told of its bytes.
-    fn due(&self, piece: Sent) -> &[u8]
+    /// What is known of a sector of the disk: its bytes, or none.
+    pub fn sector(&self, number: u128) -> &[u8]
+        ensures { result.now ≡ slice_index_or self.now.sectors number [] }
+    {
+        sector_at(&self.sectors, number)
+    }
+
+    /// What the call of a piece has told of its bytes, where its start names the call.
+    pub fn due(&self, piece: Sent) -> &[u8]
         ensures { result.now ≡ due self.now piece }
     {
         let Some(owner) = piece.owner else {
@@ -356,8 +363,8 @@ impl Known {
             )
     }
 
-    /// The piece that has read other bytes of a request than an answer with these.
-    fn denying(&self, asked: &Asked, bytes: &[u8]) -> Option<&Moved>
+    /// The first bytes that a piece read of a request otherwise than an answer with these.
+    pub fn denying(&self, asked: &Asked, bytes: &[u8]) -> Option<&Moved>
         ensures { option_copied result ≡ find (is_denied self.now asked.now bytes.now) self.now.moved }
     {
         self.moved

@@ -1,13 +1,15 @@
 -- How the lines of a trace are judged, one by one.
-use Rattle.std.specs.Prelude.{◌≡◌, ◌<◌, ◌≤◌, ◌+◌, ◌-◌, ◌^◌, ℕ, min, Bool, List, [], All, Option, Some, count_by, if◌then◌else◌, length}
+use Rattle.std.specs.Prelude.{◌≡◌, ◌<◌, ◌≤◌, ◌+◌, ◌-◌, ◌^◌, ℕ, min, Bool, List, [], All, Option, None, Some, count_by, false, if◌then◌else◌, is_some, length, true}
 use Rattle.std.specs.Io.KnownBytes.{Appends}
 use Rattle.machine.specs.declared.Label.{Label}
 use Rattle.trace_line.specs.declared.Line.{Line}
 use Rattle.trace_reader.specs.declared.Recorded.{Recorded}
 use Rattle.trace_reader.specs.declared.Reader.{Reader}
+use Rattle.trace_reader.specs.Known.{KnownView}
 use Rattle.trace_reader.specs.Readers.{CanRead, CantRead, after_all, read_line, reader_after}
 use Rattle.judge.specs.Following.{HasTakenLines, RefusesLine, TakesLine}
 use Rattle.judge.specs.Refusals.{most_readings}
+use Rattle.judge.specs.declared.label_rules.Rule.{Rule}
 use Rattle.judge.specs.declared.NoVerdict.{NoVerdict}
 use Rattle.judge.specs.declared.NoVerdict.TheVariants.{NoMemory as WantOfMemory, Readings as TooMany}
 use Rattle.judging.specs.Checked.{CanBeRead, IsFirstRefused, IsInTable, IsOutputFault, arrays_of, count_of, first_reader, is_call, is_start, judged, partition_of, refused_line, rules_by}
@@ -18,7 +20,7 @@ use Rattle.judging.specs.declared.course.Trial.{Trial}
 use Rattle.judging.specs.declared.faults.Error.{Error}
 use Rattle.judging.specs.declared.faults.Error.TheVariants.{BadLine, Readings, OutputFailed, NoMemory}
 use Rattle.judging.specs.declared.misstep.Misstep.{Misstep}
-use Rattle.judging.specs.declared.misstep.Misstep.TheVariants.{Breaks, NoPartition, Read}
+use Rattle.judging.specs.declared.misstep.Misstep.TheVariants.{Blank, Breaks, NoPartition, Read}
 use Rattle.judging.specs.declared.opened.Standard.{Standard}
 use Rattle.judging.specs.declared.told.Told.{Told}
 use Rattle.judging.specs.declared.told.Told.TheVariants.{Line as TellsLine, Nothing, BadWord}
@@ -37,9 +39,15 @@ pub record Tallies (old : Tally) (label : Label) (new : Tally) : Type 0 where
 abbrev pub IsAbsent : ℕ → Label → ℕ → Type 0
 IsAbsent count label partition = (partition_of label ≡ Some partition) × (count ≤ partition)
 
+-- how it is told that a line breaks a rule: where some bytes were not recorded zeros stand for all
+abbrev pub broken_as : Option KnownView → Rule → Misstep
+broken_as None rule = Breaks rule
+broken_as (Some known) rule = Blank rule
+
 -- why the judge of a trial refuses a line
 abbrev pub IsRefusedFor : Trial → Recorded → Misstep → Type 0
-IsRefusedFor trial line (Breaks rule) = RefusesLine trial.judge (read_line trial.reader line) rule
+IsRefusedFor trial line (Breaks rule) = (is_some trial.reader.known ≡ false) × RefusesLine trial.judge (read_line trial.reader line) rule
+IsRefusedFor trial line (Blank rule) = (is_some trial.reader.known ≡ true) × RefusesLine trial.judge (read_line trial.reader line) rule
 IsRefusedFor trial line (NoPartition partition most) =
     (partition_of line.line.label ≡ Some partition) × (most ≡ length trial.judge.rules.partitions) × (most ≤ partition)
 IsRefusedFor trial line (Read rule) = CantRead trial.reader line rule

@@ -1,11 +1,7 @@
-use Rattle.history_judge.proofs.Judged.{unfit_if, fit_if}
+use Rattle.std.proofs.Common.{subst}
+use Rattle.std.specs.Prelude.{IfOk}
+use Rattle.history_judge.specs.Verdicts.{IsRight}
 use Rattle.history_judge.proofs.judging.judge.Goals as goal
 
-pub judge_sectors-requires : goal.judge_sectors-requires
-judge_sectors-requires c = record {
-  sized = c.requires;
-  fit = fit_if c.args.service.now c.args.labels.now c.in_ok-label.field-0 c.in-None.is c.in_ok-label.ensures;
-}
-
-pub returns-in-Some : goal.returns-in-Some
-returns-in-Some c = record { right = unfit_if c.explained_fit.ensures c.args.service.now c.args.labels.now c.in_ok-label.field-0 c.in-Some.is c.in_ok-label.ensures }
+pub returns : goal.returns
+returns c = record { right = subst (λ bytes. IfOk c.judge_by.result (IsRight c.args.service.now bytes c.args.labels.now)) c.in_ok-bytes.ensures.items c.judge_by.ensures }

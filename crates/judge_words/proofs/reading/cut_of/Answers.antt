@@ -24,8 +24,8 @@ no_config rows (Cut config trace asked) name none has =
     let both : ◌≡◌ {A = Option Text} None (Some config.now) = none ∙ has.0 in
     absurd (cc)
 no_config rows (Record config script) name none has = absurd (cc (name))
-no_config rows (History config history) name none has = absurd (cc (name))
-no_config rows (Picture config trace events lines) name none has = absurd (cc (name))
+no_config rows (History config history any_start progress json) name none has = absurd (cc (name))
+no_config rows (Picture config trace asked events lines) name none has = absurd (cc (name))
 
 no_trace : (rows : List Row) (command : Command) → name_of command ≡ codes "cut" → ◌≡◌ {A = Option Text} None (first_of (codes "TRACE") rows) → HasWords rows command → ⊥
 no_trace rows (Check config other asked progress sessions) name none has = absurd (cc (name))
@@ -33,8 +33,8 @@ no_trace rows (Cut config trace asked) name none has =
     let both : ◌≡◌ {A = Option Text} None (Some trace.now) = none ∙ has.1 in
     absurd (cc)
 no_trace rows (Record config other) name none has = absurd (cc (name))
-no_trace rows (History config other) name none has = absurd (cc (name))
-no_trace rows (Picture config other events lines) name none has = absurd (cc (name))
+no_trace rows (History config other any_start progress json) name none has = absurd (cc (name))
+no_trace rows (Picture config other asked events lines) name none has = absurd (cc (name))
 
 pub returns-in_default : goal.returns-in_default
 returns-in_default c = λ command name has.

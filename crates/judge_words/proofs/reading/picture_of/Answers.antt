@@ -18,6 +18,7 @@ returns c =
       refl,
       (
         as_found _ _ _ _ _ _ (c.in-Some.ensures ∙ first_value-rows found (codes "FIRST")) (c.get_str-2.ensures ∙ first_value-rows found (codes "SECOND")) c.files.ensures,
+        c.asked_of-asked.ensures,
         flag_is found (codes "events") c.get_flag-events.result c.get_flag-events.ensures.none c.get_flag-events.ensures.value c.get_flag-events.ensures.other,
         c.get_str-lines.ensures ∙ first_value-rows found (codes "lines"),
       ),
@@ -31,8 +32,8 @@ no_first : (rows : List Row) (command : Command) → name_of command ≡ codes "
 no_first rows (Check config trace asked progress sessions) name none has = absurd (cc (name))
 no_first rows (Cut config trace asked) name none has = absurd (cc (name))
 no_first rows (Record config script) name none has = absurd (cc (name))
-no_first rows (History config history) name none has = history_is_no_picture name
-no_first rows (Picture config trace events lines) name none has = no_files _ _ _ _ none has.0
+no_first rows (History config history any_start progress json) name none has = history_is_no_picture name
+no_first rows (Picture config trace asked events lines) name none has = no_files _ _ _ _ none has.0
 
 pub returns-in_default : goal.returns-in_default
 returns-in_default c = λ command name has.

@@ -1,0 +1,26 @@
+-- What is said of a history, and of what service.
+use Rattle.std.specs.Prelude.{◌≡◌, ◌<◌, Bool, List}
+use Rattle.machine.specs.declared.Label.{Label}
+use Rattle.settings.specs.declared.Config.{Config}
+use Rattle.startup.specs.Started.{rules_of}
+use Rattle.history_judge.specs.declared.service.Service.{Service}
+use Rattle.history_judge.specs.declared.judging.Verdict.{Verdict}
+use Rattle.history_judge.specs.Services.{AreOf}
+use Rattle.judging.specs.Histories.{JudgedBy}
+use Rattle.judging.specs.declared.histories.Said.{Said}
+use Rattle.judging.specs.declared.histories.Said.TheVariants.{By, Busy}
+
+-- a service with the sizes and partitions of the settings' stack
+pub record IsServiceOf (config : Config) (service : Service) : Type 0 where
+  pub are_of : AreOf service (rules_of config)
+  pub some : 0 < service.sector_size
+
+-- a verdict that is told is right
+abbrev pub IsSaid : Bool → Config → List Label → Said → Type 0
+IsSaid any_start config history (By verdict) = JudgedBy any_start config history verdict
+IsSaid any_start config history (Busy place) = Unit {0}
+
+-- if a verdict is told, it is this one
+abbrev pub IsBy : Verdict → Said → Type 0
+IsBy verdict (By told) = told ≡ verdict
+IsBy verdict (Busy place) = Unit {0}
