@@ -15,8 +15,8 @@ returns-in-Err-Breaks-clause-tries g c =
     let refuses : RefusesLine c.read.new.self.judge c.in_ok-told.told c.in-Err-Breaks.rule = search rules in
     let refused = refused_so c.args.self c.count.new.self c.read.new.self c.args.line c.in_ok-told.told c.in-Err-Breaks.rule c.in_ok-count.ensures.counted c.in_ok-told.ensures.read refuses in
     let broken = broken_so c.args.self c.count.new.self c.read.new.self c.args.line c.in_ok-told.told c.in-Err-Breaks.rule c.in_ok-count.ensures.counted c.in_ok-told.ensures.read refused in
-    stops_so c.args.self c.args.line c.args.number c.broken-in-Err-Breaks.result c.read.new.self.json (g.O.Write.contents c.args.out.now)
+    stops_so c.args.self c.args.line c.args.number c.broken.result c.read.new.self.json (g.O.Write.contents c.args.out.now)
     (g.O.Write.contents c.stopped-in-Err-Breaks.new.out) c.stopped-in-Err-Breaks.result
     (c.in_ok-told.ensures.read.same_form ∙ c.in_ok-count.ensures.counted.same_form)
-    (subst (IsRefusedFor c.args.self c.args.line) (sym c.broken-in-Err-Breaks.ensures) broken)
+    (subst (IsRefusedFor c.args.self c.args.line) (sym c.broken.ensures) broken)
     c.stopped-in-Err-Breaks.ensures.stops
