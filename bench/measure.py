@@ -1,6 +1,7 @@
 """Runs the programs, and prints what it took: `trace STACKRUN` on scripts that it makes, `clients STACKRUN` with threads,
 `labels STACKJUDGE` on a long trace."""
 import os
+import re
 import subprocess
 import sys
 import tempfile
@@ -187,6 +188,27 @@ def labels(judge):
             line = f.read().strip()
         print('%-13s %s: %.3f s of processor time, the least of 3; a second %.0f labels; %.0f MB at most' % (
             'judged', line, seconds, int(line.split()[1]) / seconds, memory / 1e6))
+    readings(judge)
+
+
+def readings(judge):
+    """The traces whose starts may be of several requests: as they name these, and as they don't."""
+    folder = os.path.join(os.path.dirname(os.path.abspath(__file__)), '..', 'examples', 'judged', 'readings')
+    with tempfile.TemporaryDirectory() as scratch:
+        untold = os.path.join(scratch, 'trace')
+        for name in sorted(os.listdir(folder)):
+            trace = os.path.join(folder, name, 'trace')
+            if not os.path.exists(trace):
+                continue
+            with open(trace) as f, open(untold, 'w') as to:
+                to.writelines(re.sub(r' of \d+$', '', line) for line in f)
+            took = []
+            for path in (trace, untold):
+                begun = time.process_time() + os.times().children_user
+                subprocess.run([judge, 'check', os.path.join(folder, 'config.toml'), path],
+                               stdout=subprocess.DEVNULL, stderr=subprocess.DEVNULL, check=False)
+                took.append(os.times().children_user + time.process_time() - begun)
+            print('%-18s %.2f s of processor time with the requests of starts, %.2f s without' % (name, *took))
 
 
 def main():
