@@ -2,7 +2,8 @@
 use Rattle.std.proofs.Common.{◌≡◌, ◌<◌, ◌≤◌, ◌⊎◌, inl, inr, ℕ, ◌+◌, ◌/◌, ◌^◌, true, List, [], ◌∷◌, ◌++◌, Option, Some, None, refl, sym, ◌∙◌, ap, subst, arith, get_or, length, take, length-append}
 use Rattle.std.specs.Prelude.{Contains, if◌then◌else◌}
 use Rattle.std.proofs.lemmas.Bool.{and_parts}
-use Rattle.std.proofs.lemmas.List.{take_more, get_or_default, get_or_append_left}
+use Rattle.std.proofs.lemmas.List.{get_or_append_left, take-append-le}
+use Rattle.std.proofs.Math.Seq.{take-append_seam}
 use Rattle.std.proofs.lemmas.List.Elements.{Contains-push_cases}
 use Rattle.sector.specs.declared.Extent.{Extent}
 use Rattle.machine.specs.declared.ClientRequest.{ClientRequest}
@@ -16,7 +17,7 @@ use Rattle.history_judge.specs.declared.index.Index.{Index}
 use Rattle.history_judge.specs.Services.{within, moved}
 use Rattle.history_judge.specs.inside.Rows.{row_of, Keeps, AddsTo}
 use Rattle.history_judge.specs.inside.Picking.{IsFor}
-use Rattle.history_judge.specs.inside.Indexing.{Covers, AddsExtent, AddsSpan, Takes, AreSpans, HasRows, IsIndex}
+use Rattle.history_judge.specs.inside.Indexing.{Covers, AddsExtent, AddsSpan, Takes, AreSpans, HasRows}
 use Rattle.history_judge.proofs.Keyed.{keeps_on}
 use Rattle.history_judge.proofs.Touching.{is_moved}
 
@@ -113,7 +114,7 @@ no_call rules labels spans label other h m r there = elim (Contains-push_cases l
   | inr same ↦ absurd (other m r same)
 ]
 
-spans_next : (rules : Rules) (labels : List Label) (label : Label) (index : ℕ) (old new : Index) → Takes rules old label index new → AreSpans rules labels old.spans.items
+pub spans_next : (rules : Rules) (labels : List Label) (label : Label) (index : ℕ) (old new : Index) → Takes rules old label index new → AreSpans rules labels old.spans.items
     → AreSpans rules (labels ++ label ∷ []) new.spans.items
 spans_next rules labels (Call n q) index old new (span, is, made, covers, adds) h =
     subst (AreSpans rules (labels ++ Call n q ∷ [])) (sym made) (span_added rules labels old.spans.items n q span is covers h)
@@ -151,36 +152,30 @@ row_next rules labels Remove index old new place takes h for = absurd for
 row_next rules labels Surprise index old new place takes h for = absurd for
 row_next rules labels Removed index old new place takes h for = absurd for
 
--- the first so many labels are indexed
-abbrev pub IsSoFar : Rules → List Label → ℕ → Index → Type 0
-IsSoFar rules labels count index = (0 < length index.rows.items) × AreSpans rules (take count labels) index.spans.items × HasRows rules labels count index.rows.items
+-- one label more, behind as many as its index says
+pub rows_push : (rules : Rules) (labels : List Label) (label : Label) (old new : Index) → Takes rules old label (length labels) new → AreSpans rules labels old.spans.items → HasRows rules labels (length labels) old.rows.items
+    → HasRows rules (labels ++ label ∷ []) (length (labels ++ label ∷ [])) new.rows.items
+rows_push rules labels label old new takes spans h = λ place k other low within is for. by_order place k other (order k (length labels) (subst (λ n. k < n) (length-append labels (label ∷ [])) low)) is for
+  where
+    by_order : (place : Place) (k : ℕ) (other : Label) → (k < length labels) ⊎ (k ≡ length labels) → get_or (labels ++ label ∷ []) k other ≡ other → IsFor rules place (take k (labels ++ label ∷ [])) other
+        → Contains (row_of new.rows.items place.sector) k
+    by_order place k other (inl sooner) at for =
+        keeps_next rules label (length labels) old new takes place.sector k
+        (h place k other sooner sooner (sym (get_or_append_left labels (label ∷ []) other k sooner) ∙ at)
+        (subst (λ xs. IsFor rules place xs other) (take-append-le k labels (label ∷ []) (omega arith)) for))
+    by_order place k other (inr same) at for =
+        let one : label ≡ other = sym (last_of labels label other) ∙ subst (λ n. get_or (labels ++ label ∷ []) n other ≡ other) same at in
+        subst (Contains (row_of new.rows.items place.sector)) (sym same)
+        (row_next rules labels label (length labels) old new place takes spans
+        (subst (λ x. IsFor rules place labels x) (sym one)
+        (subst (λ xs. IsFor rules place xs other) (ap (λ n. take n (labels ++ label ∷ [])) same ∙ take-append_seam labels (label ∷ [])) for)))
 
-pub so_far_none : (rules : Rules) (labels : List Label) (index : Index) → 0 < length index.rows.items → IsSoFar rules labels 0 index
-so_far_none rules labels index some = (some, λ n q there. absurd (none_in (Call n q) there), λ place k label low within is for. absurd (omega arith))
+-- no label has rows, nor spans
+pub no_rows : (rules : Rules) (rows : List (List ℕ)) → HasRows rules [] 0 rows
+no_rows rules rows = λ place k label low within is for. absurd (omega arith)
+
+pub no_spans : (rules : Rules) (spans : List (Option Span)) → AreSpans rules [] spans
+no_spans rules spans n q there = absurd (none_in (Call n q) there)
   where
     none_in : (x : Label) → Contains [] x → ⊥
     none_in x (k, low, is) = absurd (omega arith)
-
-pub so_far_more : (rules : Rules) (labels : List Label) (index : ℕ) (label : Label) (old new : Index) → index < length labels → label ≡ get_or labels index label → 0 < length new.rows.items
-    → Takes rules old label index new → IsSoFar rules labels index old → IsSoFar rules labels (index + 1) new
-so_far_more rules labels index label old new low is some takes h =
-    (some, subst (λ xs. AreSpans rules xs new.spans.items) (sym more) (spans_next rules (take index labels) label index old new takes h.1), rows)
-  where
-    more : take (index + 1) labels ≡ take index labels ++ label ∷ []
-    more = take_more labels index label low ∙ ap (λ x. take index labels ++ x ∷ []) (sym is)
-
-    by_order : (place : Place) (k : ℕ) (other : Label) → (k < index) ⊎ (k ≡ index) → k < length labels → get_or labels k other ≡ other → IsFor rules place (take k labels) other
-        → Contains (row_of new.rows.items place.sector) k
-    by_order place k other (inl sooner) within at for = keeps_next rules label index old new takes place.sector k (h.2 place k other sooner within at for)
-    by_order place k other (inr same) within at for =
-        let there : get_or labels index other ≡ other = subst (λ n. get_or labels n other ≡ other) same at in
-        let one : other ≡ label = sym there ∙ get_or_default labels index other label low ∙ sym is in
-        subst (Contains (row_of new.rows.items place.sector)) (sym same)
-        (row_next rules (take index labels) label index old new place takes h.1
-        (subst (λ x. IsFor rules place (take index labels) x) one (subst (λ n. IsFor rules place (take n labels) other) same for)))
-
-    rows : HasRows rules labels (index + 1) new.rows.items
-    rows place k other below within at for = by_order place k other (order k index below) within at for
-
-pub so_far_all : (rules : Rules) (labels : List Label) (count : ℕ) (index : Index) → length labels ≤ count → IsSoFar rules labels count index → IsIndex rules labels index
-so_far_all rules labels count index end h = record { some = h.0; rows = λ place k label low within at for. h.2 place k label (omega arith) within at for }

@@ -1,6 +1,6 @@
 -- Verdicts of sectors.
-use Rattle.std.proofs.Common.{◌≡◌, ◌<◌, ◌⊎◌, inl, inr, ℕ, ◌+◌, Bool, true, false, List, [], ◌∷◌, Option, Some, None, refl, sym, ◌∙◌, subst, length, get_or, take}
-use Rattle.std.specs.Prelude.{MatchOption, All, Contains}
+use Rattle.std.proofs.Common.{◌≡◌, ◌<◌, ◌⊎◌, inl, inr, ℕ, ◌+◌, Bool, true, false, List, [], ◌∷◌, Option, Some, None, refl, sym, ◌∙◌, subst, length, get_or, take, append-nil, ap}
+use Rattle.std.specs.Prelude.{All, Contains}
 use Rattle.std.proofs.lemmas.List.{take_more}
 use Rattle.std.proofs.lemmas.List.Elements.{All-nil, All-append, All-contains, All-cons}
 use Rattle.std.proofs.lemmas.List.Sorted.{All-permutation, IsPermutation-sym}
@@ -16,6 +16,8 @@ use Rattle.register_judge.specs.declared.Verdict.TheVariants.{Passed as Register
 use Rattle.history.specs.Sights.{sights_of}
 use Rattle.history.specs.Refusing.{RefusedAreUnexplained}
 use Rattle.history_judge.specs.declared.service.Service.{Service}
+use Rattle.history_judge.specs.declared.recorded.Fitted.{Fitted}
+use Rattle.history_judge.specs.inside.Histories.{IsWhole}
 use Rattle.history_judge.specs.declared.service.Place.{Place}
 use Rattle.history_judge.specs.declared.fitting.Misfit.{Misfit as MisfitWhy}
 use Rattle.history_judge.specs.declared.judging.Verdict.{Verdict}
@@ -29,6 +31,9 @@ use Rattle.history_judge.specs.inside.Starting.{Stands, StandsFrom, IsTriedWith,
 use Rattle.std.specs.Bool.{OnTrue}
 use Rattle.history_judge.specs.inside.Picking.{picked, HasRow}
 use Rattle.history_judge.specs.inside.Rows.{AreRising}
+use Rattle.history_judge.specs.inside.Tables.{AreOnce}
+use Rattle.history_judge.specs.inside.Keeping.{KeptView, IsKept, chosen, sights_seen}
+use Rattle.history_judge.proofs.Keeping.{shown_by_entries}
 use Rattle.history_judge.proofs.Begun.{refused_at}
 use Rattle.history_judge.proofs.Alike.{shown_alike, fits_alike}
 use Rattle.history_judge.proofs.Thinning.{shown_by_row}
@@ -76,6 +81,14 @@ pub by_row : (code : List ℕ → ℕ) (rules : Rules) (place : Place) (labels :
 by_row code rules place labels rising row indexes is rises same has =
     shown_by_row code rules place labels (length labels) row (subst (λ b. OnTrue b (AreRising 0 (length labels) row)) is rises) (subst (HasRow rules place labels) (sym same) has)
 
+-- what the entries of a row show is what all labels show
+pub by_entries : (kept : KeptView) (rules : Rules) (place : Place) (indexes : List ℕ) (rising : Bool) → rising ≡ true → OnTrue rising (AreRising 0 (length kept.labels) indexes) → kept.size ≡ rules.sector_size → IsKept kept
+    → AreOnce kept.table → HasRow rules place kept.labels indexes
+    → sights_seen kept rules place.partition place.sector [] (chosen kept.entries indexes) ≡ sights_of (number_in kept.table) rules place.partition place.sector [] kept.labels
+by_entries kept rules place indexes rising is rises size each once has =
+    shown_by_entries kept rules size each once place.partition place.sector indexes
+    ∙ by_row (number_in kept.table) rules place kept.labels rising indexes indexes is rises refl has
+
 -- labels that don't fit are explained by no run
 pub unfit : ExplainedFit → (service : Service) (labels : List Label) → all_fit_at_first (rules_of service) labels ≡ false → IsUnfit service labels
 unfit law service labels not_fit rules arrays of whole explained =
@@ -83,20 +96,14 @@ unfit law service labels not_fit rules arrays of whole explained =
     let same : all_fit_at_first rules labels ≡ all_fit_at_first (rules_of service) labels = fits_alike service rules of (None ∷ []) None labels in
     cc (fit, same, not_fit)
 
-module _ {X : Type 0} (service : Service) (labels : List Label) (found : Option X) where
-  abbrev Tells : Option X → Type 0
-  Tells f = MatchOption f (all_fit_at_first (rules_of service) labels ≡ true) (λ _. all_fit_at_first (rules_of service) labels ≡ false)
+-- labels so far fit
+pub fit_so_far : (f : Fitted) → IsWhole f → all_fit_at_first (rules_of f.service) f.kept.labels ≡ true
+fit_so_far f whole = ap (all_fit_at_first (rules_of f.service)) (sym (append-nil f.kept.labels)) ∙ whole.known []
 
-  pub fit_if : found ≡ None → Tells found → all_fit_at_first (rules_of service) labels ≡ true
-  fit_if is h = subst Tells is h
-
-  unfit_found : {x : X} → found ≡ Some x → Tells found → all_fit_at_first (rules_of service) labels ≡ false
-  unfit_found is h = subst Tells is h
-
-pub unfit_by : {X : Type 0} (any : Bool) → ExplainedFit → (service : Service) (start : List ℕ) (labels : List Label) (found : Option X) (label : ℕ) (why : MisfitWhy) {x : X} → found ≡ Some x
-    → MatchOption found (all_fit_at_first (rules_of service) labels ≡ true) (λ _. all_fit_at_first (rules_of service) labels ≡ false) → IsRightBy any service start labels (Misfit label why)
-unfit_by true law service start labels found label why is h = unfit law service labels (unfit_found service labels found is h)
-unfit_by false law service start labels found label why is h = unfit law service labels (unfit_found service labels found is h)
+-- labels that no run explains are so wherever sectors begin
+pub misfit_by : (any : Bool) (service : Service) (start : List ℕ) (labels : List Label) (label : ℕ) (why : MisfitWhy) → IsUnfit service labels → IsRightBy any service start labels (Misfit label why)
+misfit_by true service start labels label why unfit = unfit
+misfit_by false service start labels label why unfit = unfit
 
 -- what is right of no sector, or of these two lists, is so whatever they are, unless it passes
 other_right : (any : Bool) (service : Service) (start : List ℕ) (labels : List Label) (old new : List Place) (verdict : Verdict) → (All (PassesBy any service start labels) old → All (PassesBy any service start labels) new)

@@ -2,11 +2,12 @@ mod Numbering
 mod Bounds
 mod Keyed
 mod Tables
+mod Keeping
 mod Touching
 mod Indexing
 mod Alike
 mod Judged
-mod Shown
 mod Thinning
-mod Picked
+mod Chosen
+mod Stopping
 mod Begun

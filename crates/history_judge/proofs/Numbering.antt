@@ -7,7 +7,7 @@ use Rattle.std.proofs.lemmas.Slice.Eq.{bytes_eq-Decides}
 use Rattle.history_judge.specs.Values.{number_in, NumbersTell}
 
 -- bytes with a number in the table stand there
-stands : (table : List (List ℕ)) (a : List ℕ) → number_in table a < length table → a ≡ get_or table (number_in table a) []
+pub stands : (table : List (List ℕ)) (a : List ℕ) → number_in table a < length table → a ≡ get_or table (number_in table a) []
 stands table a low = (bytes_eq-Decides a (get_or table (number_in table a) [])).0 (passes_at_first (bytes_eq a) table [] low)
 
 -- no bytes of the table before this place are these

@@ -1,9 +1,8 @@
 -- The sectors that a history touches, found.
-use Rattle.std.proofs.Common.{◌≡◌, ◌<◌, ◌≤◌, ◌⊎◌, inl, inr, ℕ, zero, suc, ◌+◌, ◌/◌, true, List, [], ◌∷◌, ◌++◌, Some, None, refl, sym, ◌∙◌, ap, subst, arith, length, get_or, take}
+use Rattle.std.proofs.Common.{◌≡◌, ◌<◌, ◌≤◌, ◌⊎◌, inl, inr, ℕ, zero, suc, ◌+◌, ◌/◌, true, List, [], ◌∷◌, ◌++◌, Some, None, refl, sym, ◌∙◌, ap, subst, arith}
 use Rattle.std.specs.Prelude.{Contains, OnOk, Result, Ok, Err, nat_lt, if◌then◌else◌}
 use Rattle.std.proofs.lemmas.Bool.{and_parts, eqb-true, leb-true}
 use Rattle.std.proofs.lemmas.Bool.Decides.{nat_tests}
-use Rattle.std.proofs.lemmas.List.{take_more, take_all}
 use Rattle.std.proofs.lemmas.List.Elements.{Contains-append_left, Contains-append_right, Contains-append_cases}
 use Rattle.machine.specs.declared.Label.{Label}
 use Rattle.machine.specs.declared.Label.TheVariants.{Call, Device, Answer, Cancel, Pause, Resume, Remove, Surprise, Removed}
@@ -107,16 +106,9 @@ in_one : (label : Label) (other : Label) → Contains (label ∷ []) other → l
 in_one label other (zero, low, is) = is
 in_one label other (suc k, low, is) = absurd (omega arith)
 
-pub touched_more : (rules : Rules) (labels : List Label) (index : ℕ) (label : Label) (old new : List Place) → index < length labels → label ≡ get_or labels index label
-    → HasTouched rules (take index labels) old → AddsMoved rules old label new → HasTouched rules (take (index + 1) labels) new
-touched_more rules labels index label old new low is before adds = λ other there.
-    elim (Contains-append_cases (take index labels) (label ∷ []) other (subst (λ xs. Contains xs other) (more labels index label low is) there)) [
-      | inl sooner ↦ moved_more rules other old new adds.kept (before other sooner)
-      | inr here ↦ subst (λ x. HasMoved rules x new) (in_one label other here) adds.moved
-    ]
-  where
-    more : (labels : List Label) (index : ℕ) (label : Label) → index < length labels → label ≡ get_or labels index label → take (index + 1) labels ≡ take index labels ++ label ∷ []
-    more labels index label low is = take_more labels index label low ∙ ap (λ x. take index labels ++ x ∷ []) (sym is)
-
-pub touched_all : (rules : Rules) (labels : List Label) (index : ℕ) (places : List Place) → length labels ≤ index → HasTouched rules (take index labels) places → HasTouched rules labels places
-touched_all rules labels index places end h = subst (λ xs. HasTouched rules xs places) (take_all index labels end) h
+-- one label more
+pub touched_push : (rules : Rules) (labels : List Label) (label : Label) (old new : List Place) → HasTouched rules labels old → AddsMoved rules old label new → HasTouched rules (labels ++ label ∷ []) new
+touched_push rules labels label old new before adds = λ other there. elim (Contains-append_cases labels (label ∷ []) other there) [
+  | inl sooner ↦ moved_more rules other old new adds.kept (before other sooner)
+  | inr here ↦ subst (λ x. HasMoved rules x new) (in_one label other here) adds.moved
+]

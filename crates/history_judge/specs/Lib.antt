@@ -1,3 +1,4 @@
+pub mod Histories
 pub mod Services
 pub mod Values
 pub mod Verdicts

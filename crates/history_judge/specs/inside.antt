@@ -4,4 +4,6 @@ pub mod Rows
 pub mod Picking
 pub mod Indexing
 pub mod Tables
+pub mod Keeping
+pub mod Histories
 pub mod Starting

@@ -1,9 +1,8 @@
 //! Whether each label of a history may come behind those before it, whatever the sectors hold.
 
-ghost use Rattle.std.specs.Prelude.{◌≡◌, ◌<◌, ◌∷◌, [], None, Some, true, false, length, IfOk, MatchOption, OnOk};
+ghost use Rattle.std.specs.Prelude.{◌≡◌, ◌<◌, ◌∷◌, [], None, Some, IfOk, OnOk};
 ghost use Rattle.machine.specs.Rules.{is_transfer};
 ghost use Rattle.history_laws.specs.Fitting.{
-  all_fit_at_first,
   asked_after,
   asked_of,
   brought,
@@ -44,11 +43,11 @@ pub enum Misfit {
 
 /// What is known of the calls so far.
 #[derive(Debug, Drop)]
-struct Known {
+pub(crate) struct Known {
     /// By the number of its call, what an open request asked for.
-    asked: Vec<Option<Asked>>,
+    pub asked: Vec<Option<Asked>>,
     /// What the last call is to be answered, where it was refused.
-    owed: Option<NtStatus>,
+    pub owed: Option<NtStatus>,
 }
 
 fn is_transfer(kind: Kind) -> bool
@@ -164,7 +163,7 @@ fn entry_of(refused: Option<NtStatus>, request: &ClientRequest) -> Option<Asked>
 
 impl Known {
     /// Before the first label: no call has the number 0.
-    fn new(alloc: Global) -> Result<Known, AllocError>
+    pub fn new(alloc: Global) -> Result<Known, AllocError>
         ensures { IfOk result (λ known. (known.asked.items ≡ None ∷ []) × (known.owed ≡ None)) }
     {
         let mut asked = Vec::new(alloc);
@@ -189,7 +188,7 @@ impl Known {
     }
 
     /// Whether a label may come.
-    fn fits(&self, service: &Service, label: &Label) -> bool
+    pub fn fits(&self, service: &Service, label: &Label) -> bool
         requires { 0 < service.now.sector_size }
         ensures { result ≡ fits (rules_of service.now) self.now.asked.items self.now.owed label.now }
     {
@@ -229,7 +228,7 @@ impl Known {
     }
 
     /// Takes the next label.
-    fn take(&mut self, service: &Service, label: &Label) -> Result<(), AllocError>
+    pub fn take(&mut self, service: &Service, label: &Label) -> Result<(), AllocError>
         requires { 0 < service.now.sector_size }
         ensures asked { OnOk result (self.new.asked.items ≡ asked_after (rules_of service.now) self.old.asked.items self.old.owed label.now) }
         ensures owed { OnOk result (self.new.owed ≡ owed_after (rules_of service.now) self.old.owed label.now) }
@@ -247,7 +246,7 @@ impl Known {
     }
 
     /// Why a label that doesn't fit can't come.
-    fn why_not(&self, label: &Label) -> Misfit {
+    pub fn why_not(&self, label: &Label) -> Misfit {
         match label {
             Label::Call { .. } if self.owed.is_some() => Misfit::Owing,
             Label::Call { number, .. } if *number != self.asked.len() as u64 => Misfit::Number,
@@ -266,23 +265,4 @@ impl Known {
             (None, _) => Misfit::NotOpen,
         }
     }
-}
-
-/// The first label that can't come behind those before it.
-pub(crate) fn first_misfit(
-    alloc: Global,
-    service: &Service,
-    labels: &[Label],
-) -> Result<Option<(usize, Misfit)>, AllocError>
-    requires { 0 < service.now.sector_size }
-    ensures { IfOk result (λ found. MatchOption found (all_fit_at_first (rules_of service.now) labels.now ≡ true) (λ _. all_fit_at_first (rules_of service.now) labels.now ≡ false)) }
-{
-    let mut known = Known::new(alloc)?;
-    for (index, label) in labels.iter().enumerate() {
-        if !known.fits(service, label) {
-            return Ok(Some((index, known.why_not(label))));
-        }
-        known.take(service, label)?;
-    }
-    Ok(None)
 }

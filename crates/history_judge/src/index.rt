@@ -1,8 +1,8 @@
 //! Which labels of a history speak of which sectors.
 
-ghost use Rattle.std.specs.Prelude.{◌≡◌, ◌<◌, ◌∷◌, [], IfOk, IfSome, None, OnOk, length, slice_index_or, true};
+ghost use Rattle.std.specs.Prelude.{◌≡◌, ◌<◌, ◌∷◌, [], IfOk, None, OnOk, length, slice_index_or};
 ghost use Rattle.history_judge.specs.Services.{rules_of};
-ghost use Rattle.history_judge.specs.inside.Indexing.{AddsExtent, AddsSpan, Covers, IsIndex, Takes};
+ghost use Rattle.history_judge.specs.inside.Indexing.{AddsExtent, AddsSpan, Covers, IsNext, Takes};
 ghost use Rattle.history_judge.specs.inside.Rows.{row_of};
 
 use crate::rows::{Row, add, row_of, rows};
@@ -28,7 +28,7 @@ pub(crate) struct Index {
 }
 
 /// The most rows.
-const MOST_ROWS: u64 = 1 << 22;
+const MOST_ROWS: u64 = 1 << 18;
 
 /// The sectors that a request moves, if it moves any.
 fn span_of(service: &Service, request: &ClientRequest) -> Option<Span>
@@ -70,13 +70,13 @@ fn add_span(rows: &mut Vec<Row>, span: Option<Span>, label: usize) -> Result<(),
 }
 
 impl Index {
-    /// Of no label.
-    fn new(alloc: Global, count: usize) -> Result<Index, AllocError>
+    /// Of no label, for a service.
+    pub fn new(alloc: Global, service: &Service) -> Result<Index, AllocError>
         ensures { IfOk result (λ index. (0 < length index.rows.items) × (index.spans.items ≡ None ∷ [])) }
     {
         let mut spans = Vec::new(alloc);
         spans.push(None)?;
-        let rows = rows(alloc, count)?;
+        let rows = rows(alloc, row_count(service))?;
         Ok(Index { spans, rows })
     }
 
@@ -87,27 +87,25 @@ impl Index {
         self.spans.get(number as usize).copied().flatten()
     }
 
-    /// Takes the next label; false where a call has not the next number.
-    fn take(&mut self, service: &Service, label: &Label, index: usize) -> Result<bool, AllocError>
+    /// Takes the next label. A call has the next number.
+    pub fn take(&mut self, service: &Service, label: &Label, index: usize) -> Result<(), AllocError>
         requires sized { 0 < service.now.sector_size }
         requires some { 0 < length self.old.rows.items }
+        requires next { IsNext (length self.old.spans.items) label.now }
         ensures some { 0 < length self.new.rows.items }
-        ensures taken { IfOk result (λ taken. taken ≡ true → Takes (rules_of service.now) self.old label.now index self.new) }
+        ensures taken { OnOk result (Takes (rules_of service.now) self.old label.now index self.new) }
     {
         match label {
-            Label::Call { number, request } => {
-                let is_next = *number == self.spans.len() as u64;
+            Label::Call { request, .. } => {
                 let span = span_of(service, request);
                 self.spans.push(span)?;
-                add_span(&mut self.rows, span, index)?;
-                Ok(is_next)
+                add_span(&mut self.rows, span, index)
             }
             Label::Answer { number, .. } => {
                 let span = self.span(*number);
-                add_span(&mut self.rows, span, index)?;
-                Ok(true)
+                add_span(&mut self.rows, span, index)
             }
-            _ => Ok(true),
+            _ => Ok(()),
         }
     }
 
@@ -120,26 +118,11 @@ impl Index {
     }
 }
 
-/// How many rows serve for a history.
-fn row_count(service: &Service, labels: &[Label]) -> usize {
-    let most = service.longest.max(labels.len() as u64);
-    most.min(MOST_ROWS) as usize
-}
-
-/// The labels of a history by sectors; none where calls have other numbers than 1, 2 and so on.
-pub(crate) fn index_of(
-    alloc: Global,
-    service: &Service,
-    labels: &[Label],
-) -> Result<Option<Index>, AllocError>
-    requires { 0 < service.now.sector_size }
-    ensures { IfOk result (λ found. IfSome found (IsIndex (rules_of service.now) labels.now)) }
-{
-    let mut found = Index::new(alloc, row_count(service, labels))?;
-    for (index, label) in labels.iter().enumerate() {
-        if !found.take(service, label, index)? {
-            return Ok(None);
-        }
+/// How many rows serve for a service.
+fn row_count(service: &Service) -> usize {
+    let mut sectors: u64 = 0;
+    for extent in service.partitions.as_slice() {
+        sectors = sectors.saturating_add(extent.count);
     }
-    Ok(Some(found))
+    sectors.min(MOST_ROWS) as usize
 }

@@ -1,28 +1,21 @@
 //! Verdicts of histories.
 
-ghost use Rattle.std.specs.Prelude.{◌≡◌, ◌<◌, ◌∷◌, [], Contains, IfOk, length, slice_index_or, take, true};
+ghost use Rattle.std.specs.Prelude.{◌≡◌, ◌<◌, ◌∷◌, [], Contains, IfOk, length, slice_index_or, take};
 ghost use Rattle.std.specs.Bool.{OnTrue};
-ghost use Rattle.history_laws.specs.Fitting.{all_fit_at_first};
 ghost use Rattle.history_judge.specs.declared.service.Place.{Place};
 ghost use Rattle.history_judge.specs.Services.{rules_of};
-ghost use Rattle.history_judge.specs.Verdicts.{IsRight, IsRightFromAny};
-ghost use Rattle.history_judge.specs.inside.Indexing.{IsIndex};
-ghost use Rattle.history_judge.specs.Values.{number_in};
+ghost use Rattle.history_judge.specs.inside.Histories.{IsWhole};
 ghost use Rattle.history_judge.specs.inside.Judging.{IsOneOf, IsRightBy, IsRightOf};
-ghost use Rattle.history.specs.Sights.{sights_of};
-ghost use Rattle.history_judge.specs.inside.Picking.{HasRow, picked};
-ghost use Rattle.history_judge.specs.inside.Rows.{row_of};
+ghost use Rattle.history_judge.specs.inside.Picking.{HasRow};
 
-use crate::fitting::{Misfit, first_misfit};
-use crate::index::{Index, index_of};
+use crate::entries::{Entry, Kept, Seen};
+use crate::fitting::Misfit;
+use crate::recorded::Fitted;
 use crate::rising::are_rising;
-use crate::sectors::{Watched, sights_of, values_of};
-use crate::service::{Place, Service};
-use crate::starting::{Shown, Start, judge_shown};
-use crate::touched::touched;
+use crate::sectors::{Watched, sights_of};
+use crate::service::Place;
+use crate::starting::{Start, judge_shown};
 use history::refused_are_unexplained;
-use history_laws::explained_fit;
-use machine::Label;
 use register::{Sight, prefixes_are_scheduled};
 use std::alloc::{AllocError, Global};
 
@@ -39,27 +32,19 @@ pub enum Verdict {
     Undecided { place: Place },
 }
 
-/// A sector, and the labels that may speak of it.
-#[derive(Debug, Drop)]
-struct Looked {
-    place: Place,
-    indexes: Vec<usize>,
-}
-
-/// The sectors that a history touches, and its labels by sectors.
-#[derive(Debug, Drop)]
-struct Found {
-    places: Vec<Place>,
-    index: Index,
-}
-
 /// The answer at which the last sight ends a request.
-fn end_of(sights: &[Sight], labels: &[Label]) -> usize {
+fn end_of(sights: &[Sight], kept: &Kept) -> usize {
     let Some(Sight::Done { number: ended } | Sight::Failed { number: ended }) = sights.last() else {
         return 0;
     };
-    for (index, label) in labels.iter().enumerate() {
-        if let Label::Answer { number, .. } = label {
+    for index in 0..kept.count() {
+        if let Some(
+            Entry {
+                seen: Seen::Answer { number, .. },
+                ..
+            },
+        ) = kept.entry(index)
+        {
             if number == ended {
                 return index;
             }
@@ -68,50 +53,33 @@ fn end_of(sights: &[Sight], labels: &[Label]) -> usize {
     0
 }
 
-/// What a history shows of a sector, by the numbers of its bytes, of which those of the start are some.
-fn shown_of(
-    alloc: Global,
-    service: &Service,
-    start: &[u8],
-    labels: &[Label],
-    looked: &Looked,
-) -> Result<Shown, AllocError>
-    requires sized { 0 < service.now.sector_size }
-    ensures { IfOk result (λ shown. shown.sights.items ≡ sights_of (number_in shown.watched.table) (rules_of service.now) looked.now.place.partition looked.now.place.sector [] (picked labels.now looked.now.indexes.items)) }
-{
-    let place = looked.place;
-    let indexes = looked.indexes.as_slice();
-    let mut table = values_of(alloc, service, place, labels, indexes)?;
-    table.add(alloc, start)?;
-    let watched = Watched { place, table };
-    let sights = sights_of(alloc, service, &watched, labels, indexes)?;
-    Ok(Shown { watched, sights })
-}
-
-/// Judges one sector.
+/// Judges one sector. Its labels are among those of the indexes.
 fn judge_sector(
     alloc: Global,
-    service: &Service,
+    watched: Watched<'_>,
     start: &Start,
-    labels: &[Label],
-    looked: &Looked,
+    indexes: &[usize],
 ) -> Result<Verdict, AllocError>
-    requires sized { 0 < service.now.sector_size }
-    requires found { HasRow (rules_of service.now) looked.now.place labels.now looked.now.indexes.items }
-    ensures { IfOk result (IsRightOf start.now.any service.now start.now.bytes.items labels.now (looked.now.place ∷ [])) }
+    requires sized { 0 < watched.service.now.sector_size }
+    requires size { watched.kept.now.size ≡ watched.service.now.sector_size }
+    requires found { HasRow (rules_of watched.service.now) watched.place watched.kept.now.labels indexes.now }
+    ensures { IfOk result (IsRightOf start.now.any watched.entry.service.now start.now.bytes.items watched.entry.kept.now.labels (watched.entry.place ∷ [])) }
 {
     prefixes_are_scheduled();
     refused_are_unexplained();
-    let place = looked.place;
-    if !are_rising(looked.indexes.as_slice(), labels.len()) {
+    watched.kept.shows_entries();
+    watched.kept.table().shows_once();
+    let place = watched.place;
+    if !are_rising(indexes, watched.kept.count()) {
         return Ok(Verdict::Undecided { place });
     }
-    let shown = shown_of(alloc, service, start.bytes.as_slice(), labels, looked)?;
-    match judge_shown(alloc, service.sector_size, &shown, start)? {
+    let sights = sights_of(alloc, watched, indexes)?;
+    let size = watched.service.sector_size;
+    match judge_shown(alloc, size, watched.kept.table(), sights.as_slice(), start)? {
         register_judge::Verdict::Passed => Ok(Verdict::Passed),
         register_judge::Verdict::Refused { sights: count } => {
-            let sights = shown.sights.as_slice();
-            let label = end_of(&sights[..count.min(sights.len())], labels);
+            let sights = sights.as_slice();
+            let label = end_of(&sights[..count.min(sights.len())], watched.kept);
             Ok(Verdict::Refused { place, label })
         }
         register_judge::Verdict::Undecided => Ok(Verdict::Undecided { place }),
@@ -144,121 +112,113 @@ fn is_again(places: &[Place], index: usize) -> bool
     before.partition == here.partition && before.sector == here.sector
 }
 
-/// A sector with the labels that may speak of it.
-fn look(alloc: Global, index: &Index, place: Place) -> Result<Looked, AllocError>
-    requires { 0 < length index.now.rows.items }
-    ensures place { IfOk result (λ looked. looked.place ≡ place) }
-    ensures row { IfOk result (λ looked. looked.indexes.items ≡ row_of index.now.rows.items place.sector) }
-{
-    let indexes = Vec::from_slice(alloc, index.row(place))?;
-    Ok(Looked { place, indexes })
-}
-
 /// Judges these sectors.
 #[tactic(auto, using(crate::proofs::Judged::same_again))]
 fn judge_all(
     alloc: Global,
-    service: &Service,
+    fitted: &Fitted,
     start: &Start,
-    labels: &[Label],
-    found: &Found,
+    places: &[Place],
 ) -> Result<Verdict, AllocError>
-    requires sized { 0 < service.now.sector_size }
-    requires found { IsIndex (rules_of service.now) labels.now found.now.index }
-    ensures { IfOk result (IsRightOf start.now.any service.now start.now.bytes.items labels.now found.now.places.items) }
+    requires { IsWhole fitted.now }
+    ensures { IfOk result (IsRightOf start.now.any fitted.now.service start.now.bytes.items fitted.now.kept.labels places.now) }
 {
-    let places = found.places.as_slice();
+    let Fitted { service, kept, .. } = fitted;
     let mut verdict = Verdict::Passed;
     for index in 0..places.len() {
         if is_again(places, index) {
             continue;
         }
-        let looked = look(alloc, &found.index, places[index])?;
-        let other = judge_sector(alloc, service, start, labels, &looked)?;
+        let place = places[index];
+        let watched = Watched {
+            kept,
+            service,
+            place,
+        };
+        let other = judge_sector(alloc, watched, start, fitted.index.row(place))?;
         verdict = first_of(verdict, other);
     }
     Ok(verdict)
 }
 
-/// Judges a history whose labels fit.
-fn judge_sectors(
+/// Judges labels that fit.
+pub(crate) fn judge_sectors(
     alloc: Global,
-    service: &Service,
+    fitted: &Fitted,
     start: &Start,
-    labels: &[Label],
 ) -> Result<Verdict, AllocError>
-    requires sized { 0 < service.now.sector_size }
-    requires fit { all_fit_at_first (rules_of service.now) labels.now ≡ true }
-    ensures right { IfOk result (IsRightBy start.now.any service.now start.now.bytes.items labels.now) }
+    requires { IsWhole fitted.now }
+    ensures { IfOk result (IsRightBy start.now.any fitted.now.service start.now.bytes.items fitted.now.kept.labels) }
 {
-    let mut places = touched(alloc, service, labels)?;
+    let mut places = Vec::from_slice(alloc, fitted.places.as_slice())?;
     places.sort()?;
-    let Some(index) = index_of(alloc, service, labels)? else {
-        return Ok(Verdict::Undecided { place: NOWHERE });
-    };
-    let found = Found { places, index };
-    judge_all(alloc, service, start, labels, &found)
+    judge_all(alloc, fitted, start, places.as_slice())
 }
 
-/// The sector of which is told where calls have other numbers: those of a history whose labels fit don't.
-const NOWHERE: Place = Place {
-    partition: 0,
-    sector: 0,
-};
-
-/// Judges a history.
-fn judge_by(
-    alloc: Global,
-    service: &Service,
-    start: &Start,
-    labels: &[Label],
-) -> Result<Verdict, AllocError>
-    requires { 0 < service.now.sector_size }
-    ensures { IfOk result (IsRightBy start.now.any service.now start.now.bytes.items labels.now) }
-{
-    explained_fit();
-    match first_misfit(alloc, service, labels)? {
-        Some((label, why)) => Ok(Verdict::Misfit { label, why }),
-        None => judge_sectors(alloc, service, start, labels),
+/// The request that is seen.
+fn number_in(sight: &Sight) -> u64 {
+    match *sight {
+        Sight::Write { number, .. }
+        | Sight::Read { number, .. }
+        | Sight::Done { number }
+        | Sight::Failed { number } => number,
     }
 }
 
-/// Judges a history of a service whose sectors all had these bytes at the start. Labels of its device are passed over.
-///
-/// The sectors have bytes, more than none. A refusal tells the earliest answer at which some sector has no schedule.
-///
-/// # Errors
-///
-/// [`AllocError`] where memory was refused.
-pub fn judge(
-    alloc: Global,
-    service: &Service,
-    start: &[u8],
-    labels: &[Label],
-) -> Result<Verdict, AllocError>
-    requires { 0 < service.now.sector_size }
-    ensures right { IfOk result (IsRight service.now start.now labels.now) }
-{
-    let bytes = Vec::from_slice(alloc, start)?;
-    judge_by(alloc, service, &Start { bytes, any: false }, labels)
+/// What is seen of other requests than these, whose numbers rise.
+fn without(alloc: Global, sights: &[Sight], numbers: &[u64]) -> Result<Vec<Sight>, AllocError> {
+    let mut others = Vec::new(alloc);
+    for sight in sights {
+        if numbers.binary_search(&number_in(sight)).is_err() {
+            others.push(*sight)?;
+        }
+    }
+    Ok(others)
 }
 
-/// Judges a history of a service whose sectors had any bytes at the start, each its own. Labels of its device are passed over.
-///
-/// The sectors have bytes, more than none. A refusal tells the earliest answer at which some sector has no schedule,
-/// whatever it had.
-///
-/// # Errors
-///
-/// [`AllocError`] where memory was refused.
-pub fn judge_any_start(
+/// Whether a sector passes where these requests had no effect.
+fn passes_without(
     alloc: Global,
-    service: &Service,
-    labels: &[Label],
-) -> Result<Verdict, AllocError>
-    requires { 0 < service.now.sector_size }
-    ensures right { IfOk result (IsRightFromAny service.now labels.now) }
+    watched: Watched<'_>,
+    start: &Start,
+    indexes: &[usize],
+    numbers: &[u64],
+) -> Result<bool, AllocError>
+    requires { 0 < watched.service.now.sector_size }
 {
-    let bytes = vec![in alloc; 0; service.sector_size as usize]?;
-    judge_by(alloc, service, &Start { bytes, any: true }, labels)
+    let sights = sights_of(alloc, watched, indexes)?;
+    let others = without(alloc, sights.as_slice(), numbers)?;
+    let size = watched.service.sector_size;
+    let verdict = judge_shown(alloc, size, watched.kept.table(), others.as_slice(), start)?;
+    Ok(matches!(verdict, register_judge::Verdict::Passed))
+}
+
+/// A sector that doesn't pass where these requests, whose numbers rise, had no effect.
+pub(crate) fn fails_without(
+    alloc: Global,
+    fitted: &Fitted,
+    start: &Start,
+    numbers: &[u64],
+) -> Result<Option<Place>, AllocError>
+    requires { IsWhole fitted.now }
+{
+    let mut places = Vec::from_slice(alloc, fitted.places.as_slice())?;
+    places.sort()?;
+    let places = places.as_slice();
+    for index in 0..places.len() {
+        if is_again(places, index) {
+            continue;
+        }
+        let place = places[index];
+        let watched = Watched {
+            kept: &fitted.kept,
+            service: &fitted.service,
+            place,
+        };
+        let row = fitted.index.row(place);
+        if !passes_without(alloc, watched, start, row, numbers)? {
+            return Ok(Some(place));
+        }
+    }
+    Ok(None)
 }

@@ -15,9 +15,11 @@
 //! verdict: a sector that may be in more than 1,024 states is undecided.
 #![tactic(auto)]
 
+mod entries;
 mod fitting;
 mod index;
 mod judging;
+mod recorded;
 mod rising;
 mod rows;
 mod sectors;
@@ -32,7 +34,8 @@ mod values;
 ghost use Rattle.history_judge.specs.Values.{NumbersTell};
 
 pub use fitting::Misfit;
-pub use judging::{Verdict, judge, judge_any_start};
+pub use judging::Verdict;
+pub use recorded::History;
 pub use service::{Place, Service};
 
 /// Different bytes have different numbers, where one of them is in the table.

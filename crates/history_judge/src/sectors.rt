@@ -1,152 +1,124 @@
 //! What a history shows of one sector.
 
-ghost use Rattle.std.specs.Prelude.{◌≡◌, ◌<◌, [], IfOk, option_copied, slice_get};
+ghost use Rattle.std.specs.Prelude.{◌≡◌, ◌<◌, ◌-◌, [], IfOk, option_copied, option_map};
 ghost use Rattle.std.specs.List.{list_any};
-ghost use Rattle.history.specs.Sights.{bytes_at, end_of, is_call_of, sights_of, success_bytes, success_of, value_of};
+ghost use Rattle.machine.specs.Rules.{first_sector};
+ghost use Rattle.history.specs.Sights.{end_of, is_call_of};
 ghost use Rattle.history_judge.specs.Services.{rules_of};
-ghost use Rattle.history_judge.specs.Values.{number_in};
-ghost use Rattle.history_judge.specs.inside.Picking.{answered, call_sight_by, is_answer_of, picked, sight_by, success_in};
+ghost use Rattle.history_judge.specs.inside.Keeping.{answer_seen, call_seen, chosen, if_success, is_answer_to, sight_seen, sights_seen, success_entry, success_seen, value_at};
 
+use crate::entries::{Entry, Kept, Seen};
 use crate::service::{Place, Service};
-use crate::table::Table;
-use crate::values::part;
-use machine::{ClientRequest, Kind, Label};
+use machine::{ClientRequest, Kind};
 use ntstatus::NtStatus;
 use register::Sight;
 use std::alloc::{AllocError, Global};
 
-/// A sector that is looked at.
-#[derive(Debug, Drop)]
-pub(crate) struct Watched {
+/// A history's labels, and a sector that is looked at.
+#[derive(Clone, Copy)]
+pub(crate) struct Watched<'a> {
+    pub kept: &'a Kept,
+    pub service: &'a Service,
     pub place: Place,
-    /// The bytes that it may have.
-    pub table: Table,
 }
 
-/// What a request moves of a sector.
-pub(crate) fn bytes_at<'a>(
-    service: &Service,
-    sector: u64,
-    request: &ClientRequest,
-    bytes: &'a [u8],
-) -> &'a [u8]
-    requires { 0 < service.now.sector_size }
-    ensures { result.now ≡ bytes_at (rules_of service.now) sector request.now bytes.now }
+/// Whether an entry is an answer to the request of this number.
+fn is_answer_to(number: u64, entry: &Entry) -> bool
+    ensures { result ≡ is_answer_to number entry.now.seen }
 {
-    let first = request.offset / service.sector_size as u64;
-    let place = sector.saturating_sub(first) as u128;
-    let size = service.sector_size as u128;
-    part(bytes, place * size, (place + 1) * size)
-}
-
-/// The number of what a request moves of the sector.
-fn value_of(service: &Service, watched: &Watched, request: &ClientRequest, bytes: &[u8]) -> u64
-    requires { 0 < service.now.sector_size }
-    ensures { result ≡ number_in watched.now.table (bytes_at (rules_of service.now) watched.now.place.sector request.now bytes.now) }
-{
-    let bytes = bytes_at(service, watched.place.sector, request, bytes);
-    watched.table.number(bytes)
-}
-
-/// The bytes of an answer, if it is a success.
-fn success_bytes(status: NtStatus, bytes: &[u8]) -> Option<&[u8]>
-    ensures { option_copied result ≡ success_bytes status bytes.entry.now }
-{
-    match status {
-        NtStatus::Success => Some(bytes),
-        _ => None,
-    }
-}
-
-/// The label of an index.
-fn label_at(labels: &[Label], index: usize) -> Option<&Label>
-    ensures { option_copied result ≡ slice_get labels.now index }
-{
-    labels.get(index)
-}
-
-/// Whether a label is an answer to the request of this number.
-fn is_answer_of(number: u64, label: &Label) -> bool
-    ensures { result ≡ is_answer_of number label.now }
-{
-    match label {
-        Label::Answer {
+    match &entry.seen {
+        Seen::Answer {
             number: answered,
             ..
         } => *answered == number,
-        _ => false,
+        Seen::Call { .. } | Seen::Other => false,
     }
 }
 
-/// The bytes of an answer that is a success.
-fn success_in(label: &Label) -> Option<&[u8]>
-    ensures { option_copied result ≡ success_in label.now }
+/// The entry of an answer that is a success.
+fn success_in(entry: &Entry) -> Option<&Entry>
+    ensures { option_copied result ≡ success_seen entry.now.seen entry.entry.now }
 {
-    match label {
-        Label::Answer { status, bytes, .. } => success_bytes(*status, bytes.as_slice()),
+    match &entry.seen {
+        Seen::Answer { status, .. } => if_success(*status, entry),
+        Seen::Call { .. } | Seen::Other => None,
+    }
+}
+
+/// This, if the status is a success.
+fn if_success(status: NtStatus, entry: &Entry) -> Option<&Entry>
+    ensures { option_copied result ≡ if_success status entry.entry.now }
+{
+    match status {
+        NtStatus::Success => Some(entry),
         _ => None,
     }
 }
 
-/// The bytes of a request's first answer among the labels of these indexes, if it is a success.
-fn success_of<'a>(number: u64, labels: &'a [Label], indexes: &[usize]) -> Option<&'a [u8]>
-    ensures { option_copied result ≡ success_of number (picked labels.entry.now indexes.now) }
+/// A request's first answer among the entries of these indexes, if it is a success.
+fn success_of<'a>(kept: &'a Kept, number: u64, indexes: &[usize]) -> Option<&'a Entry>
+    ensures { option_copied result ≡ success_entry number (chosen kept.entry.now.entries indexes.now) }
 {
     for index in indexes {
-        let Some(label) = label_at(labels, *index) else {
+        let Some(entry) = kept.entry(*index) else {
             continue;
         };
-        if is_answer_of(number, label) {
-            return success_in(label);
+        if is_answer_to(number, entry) {
+            return success_in(entry);
         }
     }
     None
 }
 
-/// The bytes of the first answer to a call, if this is one and it is a success, among the labels of these indexes.
-fn answered<'a>(label: &Label, labels: &'a [Label], indexes: &[usize]) -> Option<&'a [u8]>
-    ensures { option_copied result ≡ answered label.now (picked labels.entry.now indexes.now) }
+/// The first answer to a call, if this is one and it is a success, among the entries of these indexes.
+fn answer_of<'a>(kept: &'a Kept, entry: &Entry, indexes: &[usize]) -> Option<&'a Entry>
+    ensures { option_copied result ≡ answer_seen entry.now.seen (chosen kept.entry.now.entries indexes.now) }
 {
-    match label {
-        Label::Call { number, .. } => success_of(*number, labels, indexes),
-        _ => None,
+    match &entry.seen {
+        Seen::Call { number, .. } => success_of(kept, *number, indexes),
+        Seen::Answer { .. } | Seen::Other => None,
     }
 }
 
-/// The number of what a request moves of the sector, if these bytes are known.
-fn value_if(
-    service: &Service,
-    watched: &Watched,
-    request: &ClientRequest,
-    bytes: Option<&[u8]>,
-) -> Option<u64>
-    requires { 0 < service.now.sector_size }
-    ensures { result ≡ value_of (number_in watched.now.table) (rules_of service.now) watched.now.place.sector request.now (option_copied bytes.entry) }
+/// The number of an entry's bytes in the sector, where its request is this.
+fn value_of(watched: Watched<'_>, request: &ClientRequest, entry: &Entry) -> u64
+    requires { 0 < watched.service.now.sector_size }
+    ensures { result ≡ value_at watched.entry.kept.now entry.now (watched.entry.place.sector - first_sector (rules_of watched.entry.service.now) request.now) }
 {
-    match bytes {
-        Some(bytes) => Some(value_of(service, watched, request, bytes)),
+    let first = request.offset / watched.service.sector_size as u64;
+    let sector = watched.place.sector.saturating_sub(first);
+    watched.kept.value(entry, sector)
+}
+
+/// The same, if there is an entry.
+fn value_if(watched: Watched<'_>, request: &ClientRequest, entry: Option<&Entry>) -> Option<u64>
+    requires { 0 < watched.service.now.sector_size }
+    ensures { result ≡ option_map (λ e. value_at watched.entry.kept.now e (watched.entry.place.sector - first_sector (rules_of watched.entry.service.now) request.now)) (option_copied entry.entry) }
+{
+    match entry {
+        Some(entry) => Some(value_of(watched, request, entry)),
         None => None,
     }
 }
 
-/// What a call shows of one of its sectors, given the bytes of its success.
+/// What a call shows of one of its sectors, given its success.
 fn call_sight(
-    service: &Service,
-    watched: &Watched,
+    watched: Watched<'_>,
     number: u64,
     request: &ClientRequest,
-    answered: Option<&[u8]>,
+    entry: &Entry,
+    answered: Option<&Entry>,
 ) -> Option<Sight>
-    requires { 0 < service.now.sector_size }
-    ensures { result ≡ call_sight_by (number_in watched.now.table) (rules_of service.now) watched.now.place.sector number request.now request.now.kind (option_copied answered.entry) }
+    requires { 0 < watched.service.now.sector_size }
+    ensures { result ≡ call_seen watched.entry.kept.now (rules_of watched.entry.service.now) watched.entry.place.sector number request.now request.now.kind entry.now (option_copied answered.entry) }
 {
     match request.kind {
         Kind::Write => {
-            let value = value_of(service, watched, request, request.bytes.as_slice());
+            let value = value_of(watched, request, entry);
             Some(Sight::Write { number, value })
         }
         Kind::Read => {
-            let value = value_if(service, watched, request, answered)?;
+            let value = value_if(watched, request, answered)?;
             Some(Sight::Read { number, value })
         }
         Kind::Flush => None,
@@ -188,81 +160,45 @@ fn is_called(number: u64, sights: &[Sight]) -> bool
     false
 }
 
-/// What a label shows of the sector, behind these sights, given the bytes of its success if it is a call.
+/// What an entry shows of the sector, behind these sights, given its success if it is a call.
 fn sight_of(
-    service: &Service,
-    watched: &Watched,
+    watched: Watched<'_>,
     sights: &[Sight],
-    label: &Label,
-    answered: Option<&[u8]>,
+    entry: &Entry,
+    answered: Option<&Entry>,
 ) -> Option<Sight>
-    requires { 0 < service.now.sector_size }
-    ensures { result ≡ sight_by (number_in watched.now.table) (rules_of service.now) watched.now.place.partition watched.now.place.sector sights.now label.now (option_copied answered.entry) }
+    requires { 0 < watched.service.now.sector_size }
+    ensures { result ≡ sight_seen watched.entry.kept.now (rules_of watched.entry.service.now) watched.entry.place.partition watched.entry.place.sector sights.now entry.now.seen entry.now (option_copied answered.entry) }
 {
-    match label {
-        Label::Call { number, request } if service.has_sector(watched.place, request) => {
-            call_sight(service, watched, *number, request, answered)
+    match &entry.seen {
+        Seen::Call { number, request } if watched.service.has_sector(watched.place, request) => {
+            call_sight(watched, *number, request, entry, answered)
         }
-        Label::Answer { number, status, .. } if is_called(*number, sights) => {
+        Seen::Answer { number, status } if is_called(*number, sights) => {
             Some(end_of(*number, *status))
         }
         _ => None,
     }
 }
 
-/// What the labels of these indexes show of the sector, with the numbers of its bytes.
+/// What the entries of these indexes show of the sector.
 pub(crate) fn sights_of(
     alloc: Global,
-    service: &Service,
-    watched: &Watched,
-    labels: &[Label],
+    watched: Watched<'_>,
     indexes: &[usize],
 ) -> Result<Vec<Sight>, AllocError>
-    requires { 0 < service.now.sector_size }
-    ensures { IfOk result (λ sights. sights.items ≡ sights_of (number_in watched.now.table) (rules_of service.now) watched.now.place.partition watched.now.place.sector [] (picked labels.now indexes.now)) }
+    requires { 0 < watched.service.now.sector_size }
+    ensures { IfOk result (λ sights. sights.items ≡ sights_seen watched.entry.kept.now (rules_of watched.entry.service.now) watched.entry.place.partition watched.entry.place.sector [] (chosen watched.entry.kept.now.entries indexes.now)) }
 {
     let mut sights = Vec::new(alloc);
     for (at, index) in indexes.iter().enumerate() {
-        let Some(label) = label_at(labels, *index) else {
+        let Some(entry) = watched.kept.entry(*index) else {
             continue;
         };
-        let answered = answered(label, labels, &indexes[at + 1..]);
-        if let Some(sight) = sight_of(service, watched, sights.as_slice(), label, answered) {
+        let answered = answer_of(watched.kept, entry, &indexes[at + 1..]);
+        if let Some(sight) = sight_of(watched, sights.as_slice(), entry, answered) {
             sights.push(sight)?;
         }
     }
     Ok(sights)
-}
-
-/// The different bytes that the labels of these indexes show of a sector, these first.
-pub(crate) fn values_of(
-    alloc: Global,
-    service: &Service,
-    place: Place,
-    labels: &[Label],
-    indexes: &[usize],
-) -> Result<Table, AllocError>
-    requires { 0 < service.now.sector_size }
-{
-    let mut table = Table::new(alloc, indexes.len())?;
-    for (at, index) in indexes.iter().enumerate() {
-        if let Some(Label::Call { number, request }) = label_at(labels, *index) {
-            if service.has_sector(place, request) {
-                let answered = success_of(*number, labels, &indexes[at + 1..]);
-                if let Some(bytes) = bytes_of(request, answered) {
-                    table.add(alloc, bytes_at(service, place.sector, request, bytes))?;
-                }
-            }
-        }
-    }
-    Ok(table)
-}
-
-/// The bytes that a request moves, as far as it is known.
-fn bytes_of<'a>(request: &'a ClientRequest, answered: Option<&'a [u8]>) -> Option<&'a [u8]> {
-    match request.kind {
-        Kind::Read => answered,
-        Kind::Write => Some(request.bytes.as_slice()),
-        Kind::Flush => None,
-    }
 }

@@ -14,7 +14,7 @@ ghost use Rattle.history_judge.specs.inside.Starting.{
   TakesStart,
 };
 
-use crate::sectors::Watched;
+use crate::table::Table;
 use crate::values::are_below;
 use register::{Sight, prefixes_are_scheduled};
 use register_judge::{Verdict, judge};
@@ -27,13 +27,6 @@ pub(crate) struct Start {
     pub bytes: Vec<u8>,
     /// Whether a sector may have had others instead.
     pub any: bool,
-}
-
-/// What a history shows of a sector, by the numbers of its bytes.
-#[derive(Debug, Drop)]
-pub(crate) struct Shown {
-    pub watched: Watched,
-    pub sights: Vec<Sight>,
 }
 
 /// Whether a value is there.
@@ -111,18 +104,19 @@ fn judge_with(
 }
 
 /// The same of a value that is the number of a sector's bytes, which has so many.
-fn judge_of(alloc: Global, size: u32, shown: &Shown, start: u64) -> Result<Verdict, AllocError>
-    ensures { IfOk result (IsTriedOf size shown.now.watched.table start shown.now.sights.items) }
+fn judge_of(
+    alloc: Global,
+    size: u32,
+    table: &Table,
+    sights: &[Sight],
+    start: u64,
+) -> Result<Verdict, AllocError>
+    ensures { IfOk result (IsTriedOf size table.now start sights.now) }
 {
-    if !shown.watched.table.has(size, start) {
+    if !table.has(size, start) {
         return Ok(Verdict::Undecided);
     }
-    judge_with(
-        alloc,
-        shown.watched.table.count(),
-        start,
-        shown.sights.as_slice(),
-    )
+    judge_with(alloc, table.count(), start, sights)
 }
 
 /// Passed, if one of two verdicts is that, else what is undecided, else the later refusal.
@@ -144,26 +138,33 @@ fn better_of(a: Verdict, b: Verdict) -> Verdict
 fn judge_each(
     alloc: Global,
     size: u32,
-    shown: &Shown,
+    table: &Table,
+    sights: &[Sight],
     values: &[u64],
 ) -> Result<Verdict, AllocError>
-    ensures { IfOk result (IsTriedAll size shown.now.watched.table values.now shown.now.sights.items) }
+    ensures { IfOk result (IsTriedAll size table.now values.now sights.now) }
 {
     prefixes_are_scheduled();
     let mut verdict = Verdict::Refused { sights: 0 };
     for value in values {
-        let tried = judge_of(alloc, size, shown, *value)?;
+        let tried = judge_of(alloc, size, table, sights, *value)?;
         verdict = better_of(verdict, tried);
     }
     Ok(verdict)
 }
 
 /// Judges a sector that began with any bytes, of which it has so many. Those of this value are tried first.
-fn judge_any(alloc: Global, size: u32, shown: &Shown, first: u64) -> Result<Verdict, AllocError>
-    ensures { IfOk result (IsTriedAny size shown.now.watched.table shown.now.sights.items) }
+fn judge_any(
+    alloc: Global,
+    size: u32,
+    table: &Table,
+    sights: &[Sight],
+    first: u64,
+) -> Result<Verdict, AllocError>
+    ensures { IfOk result (IsTriedAny size table.now sights.now) }
 {
-    let values = starts_of(alloc, first, shown.sights.as_slice())?;
-    judge_each(alloc, size, shown, values.as_slice())
+    let values = starts_of(alloc, first, sights)?;
+    judge_each(alloc, size, table, sights, values.as_slice())
 }
 
 /// Judges a sector of so many bytes that began with these, or where any will do with some.
@@ -171,19 +172,15 @@ fn judge_any(alloc: Global, size: u32, shown: &Shown, first: u64) -> Result<Verd
 pub(crate) fn judge_shown(
     alloc: Global,
     size: u32,
-    shown: &Shown,
+    table: &Table,
+    sights: &[Sight],
     start: &Start,
 ) -> Result<Verdict, AllocError>
-    ensures { IfOk result (IsTriedBy start.now.any size shown.now.watched.table (number_in shown.now.watched.table start.now.bytes.items) shown.now.sights.items) }
+    ensures { IfOk result (IsTriedBy start.now.any size table.now (number_in table.now start.now.bytes.items) sights.now) }
 {
-    let first = shown.watched.table.number(start.bytes.as_slice());
+    let first = table.number(start.bytes.as_slice());
     if start.any {
-        return judge_any(alloc, size, shown, first);
+        return judge_any(alloc, size, table, sights, first);
     }
-    judge_with(
-        alloc,
-        shown.watched.table.count(),
-        first,
-        shown.sights.as_slice(),
-    )
+    judge_with(alloc, table.count(), first, sights)
 }

@@ -4,8 +4,9 @@ ghost use Rattle.std.specs.Prelude.{◌≡◌, ◌<◌, IfOk, drop, length};
 ghost use Rattle.std.specs.Bool.{OnTrue};
 ghost use Rattle.std.specs.Str.{bytes_eq};
 ghost use Rattle.history_judge.specs.Values.{number_in};
+ghost use Rattle.history_judge.specs.inside.Keeping.{Grows, IsNumber};
 ghost use Rattle.history_judge.specs.inside.Starting.{IsFound};
-ghost use Rattle.history_judge.specs.inside.Tables.{digest, next_digest};
+ghost use Rattle.history_judge.specs.inside.Tables.{AreOnce, digest, next_digest};
 
 use crate::rows::{Row, add, row_of, rows};
 use sector::Bytes;
@@ -81,6 +82,13 @@ impl Table {
         })
     }
 
+    /// No bytes stand there twice: available to the caller.
+    pub fn shows_once(&self)
+        ensures { AreOnce self.now }
+    {
+        let _ = &self.values;
+    }
+
     /// How many there are.
     pub fn count(&self) -> u64
         ensures { result ≡ length self.now }
@@ -126,16 +134,28 @@ impl Table {
         bytes.len() == size as usize && self.number(bytes) == number
     }
 
-    /// Adds a sector's bytes, unless they stand there.
-    pub fn add(&mut self, alloc: Global, bytes: &[u8]) -> Result<(), AllocError> {
-        let count = self.values.len();
+    /// Adds a sector's bytes, unless they stand there, and returns their number.
+    pub fn add(&mut self, alloc: Global, bytes: &[u8]) -> Result<u64, AllocError>
+        ensures grows { Grows self.old self.new }
+        ensures number { IfOk result (IsNumber self.new bytes.now) }
+    {
+        let count = self.values.len() as u64;
         let key = digest(bytes);
-        if self.number_by(key, bytes) < count as u64 {
-            return Ok(());
+        let number = self.number_by(key, bytes);
+        if number < count {
+            return Ok(number);
         }
         let value = Bytes::new(Vec::from_slice(alloc, bytes)?);
-        add(&mut self.rows, key, count)?;
+        add(&mut self.rows, key, count as usize)?;
         self.values.push(value)?;
-        Ok(())
+        Ok(count)
+    }
+
+    /// The bytes of a number.
+    pub fn bytes(&self, number: u64) -> &[u8] {
+        match self.values.get(number as usize) {
+            Some(bytes) => bytes.as_slice(),
+            None => &[],
+        }
     }
 }

@@ -1,6 +1,6 @@
 //! Histories that are legal, and histories that are not.
 
-use crate::{Misfit, Place, Service, Verdict, judge};
+use crate::{History, Misfit, Place, Service, Verdict};
 use machine::{ClientRequest, Kind, Label};
 use ntstatus::NtStatus;
 use sector::{Bytes, Extent};
@@ -336,17 +336,17 @@ fn label_of(alloc: Global, step: &Step) -> Result<Label, AllocError> {
 #[test]
 fn histories_are_judged(rt: HostRuntime) -> Result<(), Fail> {
     let alloc = rt.alloc();
-    let service = Service {
-        sector_size: 2,
-        partitions: vec![in alloc; Extent { first: 1, count: 4 }]?,
-        longest: 8,
-    };
     for (name, steps, wanted) in CASES {
-        let mut labels = Vec::new(alloc);
+        let service = Service {
+            sector_size: 2,
+            partitions: vec![in alloc; Extent { first: 1, count: 4 }]?,
+            longest: 8,
+        };
+        let mut history = History::new(alloc, service, &[0, 0])?;
         for step in steps {
-            labels.push(label_of(alloc, step)?)?;
+            history = history.push(alloc, label_of(alloc, step)?)?;
         }
-        let verdict = judge(alloc, &service, &[0, 0], labels.as_slice())?;
+        let verdict = history.judge(alloc)?;
         assert_eq!(&rt; verdict, wanted, "{name}");
     }
     Ok(())

@@ -1,8 +1,8 @@
 //! The sectors that a history touches.
 
-ghost use Rattle.std.specs.Prelude.{◌≡◌, ◌+◌, ◌^◌, ◌<◌, IfOk, OnOk};
+ghost use Rattle.std.specs.Prelude.{◌≡◌, ◌+◌, ◌^◌, ◌<◌, OnOk};
 ghost use Rattle.history_judge.specs.Services.{rules_of};
-ghost use Rattle.history_judge.specs.inside.Touching.{AddsAll, AddsMoved, HasTouched};
+ghost use Rattle.history_judge.specs.inside.Touching.{AddsAll, AddsMoved};
 
 use crate::service::{Place, Service};
 use machine::Label;
@@ -21,7 +21,11 @@ fn add_all(places: &mut Vec<Place>, partition: u8, extent: Extent) -> Result<(),
 }
 
 /// Adds the sectors that a label moves.
-fn add_moved(places: &mut Vec<Place>, service: &Service, label: &Label) -> Result<(), AllocError>
+pub(crate) fn add_moved(
+    places: &mut Vec<Place>,
+    service: &Service,
+    label: &Label,
+) -> Result<(), AllocError>
     requires { 0 < service.now.sector_size }
     ensures { OnOk result (AddsMoved (rules_of service.now) places.old.items label.now places.new.items) }
 {
@@ -35,20 +39,4 @@ fn add_moved(places: &mut Vec<Place>, service: &Service, label: &Label) -> Resul
         return Ok(());
     };
     add_all(places, partition, extent)
-}
-
-/// The sectors that the calls of a history move, some of them more than once.
-pub(crate) fn touched(
-    alloc: Global,
-    service: &Service,
-    labels: &[Label],
-) -> Result<Vec<Place>, AllocError>
-    requires { 0 < service.now.sector_size }
-    ensures { IfOk result (λ places. HasTouched (rules_of service.now) labels.now places.items) }
-{
-    let mut places = Vec::new(alloc);
-    for label in labels {
-        add_moved(&mut places, service, label)?;
-    }
-    Ok(places)
 }

@@ -2,7 +2,7 @@
 
 ghost use Rattle.std.specs.Prelude.{IfOk};
 ghost use Rattle.settings.specs.InRange.{AreInRange};
-ghost use Rattle.judging.specs.Histories.{IsJudged, IsJudgedFromAny, JudgedBy};
+ghost use Rattle.judging.specs.Histories.{IsOfSettings, JudgedBy};
 ghost use Rattle.judging.specs.inside.Saying.{IsBy, IsSaid, IsServiceOf};
 
 use crate::Error;
@@ -12,10 +12,8 @@ use crate::progress::Progress;
 use crate::reading::{is_ended, next_line, without_end};
 use crate::told::{Told, told_whole};
 use compose::LONGEST_REQUEST;
-use history_judge::{Misfit, Place, Service, judge, judge_any_start};
-use machine::{ClientRequest, Kind, Label};
-use ntstatus::NtStatus;
-use sector::Bytes;
+use history_judge::{History, Misfit, Place, Service};
+use machine::Label;
 use settings::Config;
 use startup::{Verdict, read_settings};
 use std::alloc::{AllocError, Global};
@@ -42,13 +40,11 @@ pub struct Listeners<O, W> {
 }
 
 /// The calls and answers of a text.
-#[derive(Debug, Drop)]
+#[derive(Drop)]
 struct Recorded {
-    labels: Vec<Label>,
+    history: History,
     /// The numbers of their lines, from 1.
     lines: Vec<u64>,
-    /// Bytes of a sector.
-    size: u32,
     any_start: bool,
 }
 
@@ -71,102 +67,15 @@ enum Source {
 }
 
 impl Recorded {
-    /// Takes the label of a line, unless it is of the service's device.
-    fn take(&mut self, line: u64, label: Label) -> Result<(), AllocError> {
-        let is_seen = matches!(label, Label::Call { .. } | Label::Answer { .. });
-        if !is_seen {
-            return Ok(());
-        }
-        let Ok(()) = self.labels.push(label) else {
-            return Err(AllocError);
-        };
-        self.lines.push(line)?;
-        Ok(())
-    }
-
     /// The line of a label.
     fn line_of(&self, label: usize) -> u64 {
         self.lines.get(label).copied().unwrap_or(0)
     }
 
-    /// The number of the request that is called or answered.
-    fn request_of(&self, label: usize) -> u64 {
-        match self.labels.get(label) {
-            Some(Label::Call { number, .. } | Label::Answer { number, .. }) => *number,
-            _ => 0,
-        }
-    }
-
-    /// What the call of this number asks for.
-    fn request(&self, number: u64) -> Option<&ClientRequest> {
-        for label in self.labels.as_slice() {
-            if let Label::Call {
-                number: called,
-                request,
-            } = label
-            {
-                if *called == number {
-                    return Some(request);
-                }
-            }
-        }
-        None
-    }
-
-    /// What an answer gives of a sector, if it is of a read.
-    fn read_at(&self, label: usize, place: Place) -> Option<&[u8]> {
-        let Some(Label::Answer { number, bytes, .. }) = self.labels.get(label) else {
-            return None;
-        };
-        let request = self.request(*number)?;
-        match request.kind {
-            Kind::Read => part_of(request, bytes.as_slice(), self.size, place.sector),
-            Kind::Write | Kind::Flush => None,
-        }
-    }
-
-    /// The last call before a label that writes these bytes to a sector.
-    fn writer_of(&self, label: usize, place: Place, bytes: &[u8]) -> Option<usize> {
-        let mut found = None;
-        for (index, call) in self.labels.iter().enumerate() {
-            if index >= label {
-                return found;
-            }
-            if writes(call, self.size, place, bytes) {
-                found = Some(index);
-            }
-        }
-        found
-    }
-
-    /// The numbers of the requests that are answered DEVICE_BUSY, in their order.
-    fn busy(&self, alloc: Global) -> Result<Vec<u64>, AllocError> {
-        let mut numbers = Vec::new(alloc);
-        for label in self.labels.as_slice() {
-            if let Label::Answer {
-                number,
-                status: NtStatus::DeviceBusy,
-                ..
-            } = label
-            {
-                numbers.push(*number)?;
-            }
-        }
-        numbers.sort()?;
-        Ok(numbers)
-    }
-
-    /// Makes the writes of these numbers flushes, which have no effect.
-    fn idle(&mut self, alloc: Global, numbers: &[u64]) {
-        for label in self.labels.iter_mut() {
-            idle_one(alloc, label, numbers);
-        }
-    }
-
     /// Where what an answer gives of a sector is from, if it is of a read.
     fn source_of(&self, label: usize, place: Place) -> Option<Source> {
-        let bytes = self.read_at(label, place)?;
-        if let Some(call) = self.writer_of(label, place, bytes) {
+        let bytes = self.history.read_at(label, place)?;
+        if let Some(call) = self.history.writer_of(label, place, bytes) {
             return Some(Source::Call(call));
         }
         if are_zero(bytes) && !self.any_start {
@@ -174,57 +83,6 @@ impl Recorded {
         } else {
             Some(Source::Nobody)
         }
-    }
-
-    /// How many calls there are.
-    fn requests(&self) -> usize {
-        let calls = self.labels.iter();
-        calls
-            .filter(|label| matches!(label, Label::Call { .. }))
-            .count()
-    }
-}
-
-/// Makes a label a flush's, if it is the call of a write of one of these numbers.
-fn idle_one(alloc: Global, label: &mut Label, numbers: &[u64]) {
-    let Label::Call { number, request } = label else {
-        return;
-    };
-    let number = *number;
-    if matches!(request.kind, Kind::Write) && numbers.binary_search(&number).is_ok() {
-        request.kind = Kind::Flush;
-        request.bytes = Bytes::new(Vec::new(alloc));
-    }
-}
-
-/// What bytes of a request are of a sector.
-fn part_of<'a>(
-    request: &ClientRequest,
-    bytes: &'a [u8],
-    size: u32,
-    sector: u64,
-) -> Option<&'a [u8]> {
-    let size = size as u64;
-    let from = sector.checked_mul(size)?.checked_sub(request.offset)?;
-    let to = from.checked_add(size)?;
-    bytes.get(from as usize..to as usize)
-}
-
-/// Whether a label is the call of a write of these bytes to a sector.
-fn writes(label: &Label, size: u32, place: Place, bytes: &[u8]) -> bool {
-    let Label::Call { request, .. } = label else {
-        return false;
-    };
-    let is_there = match request.partition {
-        Some(partition) => partition == place.partition,
-        None => false,
-    };
-    if !is_there {
-        return false;
-    }
-    match part_of(request, request.bytes.as_slice(), size, place.sector) {
-        Some(part) => part == bytes,
-        None => false,
     }
 }
 
@@ -257,17 +115,16 @@ pub fn judge_history<C: Read + Drop, T: Read + Drop, O: Write, W: Write>(
     let Ok(mut input) = BufReader::with_capacity(alloc, BUFFER, history) else {
         return Err(Error::NoMemory);
     };
-    let mut recorded = Recorded {
-        labels: Vec::new(alloc),
-        lines: Vec::new(alloc),
-        size: config.sector_size,
+    let history = no_label(alloc, &config)?;
+    let recorded = read_history(alloc, &mut input, history, &mut listeners.progress)?;
+    let recorded = Recorded {
         any_start: terms.any_start,
+        ..recorded
     };
-    read_history(alloc, &mut input, &mut recorded, &mut listeners.progress)?;
-    if recorded.labels.is_empty() {
+    if recorded.history.count() == 0 {
         return Err(Error::NoLabel);
     }
-    let said = judged(alloc, &config, &mut recorded)?;
+    let said = judged(alloc, &recorded)?;
     if terms.json {
         let object = object_of(alloc, &recorded, said)?;
         writeln!(listeners.out, "{object}")?;
@@ -283,18 +140,12 @@ pub fn judge_history<C: Read + Drop, T: Read + Drop, O: Write, W: Write>(
 
 /// What is said of a history. Where it passes, writes that were answered DEVICE_BUSY must be none, or it has to pass without
 /// their effects, too.
-fn judged(alloc: Global, config: &Config, recorded: &mut Recorded) -> Result<Said, AllocError>
-    requires { AreInRange config.now }
-    ensures { IfOk result (IsSaid recorded.old.any_start config.now recorded.old.labels.items) }
+fn judged(alloc: Global, recorded: &Recorded) -> Result<Said, AllocError>
+    ensures { IfOk result (IsSaid recorded.now.any_start recorded.now.history) }
 {
-    let verdict = verdict_of(
-        alloc,
-        config,
-        recorded.any_start,
-        recorded.labels.as_slice(),
-    )?;
+    let verdict = verdict_of(alloc, &recorded.history, recorded.any_start)?;
     match verdict {
-        history_judge::Verdict::Passed => judged_idle(alloc, config, recorded, verdict),
+        history_judge::Verdict::Passed => judged_idle(alloc, recorded, verdict),
         _ => Ok(Said::By(verdict)),
     }
 }
@@ -302,53 +153,50 @@ fn judged(alloc: Global, config: &Config, recorded: &mut Recorded) -> Result<Sai
 /// The same of a history that has this verdict where such writes may have effects.
 fn judged_idle(
     alloc: Global,
-    config: &Config,
-    recorded: &mut Recorded,
+    recorded: &Recorded,
     verdict: history_judge::Verdict,
 ) -> Result<Said, AllocError>
-    requires { AreInRange config.now }
     ensures { IfOk result (IsBy verdict) }
 {
-    let busy = recorded.busy(alloc)?;
-    if busy.is_empty() {
-        return Ok(Said::By(verdict));
-    }
-    recorded.idle(alloc, busy.as_slice());
-    let labels = recorded.labels.as_slice();
-    match place_of(verdict_of(alloc, config, recorded.any_start, labels)?) {
+    let failing = recorded
+        .history
+        .fails_without_busy(alloc, recorded.any_start)?;
+    match failing {
         Some(place) => Ok(Said::Busy(place)),
         None => Ok(Said::By(verdict)),
     }
 }
 
-/// The sector at which a history doesn't pass.
-fn place_of(verdict: history_judge::Verdict) -> Option<Place> {
-    match verdict {
-        history_judge::Verdict::Passed => None,
-        history_judge::Verdict::Misfit { .. } => Some(Place {
-            partition: 0,
-            sector: 0,
-        }),
-        history_judge::Verdict::Refused { place, .. }
-        | history_judge::Verdict::Undecided { place } => Some(place),
-    }
+/// A history of the service that some settings describe, from sectors of zeros, with no label.
+fn no_label(alloc: Global, config: &Config) -> Result<History, AllocError>
+    requires { AreInRange config.now }
+    ensures { IfOk result (IsOfSettings config.now) }
+{
+    let service = service_of(alloc, config)?;
+    let start = zero_sector(alloc, config.sector_size)?;
+    History::new(alloc, service, start.as_slice())
 }
 
-/// Reads the calls and answers that the lines of an input tell.
+/// Takes the calls and answers that the lines of an input tell.
 fn read_history<B: BufRead, W: Write>(
     alloc: Global,
     input: &mut B,
-    recorded: &mut Recorded,
+    history: History,
     progress: &mut Progress<W>,
-) -> Result<(), Error> {
+) -> Result<Recorded, Error> {
+    let mut recorded = Recorded {
+        history,
+        lines: Vec::new(alloc),
+        any_start: false,
+    };
     let mut line = Vec::new(alloc);
     for index in 0..u64::MAX {
         next_line(input, &mut line)?;
         let number = index + 1;
         match told_whole(alloc, without_end(line.as_slice()))? {
             Told::Line(told) => {
-                recorded.take(number, told.line.label)?;
-                progress.say_read(recorded.labels.len() as u64);
+                recorded = with(alloc, recorded, number, told.line.label)?;
+                progress.say_read(recorded.lines.len() as u64);
             }
             Told::Nothing => {}
             Told::BadWord { column } => {
@@ -359,10 +207,35 @@ fn read_history<B: BufRead, W: Write>(
             }
         }
         if !is_ended(line.as_slice()) {
-            return Ok(());
+            return Ok(recorded);
         }
     }
     Err(Error::TraceUnreadable)
+}
+
+/// Takes the label of a line, unless it is of the service's device.
+fn with(
+    alloc: Global,
+    recorded: Recorded,
+    line: u64,
+    label: Label,
+) -> Result<Recorded, AllocError> {
+    let is_seen = matches!(label, Label::Call { .. } | Label::Answer { .. });
+    if !is_seen {
+        return Ok(recorded);
+    }
+    let Recorded {
+        history,
+        mut lines,
+        any_start,
+    } = recorded;
+    lines.push(line)?;
+    let history = history.push(alloc, label)?;
+    Ok(Recorded {
+        history,
+        lines,
+        any_start,
+    })
 }
 
 /// The service that some settings describe.
@@ -377,48 +250,19 @@ fn service_of(alloc: Global, config: &Config) -> Result<Service, AllocError>
     })
 }
 
-/// What is said of a history from sectors of zeros.
-fn zero_verdict(
-    alloc: Global,
-    config: &Config,
-    labels: &[Label],
-) -> Result<history_judge::Verdict, AllocError>
-    requires { AreInRange config.now }
-    ensures { IfOk result (IsJudged config.now labels.now) }
-{
-    let service = service_of(alloc, config)?;
-    let start = zero_sector(alloc, config.sector_size)?;
-    judge(alloc, &service, start.as_slice(), labels)
-}
-
-/// What is said of a history from sectors of any bytes.
-fn any_verdict(
-    alloc: Global,
-    config: &Config,
-    labels: &[Label],
-) -> Result<history_judge::Verdict, AllocError>
-    requires { AreInRange config.now }
-    ensures { IfOk result (IsJudgedFromAny config.now labels.now) }
-{
-    let service = service_of(alloc, config)?;
-    judge_any_start(alloc, &service, labels)
-}
-
 /// What is said of a history.
 #[tactic(auto, using(crate::proofs::SaidOfHistories::from_any, crate::proofs::SaidOfHistories::from_zeros))]
 fn verdict_of(
     alloc: Global,
-    config: &Config,
+    history: &History,
     any_start: bool,
-    labels: &[Label],
 ) -> Result<history_judge::Verdict, AllocError>
-    requires { AreInRange config.now }
-    ensures { IfOk result (JudgedBy any_start config.now labels.now) }
+    ensures { IfOk result (JudgedBy any_start history.now) }
 {
     if any_start {
-        return any_verdict(alloc, config, labels);
+        return history.judge_any_start(alloc);
     }
-    zero_verdict(alloc, config, labels)
+    history.judge(alloc)
 }
 
 /// Writes what is said of a history.
@@ -440,7 +284,7 @@ fn write_verdict<O: Write>(
 ) -> io::Result<()> {
     match verdict {
         history_judge::Verdict::Passed => {
-            let requests = recorded.requests();
+            let requests = recorded.history.requests();
             writeln!(out, "legal: {requests} requests")
         }
         history_judge::Verdict::Misfit { label, why } => {
@@ -481,7 +325,7 @@ fn write_refused<O: Write>(
     label: usize,
 ) -> io::Result<()> {
     let line = recorded.line_of(label);
-    let request = recorded.request_of(label);
+    let request = recorded.history.number_of(label);
     let Place { partition, sector } = place;
     write!(out, "line {line}: request {request} ")?;
     let Some(source) = recorded.source_of(label, place) else {
@@ -501,7 +345,7 @@ fn write_source<O: Write>(out: &mut O, recorded: &Recorded, source: Source) -> i
         Source::Start => write!(out, "it was at the start"),
         Source::Nobody => write!(out, "nobody had written it"),
         Source::Call(call) => {
-            let request = recorded.request_of(call);
+            let request = recorded.history.number_of(call);
             let line = recorded.line_of(call);
             write!(out, "request {request} (line {line}) wrote it")
         }
@@ -532,7 +376,7 @@ fn verdict_object(
 ) -> Result<String, AllocError> {
     match verdict {
         history_judge::Verdict::Passed => {
-            let requests = recorded.requests();
+            let requests = recorded.history.requests();
             format!(in alloc; "{{\"verdict\": \"legal\", \"requests\": {requests}}}")
         }
         history_judge::Verdict::Misfit { label, why } => {
@@ -558,7 +402,7 @@ fn broken_object(
 ) -> Result<String, AllocError> {
     let line = recorded.line_of(label);
     let mut fields = Fields::new(alloc, true);
-    fields.number("request", Some(recorded.request_of(label) as u128))?;
+    fields.number("request", Some(recorded.history.number_of(label) as u128))?;
     if let Some(place) = place {
         tell_place(recorded, label, place, &mut fields)?;
     }
@@ -576,7 +420,7 @@ fn tell_place(
     let Place { partition, sector } = place;
     fields.number("partition", Some(partition as u128))?;
     fields.number("sector", Some(sector as u128))?;
-    let Some(bytes) = recorded.read_at(label, place) else {
+    let Some(bytes) = recorded.history.read_at(label, place) else {
         return Ok(());
     };
     match recorded.source_of(label, place) {
@@ -585,7 +429,7 @@ fn tell_place(
         Some(Source::Nobody) => tell_found(fields, bytes, "nobody"),
         Some(Source::Call(call)) => {
             fields.bytes("found", bytes, Some(recorded.line_of(call)))?;
-            fields.number("writer", Some(recorded.request_of(call) as u128))
+            fields.number("writer", Some(recorded.history.number_of(call) as u128))
         }
     }
 }

@@ -27,6 +27,11 @@ abbrev pub AddsSpan : List (List ℕ) → Option Span → ℕ → List (List ℕ
 AddsSpan old None label new = Keeps old new
 AddsSpan old (Some span) label new = AddsExtent old span.extent label new
 
+-- the label is no call, or one of this number
+abbrev pub IsNext : ℕ → Label → Type 0
+IsNext number (Call n q) = n ≡ number
+IsNext number _ = Unit {0}
+
 -- a call has the next number, and is for what it moves; an answer is for what its request moves
 abbrev pub Takes : Rules → Index → Label → ℕ → Index → Type 0
 Takes rules old (Call n q) index new =

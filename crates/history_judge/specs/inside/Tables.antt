@@ -14,8 +14,12 @@ digest_on stride (suc skip) digest (byte ∷ bytes) = digest_on stride skip dige
 abbrev pub digest : List ℕ → ℕ
 digest bytes = digest_on (length bytes / 128) 0 0 bytes
 
+-- what stands at a place stands nowhere before
+abbrev pub AreOnce : List (List ℕ) → Type 0
+AreOnce values = (place other : ℕ) → place < length values → other < place → slice_index_or values place [] ≢ slice_index_or values other []
+
 -- each place is found by the digest of what stands there, which stands nowhere before
 pub record IsTable (values : List (List ℕ)) (rows : List (List ℕ)) : Type 0 where
   pub some : 0 < length rows
   pub found : (place : ℕ) → place < length values → Contains (row_of rows (digest (slice_index_or values place []))) place
-  pub once : (place other : ℕ) → place < length values → other < place → slice_index_or values place [] ≢ slice_index_or values other []
+  pub once : AreOnce values

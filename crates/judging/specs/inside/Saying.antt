@@ -1,8 +1,8 @@
 -- What is said of a history, and of what service.
-use Rattle.std.specs.Prelude.{◌≡◌, ◌<◌, Bool, List}
-use Rattle.machine.specs.declared.Label.{Label}
+use Rattle.std.specs.Prelude.{◌≡◌, ◌<◌, Bool}
 use Rattle.settings.specs.declared.Config.{Config}
 use Rattle.startup.specs.Started.{rules_of}
+use Rattle.history_judge.specs.Histories.{HistoryView}
 use Rattle.history_judge.specs.declared.service.Service.{Service}
 use Rattle.history_judge.specs.declared.judging.Verdict.{Verdict}
 use Rattle.history_judge.specs.Services.{AreOf}
@@ -16,9 +16,9 @@ pub record IsServiceOf (config : Config) (service : Service) : Type 0 where
   pub some : 0 < service.sector_size
 
 -- a verdict that is told is right
-abbrev pub IsSaid : Bool → Config → List Label → Said → Type 0
-IsSaid any_start config history (By verdict) = JudgedBy any_start config history verdict
-IsSaid any_start config history (Busy place) = Unit {0}
+abbrev pub IsSaid : Bool → HistoryView → Said → Type 0
+IsSaid any_start history (By verdict) = JudgedBy any_start history verdict
+IsSaid any_start history (Busy place) = Unit {0}
 
 -- if a verdict is told, it is this one
 abbrev pub IsBy : Verdict → Said → Type 0
