@@ -1,7 +1,7 @@
 -- The calls that move both machines by the same labels: act and reset, and the taking of a label.
 use Rattle.std.proofs.Common.{◌≡◌, ◌<◌, ◌≤◌, ◌⊎◌, inl, inr, ℕ, zero, suc, ◌+◌, Bool, true, false, List, [], ◌∷◌, refl, sym, ◌∙◌, ap, subst, arith, map, length, cond, Option, Some, None, Result, Ok, Err, MatchBool, length-append}
 use Rattle.std.specs.Prelude.{IsPermutation, All, Any, Contains, IsTrue, IsFalse}
-use Rattle.class_disk.proofs.Common.{length-map, IsPermutation-refl, IsPermutation-sym, IsPermutation-trans, IsPermutation-map, All-permutation, Contains-permutation, length_permutation, sum_by-IsPermutation, All-nil, All-cons, All-head, All-tail, All-weaker, All-map, DeviceLabel, Start, Act, Fault, Return, ClientRequest, Request, Rules, place_count, Mark, Untouched, Out, Done, Failed, Back, OpenRequest, Piece, State, IsSame, AreDistinct, HasPlaces, HavePlaces, request_number, is_started, with_fate, HasEnded, Acted, IsCounted, AreCounted, Run, as_label, DeviceView, Packet, OnTag, packet_number, piece_on_tag, use_on_tag, label_places, IsOrderly, IsTopmost, Entry, Completion, AdapterView, TagInUse, with_booked, books_tags, books_sectors, sectors_in, BooksPiece, Moves, AwaitsRestartIfEnded, IsFreshOn, IsActOrFault, ActsOrFaults, ActsNot, TakesLabel, ForgetsLabels, IsAt, Run-same, none_there, AreDistinct-Run, AreDistinct-same, Opened, TableView, all_open, Progress, IsSound, Keeps, AreParts, IsMadeUp, HasSome, IsOver, class_rules, IsPort, divided_of, shown_state, knowns, view_of, AreKept, AreBelow, IsCoupled, IsInHand, AsksUnder, IsAskedBy, IsAsked, AreAsked, IsSpottedBy, IsSpotted, AreSpotted, tickets, most_over, AllOut}
+use Rattle.class_disk.proofs.Common.{room_in_all, length-map, IsPermutation-refl, IsPermutation-sym, IsPermutation-trans, IsPermutation-map, All-permutation, Contains-permutation, length_permutation, sum_by-IsPermutation, All-nil, All-cons, All-head, All-tail, All-weaker, All-map, DeviceLabel, Start, Act, Fault, Return, ClientRequest, Request, Rules, place_count, Mark, Untouched, Out, Done, Failed, Back, OpenRequest, Piece, State, IsSame, AreDistinct, HasPlaces, HavePlaces, request_number, is_started, with_fate, HasEnded, Acted, IsCounted, AreCounted, Run, as_label, DeviceView, Packet, OnTag, packet_number, piece_on_tag, use_on_tag, label_places, IsOrderly, IsTopmost, Entry, Completion, AdapterView, TagInUse, with_booked, books_tags, books_sectors, sectors_in, BooksPiece, Moves, AwaitsRestartIfEnded, IsFreshOn, IsActOrFault, ActsOrFaults, ActsNot, TakesLabel, ForgetsLabels, IsAt, Run-same, none_there, AreDistinct-Run, AreDistinct-same, Opened, TableView, all_open, Progress, IsSound, Keeps, AreParts, IsMadeUp, HasSome, IsOver, class_rules, IsPort, divided_of, shown_state, knowns, view_of, AreKept, AreBelow, IsCoupled, IsInHand, AsksUnder, IsAskedBy, IsAsked, AreAsked, IsSpottedBy, IsSpotted, AreSpotted, tickets, most_over, AllOut}
 use Rattle.machine.specs.Settled.{Settled, IsHeld, WaitsIfCancelled, Waits, IsAllSent, IsHeldBack, HasMore, IsAtWork, IsFull, IsWithin, started_count}
 use Rattle.class_disk.specs.declared.parts.Progress.TheVariants.{Ready, Below as SentBelow, Ended as PartEnded}
 use Rattle.class_disk.specs.inside.Joint.{Part, Below, Here, Known, known_of, Divided, Joint, parts_marks, pieces_below, pieces_above, shown, above}
@@ -167,6 +167,7 @@ module _ (v : DeviceView) (books : TableView) (port : IsPort v.rules) (sound : I
           same_rooms = λ spot. refl;
           same_submitted = refl;
           same_most = ap most_over m.same_most;
+          same_places = ap (λ n. n + room_in_all books) m.same_places;
           run = subst (λ r. Run rules (shown_state v.state (books.last_request + 1) (knowns rules books)) (map as_label labels) (shown_state v'.state (books.last_request + 1) (knowns r books))) (sym same_rules)
               (Run-same rules (map as_label labels) (above coupled.j) _ (above ran.next) _ here there ran.run);
           adapter = m.adapter;
@@ -254,7 +255,7 @@ module _ (v : DeviceView) (books : TableView) (h : IsInHand v books) where
             (AreDistinct-same (above j) (view_of v' books).state same_shown distinct)
             (have_places (class_rules v'.rules) j ks coupled.keeps coupled.knows below.some) over_j
             (view_of v' books).state same_shown (view_of v' books).packets (subst (IsPermutation (map packet_number (view_of v books).packets)) numbers h.orderly.packets)
-            books.rooms h.orderly.spots h.orderly.vacant books.submitted (most_over v'.most);
+            books.rooms h.orderly.spots h.orderly.vacant books.submitted (most_over v'.most) (view_of v' books).places;
       }
 
   pub hand_moved : (labels : List DeviceLabel) (v' : DeviceView) → MovesAbove v books labels v' → IsOrderly v' → AllOut v' (tickets books)

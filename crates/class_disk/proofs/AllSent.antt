@@ -220,6 +220,7 @@ module _ (v0 : DeviceView)
               adapter = moves_joined v0.adapter so_far.starts v.adapter x.submits.starts v'.adapter so_far.goes.adapter goes.adapter;
               same_rules = goes.same_rules ∙ so_far.goes.same_rules;
               same_most = goes.same_most ∙ so_far.goes.same_most;
+              same_places = goes.same_places ∙ so_far.goes.same_places;
               same_last = goes.same_last ∙ so_far.goes.same_last;
               same_submitted = goes.same_submitted ∙ so_far.goes.same_submitted;
               same_packets = goes.same_packets ∙ so_far.goes.same_packets;

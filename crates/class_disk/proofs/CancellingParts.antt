@@ -1,7 +1,7 @@
 -- A cancellation: the class driver's own flag, and then the parts below one by one.
 use Rattle.std.proofs.Common.{◌≡◌, ◌≤◌, inl, inr, ℕ, ◌+◌, true, false, List, [], ◌∷◌, ◌++◌, refl, sym, ◌∙◌, ap, subst, arith, map, length, length-append}
 use Rattle.std.specs.Prelude.{IsPermutation, All, Contains, IsFalse}
-use Rattle.class_disk.proofs.Common.{map-append, IsPermutation-refl, IsPermutation-sym, IsPermutation-trans, IsPermutation-cons, IsPermutation-middle, IsPermutation-map, All-permutation, Contains-permutation, All-nil, All-cons, All-head, All-tail, All-weaker, All-map, ClientRequest, Cancel, Request, Rules, OpenRequest, State, IsSame, request_number, AreCounted, Cancels, as_cancelled, Step, IsSame-refl, IsSame-sym, IsSame-trans, Step-same, IsPermutation-uncons, AreDistinct-Step, AreDistinct-same, DeviceView, IsOrderly, IsTopmost, room_at, IsBeside, Progress, Unsent, class_rules, cancelled_one, note, known, knowns, view_of, packet_above, tickets_held, tickets_open, IsAsked, IsAskedBy, AreAsked, AreSpotted, IsOpen, AreKept, AreBelow, IsInHand, HaveCauses, tickets, most_over, AllOut, IsTaking, IsMidway, CancelsAll, packet_of_part, TakesAll}
+use Rattle.class_disk.proofs.Common.{room_in_all, map-append, IsPermutation-refl, IsPermutation-sym, IsPermutation-trans, IsPermutation-cons, IsPermutation-middle, IsPermutation-map, All-permutation, Contains-permutation, All-nil, All-cons, All-head, All-tail, All-weaker, All-map, ClientRequest, Cancel, Request, Rules, OpenRequest, State, IsSame, request_number, AreCounted, Cancels, as_cancelled, Step, IsSame-refl, IsSame-sym, IsSame-trans, Step-same, IsPermutation-uncons, AreDistinct-Step, AreDistinct-same, DeviceView, IsOrderly, IsTopmost, room_at, IsBeside, Progress, Unsent, class_rules, cancelled_one, note, known, knowns, view_of, packet_above, tickets_held, tickets_open, IsAsked, IsAskedBy, AreAsked, AreSpotted, IsOpen, AreKept, AreBelow, IsInHand, HaveCauses, tickets, most_over, AllOut, IsTaking, IsMidway, CancelsAll, packet_of_part, TakesAll}
 use Rattle.class_disk.specs.declared.parts.Progress.TheVariants.{Ready, Below as SentBelow, Ended as HasEnded}
 use Rattle.class_disk.specs.inside.Joint.{Part, Below, Here, Known, note_of, known_of, Divided, Joint, IsPartOf, parts_requests, parts_marks, parts_busy, parts_lifted, shown, pieces_above, below, above, lifted, shown_mark}
 use Rattle.class_disk.specs.inside.Invariant.{AreParts, IsMadeUp, IsCancelledAs, AgreesOnCancel, IsAhead, AreBehind, IsInTurn, places_in, AreCut, begins_back, parts_back, IsInPieces, Keeps, NeverSent, IsOver, HasSome, noted_busy}
@@ -206,7 +206,7 @@ module _ (v : DeviceView) (b : TableView) (h : IsInHand v b) (slot : ℕ) (o : O
     cancelled =
         all_cancelled rules j i.e i.es v (h.port.one_piece) [] i.e.parts o.parts (ap (λ (k : Known). k.parts) i.is_known) v v1
         (record {
-          beside = record { same_rules = refl; same_packets = IsPermutation-refl _; same_rooms = λ spot. refl; same_submitted = refl; same_most = refl; same_adapter = refl };
+          beside = record { same_rules = refl; same_packets = IsPermutation-refl _; same_rooms = λ spot. refl; same_submitted = refl; same_most = refl; same_places = refl; same_adapter = refl };
           sound = h.sound;
           counted = h.counted;
           unsent = ends_unsent v.rules (h.port.first_busy) (h.port.one_piece)
@@ -366,6 +366,7 @@ module _ (v : DeviceView) (b : TableView) (h : IsInHand v b) (slot : ℕ) (o : O
         same_rooms = λ spot. ap (λ rooms. room_at rooms spot) w.goes_on.same_rooms;
         same_submitted = w.goes_on.same_submitted;
         same_most = ap most_over (w.goes_on.same_most ∙ m.beside.same_most);
+        same_places = w.goes_on.same_places ∙ ap (λ n. n + room_in_all b) m.beside.same_places;
         same_adapter = same_adapter v1 books_cancelled v2 b2 w ∙ m.beside.same_adapter;
       }
 

@@ -32,11 +32,11 @@ pub use Rattle.class_disk.specs.inside.Parts.{AreLeft, EndsAs, EndsBack, GoesAga
 pub use Rattle.class_disk.specs.inside.PortRules.{below_rules}
 pub use Rattle.class_disk.specs.inside.Rooms.{AllOut}
 pub use Rattle.class_disk.specs.inside.TableCalls.{AddsNoSlot, AddsSlot, CanCancelAt, CanSend, CanTake, CancelsAtSlot, CancelsNoneAt, CannotCancel, CannotCancelAt, Completes, IsDataOf, IsPartAt, IsReadyAt, OpensAt, RemovesSlot, SendsAgain, SendsAs, SendsPart, SendsPartAgain, TakesEnded, TakesNone, again_part, bytes_from, can_cancel, cancelled_one, empty_books, ended_at, ended_books, ended_part, given_up, is_cancellable, joined_up, new_opened, payload_up, sent_opened, sent_part}
-pub use Rattle.class_disk.specs.inside.TableView.{ClosedSlot, HasPlaceForMore, IsVacantFor, Opened, PutsBack, TableView, TakesOut, all_open, before, books_of, ended_in, held_as, held_from, is_whole, open_at, open_from, opened, opened_of, payload_of, put_at, reserved_for, room_of, rooms_from}
+pub use Rattle.class_disk.specs.inside.TableView.{ClosedSlot, HasPlaceForMore, IsVacantFor, Opened, PutsBack, TableView, TakesOut, all_open, before, books_of, ended_in, held_as, held_from, is_whole, open_at, open_from, opened, opened_of, payload_of, put_at, reserved_for, room_in_all, room_of, rooms_from}
 pub use Rattle.device.proofs.Bounded.{carries_bytes, not_refused, sectors_are}
 pub use Rattle.device.proofs.Reserving.{home_further, near_after, near_part, near_same, packets_apart}
 pub use Rattle.device.specs.Climbing.{Climbs, FinishesPacket}
-pub use Rattle.device.specs.Served.{ActsNot, ActsOrFaults, AwaitsRestart, AwaitsRestartIfEnded, BooksPiece, CancelsAt, CancelsIfOpen, DrainsAll, Finishes, FinishesNot, ForgetsLabels, Frees, HandsUp, HandsUpNone, HasOtherNumber, HasOtherSpot, IsActOrFault, IsAt, IsBeside, IsFreshOn, Moves, NoneToCancel, Reserves, ReservesNear, ReservesNone, ReservesSpot, Resets, SameRooms, SetsRoom, StaysOpen, Submits, TakesLabel, cut, fault_of, is_fresh_piece, piece_tag, sectors_moved}
+pub use Rattle.device.specs.Served.{ActsNot, ActsOrFaults, AwaitsRestart, AwaitsRestartIfEnded, BooksPiece, CancelsAt, CancelsIfOpen, DrainsAll, Finishes, FinishesNot, ForgetsLabels, Frees, HandsUp, HandsUpNone, HasOtherNumber, HasOtherSpot, IsActOrFault, IsAt, IsBeside, IsFreshOn, Moves, NoneToCancel, Reserves, ReservesNear, ReservesNone, ReservesSpot, Resets, SamePlaces, SameRooms, SetsRoom, StaysOpen, Submits, TakesLabel, cut, fault_of, is_fresh_piece, piece_tag, sectors_moved}
 pub use Rattle.device.specs.View.{AsksFor, AsksInLocation, Carries, DeviceView, IsBounded, IsOffRooms, IsOrderly, IsReady, IsReserved, IsTopmost, OnTag, Packet, WaitsForTag, direction, label_places, packet_number, packet_of, packet_spot, payload_bytes, piece_on_tag, request_at, request_of, room_at, sectors_asked, sent_bytes, transfer_length, use_on_tag, whole_for}
 pub use Rattle.device.specs.declared.climbing.Climb.{Climb}
 pub use Rattle.device.specs.declared.climbing.Climb.TheVariants.{Finished, Routine}

@@ -1,5 +1,5 @@
 -- A removal: the class driver's own flag, and the removal of the layer below.
-use Rattle.class_disk.proofs.Common.{◌≡◌, ◌≤◌, true, false, [], refl, sym, ◌∙◌, ap, subst, arith, map, IsPermutation-refl, IsPermutation-sym, All-permutation, All-weaker, Rules, State, IsSame, AreCounted, IsCounted, held_back, IsSame-refl, IsSame-sym, IsSame-trans, AreDistinct-same, DeviceView, IsOrderly, IsTopmost, room_at, DrainsAll, Unsent, Joint, above, below, IsSound, Keeps, NeverSent, EndedAre, IsOver, noted_busy, class_rules, TableView, all_open, knowns, view_of, packet_above, AreAsked, AreSpotted, AreBelow, IsInHand, HaveCauses, note, tickets, most_over, AllOut, IsTaking, IsMidway, TakesAll}
+use Rattle.class_disk.proofs.Common.{◌+◌, room_in_all, ◌≡◌, ◌≤◌, true, false, [], refl, sym, ◌∙◌, ap, subst, arith, map, IsPermutation-refl, IsPermutation-sym, All-permutation, All-weaker, Rules, State, IsSame, AreCounted, IsCounted, held_back, IsSame-refl, IsSame-sym, IsSame-trans, AreDistinct-same, DeviceView, IsOrderly, IsTopmost, room_at, DrainsAll, Unsent, Joint, above, below, IsSound, Keeps, NeverSent, EndedAre, IsOver, noted_busy, class_rules, TableView, all_open, knowns, view_of, packet_above, AreAsked, AreSpotted, AreBelow, IsInHand, HaveCauses, note, tickets, most_over, AllOut, IsTaking, IsMidway, TakesAll}
 use Rattle.std.specs.Prelude.{IsPermutation, if◌then◌else◌}
 use Rattle.class_disk.proofs.Rooms.{out_same}
 use Rattle.class_disk.proofs.Standing.{IsApart}
@@ -145,6 +145,7 @@ module _ (v : DeviceView) (b : TableView) (h : IsInHand v b) (v1 : DeviceView) (
             same_rooms = λ spot. ap (λ rooms. room_at rooms spot) w.goes_on.same_rooms;
             same_submitted = w.goes_on.same_submitted;
             same_most = ap most_over (w.goes_on.same_most ∙ d.beside.same_most);
+            same_places = w.goes_on.same_places ∙ ap (λ n. n + room_in_all b) d.beside.same_places;
             same_adapter = same_adapter v1 books_drained v2 b2 w ∙ d.beside.same_adapter;
           };
         }

@@ -1,6 +1,6 @@
 -- The slot of the request that ended first.
 use Rattle.std.proofs.Common.{◌≡◌, ℕ, zero, List, ◌∷◌, Option, Some, None, refl, sym, ◌∙◌, ap, subst, arith, Contains, IsSome}
-use Rattle.class_disk.proofs.Common.{deque_capacity, Updates, get, Open, Transfer, Table, books_of, opened_of, open_from, rooms_from, open_at, TakesOut, TakesEnded}
+use Rattle.class_disk.proofs.Common.{deque_capacity, Slab, Updates, get, Slot, Open, Transfer, Table, books_of, opened_of, open_from, rooms_from, open_at, TakesOut, TakesEnded}
 use Rattle.class_disk.proofs.SlotChanges.{keeps_rooms, takes_off}
 use Rattle.class_disk.proofs.Replacing.{stands_there}
 
@@ -32,7 +32,8 @@ takes_ended old mid new slot t first front places was out =
       is_open = f.is_open;
       opens = f.opens;
       after =
-          ap (λ hs. record (books_of old) { opens = open_from 0 new.slots.slots; held = hs; rooms = rooms_from new.slots.slots; ended = mid.ended.items; ended_places = deque_capacity mid.ended }) f.held
-          ∙ ap (λ rs. record (books_of old) { opens = open_from 0 new.slots.slots; rooms = rs; ended = mid.ended.items; ended_places = deque_capacity mid.ended }) rooms
-          ∙ ap (λ n. record (books_of old) { opens = open_from 0 new.slots.slots; ended = mid.ended.items; ended_places = n }) places;
+          ap (λ hs. record (books_of old) { opens = open_from 0 new.slots.slots; held = hs; rooms = rooms_from new.slots.slots; ended = mid.ended.items; ended_places = deque_capacity mid.ended; slot_places = new.slots.capacity }) f.held
+          ∙ ap (λ rs. record (books_of old) { opens = open_from 0 new.slots.slots; rooms = rs; ended = mid.ended.items; ended_places = deque_capacity mid.ended; slot_places = new.slots.capacity }) rooms
+          ∙ ap (λ n. record (books_of old) { opens = open_from 0 new.slots.slots; ended = mid.ended.items; ended_places = n; slot_places = new.slots.capacity }) places
+          ∙ ap (λ n. record (books_of old) { opens = open_from 0 new.slots.slots; ended = mid.ended.items; slot_places = n }) (out.same_places ∙ ap (λ (s : Slab Slot). s.capacity) same_slots);
     })

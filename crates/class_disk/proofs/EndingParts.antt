@@ -1,7 +1,7 @@
 -- A part that is not sent again ends in the table: one packet is taken.
 use Rattle.std.proofs.Common.{◌≡◌, ◌<◌, ◌≤◌, inl, inr, ℕ, ◌+◌, ◌-◌, ◌==◌, Bool, true, false, List, [], ◌∷◌, ◌++◌, refl, sym, ◌∙◌, ap, subst, arith, map}
 use Rattle.std.specs.Prelude.{IsPermutation, All, if◌then◌else◌}
-use Rattle.class_disk.proofs.Common.{cases_Bool, eqb-true, IsPermutation-sym, IsPermutation-trans, IsPermutation-cons, IsPermutation-middle, IsPermutation-append_right, IsPermutation-append_comm, All-permutation, All-tail, Rules, State, Climb, DeviceLabel, DeviceView, IsOrderly, IsTopmost, HandsUp, Outcome, Way, goes_whole, Note, Sent, EndedBy, EndedAre, IsOver, noted_busy, class_rules, IsPort, EndsAs, HasReason, unfinished_by, Opened, TableView, all_open, ended_in, ended_part, ended_at, ended_books, busy_left, note, note_by, known, knowns, tickets_held, tickets_open, IsCause, IsAsked, IsSpotted, IsOpen, AreKept, AreBelow, tickets, most_over, slot_at, place_at, payload_in, ticket_for, Ticket, AllOut, TransferPacket, IsTaking, IsMidway, TakesOne}
+use Rattle.class_disk.proofs.Common.{room_in_all, cases_Bool, eqb-true, IsPermutation-sym, IsPermutation-trans, IsPermutation-cons, IsPermutation-middle, IsPermutation-append_right, IsPermutation-append_comm, All-permutation, All-tail, Rules, State, Climb, DeviceLabel, DeviceView, IsOrderly, IsTopmost, HandsUp, Outcome, Way, goes_whole, Note, Sent, EndedBy, EndedAre, IsOver, noted_busy, class_rules, IsPort, EndsAs, HasReason, unfinished_by, Opened, TableView, all_open, ended_in, ended_part, ended_at, ended_books, busy_left, note, note_by, known, knowns, tickets_held, tickets_open, IsCause, IsAsked, IsSpotted, IsOpen, AreKept, AreBelow, tickets, most_over, slot_at, place_at, payload_in, ticket_for, Ticket, AllOut, TransferPacket, IsTaking, IsMidway, TakesOne}
 use Rattle.class_disk.specs.declared.parts.Part.{Part}
 use Rattle.class_disk.specs.declared.parts.Ended.{Ended}
 use Rattle.class_disk.proofs.Rooms.{out_any_order}
@@ -205,6 +205,7 @@ module _ {takes : Bool} (v : DeviceView) (b : TableView) (climb : Climb) (spot :
       adapter = h.moves.adapter;
       same_rules = h.moves.same_rules;
       same_most = h.moves.same_most;
+      same_places = ap (λ n. n + room_in_all b) h.moves.same_places;
       same_last = refl;
       same_submitted = refl;
       same_rooms = refl;

@@ -1,5 +1,5 @@
 -- A finish from one call to the next: midway once the piece is back, and in hand again once all that has ended is taken.
-use Rattle.class_disk.proofs.Common.{◌≡◌, ◌≢◌, ℕ, List, ◌∷◌, ◌++◌, sym, ◌∙◌, ap, subst, map, IsPermutation-refl, All-permutation, All-append, All-map, All-weaker, moves_joined, DeviceLabel, Return, Rules, State, IsStart, Run, as_label, DeviceView, OnTag, piece_on_tag, IsOrderly, Finishes, FinishesNot, Opened, TableView, all_open, Progress, Returned, above, class_rules, IsPort, knowns, tickets, view_of, packet_above, IsAskedBy, IsAsked, AreAsked, AreKept, IsInHand, IsTaking, IsMidway, TakesAll}
+use Rattle.class_disk.proofs.Common.{◌+◌, room_in_all, ◌≡◌, ◌≢◌, ℕ, List, ◌∷◌, ◌++◌, sym, ◌∙◌, ap, subst, map, IsPermutation-refl, All-permutation, All-append, All-map, All-weaker, moves_joined, DeviceLabel, Return, Rules, State, IsStart, Run, as_label, DeviceView, OnTag, piece_on_tag, IsOrderly, Finishes, FinishesNot, Opened, TableView, all_open, Progress, Returned, above, class_rules, IsPort, knowns, tickets, view_of, packet_above, IsAskedBy, IsAsked, AreAsked, AreKept, IsInHand, IsTaking, IsMidway, TakesAll}
 use Rattle.std.specs.Prelude.{IsPermutation, All}
 use Rattle.class_disk.proofs.Rooms.{out_same}
 use Rattle.class_disk.proofs.Standing.{IsApart}
@@ -65,7 +65,7 @@ module _ (v : DeviceView) (books : TableView)
         (subst (λ r. IsTaking (class_rules r) (above h.coupled.j) (return_labels ++ t.starts) v''.state
         (knowns (class_rules r) books')) same m.taking)
         (moves_joined v.adapter return_labels v'.adapter t.starts v''.adapter f.moves.adapter t.goes_on.adapter)
-        same (t.goes_on.same_most ∙ f.moves.same_most) t.goes_on.same_last t.goes_on.same_submitted
+        same (t.goes_on.same_most ∙ f.moves.same_most) (t.goes_on.same_places ∙ ap (λ n. n + room_in_all books) f.moves.same_places) t.goes_on.same_last t.goes_on.same_submitted
         (subst (λ ps. IsPermutation (map packet_above books'.opens) ps) t.goes_on.same_packets (IsPermutation-refl _)) t.goes_on.same_rooms in (
           all.0,
           in_hand_again v'' books' v''

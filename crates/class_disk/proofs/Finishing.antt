@@ -2,7 +2,7 @@
 -- the return, and then by starts.
 use Rattle.std.proofs.Common.{◌≡◌, ◌<◌, ℕ, suc, ◌+◌, Bool, List, [], ◌∷◌, ◌++◌, refl, sym, ◌∙◌, ap, subst, map, replicate}
 use Rattle.std.specs.Prelude.{IsPermutation, All, IsFalse}
-use Rattle.class_disk.proofs.Common.{IsPermutation-refl, IsPermutation-sym, All-permutation, Contains-permutation, DeviceBusy, MovesByAll, DeviceLabel, Return, Climb, Rules, place_count, as_client, State, IsSame, Untouched, AreDistinct, request_number, AreCounted, Opens, Answers, IsStart, restarts, Run, as_label, DeviceView, Packet, OnTag, piece_on_tag, packet_number, IsOrderly, sent_bytes, room_at, HandsUp, HandsUpNone, Submits, Finishes, AwaitsRestartIfEnded, Run-same, AreDistinct-Run, AreDistinct-same, Opened, TableView, opened, Way, Note, Sent, Kept, Known, known_of, shown_mark, above, class_rules, IsPort, shown_state, places_of, note, known, knowns, tickets, view_of, packet_above, AreKept, AreBelow, IsCoupled, IsInHand, most_over, AllOut, EndsAs, payload_in, IsTaking}
+use Rattle.class_disk.proofs.Common.{SamePlaces, IsPermutation-refl, IsPermutation-sym, All-permutation, Contains-permutation, DeviceBusy, MovesByAll, DeviceLabel, Return, Climb, Rules, place_count, as_client, State, IsSame, Untouched, AreDistinct, request_number, AreCounted, Opens, Answers, IsStart, restarts, Run, as_label, DeviceView, Packet, OnTag, piece_on_tag, packet_number, IsOrderly, sent_bytes, room_at, HandsUp, HandsUpNone, Submits, Finishes, AwaitsRestartIfEnded, Run-same, AreDistinct-Run, AreDistinct-same, Opened, TableView, opened, Way, Note, Sent, Kept, Known, known_of, shown_mark, above, class_rules, IsPort, shown_state, places_of, note, known, knowns, tickets, view_of, packet_above, AreKept, AreBelow, IsCoupled, IsInHand, most_over, AllOut, EndsAs, payload_in, IsTaking}
 use Rattle.class_disk.specs.declared.parts.Part.{Part}
 use Rattle.class_disk.specs.declared.parts.Ended.{Ended}
 use Rattle.class_disk.specs.declared.parts.Progress.TheVariants.{Ended as PartEnded}
@@ -92,9 +92,9 @@ module _ (v : DeviceView) (books : TableView) (h : IsInHand v books) (tag : ℕ)
   returned number = Return number f.class ∷ starts
 
   pub finishes_above : All IsStart starts → IsTaking (class_rules v.rules) (above h.coupled.j) (returned f.piece.number) v''.state (knowns (class_rules v.rules) books') → MovesByAll v.adapter (returned f.piece.number) v''.adapter
-      → v''.rules ≡ v.rules → v''.most ≡ v.most → books'.last_request ≡ books.last_request → books'.submitted ≡ books.submitted → IsPermutation (map packet_above books'.opens) (map packet_above books.opens) → books'.rooms ≡ books.rooms
+      → v''.rules ≡ v.rules → v''.most ≡ v.most → SamePlaces (view_of v books) (view_of v'' books') → books'.last_request ≡ books.last_request → books'.submitted ≡ books.submitted → IsPermutation (map packet_above books'.opens) (map packet_above books.opens) → books'.rooms ≡ books.rooms
       → Finishes (view_of v books) tag (view_of v'' books') × IsCoupled v'' books' × IsSound v''.state × AreCounted v''.rules v''.state
-  finishes_above only t adapter same_rules same_most same_last same_submitted same_packets same_rooms =
+  finishes_above only t adapter same_rules same_most same_places same_last same_submitted same_packets same_rooms =
       let rules : Rules = class_rules v.rules in
       let q = map_there piece_on_tag (view_of v books).state.pieces (piece_on_tag f.piece) (Contains-permutation _ _ _ (same_tags v books h tag) (Contains-map piece_on_tag v.state.pieces f.piece f.is_out)) in
       let number : q.0.number ≡ f.piece.number = ap (λ (x : OnTag). x.number) q.2 in
@@ -116,6 +116,7 @@ module _ (v : DeviceView) (books : TableView) (h : IsInHand v books) (tag : ℕ)
             same_rooms = λ spot. ap (λ rooms. room_at rooms spot) same_rooms;
             same_submitted = same_submitted;
             same_most = ap most_over same_most;
+            same_places = same_places;
             run = subst (λ n. Run rules (view_of v books).state (map as_label (returned n)) (view_of v'' books').state) (sym number)
                 (Run-same rules (map as_label (returned f.piece.number)) (above h.coupled.j) _ (above t.j) _ (shows v books h) shown t.run);
             adapter = subst (λ n. MovesByAll v.adapter (returned n) v''.adapter) (sym number) adapter;
@@ -168,7 +169,7 @@ in_hand_again v books v' own c sound counted ordered distinct none =
           (AreDistinct-same (above c.j) (view_of v books).state shown distinct)
           (have_places rules c.j ks c.keeps c.knows own.below.some) over_j
           (view_of v books).state shown (view_of v books).packets (subst (λ ns. IsPermutation (map packet_number (map packet_above books.opens)) ns) packed (IsPermutation-refl _))
-          books.rooms own.apart.spots own.apart.vacant books.submitted (most_over v.most);
+          books.rooms own.apart.spots own.apart.vacant books.submitted (most_over v.most) (view_of v books).places;
     }
 
 -- numbers stay distinct above

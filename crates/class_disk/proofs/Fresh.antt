@@ -1,10 +1,11 @@
 -- A class driver of which nothing was asked yet.
-use Rattle.std.proofs.Common.{◌≡◌, ◌<◌, inl, inr, ℕ, false, List, [], ◌∷◌, Some, refl, sym, subst, ap, ◌∙◌, arith}
+use Rattle.std.proofs.Common.{◌≡◌, ◌<◌, ◌+◌, inl, inr, ℕ, false, List, [], ◌∷◌, Some, refl, sym, subst, ap, ◌∙◌, arith}
 use Rattle.class_disk.proofs.Common.{All-nil, IsPermutation-refl, Extent, Rules, sectors_of, State, opening, AreCounted-opening, HaveEarned-opening, AreDistinct-opening, AreOnePiece-opening, ArePlaced-opening, IsSame-refl, HasPlaces, DeviceView, Packet, IsOffRooms, IsOrderly, WaitsForTag, IsTopmost, IsPermutation, AwaitsRestartIfEnded, Sizes, class_rules, IsPort, joint_of, TableView, empty_books, IsFreshPort}
 use Rattle.machine.specs.Settled.{IsHeld as IsPausedThere, WaitsIfCancelled, Waits, IsAllSent, IsHeldBack, HasMore, IsAtWork}
 use Rattle.device.specs.inside.Out.{IsGood, tickets_of}
 use Rattle.class_disk.specs.inside.Invariant.{IsMadeUp, AgreesOnCancel, IsInTurn, IsInPieces, IsOver, HasSome}
-use Rattle.class_disk.specs.inside.Driver.{IsInHand, IsHeld, IsOpen, HaveCauses, AreAsked, AreSpotted}
+use Rattle.class_disk.specs.Opening.{opening_over}
+use Rattle.class_disk.specs.inside.Driver.{view_of, IsInHand, IsHeld, IsOpen, HaveCauses, AreAsked, AreSpotted}
 use Rattle.class_disk.proofs.Owned.{apart_none}
 
 -- a fresh port, written out
@@ -22,10 +23,10 @@ whole_disk : (rules : Rules) (partitions : List Extent) → partitions ≡ recor
     → sectors_of (record rules { partitions = partitions }) (Some 0) ≡ rules.disk_sectors
 whole_disk rules partitions is = ap (λ (ps : List Extent). sectors_of (record rules { partitions = ps }) (Some 0)) is
 
-hand_fresh : (v : DeviceView) (sizes : Sizes) (places : ℕ) → v.rooms ≡ [] → IsPort v.rules → IsOrderly (fresh v)
+hand_fresh : (v : DeviceView) (sizes : Sizes) → v.rooms ≡ [] → IsPort v.rules → IsOrderly (fresh v)
     → sizes.sector_size ≡ v.rules.sector_size → sizes.max_transfer ≡ v.rules.longest → sizes.disk_sectors ≡ sectors_of v.rules (Some 0) → sizes.keeps_bytes ≡ v.rules.keeps_bytes
-    → IsInHand (fresh v) (empty_books sizes places)
-hand_fresh v sizes places none port orderly size longest sectors keeping =
+    → IsInHand (fresh v) (empty_books sizes)
+hand_fresh v sizes none port orderly size longest sectors keeping =
     let s : State = opening v.state.arrays in
     let rules : Rules = class_rules v.rules in
     let some_bytes : 0 < v.rules.sector_size = elim orderly.adapter.sector_size [
@@ -127,11 +128,19 @@ hand_fresh v sizes places none port orderly size longest sectors keeping =
       };
     }
 
-pub opens_in_hand : (v : DeviceView) (sizes : Sizes) (places : ℕ) (b : TableView) → IsFreshPort v → IsOrderly v → b ≡ empty_books sizes places
+pub opens_in_hand : (v : DeviceView) (sizes : Sizes) (b : TableView) → IsFreshPort v → IsOrderly v → b ≡ empty_books sizes
     → sizes.sector_size ≡ v.rules.sector_size → sizes.max_transfer ≡ v.rules.longest → sizes.disk_sectors ≡ sectors_of v.rules (Some 0) → sizes.keeps_bytes ≡ v.rules.keeps_bytes
     → IsInHand v b
-opens_in_hand v sizes places b f orderly empty size longest sectors keeping =
+opens_in_hand v sizes b f orderly empty size longest sectors keeping =
     let v_is : v ≡ fresh v = fresh_is v f.state f.packets f.submitted in
     subst (λ (x : TableView). IsInHand v x) (sym empty)
-    (subst (λ (x : DeviceView). IsInHand x (empty_books sizes places)) (sym v_is)
-    (hand_fresh v sizes places f.rooms f.port (subst IsOrderly v_is orderly) size longest sectors keeping))
+    (subst (λ (x : DeviceView). IsInHand x (empty_books sizes)) (sym v_is)
+    (hand_fresh v sizes f.rooms f.port (subst IsOrderly v_is orderly) size longest sectors keeping))
+
+-- what is shown of it
+pub opens_shown : (v : DeviceView) (sizes : Sizes) (b : TableView) → IsFreshPort v → b ≡ empty_books sizes → view_of v b ≡ opening_over v
+opens_shown v sizes b f empty =
+    let v_is : v ≡ fresh v = fresh_is v f.state f.packets f.submitted in
+    subst (λ (x : TableView). view_of v x ≡ opening_over v) (sym empty)
+    (subst (λ (x : DeviceView). view_of x (empty_books sizes) ≡ opening_over x) (sym v_is)
+    (ap (λ (n : ℕ). record (opening_over (fresh v)) { places = n }) (let none : v.places + (0 + 0 + 0) ≡ v.places = omega arith in none)))

@@ -257,6 +257,7 @@ module _ (v : DeviceView) (b : TableView) (h : IsInHand v b) (ordered : IsOrderl
         same_rooms = λ spot. refl;
         same_submitted = refl;
         same_most = refl;
+        same_places = refl;
         run = IsSame-refl _;
         adapter = moves_none v.adapter;
       };

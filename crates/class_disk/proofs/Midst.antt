@@ -44,6 +44,7 @@ beside_then a b c x y = record {
   same_rooms = λ spot. y.same_rooms spot ∙ x.same_rooms spot;
   same_submitted = y.same_submitted ∙ x.same_submitted;
   same_most = y.same_most ∙ x.same_most;
+  same_places = y.same_places ∙ x.same_places;
   same_adapter = y.same_adapter ∙ x.same_adapter;
 }
 

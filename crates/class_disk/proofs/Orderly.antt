@@ -101,9 +101,9 @@ module _ (v : DeviceView) (port : IsPort v.rules) (ordered : IsOrderly v) (sound
       divided_have = All-from_map HasPlaces shown j.divided places
 
   pub orderly_above : (t : State) → IsSame (above j) t → (packets : List Packet) → IsPermutation (map packet_number packets) (map request_number t.requests)
-      → (rooms : List (Option Reserved)) → IsDistinct eqb (map packet_spot packets) → All (IsOffRooms rooms) packets → (submitted most : ℕ)
-      → IsOrderly (record { rules = rules; state = t; packets = packets; rooms = rooms; submitted = submitted; most = most; adapter = v.adapter })
-  orderly_above t to packets packed rooms spots vacant submitted most =
+      → (rooms : List (Option Reserved)) → IsDistinct eqb (map packet_spot packets) → All (IsOffRooms rooms) packets → (submitted most held : ℕ)
+      → IsOrderly (record { rules = rules; state = t; packets = packets; rooms = rooms; submitted = submitted; most = most; places = held; adapter = v.adapter })
+  orderly_above t to packets packed rooms spots vacant submitted most held =
       let same_pieces : length t.pieces ≡ length v.state.pieces = count t to in
       record {
         adapter = ordered.adapter;

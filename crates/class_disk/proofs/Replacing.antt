@@ -52,6 +52,7 @@ pub record Replaces (old new : Table) (slot : ℕ) (u : Transfer) : Type 0 where
   pub opens : open_from 0 new.slots.slots ≡ put_at slot (opened_of u) (open_from 0 old.slots.slots)
   pub held : held_from 0 new.slots.slots ≡ held_from 0 old.slots.slots
   pub rooms : rooms_from new.slots.slots ≡ rooms_from old.slots.slots
+  pub same_places : new.slots.capacity ≡ old.slots.capacity
   pub after : new ≡ record old { slots = new.slots }
 
 pub replaces : (old mid new : Table) (slot : ℕ) (t u : Transfer) → get old.slots slot ≡ Some (Open t) → TakesOut old slot mid
@@ -64,6 +65,7 @@ replaces old mid new slot t u was out back =
       opens = put_is 0 slot slot old.slots.slots new.slots.slots t u (omega arith) was back.updates.changed others;
       held = r.held' ∙ sym r.held;
       rooms = keeps_rooms slot old.slots.slots new.slots.slots (Some (Open t)) (Some (Open u)) refl was back.updates.changed others;
+      same_places = back.same_places ∙ out.same_places;
       after = back.after ∙ ap (λ (x : Table). record x { slots = new.slots }) out.after;
     }
 
@@ -72,9 +74,10 @@ pub books_replaced : (old new : Table) (slot : ℕ) (u : Transfer) (o : Opened) 
     → books_of new ≡ record (books_of old) { opens = put_at slot o (books_of old).opens }
 books_replaced old new slot u o is r =
     ap books_of r.after
-    ∙ ap (λ (os : List (ℕ × Opened)). record (books_of old) { opens = os; held = held_from 0 new.slots.slots; rooms = rooms_from new.slots.slots }) (r.opens ∙ ap (λ x. put_at slot x (open_from 0 old.slots.slots)) is)
-    ∙ ap (λ (hs : List ClosedSlot). record (books_of old) { opens = put_at slot o (open_from 0 old.slots.slots); held = hs; rooms = rooms_from new.slots.slots }) r.held
-    ∙ ap (λ rs. record (books_of old) { opens = put_at slot o (open_from 0 old.slots.slots); rooms = rs }) r.rooms
+    ∙ ap (λ (os : List (ℕ × Opened)). record (books_of old) { opens = os; held = held_from 0 new.slots.slots; rooms = rooms_from new.slots.slots; slot_places = new.slots.capacity }) (r.opens ∙ ap (λ x. put_at slot x (open_from 0 old.slots.slots)) is)
+    ∙ ap (λ (hs : List ClosedSlot). record (books_of old) { opens = put_at slot o (open_from 0 old.slots.slots); held = hs; rooms = rooms_from new.slots.slots; slot_places = new.slots.capacity }) r.held
+    ∙ ap (λ rs. record (books_of old) { opens = put_at slot o (open_from 0 old.slots.slots); rooms = rs; slot_places = new.slots.capacity }) r.rooms
+    ∙ ap (λ n. record (books_of old) { opens = put_at slot o (open_from 0 old.slots.slots); slot_places = n }) r.same_places
 
 -- A PART OF IT HAS ENDED
 

@@ -1,7 +1,7 @@
 -- A part that came back busy goes down again: what its call needs, and that one packet is taken.
 use Rattle.std.proofs.Common.{◌≡◌, ◌<◌, ◌≤◌, inl, inr, ℕ, suc, ◌+◌, ◌-◌, ◌*◌, ◌/◌, ◌^◌, ◌==◌, min, Bool, true, List, [], ◌∷◌, ◌++◌, Some, refl, sym, ◌∙◌, ap, subst, arith, map, length, take}
 use Rattle.std.specs.Prelude.{IsPermutation, All, Any, Contains, slice_get, slice_set, if◌then◌else◌}
-use Rattle.class_disk.proofs.Common.{map-append, IsPermutation-sym, IsPermutation-trans, Contains-permutation, All-permutation, length_permutation, All-cons, All-tail, All-append, All-contains, moves_joined, Request, Rules, place_count, as_client, OpenRequest, State, IsGiven, HasPlaces, request_number, AreCounted, IsCounted, restarts, IsStart, DeviceStep, Run, as_label, Climb, Irp, StackLocation, DeviceLabel, Start, Act, Fault, Return, DeviceView, Packet, Carries, IsOrderly, packet_of, packet_number, IsTopmost, whole_for, HandsUp, Submits, IsAt, Sizes, Progress, Returned, Note, Sent, Known, class_rules, AreSizes, again_part, note, note_by, known, knowns, tickets_held, tickets_open, IsAsked, IsAskedBy, IsSpotted, IsSpottedBy, IsOpen, AreKept, AreBelow, tickets, most_over, Ticket, AllOut, TransferPacket, IsTaking, IsMidway, TakesOne, CanSendAgain, SendsDownAgain}
+use Rattle.class_disk.proofs.Common.{room_in_all, map-append, IsPermutation-sym, IsPermutation-trans, Contains-permutation, All-permutation, length_permutation, All-cons, All-tail, All-append, All-contains, moves_joined, Request, Rules, place_count, as_client, OpenRequest, State, IsGiven, HasPlaces, request_number, AreCounted, IsCounted, restarts, IsStart, DeviceStep, Run, as_label, Climb, Irp, StackLocation, DeviceLabel, Start, Act, Fault, Return, DeviceView, Packet, Carries, IsOrderly, packet_of, packet_number, IsTopmost, whole_for, HandsUp, Submits, IsAt, Sizes, Progress, Returned, Note, Sent, Known, class_rules, AreSizes, again_part, note, note_by, known, knowns, tickets_held, tickets_open, IsAsked, IsAskedBy, IsSpotted, IsSpottedBy, IsOpen, AreKept, AreBelow, tickets, most_over, Ticket, AllOut, TransferPacket, IsTaking, IsMidway, TakesOne, CanSendAgain, SendsDownAgain}
 use Rattle.irp.specs.Climb.{above as locations_above}
 use Rattle.class_disk.specs.declared.parts.Part.{Part}
 use Rattle.class_disk.specs.declared.parts.Progress.TheVariants.{Ready, Below, Ended as HasEnded}
@@ -397,6 +397,7 @@ module _ {takes : Bool} (v : DeviceView) (b : TableView) (brought : TransferPack
         adapter = moves_joined v.adapter h.starts v'.adapter down.starts v''.adapter h.moves.adapter down.moves.adapter;
         same_rules = same_rules;
         same_most = down.moves.same_most ∙ h.moves.same_most;
+        same_places = ap (λ n. n + room_in_all b) (down.moves.same_places ∙ h.moves.same_places);
         same_last = refl;
         same_submitted = refl;
         same_rooms = refl;

@@ -65,7 +65,7 @@ reserves_same v = record { same = refl; adapter = reserves_none v.adapter }
 
 pub reserves_joined : (u v w : DeviceView) → Reserves u v → Reserves v w → Reserves u w
 reserves_joined u v w a b = record {
-  same = b.same ∙ ap (λ (x : DeviceView). record x { rooms = w.rooms; adapter = record x.adapter { reserved = w.adapter.reserved } }) a.same;
+  same = b.same ∙ ap (λ (x : DeviceView). record x { rooms = w.rooms; places = w.places; adapter = record x.adapter { reserved = w.adapter.reserved } }) a.same;
   adapter = record {
     reserved = b.adapter.reserved;
     after = b.adapter.after ∙ ap (λ (x : AdapterView). record x { reserved = b.adapter.reserved }) a.adapter.after;
@@ -127,19 +127,19 @@ module _ (rules : Rules) (owners owners' : List PartId) (longer : length owners 
 -- OTHER ROOMS, ABOVE AND BELOW
 
 -- other rooms below, and more is reserved at the adapter
-abbrev with_below : DeviceView → List (Option Reserved) → List Extent → DeviceView
-with_below v rooms reserved = record v { rooms = rooms; adapter = record v.adapter { reserved = reserved } }
+abbrev with_below : DeviceView → List (Option Reserved) → ℕ → List Extent → DeviceView
+with_below v rooms places reserved = record v { rooms = rooms; places = places; adapter = record v.adapter { reserved = reserved } }
 
 -- other rooms above, with other owners
-abbrev with_held : TableView → List ClosedSlot → List (Option Reserved) → List PartId → ℕ → TableView
-with_held b held rooms owners places = record b { held = held; rooms = rooms; owners = owners; ended_places = places }
+abbrev with_held : TableView → List ClosedSlot → List (Option Reserved) → List PartId → ℕ → ℕ → ℕ → TableView
+with_held b held rooms owners places slots spots = record b { held = held; rooms = rooms; owners = owners; ended_places = places; slot_places = slots; owner_places = spots }
 
-module _ (v : DeviceView) (below : List (Option Reserved)) (reserved : List Extent) (b : TableView) (held : List ClosedSlot) (rooms : List (Option Reserved)) (owners : List PartId) (places : ℕ) where
+module _ (v : DeviceView) (below : List (Option Reserved)) (places_below : ℕ) (reserved : List Extent) (b : TableView) (held : List ClosedSlot) (rooms : List (Option Reserved)) (owners : List PartId) (places slots spots : ℕ) where
   abbrev v_now : DeviceView
-  v_now = with_below v below reserved
+  v_now = with_below v below places_below reserved
 
   abbrev b_now : TableView
-  b_now = with_held b held rooms owners places
+  b_now = with_held b held rooms owners places slots spots
 
   in_hand_with : AllOut v_now (tickets b_now) → All (IsHeld (class_rules v.rules) owners) held → All (IsOpen (class_rules v.rules) owners) b.opens
       → length held + length b.opens ≤ places → IsApart b_now → IsInHand v b → IsInHand v_now b_now
@@ -205,26 +205,26 @@ module _ (v v' : DeviceView) (b b' : TableView) (h : IsInHand v b) (stays : Stay
       opens_stay (class_rules v.rules) b.owners b'.owners stays.longer v.packets stays.below b.opens all.1 h.below.spotted h.kept.opens
 
   -- the view below, written out
-  hand_now : (b'' : TableView) → b' ≡ b'' → IsInHand (with_below v v'.rooms v'.adapter.reserved) b'' → IsInHand v' b'
-  hand_now b'' same k = subst (λ x. IsInHand x b') (sym stays.reserves.same) (subst (IsInHand (with_below v v'.rooms v'.adapter.reserved)) (sym same) k)
+  hand_now : (b'' : TableView) → b' ≡ b'' → IsInHand (with_below v v'.rooms v'.places v'.adapter.reserved) b'' → IsInHand v' b'
+  hand_now b'' same k = subst (λ x. IsInHand x b') (sym stays.reserves.same) (subst (IsInHand (with_below v v'.rooms v'.places v'.adapter.reserved)) (sym same) k)
 
   abbrev refused_books : TableView
-  refused_books = with_held b b.held b.rooms b'.owners b'.ended_places
+  refused_books = with_held b b.held b.rooms b'.owners b'.ended_places b'.slot_places b'.owner_places
 
   -- no room is made
-  pub in_hand_refused : b' ≡ record b { owners = b'.owners; ended_places = b'.ended_places } → b.ended_places ≤ b'.ended_places → AllOut v' (tickets b) → IsInHand v' b'
+  pub in_hand_refused : b' ≡ record b { owners = b'.owners; ended_places = b'.ended_places; slot_places = b'.slot_places; owner_places = b'.owner_places } → b.ended_places ≤ b'.ended_places → AllOut v' (tickets b) → IsInHand v' b'
   in_hand_refused same places out =
       hand_now refused_books same
-      (in_hand_with v v'.rooms v'.adapter.reserved b b.held b.rooms b'.owners b'.ended_places
+      (in_hand_with v v'.rooms v'.places v'.adapter.reserved b b.held b.rooms b'.owners b'.ended_places b'.slot_places b'.owner_places
       (subst (λ x. AllOut x (tickets b)) stays.reserves.same out) still_held still_open
       (let p = h.kept.places in omega arith)
       (record { spots = h.orderly.spots; vacant = h.orderly.vacant }) h)
 
   abbrev made_books : TableView
-  made_books = with_held b b'.held b'.rooms b'.owners b'.ended_places
+  made_books = with_held b b'.held b'.rooms b'.owners b'.ended_places b'.slot_places b'.owner_places
 
   -- a room is made
-  pub in_hand_made : (new : ClosedSlot) → b' ≡ record b { owners = b'.owners; ended_places = b'.ended_places; held = b'.held; rooms = b'.rooms }
+  pub in_hand_made : (new : ClosedSlot) → b' ≡ record b { owners = b'.owners; ended_places = b'.ended_places; slot_places = b'.slot_places; owner_places = b'.owner_places; held = b'.held; rooms = b'.rooms }
       → IsPermutation b'.held (new ∷ b.held) → length b.held + length b.opens + 1 ≤ b'.ended_places → IsHeld (class_rules v.rules) b'.owners new → IsApart b'
       → AllOut v' (tickets_of new.parts ++ tickets b) → IsInHand v' b'
   in_hand_made new same more places is_held apart out =
@@ -232,7 +232,7 @@ module _ (v v' : DeviceView) (b b' : TableView) (h : IsInHand v b) (stays : Stay
       out_any_order v' _ _ (IsPermutation-append_left (tickets_open (all_open b)) _ _ (IsPermutation-sym _ _ (held_same _ _ more)))
       (subst (AllOut v') (sym (append_assoc (tickets_of new.parts) (tickets_held b.held) (tickets_open (all_open b)))) out) in
       hand_now made_books same
-      (in_hand_with v v'.rooms v'.adapter.reserved b b'.held b'.rooms b'.owners b'.ended_places
+      (in_hand_with v v'.rooms v'.places v'.adapter.reserved b b'.held b'.rooms b'.owners b'.ended_places b'.slot_places b'.owner_places
       (subst (λ x. AllOut x (tickets_held b'.held ++ tickets_open (all_open b))) stays.reserves.same all_out)
       (All-permutation (IsHeld (class_rules v.rules) b'.owners) _ _ (IsPermutation-sym _ _ more) (All-cons (IsHeld (class_rules v.rules) b'.owners) new b.held is_held still_held))
       still_open
@@ -243,11 +243,11 @@ module _ (v v' : DeviceView) (b b' : TableView) (h : IsInHand v b) (stays : Stay
 pub in_hand_freed : (v v' : DeviceView) (b b' : TableView) (slot : ℕ) (places : Places) → v' ≡ record v { rooms = v'.rooms } → RemovesSlot b slot places b' → IsApart b'
     → AllOut v' (tickets b') → IsInHand v b → IsInHand v' b'
 in_hand_freed v v' b b' slot places same removes apart out h =
-    let after : b' ≡ with_held b b'.held b'.rooms b.owners b.ended_places = removes.after in
+    let after : b' ≡ with_held b b'.held b'.rooms b.owners b.ended_places b.slot_places b.owner_places = removes.after in
     subst (λ x. IsInHand x b') (sym same)
-    (subst (IsInHand (with_below v v'.rooms v.adapter.reserved)) (sym after)
-    (in_hand_with v v'.rooms v.adapter.reserved b b'.held b'.rooms b.owners b.ended_places
-    (subst (λ x. AllOut x (tickets (with_held b b'.held b'.rooms b.owners b.ended_places))) same (subst (λ x. AllOut v' (tickets x)) after out))
+    (subst (IsInHand (with_below v v'.rooms v.places v.adapter.reserved)) (sym after)
+    (in_hand_with v v'.rooms v.places v.adapter.reserved b b'.held b'.rooms b.owners b.ended_places b.slot_places b.owner_places
+    (subst (λ x. AllOut x (tickets (with_held b b'.held b'.rooms b.owners b.ended_places b.slot_places b.owner_places))) same (subst (λ x. AllOut v' (tickets x)) after out))
     (All-tail (IsHeld (class_rules v.rules) b.owners) removes.held b'.held (All-permutation (IsHeld (class_rules v.rules) b.owners) _ _ removes.fewer h.kept.in_hand))
     h.kept.opens
     (let p = length_permutation _ _ removes.fewer in let q = h.kept.places in omega arith)

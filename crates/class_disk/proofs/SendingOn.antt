@@ -1,7 +1,7 @@
 -- One part more of a request that is being opened is sent.
 use Rattle.std.proofs.Common.{◌≡◌, ◌≢◌, ◌<◌, ◌≤◌, ◌⊎◌, inl, inr, ℕ, zero, suc, ◌+◌, ◌==◌, false, List, [], ◌∷◌, ◌++◌, Some, refl, sym, ◌∙◌, ap, subst, arith, length, length-append, map, drop, take, get_or, replicate}
 use Rattle.std.specs.Prelude.{IsPermutation, All, Any, Contains, slice_set, slice_range, if◌then◌else◌}
-use Rattle.class_disk.proofs.Common.{range_with_len, take-append_seam, take-append-add, drop-append-add, map-append, IsPermutation-sym, IsPermutation-trans, IsPermutation-cons, IsPermutation-middle, IsPermutation-map, All-permutation, Contains-permutation, All-nil, All-cons, All-head, All-tail, All-append, All-contains, Contains-append_cases, Contains-append_left, Contains-append_right, DeviceLabel, Payload, ClientRequest, Write, Request, Rules, place_count, as_client, Untouched, State, Opens, new_request, IsGiven, request_number, Run, as_label, IsPermutation-uncons, DeviceView, Packet, IsOrderly, packet_of, packet_number, payload_bytes, sent_bytes, IsTopmost, whole_for, Submits, IsAt, Progress, part_count_of, part_request_of, goes_whole, data_length, note, note_by, known, knowns, tickets, tickets_held, tickets_open, packet_above, request_of_part, IsReadyPart, IsAsked, IsAskedBy, IsSpotted, IsSpottedBy, IsBuffered, IsWritten, most_over, AllOut, IsPartOf, Note, Sent, Kept, Known, below_rules, IsNothing, IsOver, HasSome, IsTaking, GoesOn, IsOpening, OpeningSoFar, SendsDown, IsDown, restarts_of, class_rules, sent_part, bytes_from}
+use Rattle.class_disk.proofs.Common.{room_in_all, range_with_len, take-append_seam, take-append-add, drop-append-add, map-append, IsPermutation-sym, IsPermutation-trans, IsPermutation-cons, IsPermutation-middle, IsPermutation-map, All-permutation, Contains-permutation, All-nil, All-cons, All-head, All-tail, All-append, All-contains, Contains-append_cases, Contains-append_left, Contains-append_right, DeviceLabel, Payload, ClientRequest, Write, Request, Rules, place_count, as_client, Untouched, State, Opens, new_request, IsGiven, request_number, Run, as_label, IsPermutation-uncons, DeviceView, Packet, IsOrderly, packet_of, packet_number, payload_bytes, sent_bytes, IsTopmost, whole_for, Submits, IsAt, Progress, part_count_of, part_request_of, goes_whole, data_length, note, note_by, known, knowns, tickets, tickets_held, tickets_open, packet_above, request_of_part, IsReadyPart, IsAsked, IsAskedBy, IsSpotted, IsSpottedBy, IsBuffered, IsWritten, most_over, AllOut, IsPartOf, Note, Sent, Kept, Known, below_rules, IsNothing, IsOver, HasSome, IsTaking, GoesOn, IsOpening, OpeningSoFar, SendsDown, IsDown, restarts_of, class_rules, sent_part, bytes_from}
 use Rattle.class_disk.specs.declared.parts.Part.{Part}
 use Rattle.class_disk.specs.declared.parts.Progress.TheVariants.{Ready, Below, Ended as HasEnded}
 use Rattle.class_disk.specs.inside.TableView.{Opened, TableView, opened, all_open, ended_in, restarts_left, open_at, put_at}
@@ -398,6 +398,7 @@ module _ {v : DeviceView}
     adapter = below.moves.adapter;
     same_rules = same_rules;
     same_most = below.moves.same_most;
+    same_places = ap (λ n. n + room_in_all b) below.moves.same_places;
     same_last = refl;
     same_submitted = refl;
     same_packets = packets_same;

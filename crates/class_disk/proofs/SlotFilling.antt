@@ -11,14 +11,15 @@ abbrev pub with_slots : Table → Slab Slot → Table
 with_slots table slots = record table { slots = slots }
 
 -- what a slot that was filled or emptied leaves of the rest
-same_opens : (old : Table) (slots : Slab Slot) → open_from 0 slots.slots ≡ open_from 0 old.slots.slots
+same_opens : (old : Table) (slots : Slab Slot) → slots.capacity ≡ old.slots.capacity → open_from 0 slots.slots ≡ open_from 0 old.slots.slots
     → books_of (with_slots old slots) ≡ record (books_of old) { held = held_from 0 slots.slots; rooms = rooms_from slots.slots }
-same_opens old slots same =
-    ap (λ (es : List (ℕ × Opened)). record (books_of old) { opens = es; held = held_from 0 slots.slots; rooms = rooms_from slots.slots }) same
+same_opens old slots room same =
+    ap (λ (es : List (ℕ × Opened)). record (books_of old) { opens = es; held = held_from 0 slots.slots; rooms = rooms_from slots.slots; slot_places = slots.capacity }) same
+    ∙ ap (λ (n : ℕ). record (books_of old) { held = held_from 0 slots.slots; rooms = rooms_from slots.slots; slot_places = n }) room
 
 -- A SLOT IS FILLED
 
-module _ (old : Table) (slots : Slab Slot) (slot key : ℕ) (places : Places) (vacant : IsVacantFor old slot) (key_is : key ≡ old.slots.vacant_key) (was : get old.slots key ≡ None) where
+module _ (old : Table) (slots : Slab Slot) (slot key : ℕ) (places : Places) (vacant : IsVacantFor old slot) (key_is : key ≡ old.slots.vacant_key) (was : get old.slots key ≡ None) (room : slots.capacity ≡ old.slots.capacity) where
   same_key : key ≡ slot
   same_key = key_is ∙ vacant.is_next
 
@@ -32,14 +33,14 @@ module _ (old : Table) (slots : Slab Slot) (slot key : ℕ) (places : Places) (v
       record {
         more = f.more;
         room = changes_room slot old.slots.slots slots.slots None (Some (Reserved places)) was_there u.changed u.others;
-        after = same_opens old slots f.opens;
+        after = same_opens old slots room f.opens;
       }
 
 -- A SLOT IS GIVEN UP
 
-pub removes_reserved : (old : Table) (slots : Slab Slot) (slot : ℕ) (places : Places) → get old.slots slot ≡ Some (Reserved places) → Updates old.slots slots slot None
+pub removes_reserved : (old : Table) (slots : Slab Slot) (slot : ℕ) (places : Places) → slots.capacity ≡ old.slots.capacity → get old.slots slot ≡ Some (Reserved places) → Updates old.slots slots slot None
     → RemovesSlot (books_of old) slot places (books_of (with_slots old slots))
-removes_reserved old slots slot places was u =
+removes_reserved old slots slot places room was u =
     let f = fills_reserved slot places slots.slots old.slots.slots u.changed was (λ i away. sym (u.others i away)) in
     record {
       held = held_as slot places;
@@ -48,7 +49,7 @@ removes_reserved old slots slot places was u =
       parts = refl;
       fewer = f.more;
       room = changes_room slot old.slots.slots slots.slots (Some (Reserved places)) None was u.changed u.others;
-      after = same_opens old slots (sym f.opens);
+      after = same_opens old slots room (sym f.opens);
     }
 
 -- what stands where something is reserved
@@ -76,10 +77,10 @@ ready_there table slot is = reserved_there table slot (whole_for (request_at (bo
 abbrev pub with_packet : Table → Slab Slot → ℕ → Table
 with_packet table slots number = record table { slots = slots; last_request = number; submitted = table.submitted + 1 }
 
-pub opens_at : (old : Table) (mid new : Slab Slot) (slot key number : ℕ) (places : Places) (t : Transfer) (irp : Irp) → IsReady (books_of old).rooms slot → get old.slots slot ≡ Some (Reserved places) → Updates old.slots mid slot None
+pub opens_at : (old : Table) (mid new : Slab Slot) (slot key number : ℕ) (places : Places) (t : Transfer) (irp : Irp) → new.capacity ≡ old.slots.capacity → IsReady (books_of old).rooms slot → get old.slots slot ≡ Some (Reserved places) → Updates old.slots mid slot None
     → mid.vacant_key ≡ slot → key ≡ mid.vacant_key → Updates mid new key (Some (Open t)) → number ≡ irp.number → opened_of t ≡ new_opened irp places.request places.parts.items
     → OpensAt (books_of old) slot irp (books_of (with_packet old new number))
-opens_at old mid new slot key number places t irp ready was out vacant key_is back number_is is =
+opens_at old mid new slot key number places t irp capacity ready was out vacant key_is back number_is is =
     let u : Updates mid new slot (Some (Open t)) = subst (λ k. Updates mid new k (Some (Open t))) (key_is ∙ vacant) back in
     let others : (i : ℕ) → i ≢ slot → get_or new.slots i None ≡ get_or old.slots.slots i None = λ i away. u.others i away ∙ out.others i away in
     let o = opens_there slot places t old.slots.slots new.slots was u.changed others in
@@ -93,7 +94,8 @@ opens_at old mid new slot key number places t irp ready was out vacant key_is ba
           (changes_room slot old.slots.slots new.slots (Some (Reserved places)) (Some (Open t)) was u.changed others);
       opens = subst (λ x. IsPermutation (open_from 0 new.slots) ((slot, x) ∷ open_from 0 old.slots.slots)) is o.opens;
       is_open = o.is_open ∙ ap Some is;
-      after = ap (λ n. record (books_of old) { held = held_from 0 new.slots; rooms = rooms_from new.slots; opens = open_from 0 new.slots; last_request = n; submitted = old.submitted + 1 }) number_is;
+      after = ap (λ n. record (books_of old) { held = held_from 0 new.slots; rooms = rooms_from new.slots; opens = open_from 0 new.slots; last_request = n; submitted = old.submitted + 1; slot_places = new.capacity }) number_is
+          ∙ ap (λ n. record (books_of old) { held = held_from 0 new.slots; rooms = rooms_from new.slots; opens = open_from 0 new.slots; last_request = irp.number; submitted = old.submitted + 1; slot_places = n }) capacity;
     }
 
 -- no more end than there are slots

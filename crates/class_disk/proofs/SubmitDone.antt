@@ -1,7 +1,7 @@
 -- A request was taken in, its parts were sent, and nothing came back: so the class driver has submitted it.
 use Rattle.std.proofs.Common.{◌≡◌, ◌<◌, ◌≤◌, ℕ, suc, ◌+◌, ◌^◌, false, Some, None, List, [], ◌∷◌, sym, ◌∙◌, ap, subst, arith, map}
 use Rattle.std.specs.Prelude.{IsPermutation, All, IsFalse}
-use Rattle.class_disk.proofs.Common.{IsPermutation-sym, IsPermutation-map, Contains-permutation, Irp, DeviceLabel, Rules, State, AreDistinct, AreCounted, as_label, AreDistinct-Run, AreDistinct-Admits, DeviceView, Carries, packet_of, whole_for, request_at, request_of, most_over, SetsRoom, Submits, StaysOpen, TableView, OpensAt, IsSound, IsNothing, class_rules, view_of, packet_above, knowns, places_of, IsCoupled, IsInHand, IsTaking, IsMidway, IsOpening, OpeningSoFar, SendsAll, FindsNone, All-contains}
+use Rattle.class_disk.proofs.Common.{room_in_all, IsPermutation-sym, IsPermutation-map, Contains-permutation, Irp, DeviceLabel, Rules, State, AreDistinct, AreCounted, as_label, AreDistinct-Run, AreDistinct-Admits, DeviceView, Carries, packet_of, whole_for, request_at, request_of, most_over, SetsRoom, Submits, StaysOpen, TableView, OpensAt, IsSound, IsNothing, class_rules, view_of, packet_above, knowns, places_of, IsCoupled, IsInHand, IsTaking, IsMidway, IsOpening, OpeningSoFar, SendsAll, FindsNone, All-contains}
 use Rattle.class_disk.proofs.Finishing.{IsKeptInTable, in_hand_again}
 use Rattle.class_disk.proofs.OpeningBegins.{opening_begins}
 use Rattle.class_disk.proofs.OthersStay.{others_stay_above, others_apart}
@@ -64,6 +64,7 @@ module _ (v : DeviceView) (b : TableView) (h : IsInHand v b) (slot : ℕ) (irp :
         all.goes_on.only_starts
         (subst (λ r. IsTaking (class_rules r) first all.starts v2.state (knowns (class_rules r) b2)) same_rules mid.taking)
         all.goes_on.adapter same_rules all.goes_on.same_most
+        (all.goes_on.same_places ∙ ap (λ (x : TableView). v.places + room_in_all x) opens.after)
         (ap (λ n. n + 1) (sym (all.goes_on.same_last ∙ ap (λ (x : TableView). x.last_request) opens.after)))
         (all.goes_on.same_submitted ∙ ap (λ (x : TableView). x.submitted) opens.after)
         (subst (λ ps. IsPermutation ps (packet_of irp slot ∷ map packet_above b.opens)) (sym all.goes_on.same_packets)

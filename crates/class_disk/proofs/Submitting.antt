@@ -1,7 +1,7 @@
 -- A request is taken in: all of its parts are here, and then the layer below starts some.
 use Rattle.std.proofs.Common.{◌≡◌, ◌<◌, ◌≤◌, ℕ, ◌+◌, false, List, [], ◌∷◌, ◌++◌, refl, sym, ◌∙◌, ap, subst, arith, map, length, get_or, replicate, Some, None}
 use Rattle.std.specs.Prelude.{IsPermutation, All}
-use Rattle.class_disk.proofs.Common.{length-replicate, IsPermutation-cons, All-nil, All-cons, All-weaker, MovesByAll, DeviceLabel, ClientRequest, Request, Rules, place_count, as_client, Untouched, State, IsSame, request_number, AreCounted, Opens, refusal, bytes_carried, new_request, IsStart, as_label, IsSame-refl, Run-same, Payload, DeviceView, Packet, sent_bytes, whole_for, SetsRoom, Submits, StaysOpen, TableView, below_rules, class_rules, IsPort, shown_state, knowns, view_of, packet_above, IsCoupled, most_over, IsTaking}
+use Rattle.class_disk.proofs.Common.{SamePlaces, length-replicate, IsPermutation-cons, All-nil, All-cons, All-weaker, MovesByAll, DeviceLabel, ClientRequest, Request, Rules, place_count, as_client, Untouched, State, IsSame, request_number, AreCounted, Opens, refusal, bytes_carried, new_request, IsStart, as_label, IsSame-refl, Run-same, Payload, DeviceView, Packet, sent_bytes, whole_for, SetsRoom, Submits, StaysOpen, TableView, below_rules, class_rules, IsPort, shown_state, knowns, view_of, packet_above, IsCoupled, most_over, IsTaking}
 use Rattle.class_disk.specs.inside.Joint.{Part, Here, Note, Kept, Known, note_of, known_of, Divided, Joint, parts_requests, parts_pieces, parts_marks, parts_busy, parts_lifted, requests_below, pieces_below, pieces_above, shown, below, above}
 use Rattle.class_disk.specs.inside.Invariant.{IsSound, AreParts, IsMadeUp, IsCancelledAs, AgreesOnCancel, IsAhead, AreBehind, IsInTurn, places_in, AreCut, IsInPieces, Keeps}
 use Rattle.class_disk.proofs.CoupledSteps.{replicate_more}
@@ -133,11 +133,11 @@ module _ (rules : Rules) (j : Joint) (number : ℕ) (q : ClientRequest) (counts 
 pub submits_above : (v : DeviceView) (b : TableView) (packet : Packet) (request : Request) (payload : Payload) (first : State) (starts : List DeviceLabel) (v' : DeviceView) (b' : TableView) → IsPort v.rules
     → Opens (class_rules v.rules) (view_of v b).state packet.number (as_client (class_rules v.rules) request (sent_bytes request.kind payload)) first
     → All IsStart starts → IsTaking (class_rules v.rules) first starts v'.state (knowns (class_rules v.rules) b') → MovesByAll v.adapter starts v'.adapter
-    → v'.rules ≡ v.rules → v'.most ≡ v.most → first.next_request ≡ b'.last_request + 1 → b'.submitted ≡ b.submitted + 1 → IsPermutation (map packet_above b'.opens) (packet ∷ map packet_above b.opens)
+    → v'.rules ≡ v.rules → v'.most ≡ v.most → SamePlaces (view_of v b) (view_of v' b') → first.next_request ≡ b'.last_request + 1 → b'.submitted ≡ b.submitted + 1 → IsPermutation (map packet_above b'.opens) (packet ∷ map packet_above b.opens)
     → SetsRoom b.rooms packet.spot (Some (whole_for request)) None b'.rooms
     → All (StaysOpen (view_of v' b').state) (view_of v b).state.requests
     → Submits (view_of v b) packet request payload (view_of v' b') × IsCoupled v' b' × IsSound v'.state × AreCounted v'.rules v'.state
-submits_above v b packet request payload first starts v' b' port opens only t adapter same_rules same_most next same_submitted same_packets spent others =
+submits_above v b packet request payload first starts v' b' port opens only t adapter same_rules same_most same_places next same_submitted same_packets spent others =
     let rules : Rules = class_rules v.rules in
     let next_above : t.j.next_above ≡ b'.last_request + 1 = t.next_above ∙ next in
     let shown_now : IsSame (above t.j) (view_of v' b').state =
@@ -156,6 +156,7 @@ submits_above v b packet request payload first starts v' b' port opens only t ad
           same_rooms = λ spot. refl;
           same_submitted = same_submitted;
           same_most = ap most_over same_most;
+          same_places = same_places;
           run = Run-same rules (map as_label starts) first first (above t.j) _ (IsSame-refl first) shown_now t.run;
           adapter = adapter;
         };

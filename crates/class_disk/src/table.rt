@@ -41,13 +41,13 @@ pub(crate) struct Table {
 impl Table {
     /// A table with nothing reserved and no slots. Packets below are counted from 1.
     pub fn new(alloc: Global, sizes: Sizes) -> Table
-        ensures { books_of result ≡ empty_books sizes (books_of result).ended_places }
+        ensures { books_of result ≡ empty_books sizes }
     {
         Table {
             sizes,
             slots: Slab::new(alloc),
             owners: Vec::new(alloc),
-            ended: VecDeque::new(alloc),
+            ended: VecDeque::from_vec(Vec::new(alloc)),
             last_request: 0,
             next_packet: 1,
             submitted: 0,

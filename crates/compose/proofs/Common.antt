@@ -11,7 +11,7 @@ pub use Rattle.compose.specs.Journaled.{ArmedMayBeBooked, BookedActsAddEntries, 
 pub use Rattle.compose.specs.Opening.{AreInRange, IsFirstView, IsSpent, IsStartFault, start_fault_of}
 pub use Rattle.compose.specs.Right.{IsRight}
 pub use Rattle.compose.specs.Runs.{Carries, CarriesAll, IsLawful, IsOfRun, RunsAreQuietOnceRemoved, RunsObeyLaws, StopsAfter, labels_shown}
-pub use Rattle.compose.specs.StepLaws.{CallsFirst, ComeToWait, IsNoCall, IsSaidAlone, IsTransferEvent, OpensNone, OpensOrLacksMemory, SaysAnswer, StepsCallOnce, StepsLeaveAnswers, StepsOpenAsTold, StepsTakeNoMemory, answers_in}
+pub use Rattle.compose.specs.StepLaws.{AsksMemory, CallsFirst, ComeToWait, IsNoCall, IsSaidAlone, IsTransferEvent, OpensNone, OpensOrLacksMemory, SaysAnswer, StepsCallOnce, StepsLeaveAnswers, StepsOpenAsTold, StepsTakeNoMemory, TakesNoMemory, answers_in}
 pub use Rattle.compose.specs.declared.Event.{Event}
 pub use Rattle.compose.specs.declared.RunStopped.{RunStopped}
 pub use Rattle.compose.specs.declared.Settings.{Settings}
@@ -20,7 +20,7 @@ pub use Rattle.compose.specs.declared.StartFault.{StartFault}
 pub use Rattle.device.specs.Served.{IsAct, IsActOrFault, IsFreshOn, fault_of}
 pub use Rattle.device.specs.View.{DeviceView, IsRead, KeepsOutside, OnTag, piece_on_tag, use_on_tag}
 pub use Rattle.io_manager.proofs.AdapterJoins.{reserves_more}
-pub use Rattle.io_manager.specs.Calls.{call_on, would_open}
+pub use Rattle.io_manager.specs.Calls.{Need, call_on, would_open}
 pub use Rattle.io_manager.specs.Opening.{AreFirsts}
 pub use Rattle.io_manager.specs.Right.{ActReplies, AdapterMoves, AreRising, BooksPiece, CancelReplies, CancelsAllOf, CancelsOne, CancelsTarget, CloseReplies, FinishReplies, FitsTogether, IsRecalled, IsRightBy, IsTurnedAway, MarkReplies, MovesWith, OpenReplies, PnpReplies, QueryReplies, RecallReplies, Refuses, RefusesAlone, RemoveReplies, ReservesFor, SurpriseReplies, TakesAnswer, TakesAnswerOf, TakesLabel, TakesShown, Told, TransferReplies, answer_number, as_answer, as_cancel, end_labels, labels_of, pnp_state, tells_nothing}
 pub use Rattle.io_manager.specs.Shown.{ManagerView}

@@ -1,5 +1,5 @@
 -- What suits the SRB of an armed piece may be booked: its piece was started in the trace, and so isn't piece 0.
-use Rattle.compose.proofs.Common.{◌≡◌, ◌≤◌, inl, inr, ℕ, zero, suc, Bool, true, false, List, [], ◌∷◌, length, Option, None, Some, IsFalse, sym, subst, arith, Contains, All-head, All-permutation, NtStatus, Extent, DeviceLabel, AdapterView, ReservesMore, MovesOn, MovesByAll, Suits, ClientRequest, Label, Rules, State, opening, Admits, refusal, DeviceStep, FreeStep, OwingStep, Step, Run, AdapterMoves, MovesWith, reserves_more, IsStartedUse, ArmedMayBeBooked}
+use Rattle.compose.proofs.Common.{Need, ◌≡◌, ◌≤◌, inl, inr, ℕ, zero, suc, Bool, true, false, List, [], ◌∷◌, length, Option, None, Some, IsFalse, sym, subst, arith, Contains, All-head, All-permutation, NtStatus, DeviceLabel, AdapterView, ReservesMore, MovesOn, MovesByAll, Suits, ClientRequest, Label, Rules, State, opening, Admits, refusal, DeviceStep, FreeStep, OwingStep, Step, Run, AdapterMoves, MovesWith, reserves_more, IsStartedUse, ArmedMayBeBooked}
 use Rattle.srb.specs.declared.DeviceLabel.TheVariants.{Start, Act, Fault, Return}
 use Rattle.machine.specs.declared.Label.TheVariants.{Call, Device, Answer as AnswerLabel, Cancel, Pause, Resume, Remove as RemoveLabel, Surprise, Removed}
 
@@ -86,7 +86,7 @@ with_apart : (reset : Bool) (first : AdapterView) (labels : List DeviceLabel) (n
 with_apart false first labels new h apart = all_apart first labels new h apart
 with_apart true first labels new (faulted, moves, notes) apart = subst (λ (v : AdapterView). IsFalse v.faithful) (sym notes.after) (all_apart first labels faulted moves apart)
 
-pub step_apart : (reset : Bool) (reserves : Option Extent) (old : AdapterView) (labels : List DeviceLabel) (new : AdapterView) → AdapterMoves reset reserves old labels new → IsFalse old.faithful → IsFalse new.faithful
+pub step_apart : (reset : Bool) (reserves : Option Need) (old : AdapterView) (labels : List DeviceLabel) (new : AdapterView) → AdapterMoves reset reserves old labels new → IsFalse old.faithful → IsFalse new.faithful
 step_apart reset reserves old labels new h apart =
     let first : IsFalse h.first.faithful = reserves_apart old h.first (reserves_more reserves old h.first h.before) apart in
     subst (λ (v : AdapterView). IsFalse v.faithful) (sym h.taken) (with_apart reset h.first labels h.moved h.moves first)

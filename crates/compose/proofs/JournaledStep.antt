@@ -1,6 +1,6 @@
 -- An entry that is booked is that of the next step of its tag, and every step keeps the starts of what is out in the trace.
 use Rattle.std.proofs.Common.{◌≡◌, ◌≢◌, ℕ, zero, suc, Bool, true, false, IsTrue, IsFalse, List, [], ◌∷◌, ◌++◌, map, Option, None, Ok, Err, Result, IsPermutation, refl, sym, ap, subst, ◌∙◌, arith, length-append, if◌then◌else◌}
-use Rattle.compose.proofs.Common.{All, Contains, eqb, IsDistinct, Decides-eqb, get_or_append_left, All-weaker, All-contains_itself, IsPermutation-sym, IsPermutation-map, Contains-permutation, IsDistinct-IsPermutation, Entry, Completion, DeviceLabel, Fresh, TagInUse, AdapterView, IsInOrder, IsOn, MovesByAll, Books, IsBookable, with_booked, booked_on, with_booking, on_tag_once, is_there, booked_is, AllTagged, StartsSo, all_moved_so, reset_so, Label, Piece, State, AreDistinct, piece_number, as_label, flips, first_unique, IsOfAct, OnTag, IsRead, piece_on_tag, use_on_tag, IsFreshOn, IsAct, IsActOrFault, Reply, ManagerView, Extent, Told, labels_of, end_labels, as_answer, BooksPiece, ActReplies, ReservesFor, AdapterMoves, IsRightBy, MovesWith, reserves_more, IsRight, IsStarted}
+use Rattle.compose.proofs.Common.{Need, All, Contains, eqb, IsDistinct, Decides-eqb, get_or_append_left, All-weaker, All-contains_itself, IsPermutation-sym, IsPermutation-map, Contains-permutation, IsDistinct-IsPermutation, Entry, Completion, DeviceLabel, Fresh, TagInUse, AdapterView, IsInOrder, IsOn, MovesByAll, Books, IsBookable, with_booked, booked_on, with_booking, on_tag_once, is_there, booked_is, AllTagged, StartsSo, all_moved_so, reset_so, Label, Piece, State, AreDistinct, piece_number, as_label, flips, first_unique, IsOfAct, OnTag, IsRead, piece_on_tag, use_on_tag, IsFreshOn, IsAct, IsActOrFault, Reply, ManagerView, Told, labels_of, end_labels, as_answer, BooksPiece, ActReplies, ReservesFor, AdapterMoves, IsRightBy, MovesWith, reserves_more, IsRight, IsStarted}
 use Rattle.srb.specs.declared.DeviceLabel.TheVariants.{Start, Act, Fault, Return}
 use Rattle.machine.specs.declared.Label.TheVariants.{Device}
 use Rattle.io_manager.specs.declared.Reply.TheVariants.{Handle as HandleReply, Ok as OkReply, Request as Requested, Answered, Refused, Ignored}
@@ -106,7 +106,7 @@ bytes_are mid tag piece entry bytes moved distinct here other (after, (tag', act
     (act.as_booked here.apart other).1 ∙ sym (ap (λ (u : TagInUse). u.srb.data) same) ∙ here.holds
 
 -- an act reserves nothing, and moves by its label alone
-acts_alone : (mid : AdapterView) (reserves : Option Extent) (devices : List DeviceLabel) (n piece : ℕ) (bytes : List ℕ) (new : AdapterView) → (h : AdapterMoves false reserves mid devices new) → reserves ≡ None → devices ≡ Act n bytes ∷ [] → n ≡ piece
+acts_alone : (mid : AdapterView) (reserves : Option Need) (devices : List DeviceLabel) (n piece : ℕ) (bytes : List ℕ) (new : AdapterView) → (h : AdapterMoves false reserves mid devices new) → reserves ≡ None → devices ≡ Act n bytes ∷ [] → n ≡ piece
     → MovesByAll mid (Act piece bytes ∷ []) h.moved
 acts_alone mid reserves devices n piece bytes new h none device n_is =
     let first : h.first ≡ mid = subst (λ r. ReservesFor r mid h.first) none h.before in

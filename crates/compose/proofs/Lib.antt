@@ -11,4 +11,5 @@ pub mod JournaledOthers
 pub mod JournaledKept
 pub mod JournaledArmed
 pub mod KeepsLabels
+pub mod Memory
 mod Common

@@ -250,40 +250,6 @@ steps_call_once old event reply new right =
     ) (ended_no_call t.told.ends)
     )
 
--- NO MEMORY
-
-invalid : InsufficientResources ≡ InvalidDeviceRequest → ⊥
-invalid is = cc
-
-pub steps_take_no_memory : StepsTakeNoMemory
-steps_take_no_memory old (Open partition) bytes new h = absurd (no_want _ _ _ _ h.replies.0)
-  where
-    no_want : (a b c d : Bool) → first_some (when a BusyStatus ∷ when b PendingStatus ∷ when c ParameterStatus ∷ when d BusyStatus ∷ []) ≡ Some ResourcesStatus → ⊥
-    no_want true b c d is = cc
-    no_want false true c d is = cc
-    no_want false false true d is = cc
-    no_want false false false true is = cc
-    no_want false false false false is = cc
-steps_take_no_memory old (Close handle) bytes new h = absurd (clash h.replies.1.is_reason)
-  where
-    clash : InsufficientResources ≡ InvalidHandle → ⊥
-    clash is = cc
-steps_take_no_memory old (ReadEvent handle offset buffer) bytes new h = tt
-steps_take_no_memory old (WriteEvent handle offset out through) bytes new h = tt
-steps_take_no_memory old (FlushEvent handle) bytes new h = tt
-steps_take_no_memory old (CancelIoEx handle target) bytes new h = absurd h.replies.0
-steps_take_no_memory old (Mark number) bytes new h = absurd h.replies
-steps_take_no_memory old QueryRemove bytes new h = absurd (invalid h.replies.refuses.is_reason)
-steps_take_no_memory old CancelRemove bytes new h = absurd (invalid h.replies.refuses.is_reason)
-steps_take_no_memory old RemoveEvent bytes new h = absurd (invalid h.replies.refuses.is_reason)
-steps_take_no_memory old SurpriseRemove bytes new h = absurd (invalid h.replies.refuses.is_reason)
-steps_take_no_memory old (Act tag) bytes new h = absurd h.replies
-steps_take_no_memory old (Finish tag) bytes new h = absurd h.replies
-steps_take_no_memory old Reset bytes new h = absurd (no_ok h.0)
-  where
-    no_ok : Refused InsufficientResources bytes ≡ OkReply → ⊥
-    no_ok is = cc
-
 -- ANSWERS
 
 answers_append : (xs ys : List Label) → answers_in (xs ++ ys) ≡ answers_in xs ++ answers_in ys

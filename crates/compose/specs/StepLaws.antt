@@ -38,12 +38,22 @@ abbrev pub StepsCallOnce : Type 0
 StepsCallOnce = (old : ManagerView) (event : Event) (reply : Reply) (new : ManagerView) → IsRight old event reply new
     → CallsFirst event new.labels
 
--- only a read, a write or a flush is refused for want of memory
+-- the reply says that memory was asked for: a request was opened, or memory for it was refused
+abbrev pub AsksMemory : Reply → Type 0
+AsksMemory (Requested id) = Unit {0}
+AsksMemory (Refused InsufficientResources bytes) = Unit {0}
+AsksMemory _ = ⊥
+
+-- memory is asked for by reads, writes and flushes alone; where it is not, all tables have the room that they had
+pub record TakesNoMemory (event : Event) (reply : Reply) (old new : ManagerView) : Type 0 where
+  pub for_transfers : AsksMemory reply → IsTransferEvent event
+  pub same_places : (AsksMemory reply → ⊥) → new.places ≡ old.places
+
+-- no step takes memory but one that opens a request, or is refused for want of memory
 abbrev pub StepsTakeNoMemory : Type 0
 StepsTakeNoMemory =
-    (old : ManagerView) (event : Event) (bytes : List ℕ) (new : ManagerView)
-    → IsRight old event (Refused InsufficientResources bytes) new
-    → IsTransferEvent event
+    (old : ManagerView) (event : Event) (reply : Reply) (new : ManagerView) → IsRight old event reply new
+    → TakesNoMemory event reply old new
 
 -- a step keeps the rules
 abbrev pub StepsKeepRules : Type 0

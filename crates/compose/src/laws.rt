@@ -9,7 +9,8 @@ pub fn steps_call_once()
     ensures { StepsCallOnce }
 {}
 
-/// Only a read, a write or a flush is refused for want of memory.
+/// No step takes memory but a read, a write or a flush, where it opens a request or is refused for want of memory: after
+/// each other step all tables, those of the layers too, have the room that they had.
 pub fn steps_take_no_memory()
     ensures { StepsTakeNoMemory }
 {}

@@ -9,8 +9,8 @@
 //! first `done` (`carries`, `within`), and its labels obey the laws of whole runs, what SUCCESS means and what an act
 //! was asked for among them (`lawful`). `start` gives the opening state (`view`), or fails by settings with nothing
 //! sent, as `probe` does, or for memory (`fault`). A step makes one call at most, first (`steps_call_once`). Only a
-//! read, a write or a flush wants memory (`steps_take_no_memory`). Each answer waits, or the reply says it
-//! (`steps_leave_answers`). What opens is what `admits` told (`steps_open_as_told`). `first_answer` shows the next
+//! read, a write or a flush wants memory; after each other step no table has grown (`steps_take_no_memory`). Each
+//! answer waits, or the reply says it (`steps_leave_answers`). What opens is what `admits` told (`steps_open_as_told`). `first_answer` shows the next
 //! answer (`IsNextAnswer`), and `refuse` is the step of a refused call without its buffer (`Refuses`). Over a journal:
 //! `armed_may_be_booked`, `booked_acts_add_entries`, `steps_keep_entries`, `idle_acts_keep_entries`,
 //! `steps_stay_apart`. Not promised: an order between requests that overlap.

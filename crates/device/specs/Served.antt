@@ -32,6 +32,10 @@ use Rattle.device.specs.View.{DeviceView, Packet, Reserved, room_at, whole_for, 
 abbrev pub SameRooms : List (Option Reserved) → List (Option Reserved) → Type 0
 SameRooms old new = (spot : ℕ) → room_at new spot ≡ room_at old spot
 
+-- no table grew or shrank, so no memory was taken for one
+abbrev pub SamePlaces : DeviceView → DeviceView → Type 0
+SamePlaces old new = new.places ≡ old.places
+
 -- what is reserved at one spot changes, and at no other
 pub record SetsRoom (old : List (Option Reserved)) (spot : ℕ) (before after : Option Reserved)
     (new : List (Option Reserved)) : Type 0 where
@@ -46,6 +50,7 @@ pub record Moves (old : DeviceView) (labels : List DeviceLabel) (new : DeviceVie
   pub same_rooms : SameRooms old.rooms new.rooms
   pub same_submitted : new.submitted ≡ old.submitted
   pub same_most : new.most ≡ old.most
+  pub same_places : SamePlaces old new
   pub run : Run old.rules old.state (map as_label labels) new.state
   pub adapter : MovesByAll old.adapter labels new.adapter
 
@@ -56,11 +61,16 @@ pub record IsBeside (old new : DeviceView) : Type 0 where
   pub same_rooms : SameRooms old.rooms new.rooms
   pub same_submitted : new.submitted ≡ old.submitted
   pub same_most : new.most ≡ old.most
+  pub same_places : SamePlaces old new
   pub same_adapter : new.adapter ≡ old.adapter
 
--- spots may change, and the adapter may have reserved more; nothing else changes
+-- spots may change, tables may have grown, and the adapter may have reserved more; nothing else changes
 pub record Reserves (old new : DeviceView) : Type 0 where
-  pub same : new ≡ record old { rooms = new.rooms; adapter = record old.adapter { reserved = new.adapter.reserved } }
+  pub same : new ≡ record old {
+    rooms = new.rooms;
+    places = new.places;
+    adapter = record old.adapter { reserved = new.adapter.reserved };
+  }
   pub adapter : ReservesMore old.adapter new.adapter
 
 -- the packet has another spot

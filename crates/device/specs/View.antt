@@ -72,6 +72,8 @@ pub record DeviceView : Type 0 where
   -- the requests submitted so far, and the most that may be
   pub submitted : ℕ
   pub most : ℕ
+  -- how many items the tables of this layer and of those below have room for, all in all, before one has to grow
+  pub places : ℕ
   -- the adapter below, with the labels that it recorded and that nobody took yet
   pub adapter : AdapterView
 

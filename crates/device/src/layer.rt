@@ -47,7 +47,7 @@ pub trait Shown: Drop {
 /// to give, the machine is settled.
 ///
 /// A packet goes by pointer (WDK: PIRP), and whoever makes it takes its memory in a `reserve`: no other call takes
-/// memory.
+/// memory. Of the tables that `places` shows: they have the same room after each other call (`SamePlaces`).
 ///
 /// The adapter's record has 64 places for labels. `label_places` counts those that hold a label which nobody took, and
 /// one for each free tag. A caller of `act`, `finish` or `reset` sees that enough are left; `take_label` frees one.

@@ -1,5 +1,5 @@
 -- What each call is asked and gives, over what was shown.
-use Rattle.hold_filter.proofs.Common.{◌≡◌, ◌<◌, ◌≤◌, inl, inr, ℕ, ◌+◌, false, Option, Some, None, refl, sym, subst, ap, ◌∙◌, length, List, [], map, All, IsFalse, cases_eq, All-append, All-map, IsPermutation-refl, Irp, Request, Rules, as_client, with_window, AdapterView, ReservesMore, DeviceView, Reserved, IsBounded, IsOrderly, IsReady, IsReserved, AsksInLocation, Carries, request_at, room_at, whole_for, HasOtherSpot, SameRooms, SetsRoom, Reserves, ReservesSpot, ReservesNone, ReservesNear, Frees, Limits, TableView, here, IsCovered, Covers, packet_below, packet_here, packets_of, without, view_of, RoomsKept, IsInHand, IsAdmitted, stack_over}
+use Rattle.hold_filter.proofs.Common.{in_all, ◌≡◌, ◌<◌, ◌≤◌, inl, inr, ℕ, ◌+◌, false, Option, Some, None, refl, sym, subst, ap, ◌∙◌, length, List, [], map, All, IsFalse, cases_eq, All-append, All-map, IsPermutation-refl, Irp, Request, Rules, as_client, with_window, AdapterView, ReservesMore, DeviceView, Reserved, IsBounded, IsOrderly, IsReady, IsReserved, AsksInLocation, Carries, request_at, room_at, whole_for, HasOtherSpot, SameRooms, SetsRoom, Reserves, ReservesSpot, ReservesNone, ReservesNear, Frees, Limits, TableView, here, IsCovered, Covers, packet_below, packet_here, packets_of, without, view_of, RoomsKept, IsInHand, IsAdmitted, stack_over}
 use Rattle.hold_filter.proofs.Sizing.{admitted}
 use Rattle.hold_filter.proofs.Orderly.{some_bytes}
 use Rattle.hold_filter.proofs.Moving.{in_hand}
@@ -62,12 +62,12 @@ reserved_below v b w spot shown h =
 
 -- the device below with other rooms, and the filter in order
 with_rooms : (stack_size : ℕ) (v : DeviceView) (b : TableView) (places : Limits) (rooms : List (Option Reserved))
-    (adapter : AdapterView) → IsOrderly (record v { rooms = rooms; adapter = adapter })
+    (held : ℕ) (adapter : AdapterView) → IsOrderly (record v { rooms = rooms; places = held; adapter = adapter })
     → RoomsKept v.rules rooms v.packets b.held b.ended places
     → IsInHand stack_size v b
-    → IsInHand stack_size (record v { rooms = rooms; adapter = adapter }) (record b { places = places })
-with_rooms stack_size v b places rooms adapter ordered kept k =
-    in_hand stack_size (record v { rooms = rooms; adapter = adapter }) (record b { places = places }) (record {
+    → IsInHand stack_size (record v { rooms = rooms; places = held; adapter = adapter }) (record b { places = places })
+with_rooms stack_size v b places rooms held adapter ordered kept k =
+    in_hand stack_size (record v { rooms = rooms; places = held; adapter = adapter }) (record b { places = places }) (record {
       below = record {
         own_location = k.kept.below.own_location;
         no_window = k.kept.below.no_window;
@@ -116,25 +116,25 @@ freed stack_size v b w v' spot shown h k ordered f =
       same = refl;
     } in (
       subst (λ (x : DeviceView). IsInHand stack_size x b) (sym f.same)
-          (with_rooms stack_size v b b.places v'.rooms v.adapter ordered' kept k),
+          (with_rooms stack_size v b b.places v'.rooms v.places v.adapter ordered' kept k),
       subst (λ (x : DeviceView). Frees x spot (view_of v' b)) shown
           (subst (λ (x : DeviceView). Frees (view_of v b) spot (view_of x b)) (sym f.same) frees),
     )
 
 -- what a reservation below leaves of the view
-reserves_is : (v v' : DeviceView) → Reserves v v' → v' ≡ record v { rooms = v'.rooms; adapter = v'.adapter }
-reserves_is v v' h = h.same ∙ ap (λ (a : AdapterView). record v { rooms = v'.rooms; adapter = a })
+reserves_is : (v v' : DeviceView) → Reserves v v' → v' ≡ record v { rooms = v'.rooms; places = v'.places; adapter = v'.adapter }
+reserves_is v v' h = h.same ∙ ap (λ (a : AdapterView). record v { rooms = v'.rooms; places = v'.places; adapter = a })
     (sym (ap (λ (x : DeviceView). x.adapter) h.same))
 
 reserves_shown : (v v' : DeviceView) (b b' : TableView) (places : Limits) → b' ≡ record b { places = places }
     → Reserves v v' → Reserves (view_of v b) (view_of v' b')
 reserves_shown v v' b b' places after h =
-    let e : v' ≡ record v { rooms = v'.rooms; adapter = v'.adapter } = reserves_is v v' h in
+    let e : v' ≡ record v { rooms = v'.rooms; places = v'.places; adapter = v'.adapter } = reserves_is v v' h in
     subst (λ (x : DeviceView). Reserves (view_of v b) (view_of x b')) (sym e)
-    (subst (λ (y : TableView). Reserves (view_of v b) (view_of (record v { rooms = v'.rooms; adapter = v'.adapter }) y))
+    (subst (λ (y : TableView). Reserves (view_of v b) (view_of (record v { rooms = v'.rooms; places = v'.places; adapter = v'.adapter }) y))
     (sym after)
     (record {
-      same = ap (λ (a : AdapterView). record (view_of v b) { rooms = without v'.rooms (here b); adapter = a })
+      same = ap (λ (a : AdapterView). record (view_of v b) { rooms = without v'.rooms (here b); places = v'.places + in_all places; adapter = a })
           (ap (λ (x : DeviceView). x.adapter) h.same);
       adapter = h.adapter;
     }))
@@ -144,10 +144,10 @@ hand_rooms : (stack_size : ℕ) (v v' : DeviceView) (b b' : TableView) (places :
     → Reserves v v' → IsOrderly v' → RoomsKept v.rules v'.rooms v.packets b.held b.ended places
     → IsInHand stack_size v b → IsInHand stack_size v' b'
 hand_rooms stack_size v v' b b' places after h ordered kept k =
-    let e : v' ≡ record v { rooms = v'.rooms; adapter = v'.adapter } = reserves_is v v' h in
+    let e : v' ≡ record v { rooms = v'.rooms; places = v'.places; adapter = v'.adapter } = reserves_is v v' h in
     subst (λ (x : DeviceView). IsInHand stack_size x b') (sym e)
-    (subst (λ (y : TableView). IsInHand stack_size (record v { rooms = v'.rooms; adapter = v'.adapter }) y) (sym after)
-    (with_rooms stack_size v b places v'.rooms v'.adapter (subst IsOrderly e ordered) kept k))
+    (subst (λ (y : TableView). IsInHand stack_size (record v { rooms = v'.rooms; places = v'.places; adapter = v'.adapter }) y) (sym after)
+    (with_rooms stack_size v b places v'.rooms v'.places v'.adapter (subst IsOrderly e ordered) kept k))
 
 module _ (stack_size : ℕ) (v : DeviceView) (b : TableView) (k : IsInHand stack_size v b) (w : DeviceView)
     (shown : view_of v b ≡ w) where
@@ -216,8 +216,11 @@ module _ (stack_size : ℕ) (v : DeviceView) (b : TableView) (k : IsInHand stack
         none = record {
           same = f.same ∙ ap (λ (x : DeviceView). record x { rooms = v2.rooms }) h.reserves.same
               ∙ ap (λ (a : AdapterView). record v
-              { rooms = v2.rooms; adapter = record v.adapter { reserved = a.reserved } })
-              (sym (ap (λ (x : DeviceView). x.adapter) f.same));
+              { rooms = v2.rooms; places = v1.places; adapter = record v.adapter { reserved = a.reserved } })
+              (sym (ap (λ (x : DeviceView). x.adapter) f.same))
+              ∙ ap (λ (n : ℕ). record v
+              { rooms = v2.rooms; places = n; adapter = record v.adapter { reserved = v2.adapter.reserved } })
+              (sym (ap (λ (x : DeviceView). x.places) f.same));
           adapter = subst (λ (a : AdapterView). ReservesMore v.adapter a)
               (sym (ap (λ (x : DeviceView). x.adapter) f.same)) h.reserves.adapter;
         }

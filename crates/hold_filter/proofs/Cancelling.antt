@@ -1,5 +1,5 @@
 -- Packets are cancelled: by number, and by spot.
-use Rattle.hold_filter.proofs.Common.{◌≡◌, ◌≢◌, ◌<◌, inl, inr, ℕ, Bool, true, false, List, [], ◌∷◌, ◌++◌, Some, refl, sym, All, Any, Contains, IsTrue, MatchBool, IsDistinct, map-append, All-nil, All-cons, All-map, All-append, All-weaker, All-contains, Contains-append_right, Contains-append_cases, Contains-get_or, IsPermutation-sym, IsPermutation-map, IsPermutation-append_left, All-permutation, Contains-permutation, OpenRequest, Cancels, as_cancelled, request_number, IsAbove, Rules, framed, with_window, IsSame-refl, first_unique, Cancels-framed, IsVacant, DeviceView, Packet, packet_number, IsOrderly, IsAt, HasOtherNumber, CancelsIfOpen, CancelsAt, IsBeside, NoneToCancel, Held, Table, Queued, FilterView, CancelsHeld, HoldsNone, TableView, books_of, packet_in, here, MayEnd, Withdraws, WithdrawsNot, LacksNumber, HoldsAt, packets_of, packet_below, packet_here, open_here, are_late, requests_here, frame_of, state_of, view_of, queued, shown_of, IsAtOwn, IsCancelled, HasRoom, FilterKept, IsInHand, spot_in}
+use Rattle.hold_filter.proofs.Common.{in_all, ◌+◌, ◌≡◌, ◌≢◌, ◌<◌, inl, inr, ℕ, Bool, true, false, List, [], ◌∷◌, ◌++◌, Some, refl, sym, All, Any, Contains, IsTrue, MatchBool, IsDistinct, map-append, All-nil, All-cons, All-map, All-append, All-weaker, All-contains, Contains-append_right, Contains-append_cases, Contains-get_or, IsPermutation-sym, IsPermutation-map, IsPermutation-append_left, All-permutation, Contains-permutation, OpenRequest, Cancels, as_cancelled, request_number, IsAbove, Rules, framed, with_window, IsSame-refl, first_unique, Cancels-framed, IsVacant, DeviceView, Packet, packet_number, IsOrderly, IsAt, HasOtherNumber, CancelsIfOpen, CancelsAt, IsBeside, NoneToCancel, Held, Table, Queued, FilterView, CancelsHeld, HoldsNone, TableView, books_of, packet_in, here, MayEnd, Withdraws, WithdrawsNot, LacksNumber, HoldsAt, packets_of, packet_below, packet_here, open_here, are_late, requests_here, frame_of, state_of, view_of, queued, shown_of, IsAtOwn, IsCancelled, HasRoom, FilterKept, IsInHand, spot_in}
 use Rattle.std.proofs.Common.{subst, ap, ◌∙◌, arith, map, get_or, eqb}
 use Rattle.hold_filter.proofs.Lists.{All-from_map, All-first, All-second, contains_image}
 use Rattle.hold_filter.proofs.Lists.{contains_map, contained_first, any_is, any_of}
@@ -52,6 +52,7 @@ module _ (v : DeviceView) (b : TableView) where
     same_rooms = same_without v.rooms v'.rooms (here b) beside'.same_rooms;
     same_submitted = refl;
     same_most = beside'.same_most;
+    same_places = ap (λ (n : ℕ). n + in_all b.places) beside'.same_places;
     same_adapter = beside'.same_adapter;
   }
 

@@ -18,7 +18,7 @@ pub use Rattle.hold_filter.specs.inside.Invariant.{AreInTurn, AsksAdmitted, CanG
 pub use Rattle.hold_filter.specs.inside.Packets.{HandsOver, PassesDown, asked_by, kind_of, last_asked, request_in, silent}
 pub use Rattle.hold_filter.specs.inside.Releases.{LetsOneGo, MaySend, NoneMayGo, Releases, Sends, Spares}
 pub use Rattle.hold_filter.specs.inside.TableCalls.{Covers, Hands, HandsNone, HoldsAt, IsCovered, LacksNumber, LetsGo, LetsNoneGo, MayEnd, TakesIn, Withdraws, WithdrawsNot, counted, empty, marked}
-pub use Rattle.hold_filter.specs.inside.TableView.{Limits, TableView, books_of, held_with, here, packet_in}
+pub use Rattle.hold_filter.specs.inside.TableView.{Limits, TableView, books_of, held_with, here, packet_in, in_all}
 pub use Rattle.hold_filter.specs.inside.View.{are_late, but_last, frame_of, open_here, packet_below, packet_here, packets_of, queued, requests_here, shown_of, state_of, view_of, without}
 pub use Rattle.irp.proofs.Routines.{asks_routine}
 pub use Rattle.irp.specs.Packet.{cancel_routine_of, with_cancel_routine}

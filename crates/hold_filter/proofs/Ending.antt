@@ -168,6 +168,7 @@ module _ (stack_size : ℕ) (v : DeviceView) (b : TableView) (x : Held) (held en
             same_rooms = rooms_refl (without v.rooms (here books_left));
             same_submitted = refl;
             same_most = refl;
+            same_places = refl;
             run = IsSame-refl _;
             adapter = moves_none v.adapter;
           };

@@ -8,12 +8,13 @@ use Rattle.hold_filter.proofs.Spots.{kept_same}
 abbrev pub moved_to : DeviceView → State → List Packet → List (Option Reserved) → AdapterView → DeviceView
 moved_to v s packets rooms adapter = record v { state = s; packets = packets; rooms = rooms; adapter = adapter }
 
-pub moved_is : (v v' : DeviceView) → v'.rules ≡ v.rules → v'.submitted ≡ v.submitted → v'.most ≡ v.most
+pub moved_is : (v v' : DeviceView) → v'.rules ≡ v.rules → v'.submitted ≡ v.submitted → v'.most ≡ v.most → v'.places ≡ v.places
     → v' ≡ moved_to v v'.state v'.packets v'.rooms v'.adapter
-moved_is v v' r s m =
+moved_is v v' r s m p =
     ap (λ (x : Rules). record v' { rules = x }) r
     ∙ ap (λ (n : ℕ). record v' { rules = v.rules; submitted = n }) s
     ∙ ap (λ (n : ℕ). record v' { rules = v.rules; submitted = v.submitted; most = n }) m
+    ∙ ap (λ (n : ℕ). record v' { rules = v.rules; submitted = v.submitted; most = v.most; places = n }) p
 
 -- as many requests below as packets
 pub counted : (v : DeviceView) → IsOrderly v → length v.state.requests ≡ length v.packets
@@ -156,7 +157,7 @@ module _ (stack_size : ℕ) where
         → Moves (view_of v b) labels (view_of v' b)
     shown_moves labels v' k m =
         let e : v' ≡ moved_to v v'.state v'.packets v'.rooms v'.adapter =
-        moved_is v v' m.same_rules m.same_submitted m.same_most in
+        moved_is v v' m.same_rules m.same_submitted m.same_most m.same_places in
         subst (λ (x : DeviceView). Moves (view_of v b) labels (view_of x b)) (sym e) (record {
           same_rules = refl;
           same_packets = IsPermutation-append_left (map packet_here (here b)) _ _
@@ -164,6 +165,7 @@ module _ (stack_size : ℕ) where
           same_rooms = same_without v.rooms v'.rooms (here b) m.same_rooms;
           same_submitted = refl;
           same_most = refl;
+          same_places = refl;
           run = Run-framed (frame_of v.rules b) (Some b.window) v.rules v.state labels v'.state
               (AllMayPass-above b.window (frame_of v.rules b) v.state k.holds) m.run;
           adapter = m.adapter;
@@ -203,9 +205,9 @@ module _ (stack_size : ℕ) where
         → Moves v labels (record v' { adapter = moved }) → Passes v'
     passes labels v' moved ordered m k =
         let e : v' ≡ moved_to v v'.state v'.packets v'.rooms v'.adapter =
-        moved_is v v' m.same_rules m.same_submitted m.same_most in
+        moved_is v v' m.same_rules m.same_submitted m.same_most m.same_places in
         let e' : record v' { adapter = moved } ≡ moved_to v v'.state v'.packets v'.rooms moved =
-        moved_is v (record v' { adapter = moved }) m.same_rules m.same_submitted m.same_most in
+        moved_is v (record v' { adapter = moved }) m.same_rules m.same_submitted m.same_most m.same_places in
         passes_stays v' e
         (stays_moved labels v'.state v'.packets v'.rooms moved v'.adapter k.kept (subst IsOrderly e ordered)
         (subst (λ (x : DeviceView). Moves v labels x) e' m)) k

@@ -1,5 +1,5 @@
 -- A filter to which nothing was submitted yet is in order.
-use Rattle.hold_filter.proofs.Common.{◌≡◌, ◌<◌, ◌≤◌, ◌^◌, inl, ℕ, false, List, [], ◌++◌, refl, sym, subst, ap, ◌∙◌, arith, map, length, All, All-nil, State, opening, AreDistinct, framed, Holds, AreDistinct-opening, Holds-opening, DeviceView, Packet, IsOrderly, IsFreshBelow, opening_over, TableView, empty, frame_of, packet_below, view_of, IsFrom, IsPassed, IsCancelled, IsWhole, IsAsked, IsAtOwn, HasRoom, HasPlace, AsksAdmitted, EntryCanGo, IsInHand}
+use Rattle.hold_filter.proofs.Common.{◌+◌, ◌≡◌, ◌<◌, ◌≤◌, ◌^◌, inl, ℕ, false, List, [], ◌++◌, refl, sym, subst, ap, ◌∙◌, arith, map, length, All, All-nil, State, opening, AreDistinct, framed, Holds, AreDistinct-opening, Holds-opening, DeviceView, Packet, IsOrderly, IsFreshBelow, opening_over, TableView, empty, frame_of, packet_below, view_of, IsFrom, IsPassed, IsCancelled, IsWhole, IsAsked, IsAtOwn, HasRoom, HasPlace, AsksAdmitted, EntryCanGo, IsInHand}
 use Rattle.hold_filter.proofs.Moving.{in_hand}
 use Rattle.hold_filter.proofs.Rooms.{none_some}
 
@@ -61,3 +61,5 @@ module _ (stack_size : ℕ) (v : DeviceView) (window : ℕ) (location : 0 < stac
       ∙ ap (λ (ps : List Packet). record (view_of v b) { state = v.state; packets = ps }) packets_is
       ∙ ap (λ (n : ℕ). record (view_of v b) { state = v.state; packets = v.packets; submitted = n })
       (sym h.submitted)
+      ∙ ap (λ (n : ℕ). record (opening_over window v) { places = n })
+      (let none : v.places + (0 + 0) ≡ v.places = omega arith in none)

@@ -99,7 +99,7 @@ module _ (stack_size : ℕ) (v : DeviceView) (b : TableView) (v' : DeviceView) (
   pub cancelled : (number : ℕ) → Cancels v.state number v'.state → IsBeside v v' → IsInHand stack_size v' b
   cancelled number c beside =
       let e : v' ≡ moved_to v v'.state v'.packets v'.rooms v'.adapter =
-      moved_is v v' beside.same_rules beside.same_submitted beside.same_most in
+      moved_is v v' beside.same_rules beside.same_submitted beside.same_most beside.same_places in
       passes_stays stack_size v b v' e (record {
         ordered = subst IsOrderly e ordered;
         packets = beside.same_packets;

@@ -12,12 +12,13 @@ abbrev pub sent_to : DeviceView → State → List Packet → List (Option Reser
 sent_to v s packets rooms adapter =
     record v { state = s; packets = packets; rooms = rooms; submitted = v.submitted + 1; adapter = adapter }
 
-pub sent_is : (v v' : DeviceView) → v'.rules ≡ v.rules → v'.submitted ≡ v.submitted + 1 → v'.most ≡ v.most
+pub sent_is : (v v' : DeviceView) → v'.rules ≡ v.rules → v'.submitted ≡ v.submitted + 1 → v'.most ≡ v.most → v'.places ≡ v.places
     → v' ≡ sent_to v v'.state v'.packets v'.rooms v'.adapter
-sent_is v v' r s m =
+sent_is v v' r s m p =
     ap (λ (x : Rules). record v' { rules = x }) r
     ∙ ap (λ (n : ℕ). record v' { rules = v.rules; submitted = n }) s
     ∙ ap (λ (n : ℕ). record v' { rules = v.rules; submitted = v.submitted + 1; most = n }) m
+    ∙ ap (λ (n : ℕ). record v' { rules = v.rules; submitted = v.submitted + 1; most = v.most; places = n }) p
 
 -- as many are below as were counted
 pub as_many : (stack_size : ℕ) (v : DeviceView) (b : TableView) → FilterKept stack_size v b
@@ -186,6 +187,7 @@ module _ (stack_size : ℕ) (v : DeviceView) (b : TableView) (k : FilterKept sta
         same_rooms = rooms_shown;
         same_submitted = refl;
         same_most = refl;
+        same_places = refl;
         run = run_shown;
         adapter = h.moves.adapter;
       };
@@ -292,7 +294,7 @@ module _ (stack_size : ℕ) (v : DeviceView) (b : TableView) (v' : DeviceView) (
 
   view_now : v' ≡ sent_to v v'.state v'.packets v'.rooms v'.adapter
   view_now = sent_is v v' sends.submits.moves.same_rules sends.submits.moves.same_submitted
-      sends.submits.moves.same_most
+      sends.submits.moves.same_most sends.submits.moves.same_places
 
   pub has_released : HasReleased stack_size v b v' b'
   has_released =
@@ -370,6 +372,7 @@ releases_none view = record {
     same_rooms = rooms_refl view.rooms;
     same_submitted = refl;
     same_most = refl;
+    same_places = refl;
     run = IsSame-refl _;
     adapter = moves_none view.adapter;
   };
@@ -399,6 +402,7 @@ releases_then first second third g h = record {
     same_rooms = rooms_trans first.rooms second.rooms third.rooms g.moves.same_rooms h.moves.same_rooms;
     same_submitted = h.moves.same_submitted ∙ g.moves.same_submitted;
     same_most = h.moves.same_most ∙ g.moves.same_most;
+    same_places = h.moves.same_places ∙ g.moves.same_places;
     run = subst (λ ls. Run first.rules first.state ls third.state) (sym (map-append as_label g.starts h.starts))
         (Run-append first.rules first.state (map as_label g.starts) second.state (map as_label h.starts) third.state
         g.moves.run (subst (λ r. Run r second.state (map as_label h.starts) third.state) g.moves.same_rules

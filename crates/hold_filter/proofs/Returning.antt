@@ -194,6 +194,7 @@ module _ (stack_size : ℕ) (v : DeviceView) (b : TableView) (spot : ℕ) (climb
           same_rooms = rooms_refl (without v'.rooms (here b'));
           same_submitted = r.moves.same_submitted;
           same_most = r.moves.same_most;
+          same_places = r.moves.same_places;
           run = subst (λ ls. Run (with_window (Some b.window) v.rules) (framed frame h.answered) ls
               (state_of v' b'))
               (sym (map-append as_label h.starts r.starts))
@@ -224,6 +225,7 @@ module _ (takes_srb : Bool) (buffers : IsFalse takes_srb) (stack_size : ℕ) (v 
 
       view_now : v1 ≡ moved_to v v1.state v1.packets v1.rooms v1.adapter
       view_now = moved_is v v1 h.moves.same_rules h.moves.same_submitted h.moves.same_most
+          h.moves.same_places
 
       up_now : HandsUp false v climb spot (moved_to v v1.state v1.packets v1.rooms v1.adapter)
       up_now = subst (λ (x : DeviceView). HandsUp false v climb spot x) view_now

@@ -275,6 +275,7 @@ module _ (stack_size : ℕ) (v : DeviceView) (b : TableView) (irp : Box Irp) (ro
       same_rooms = rooms_refl (without v'.rooms (here b'));
       same_submitted = r.moves.same_submitted;
       same_most = r.moves.same_most;
+      same_places = r.moves.same_places;
       run = r.moves.run;
       adapter = r.moves.adapter;
     };

@@ -188,6 +188,7 @@ module _ (stack_size : ℕ) (v : DeviceView) (b : TableView) where
                 rooms_refl (without v.rooms (here b));
             same_submitted = refl;
             same_most = refl;
+            same_places = refl;
             same_adapter = refl;
           };
         }
@@ -255,6 +256,7 @@ module _ (stack_size : ℕ) (v : DeviceView) (b : TableView) where
             same_rooms = r.moves.same_rooms;
             same_submitted = r.moves.same_submitted;
             same_most = r.moves.same_most;
+            same_places = r.moves.same_places;
             run = r.moves.run;
             adapter = r.moves.adapter;
           };
@@ -309,6 +311,7 @@ module _ (stack_size : ℕ) (v : DeviceView) (b : TableView) where
 
       view_now : v' ≡ moved_to v v'.state v'.packets v'.rooms v'.adapter
       view_now = moved_is v v' d.beside.same_rules d.beside.same_submitted d.beside.same_most
+          d.beside.same_places
 
       pub drains : DrainsAll (view_of v b) (view_of v' books_removed)
       drains = subst (λ (x : DeviceView). DrainsAll (view_of v b) (view_of x books_removed)) (sym view_now)
@@ -321,6 +324,7 @@ module _ (stack_size : ℕ) (v : DeviceView) (b : TableView) where
               same_rooms = same_without v.rooms v'.rooms (here b) d.beside.same_rooms;
               same_submitted = refl;
               same_most = refl;
+              same_places = refl;
               same_adapter = d.beside.same_adapter;
             };
           })

@@ -82,6 +82,7 @@ module _ (stack_size : ℕ) (v : DeviceView) (b : TableView) (at number : ℕ) (
       same_rooms = same_rooms;
       same_submitted = refl;
       same_most = refl;
+      same_places = refl;
       same_adapter = refl;
     }
 

@@ -1,6 +1,6 @@
 -- Moves of an adapter, one after another: they join, and record their labels.
 use Rattle.std.proofs.Common.{◌≡◌, ℕ, false, true, List, [], ◌∷◌, ◌++◌, Option, Some, None, refl, sym, ◌∙◌, ap, subst, append_assoc}
-use Rattle.io_manager.proofs.Common.{append-nil, Extent, DeviceLabel, Start, Act, Fault, Return, AdapterView, ReservesMore, NotesReset, MovesOn, MovesByAll, reserves_none, ReservesFor, AdapterMoves}
+use Rattle.io_manager.proofs.Common.{Need, Read, Write, Flush, append-nil, Extent, DeviceLabel, Start, Act, Fault, Return, AdapterView, ReservesMore, NotesReset, MovesOn, MovesByAll, reserves_none, ReservesFor, AdapterMoves}
 
 label_moved : (tag : ℕ) (old : AdapterView) (label : DeviceLabel) (new : AdapterView) → MovesOn old tag label new → new.labels ≡ old.labels ++ label ∷ []
 label_moved tag old (Start piece started block) new h =
@@ -20,9 +20,11 @@ labels_moved old (label ∷ labels) new h =
     ∙ append_assoc old.labels (label ∷ []) labels
 
 -- what is reserved for some sectors, or for none, is no less than before
-pub reserves_more : (reserves : Option Extent) (old first : AdapterView) → ReservesFor reserves old first → ReservesMore old first
+pub reserves_more : (reserves : Option Need) (old first : AdapterView) → ReservesFor reserves old first → ReservesMore old first
 reserves_more None old first h = subst (ReservesMore old) (sym h) (reserves_none old)
-reserves_more (Some extent) old first h = h.0
+reserves_more (Some (Write, extent)) old first h = h.0
+reserves_more (Some (Read, extent)) old first h = subst (ReservesMore old) (sym h) (reserves_none old)
+reserves_more (Some (Flush, extent)) old first h = subst (ReservesMore old) (sym h) (reserves_none old)
 
 -- moves that a reset follows, and then labels that are taken
 pub reset_joined : (old : AdapterView) (labels : List DeviceLabel) (faulted mid : AdapterView) (new : AdapterView)

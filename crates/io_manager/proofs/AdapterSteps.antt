@@ -1,8 +1,8 @@
 -- Acts, returns and resets of the adapter as steps of the manager.
-use Rattle.std.proofs.Common.{◌≡◌, ◌≢◌, ℕ, true, List, [], ◌∷◌, ◌++◌, refl, sym, ◌∙◌, ap, subst, None, map, length}
+use Rattle.std.proofs.Common.{◌+◌, ◌≡◌, ◌≢◌, ℕ, true, List, [], ◌∷◌, ◌++◌, refl, sym, ◌∙◌, ap, subst, None, map, length}
 use Rattle.io_manager.proofs.Common.{append-nil, All-append, Slab, DeviceLabel, Return, Rules, IsStart, Settled, DeviceView, KeepsOutside, AdapterView, MovesByAll, Resets, fault_of, Moves, ActsOrFaults, ActsNot, Finishes, FinishesNot, IsSame-refl, Removing, OpenHandle, Limits, Tables, ManagerView, AllWriteInside, Told, SameHandles, AdapterMoves, tells_nothing, IsRight, IsRightReset, IsRightBy, ActReplies, FinishReplies}
 use Rattle.io_manager.specs.declared.Reply.TheVariants.{Ok as OkReply, Ignored}
-use Rattle.io_manager.specs.inside.Sound.{view_of, AsksInside, IsSound, TakesLabels, Collects, ManagerKept}
+use Rattle.io_manager.specs.inside.Sound.{own_places, view_of, AsksInside, IsSound, TakesLabels, Collects, ManagerKept}
 use Rattle.io_manager.proofs.AdapterJoins.{labels_moved, reset_joined}
 use Rattle.io_manager.proofs.Outside.{noted_inside}
 use Rattle.io_manager.proofs.Labelled.{act_settled, faults_settled, labels_collected}
@@ -20,7 +20,7 @@ module _ (limits : Limits) (below : DeviceView) (tables : Tables) (old : Manager
   none_told = ap (λ (v : ManagerView). v.labels) shown ∙ taken
 
   -- an adapter step opens nothing
-  pub served : (labels : List DeviceLabel) (below1 : DeviceView) → Moves below labels below1 → IsServed limits below tables [] labels below1 tables
+  pub served : (labels : List DeviceLabel) (below1 : DeviceView) → Moves below labels below1 → IsServed None limits below tables [] labels below1 tables
   served labels below1 moves = record {
     opened = below.state;
     given = have_partitions tables.requests below.state.requests kept.sound.held;
@@ -32,6 +32,7 @@ module _ (limits : Limits) (below : DeviceView) (tables : Tables) (old : Manager
     own_labels = none_told;
     same_keeps = refl;
     same_untaken = refl;
+    places = ap (λ (n : ℕ). n + own_places tables) moves.same_places;
   }
 
   pub same_handles : (below1 below2 : DeviceView) (tables2 : Tables) → Collects below1 tables below2 tables2 → SameHandles (view_of limits below tables) (view_of limits below2 tables2)
@@ -150,7 +151,7 @@ module _ (limits : Limits) (below : DeviceView) (tables : Tables) (old : Manager
   faults = map fault_of r.fresh
 
   -- what is recorded is the faults
-  reset_served : IsServed limits below tables [] faults below1 tables
+  reset_served : IsServed None limits below tables [] faults below1 tables
   reset_served = record {
     opened = below.state;
     given = have_partitions tables.requests below.state.requests kept.sound.held;
@@ -164,6 +165,7 @@ module _ (limits : Limits) (below : DeviceView) (tables : Tables) (old : Manager
     own_labels = ap (λ (v : ManagerView). v.labels) shown ∙ taken;
     same_keeps = refl;
     same_untaken = refl;
+    places = ap (λ (n : ℕ). n + own_places tables) r.moves.same_places;
   }
 
   reset_settled : Settled below1.rules below1.state
@@ -193,7 +195,7 @@ module _ (limits : Limits) (below : DeviceView) (tables : Tables) (old : Manager
       let outside : KeepsOutside below.rules.partitions below.adapter (record below1.adapter { labels = [] }) = λ i apart. b.1 i apart ∙ a.1 i apart in
       let told : Told = told_by limits below tables [] faults below1 tables below2 tables2 reset_served (faulted below2 tables2 t) None in
       let by : IsRightBy true told (view_of limits below tables) (view_of limits below2 tables2) =
-      right_by limits below tables [] faults below1 tables below2 tables2 reset_served (faulted below2 tables2 t) true None joined
+      right_by limits below tables [] faults below1 tables below2 tables2 reset_served (faulted below2 tables2 t) true joined
       (subst (KeepsOutside below.rules.partitions below.adapter) (sym taken_are) outside) sound'.in_state in
       let inside : AsksInside below2 =
       subst (λ (rules : Rules). AllWriteInside rules.partitions below2.adapter) (sym (ap (λ (v : DeviceView). v.rules) t.taken ∙ r.moves.same_rules))

@@ -1,9 +1,9 @@
 -- Calls that end where they begin are right steps: those that are refused, those of no bytes, and those past the last number.
 use Rattle.std.proofs.Common.{◌≡◌, ◌<◌, ◌≤◌, inl, inr, ℕ, ◌+◌, Bool, true, false, List, [], ◌∷◌, ◌++◌, Some, None, refl, sym, ◌∙◌, ap, subst, arith}
-use Rattle.io_manager.proofs.Common.{IsNone, All-weaker, NtStatus, Kind, ClientRequest, Label, refusal, Run, DeviceView, Handle, DeviceBusy, Reply, Refused, AtOnce, Limits, Tables, ManagerView, number_limit, are_used_up, call_on, without_bytes, tells_nothing, TransferReplies, CallReplies, IsRight, status_at_once, AnswersAtOnce, reply_at_once}
+use Rattle.io_manager.proofs.Common.{deque_capacity, IsNone, All-weaker, NtStatus, Kind, ClientRequest, Label, refusal, Run, DeviceView, Handle, DeviceBusy, Reply, Refused, AtOnce, Limits, Tables, ManagerView, number_limit, are_used_up, call_on, without_bytes, tells_nothing, TransferReplies, CallReplies, IsRight, status_at_once, AnswersAtOnce, reply_at_once}
 use Rattle.machine.specs.declared.Label.TheVariants.{Call, Answer as AnswerLabel}
 use Rattle.io_manager.specs.declared.admission.AtOnce.TheVariants.{Empty, Refused as RefusedFor}
-use Rattle.io_manager.specs.inside.Sound.{shown_state, is_gone, view_of, IsSpotted, WasGiven, IsSound, ManagerKept}
+use Rattle.io_manager.specs.inside.Sound.{own_places, shown_state, is_gone, view_of, IsSpotted, WasGiven, IsSound, ManagerKept}
 use Rattle.io_manager.proofs.Refusing.{Run-refused}
 use Rattle.io_manager.proofs.Handing.{numbers_last}
 use Rattle.io_manager.proofs.Stepping.{ManagerKept-still}
@@ -85,7 +85,8 @@ module _ (limits : Limits) (below : DeviceView) (tables : Tables) (handle : Hand
         };
         by =
             right_alone view (own (status_at_once at_once)) (shown_state (tables.next_request + 1) (is_gone tables.state) below.state) None below.adapter.reserved tables.handles.slots tables.next_handle
-            tables1.labels.items tables.untaken.items tables1.labels.keeps run refl taken.1 told refl answers.label_places.1;
+            tables1.labels.items tables.untaken.items tables1.labels.keeps (below.places + own_places (record tables { labels = tables1.labels })) run refl taken.1 told refl answers.label_places.1
+            (ap (λ (n : ℕ). below.places + (n + tables.answered.places + deque_capacity tables.untaken + tables.handles.capacity + tables.requests.capacity)) answers.label_places.0);
       }))
     where
       run : Run view.rules view.state (own (status_at_once at_once)) (shown_state (tables.next_request + 1) (is_gone tables.state) below.state)

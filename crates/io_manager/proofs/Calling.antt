@@ -1,11 +1,11 @@
 -- An admitted call, and one turned away for want of memory, are right steps.
 use Rattle.std.proofs.Common.{◌≡◌, ◌≢◌, ◌<◌, ◌≤◌, inl, inr, ℕ, ◌+◌, Bool, false, List, [], ◌∷◌, ◌++◌, Some, None, refl, sym, ◌∙◌, ap, subst, arith}
 use Rattle.std.specs.Prelude.{All, option_map}
-use Rattle.io_manager.proofs.Common.{All-permutation, IsPermutation-sym, deque_len, deque_capacity, All-append, All-cons, Slab, get, slab_len, Extent, Payload, Kind, Read, Write, Flush, ClientRequest, Label, Call, Rules, as_client, refusal, Opens, Run, DeviceView, sent_bytes, payload_bytes, IsStart, Reserves, ReservesNear, IsSame-refl, Handle, Id, OpenHandle, InsufficientResources, Reply, Limits, LabelBytes, Tables, ManagerView, Holder, bytes_called, call_on, without_bytes, disk_extent, reserved_of, reserved_by, tells_nothing, ReservesFor, IsRight, IsRightBy, CallReplies, rules_of}
+use Rattle.io_manager.proofs.Common.{Need, All-permutation, IsPermutation-sym, deque_len, deque_capacity, All-append, All-cons, Slab, get, slab_len, Extent, Payload, Kind, Read, Write, Flush, ClientRequest, Label, Call, Rules, as_client, refusal, Opens, Run, DeviceView, sent_bytes, payload_bytes, IsStart, Reserves, ReservesNear, IsSame-refl, Handle, Id, OpenHandle, InsufficientResources, Reply, Limits, LabelBytes, Tables, ManagerView, Holder, bytes_called, call_on, without_bytes, disk_extent, reserved_by, tells_nothing, ReservesFor, IsRight, IsRightBy, CallReplies, rules_of}
 use Rattle.std.proofs.Math.ListN.{get_or-map}
 use Rattle.adapter.specs.View.{AdapterView, ReservesMore, ReservesNear as AdapterReservesNear}
 use Rattle.io_manager.specs.declared.Reply.TheVariants.{Request as Requested, Refused}
-use Rattle.io_manager.specs.inside.Sound.{shown_state, is_gone, holder_of, view_of, WasGiven, AreApart, IsInState, IsSound, AsksInside, Collects, ManagerKept}
+use Rattle.io_manager.specs.inside.Sound.{own_places, shown_state, is_gone, holder_of, view_of, WasGiven, AreApart, IsInState, IsSound, AsksInside, Collects, ManagerKept}
 use Rattle.io_manager.specs.inside.Admitting.{request_of, HasLabelBytes, Admits, KeepsAnswers, SendsDown, IsSent, IsAdmissible}
 use Rattle.io_manager.proofs.Refusing.{Calls-opened}
 use Rattle.io_manager.proofs.Fitted.{FitsBelow-same}
@@ -21,8 +21,8 @@ use Rattle.io_manager.proofs.Stepping.{ManagerKept-reserved, ManagerKept-collect
 pub reserved_sound : (limits : Limits) (below : DeviceView) (tables : Tables) (below' : DeviceView) (tables' : Tables) → IsSound limits below tables → Reserves below below' → KeepsAnswers tables tables'
     → IsSound limits below' tables'
 reserved_sound limits below tables below' tables' h reserves keeps =
-    subst (λ b. IsSound limits b tables') (sym reserves.same) (subst (IsSound limits (record below { rooms = below'.rooms; adapter = record below.adapter { reserved = below'.adapter.reserved } })) (sym keeps.after) (record {
-      fits = FitsBelow-same limits below (record below { rooms = below'.rooms; adapter = record below.adapter { reserved = below'.adapter.reserved } }) refl refl h.fits;
+    subst (λ b. IsSound limits b tables') (sym reserves.same) (subst (IsSound limits (record below { rooms = below'.rooms; places = below'.places; adapter = record below.adapter { reserved = below'.adapter.reserved } })) (sym keeps.after) (record {
+      fits = FitsBelow-same limits below (record below { rooms = below'.rooms; places = below'.places; adapter = record below.adapter { reserved = below'.adapter.reserved } }) refl refl h.fits;
       numbers = record { requests = h.numbers.requests; handles = h.numbers.handles; rising = h.numbers.rising; submitted = h.numbers.submitted };
       held = h.held;
       few = h.few;
@@ -60,7 +60,7 @@ more_reserved : (below below' : DeviceView) → Reserves below below' → Reserv
 more_reserved below below' reserves = subst (ReservesMore below.adapter) (ap (λ (b : DeviceView). b.adapter) reserves.same) reserves.adapter
 
 -- what is reserved is reserved for the sectors of a write; for any other kind nothing is
-reserved_of_kind : (kind : Kind) (extent : Extent) (old new : AdapterView) → ReservesMore old new → AdapterReservesNear old extent new → (kind ≢ Write → new ≡ old) → ReservesFor (reserved_of kind extent) old new
+reserved_of_kind : (kind : Kind) (extent : Extent) (old new : AdapterView) → ReservesMore old new → AdapterReservesNear old extent new → (kind ≢ Write → new ≡ old) → ReservesFor (Some (kind, extent)) old new
 reserved_of_kind Write extent old new more near unless_write = (more, near)
 reserved_of_kind Read extent old new more near unless_write = unless_write (λ e. cc (e))
 reserved_of_kind Flush extent old new more near unless_write = unless_write (λ e. cc (e))
@@ -98,8 +98,8 @@ module _ (limits : Limits) (below : DeviceView) (tables : Tables) (handle : Hand
   turned_away below' tables' reply reserves near unless_write keeps is_reply =
       subst (λ r. IsRight (CallReplies view handle called buffer r (view_of limits below' tables')) view (view_of limits below' tables')) (sym is_reply)
       (subst (λ b. IsRight (CallReplies view handle called buffer (Refused InsufficientResources buffer) (view_of limits b tables')) view (view_of limits b tables')) (sym reserves.same)
-      (subst (λ t. IsRight (CallReplies view handle called buffer (Refused InsufficientResources buffer) (view_of limits (record below { rooms = below'.rooms; adapter = record below.adapter { reserved = below'.adapter.reserved } }) t)) view
-      (view_of limits (record below { rooms = below'.rooms; adapter = record below.adapter { reserved = below'.adapter.reserved } }) t)) (sym keeps.after) (record {
+      (subst (λ t. IsRight (CallReplies view handle called buffer (Refused InsufficientResources buffer) (view_of limits (record below { rooms = below'.rooms; places = below'.places; adapter = record below.adapter { reserved = below'.adapter.reserved } }) t)) view
+      (view_of limits (record below { rooms = below'.rooms; places = below'.places; adapter = record below.adapter { reserved = below'.adapter.reserved } }) t)) (sym keeps.after) (record {
         told = record (tells_nothing view) { reserves = reserved_by over called };
         replies = record {
           replies = (
@@ -118,7 +118,7 @@ module _ (limits : Limits) (below : DeviceView) (tables : Tables) (handle : Hand
         };
         by =
             right_alone view [] view.state (reserved_by over called) below'.adapter.reserved tables.handles.slots tables.next_handle tables.labels.items tables'.untaken.items tables.labels.keeps
-            (IsSame-refl _) (reserved_for below' reserves near unless_write) kept.none_recorded told keeps.same_untaken refl;
+            (below'.places + own_places (record tables { untaken = tables'.untaken })) (IsSame-refl _) (reserved_for below' reserves near unless_write) kept.none_recorded told keeps.same_untaken refl tt;
       })))
 
   sent_is : (kind : Kind) (payload : Payload) → sent_bytes kind payload ≡ bytes_called kind (payload_bytes payload)
@@ -136,7 +136,7 @@ module _ (limits : Limits) (below : DeviceView) (tables : Tables) (handle : Hand
   module _ (below' : DeviceView) (tables' : Tables) (copies : LabelBytes) (spot slot : ℕ) (below1 : DeviceView) (tables1 : Tables) (reserves : Reserves below below') (near : ReservesNear below (request_of limits.sector_size q) below') (unless_write : q.kind ≢ Write → below'.adapter ≡ below.adapter) (keeps : KeepsAnswers tables tables')
       (buffers : HasLabelBytes tables'.labels.keeps tables'.labels.keeps_bytes q.kind buffer copies) (admits' : Admits tables' handle q copies spot slot tables1) (sends' : SendsDown below' tables'.next_request spot (request_of limits.sector_size q) buffer below1) where
     abbrev reserved_below : DeviceView
-    reserved_below = record below { rooms = below'.rooms; adapter = record below.adapter { reserved = below'.adapter.reserved } }
+    reserved_below = record below { rooms = below'.rooms; places = below'.places; adapter = record below.adapter { reserved = below'.adapter.reserved } }
 
     abbrev reserved_tables : Tables
     reserved_tables = record tables { untaken = tables'.untaken }
@@ -189,7 +189,7 @@ module _ (limits : Limits) (below : DeviceView) (tables : Tables) (handle : Hand
     abbrev first : AdapterView
     first = record below.adapter { reserved = below'.adapter.reserved }
 
-    is_served : IsServed limits below tables own sends.submits.starts below1 tables1
+    is_served : IsServed (reserved_by over called) limits below tables own sends.submits.starts below1 tables1
     is_served = record {
       opened = sends.submits.opened;
       given = given;
@@ -201,6 +201,7 @@ module _ (limits : Limits) (below : DeviceView) (tables : Tables) (handle : Hand
       own_labels = labels_are;
       same_keeps = admits.label_places.1;
       same_untaken = ap (λ (t : Tables). t.untaken.items) admits.after ∙ keeps.same_untaken;
+      places = tt;
     }
 
     admitted_right : (below2 : DeviceView) (tables2 : Tables) (id : Id) → id.slot ≡ slot → id.number ≡ tables'.next_request
@@ -208,7 +209,7 @@ module _ (limits : Limits) (below : DeviceView) (tables : Tables) (handle : Hand
         → IsRight (CallReplies view handle called buffer (Requested id) (view_of limits below2 tables2)) view (view_of limits below2 tables2) × AsksInside below2
     admitted_right below2 tables2 id same_slot same_number c in_state =
         let both : IsRightBy false (told_by limits below tables own sends.submits.starts below1 tables1 below2 tables2 is_served c (reserved_by over called)) view (view_of limits below2 tables2) × AsksInside below2 =
-        IsRightBy-served limits below tables own sends.submits.starts below1 tables1 below2 tables2 is_served c (reserved_by over called) first kept.reached kept.inside (reserved_for below' reserves near unless_write)
+        IsRightBy-served limits below tables own sends.submits.starts below1 tables1 below2 tables2 is_served c first kept.reached kept.inside (reserved_for below' reserves near unless_write)
         sends.submits.moves.adapter in_state in (
           record {
             told = told_by limits below tables own sends.submits.starts below1 tables1 below2 tables2 is_served c (reserved_by over called);

@@ -1,21 +1,21 @@
 -- Cancellations as steps of the manager.
 use Rattle.std.proofs.Common.{◌≡◌, ◌≢◌, inl, inr, ℕ, Bool, true, false, not, List, [], ◌∷◌, ◌++◌, Option, Some, None, refl, sym, ◌∙◌, ap, subst, map}
 use Rattle.std.specs.Prelude.{Contains, option_map, slice_index_or, is_some, if◌then◌else◌}
-use Rattle.io_manager.proofs.Common.{cases_eq, All-weaker, All-contains, AdapterView, MovesByAll, Cancel, Rules, Cancels, Run, IsSame-refl, DeviceView, IsBeside, Handle, Id, Limits, OpenHandle, Refusal, InvalidHandle, NotFound, PacketBelow, Tables, partition_of, HasSome, HasNoneOf, IsOpenAt, IsNotOpenAt, ClosesSlot, HasNoneToMark, CancelsSlot, CancelsUnlessMarked, IsUnmarked, CancelsAll, IsOpenIn, ManagerView, Holder, rules_of}
+use Rattle.io_manager.proofs.Common.{deque_capacity, cases_eq, All-weaker, All-contains, AdapterView, MovesByAll, Cancel, Rules, Cancels, Run, IsSame-refl, DeviceView, IsBeside, Handle, Id, Limits, OpenHandle, Refusal, InvalidHandle, NotFound, PacketBelow, Tables, partition_of, HasSome, HasNoneOf, IsOpenAt, IsNotOpenAt, ClosesSlot, HasNoneToMark, CancelsSlot, CancelsUnlessMarked, IsUnmarked, CancelsAll, IsOpenIn, ManagerView, Holder, rules_of}
 use Rattle.slab.specs.Slab.{Slab, get, Updates as SlabUpdates}
 use Rattle.machine.specs.State.{OpenRequest as OpenBelow}
 use Rattle.io_manager.specs.declared.Reply.TheVariants.{Ok as OkReply, Refused, Ignored}
 use Rattle.io_manager.specs.declared.tables.OpenRequest.{OpenRequest}
 use Rattle.io_manager.specs.inside.Completion.{IsAt, HasNone}
 use Rattle.io_manager.specs.Right.{Told, SameHandles, RefusesAlone, tells_nothing, as_cancel, IsHandleOpen, IsToCancel, CancelsAllOf, CancelsOne, HasTarget, HasOtherNumber, CloseReplies, CancelReplies, MarkReplies, IsRight}
-use Rattle.io_manager.specs.inside.Sound.{shown_state, is_gone, holder_of, view_of, IsHeldAt, IsOnMap, IsSound, HasNoneToStart, Collects, ManagerKept}
+use Rattle.io_manager.specs.inside.Sound.{SamePlaces, shown_state, is_gone, holder_of, view_of, IsHeldAt, IsOnMap, IsSound, HasNoneToStart, Collects, ManagerKept}
 use Rattle.io_manager.proofs.Chained.{still_open, AreChained-closed}
 use Rattle.io_manager.proofs.KeptBack.{settled_none, all_cancelled_none}
 use Rattle.io_manager.proofs.Timely.{reached_timely}
 use Rattle.io_manager.proofs.Marking.{IsBelow, held_below, holders_same}
 use Rattle.io_manager.proofs.Over.{cancel_over, cancels_over}
 use Rattle.io_manager.proofs.Quiet.{IsRightBy-unmoved}
-use Rattle.io_manager.proofs.Righting.{IsServed, have_partitions}
+use Rattle.io_manager.proofs.Righting.{same_queue, shown_places, IsServed, have_partitions}
 use Rattle.io_manager.proofs.Stepping.{shown_at, holder_is}
 use Rattle.io_manager.proofs.Telling.{step_kept}
 
@@ -147,14 +147,23 @@ module _ (limits : Limits) (below : DeviceView) (tables : Tables) (old : Manager
       reserves_none = reserves_none;
     }
 
-    module _ (tables1' : Tables) (same : tables1' ≡ record tables1 { handles = tables1'.handles }) where
+    module _ (tables1' : Tables) (same : tables1' ≡ record tables1 { handles = tables1'.handles }) (slots : tables1'.handles.capacity ≡ tables1.handles.capacity) where
       state_is : tables1'.state ≡ tables.state
       state_is = ap (λ (t : Tables). t.state) same ∙ ap (λ (t : Tables). t.state) h.after
 
       next_is : tables1'.next_request ≡ tables.next_request
       next_is = ap (λ (t : Tables). t.next_request) same ∙ ap (λ (t : Tables). t.next_request) h.after
 
-      pub all_served : IsServed limits below tables (map as_cancel h.numbers) [] below1 tables1'
+      places_same : SamePlaces tables tables1'
+      places_same = record {
+        labels = (ap (λ (t : Tables). t.labels.places) same ∙ h.label_places.0, ap (λ (t : Tables). t.labels.keeps) same ∙ h.label_places.1, ap (λ (t : Tables). t.labels.keeps_bytes) same ∙ h.label_places.2);
+        answered = same_queue (ap (λ (t : Tables). t.answered) same ∙ ap (λ (t : Tables). t.answered) h.after);
+        untaken = ap (λ (t : Tables). deque_capacity t.untaken) same ∙ ap (λ (t : Tables). deque_capacity t.untaken) h.after;
+        handles = slots ∙ ap (λ (t : Tables). t.handles.capacity) h.after;
+        requests = ap (λ (t : Tables). t.requests.capacity) same ∙ h.slots;
+      }
+
+      pub all_served : IsServed None limits below tables (map as_cancel h.numbers) [] below1 tables1'
       all_served = record {
         opened = below1.state;
         given = have_partitions tables1.requests below1.state.requests sound1.held;
@@ -169,6 +178,7 @@ module _ (limits : Limits) (below : DeviceView) (tables : Tables) (old : Manager
         same_keeps = ap (λ (t : Tables). t.labels.keeps) same ∙ h.label_places.1;
         own_labels = ap (λ (t : Tables). t.labels.items) same ∙ h.tells ∙ ap (λ before. before ++ map as_cancel h.numbers) none_told;
         same_untaken = ap (λ (t : Tables). t.untaken.items) same ∙ ap (λ (t : Tables). t.untaken.items) h.after;
+        places = shown_places limits below below1 tables tables1' h.beside.same_places places_same;
       }
 
       -- the row of what follows on it
@@ -184,7 +194,7 @@ module _ (limits : Limits) (below : DeviceView) (tables : Tables) (old : Manager
       → (tables1' : Tables) → ClosesSlot tables1 handle.slot tables1' → (limits' : Limits) (below2 : DeviceView) (tables2 : Tables) → limits' ≡ limits → IsSound limits' below2 tables2 → Collects below1 tables1' below2 tables2
       → IsRight (CloseReplies old handle OkReply (view_of limits' below2 tables2)) old (view_of limits' below2 tables2) × ManagerKept limits' below2 tables2
   close_kept handle below1 tables1 is_open h sound1 none_left tables1' closes limits' below2 tables2 same sound c =
-      all_kept handle.number below1 tables1 h sound1 none_left tables1' closes.after (λ v new told. CloseReplies v handle OkReply new told) limits' below2 tables2 same sound c
+      all_kept handle.number below1 tables1 h sound1 none_left tables1' closes.after closes.slots (λ v new told. CloseReplies v handle OkReply new told) limits' below2 tables2 same sound c
       (λ told row. (record { was_open = is_open; closes = record { there = there; others = others }; next_handle = next_handle }, row))
     where
       handles_are : tables2.handles ≡ tables1'.handles
@@ -212,7 +222,7 @@ module _ (limits : Limits) (below : DeviceView) (tables : Tables) (old : Manager
       → HasNoneToMark tables1.requests handle.number → (limits' : Limits) (below2 : DeviceView) (tables2 : Tables) → limits' ≡ limits → IsSound limits' below2 tables2 → Collects below1 tables1 below2 tables2
       → IsRight (CancelReplies old handle None OkReply (view_of limits' below2 tables2)) old (view_of limits' below2 tables2) × ManagerKept limits' below2 tables2
   cancel_all_kept handle below1 tables1 is_open some h sound1 none_left limits' below2 tables2 same sound c =
-      all_kept handle.number below1 tables1 h sound1 none_left tables1 refl (λ v new told. CancelReplies v handle None OkReply new told) limits' below2 tables2 same sound c
+      all_kept handle.number below1 tables1 h sound1 none_left tables1 refl refl (λ v new told. CancelReplies v handle None OkReply new told) limits' below2 tables2 same sound c
       (λ told row. (
         is_open,
         (
@@ -273,7 +283,7 @@ module _ (limits : Limits) (below : DeviceView) (tables : Tables) (old : Manager
     }
 
     -- it was cancelled already
-    marked_served : IsServed limits below tables [] [] below tables
+    marked_served : IsServed None limits below tables [] [] below tables
     marked_served = record {
       opened = below.state;
       given = have_partitions tables.requests below.state.requests kept.sound.held;
@@ -285,6 +295,7 @@ module _ (limits : Limits) (below : DeviceView) (tables : Tables) (old : Manager
       own_labels = none_told;
       same_keeps = refl;
       same_untaken = refl;
+      places = refl;
     }
 
     marked_kept : request.cancelled ≡ true → (limits' : Limits) (below2 : DeviceView) (tables2 : Tables) → limits' ≡ limits → IsSound limits' below2 tables2 → Collects below tables below2 tables2
@@ -303,7 +314,16 @@ module _ (limits : Limits) (below : DeviceView) (tables : Tables) (old : Manager
       slot_run : Run below.rules below.state (map as_cancel (request.number ∷ [])) below1.state
       slot_run = (below1.state, inl (kept.settled.none_owed, subst (λ m. Cancels below.state m below1.state) number_is s.cancels), IsSame-refl below1.state)
 
-      slot_served : IsServed limits below tables (Cancel request.number ∷ []) [] below1 tables1
+      slot_places : SamePlaces tables tables1
+      slot_places = record {
+        labels = s.marks.label_places;
+        answered = same_queue (ap (λ (t : Tables). t.answered) s.marks.after);
+        untaken = ap (λ (t : Tables). deque_capacity t.untaken) s.marks.after;
+        handles = ap (λ (t : Tables). t.handles.capacity) s.marks.after;
+        requests = s.marks.slots;
+      }
+
+      slot_served : IsServed None limits below tables (Cancel request.number ∷ []) [] below1 tables1
       slot_served = record {
         opened = below1.state;
         given = have_partitions tables1.requests below1.state.requests sound1.held;
@@ -321,6 +341,7 @@ module _ (limits : Limits) (below : DeviceView) (tables : Tables) (old : Manager
         same_keeps = s.marks.label_places.1;
         own_labels = s.marks.tells ∙ ap (λ before. before ++ Cancel s.marks.request.number ∷ []) none_told ∙ ap (λ (r : OpenRequest). Cancel r.number ∷ []) is_request;
         same_untaken = ap (λ (t : Tables). t.untaken.items) s.marks.after;
+        places = shown_places limits below below1 tables tables1 s.beside.same_places slot_places;
       }
 
       slot_kept : (limits' : Limits) (below2 : DeviceView) (tables2 : Tables) → limits' ≡ limits → IsSound limits' below2 tables2 → Collects below1 tables1 below2 tables2

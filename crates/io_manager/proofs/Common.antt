@@ -14,9 +14,9 @@ pub use Rattle.device.specs.Served.{ActsNot, ActsOrFaults, CancelsAt, DrainsAll,
 pub use Rattle.device.specs.View.{AsksInLocation, Carries, DeviceView, IsBounded, IsOrderly, IsRead, IsTopmost, KeepsOutside, OnTag, Packet, Reserved, packet_number, packet_of, payload_bytes, piece_on_tag, request_at, room_at, sectors_asked, sent_bytes, transfer_length, use_on_tag, whole_for}
 pub use Rattle.device.specs.declared.climbing.Climb.{Climb}
 pub use Rattle.device.specs.declared.climbing.Climb.TheVariants.{Finished, Routine}
-pub use Rattle.io_manager.specs.Calls.{are_used_up, bytes_called, call_on, disk_extent, handle_limit, number_limit, open_refusal, opened_as, partition_at, partition_of, reserved_by, reserved_of, status_of_refusal, without_bytes, would_open}
+pub use Rattle.io_manager.specs.Calls.{Need, are_used_up, bytes_called, call_on, disk_extent, handle_limit, number_limit, open_refusal, opened_as, partition_at, partition_of, reserved_by, status_of_refusal, without_bytes, would_open}
 pub use Rattle.io_manager.specs.Opening.{AreEmpty, AreFirsts, AreFor, HasNoRooms, IsFirstView, IsUnasked, rules_of}
-pub use Rattle.io_manager.specs.Right.{ActReplies, AdapterMoves, AreRising, BooksPiece, CallReplies, CancelReplies, CloseReplies, FinishReplies, FitsTogether, HasSlot, IsAbove, IsHandleOpen, IsInvalid, IsNextAnswer, IsOfAnother, IsOnTag, IsRecalled, IsRight, IsRightBy, IsRightReset, MarkReplies, OpenReplies, PnpReplies, RecallReplies, Refuses, ReservesFor, SameHandles, TakesLabel, TakesShown, TellsOne, Told, TransferReplies, answer_number, as_answer, as_cancel, end_labels, is_answer_of, labels_of, pnp_state, tells_nothing, unless_answered}
+pub use Rattle.io_manager.specs.Right.{ActReplies, AdapterMoves, AreRising, BooksPiece, CallReplies, CancelReplies, CloseReplies, FinishReplies, FitsTogether, HasSlot, IsAbove, IsHandleOpen, IsInvalid, IsNextAnswer, IsOfAnother, IsOnTag, IsRecalled, IsRight, IsRightBy, IsRightReset, MarkReplies, OpenReplies, PnpReplies, RecallReplies, Refuses, ReservesFor, SameHandles, SamePlacesUnless, TakesLabel, TakesShown, TellsOne, Told, TransferReplies, answer_number, as_answer, as_cancel, end_labels, is_answer_of, labels_of, pnp_state, tells_nothing, unless_answered}
 pub use Rattle.io_manager.specs.Shown.{Holder, ManagerView}
 pub use Rattle.io_manager.specs.declared.Asked.{Asked}
 pub use Rattle.io_manager.specs.declared.Handle.{Handle}

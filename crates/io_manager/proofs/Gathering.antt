@@ -60,6 +60,7 @@ module _ {w : Bool} (takes_srb : Bool) (old new : DeviceView) (spot : ℕ) (irp 
         run = h.moves.run;
         adapter = h.moves.adapter;
         fewer = omega arith;
+        places_below = h.moves.same_places;
         quiet = λ none. handed_still takes_srb old new (Finished irp) spot h order order' none;
       }
 
@@ -213,6 +214,7 @@ gathers_none below tables none = record {
   same_next_request = refl;
   same_state = refl;
   places = record { labels = (refl, refl, refl); answered = (refl, refl, refl); untaken = refl; handles = refl; requests = refl };
+  places_below = refl;
   quiet = λ still. (refl, still);
 }
   where
@@ -297,6 +299,7 @@ module _ {w : Bool} (below mid new : DeviceView) (first t t' : Tables) (g : Gath
     same_next_request = e.closes.same_next_request ∙ g.same_next_request;
     same_state = e.closes.same_state ∙ g.same_state;
     places = SamePlaces-trans first t t' g.places e.closes.places;
+    places_below = e.places_below ∙ g.places_below;
     quiet = λ none. (ap (λ xs. xs ++ e.starts) (g.quiet none).0 ∙ (e.quiet (g.quiet none).1).0, (e.quiet (g.quiet none).1).1);
   }
 
@@ -360,6 +363,7 @@ module _ (below mid new : DeviceView) (first t t' t'' : Tables) (g : Gathers bel
           requests = ap (λ (x : Tables). x.requests.capacity) e.after ∙ ap (λ (x : Tables). x.requests.capacity) kept;
         });
     removal = subst (λ p. EndsIf e.ends p new.state t''.state) g.same_state (removal_of mid new t t' t'' taken kept e held);
+    places_below = ap (λ (v : DeviceView). v.places) taken ∙ g.places_below;
     settled = subst (λ (v : DeviceView). Settled v.rules v.state) (sym taken) settled;
     quiet = λ none. (g.quiet none).0;
   }

@@ -1,10 +1,10 @@
 -- A handle given, or refused, is a right step.
 use Rattle.std.proofs.Common.{◌≡◌, ◌<◌, inl, inr, ℕ, ◌+◌, false, List, [], ◌∷◌, Option, Some, None, refl, sym, ◌∙◌, ap, subst, arith, length}
-use Rattle.io_manager.proofs.Common.{nat_le, slice_set, cases_eq, leb-false, NtStatus, when, first_some, DeviceView, IsSame-refl, none_first, OpenHandle, Reply, Limits, Tables, number_limit, are_used_up, handle_limit, open_refusal, ManagerView, tells_nothing, IsRight, OpenReplies, Rules, State, is_going, handle_refusal, OpensHandle}
+use Rattle.io_manager.proofs.Common.{deque_capacity, nat_le, slice_set, cases_eq, leb-false, NtStatus, when, first_some, DeviceView, IsSame-refl, none_first, OpenHandle, Reply, Limits, Tables, number_limit, are_used_up, handle_limit, open_refusal, ManagerView, tells_nothing, IsRight, OpenReplies, Rules, State, is_going, handle_refusal, OpensHandle}
 use Rattle.slab.specs.Slab.{Slab, get, slab_len, Updates as SlabUpdates}
 use Rattle.ntstatus.specs.declared.NtStatus.TheVariants.{DeviceBusy as BusyStatus, DeletePending as PendingStatus, InvalidParameter as ParameterStatus}
 use Rattle.io_manager.specs.declared.Reply.TheVariants.{Handle as HandleReply, Ok as OkReply, Request as Requested, Answered, Refused, Ignored}
-use Rattle.io_manager.specs.inside.Sound.{view_of, IsInState, IsOnMap, IsSound, ManagerKept}
+use Rattle.io_manager.specs.inside.Sound.{own_places, view_of, IsInState, IsOnMap, IsSound, ManagerKept}
 use Rattle.pnp.specs.declared.State.{State as PnpState}
 use Rattle.pnp.specs.declared.State.TheVariants.{Started, RemovePending, Removing, Removed}
 use Rattle.io_manager.proofs.Chained.{AreChained-opened}
@@ -106,7 +106,8 @@ opened_right limits below old partition (HandleReply handle) new h none_told non
       );
       by =
           right_alone (view_of limits below old) [] (view_of limits below old).state None below.adapter.reserved new.handles.slots (old.next_handle + 1) old.labels.items old.untaken.items old.labels.keeps
-          (IsSame-refl _) refl none_recorded none_told refl refl;
+          (below.places + own_places (record old { handles = new.handles })) (IsSame-refl _) refl none_recorded none_told refl refl
+          (ap (λ (n : ℕ). below.places + (old.labels.places + old.answered.places + deque_capacity old.untaken + n + old.requests.capacity)) opens.slots);
     })
 opened_right limits below old partition (Refused reason bytes) new h none_told none_recorded opens =
     subst (λ t. IsRight (OpenReplies (view_of limits below old) partition (Refused reason bytes) (view_of limits below t)) (view_of limits below old) (view_of limits below t)) (sym opens.2) (record {

@@ -94,6 +94,7 @@ module _ (below : DeviceView) (tables : Tables) (below' : DeviceView) (tables' :
         λ removing none. going removing (sym (ap (λ (v : DeviceView). v.state.requests) t.taken) ∙ none),
       );
     };
+    places_below = ap (λ (v : DeviceView). v.places) t.taken;
     settled = subst (λ (v : DeviceView). Settled v.rules v.state) (sym t.taken) settled;
     quiet = λ none. refl;
   }

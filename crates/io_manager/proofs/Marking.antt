@@ -311,6 +311,7 @@ IsBeside-trans a b c p q = record {
   same_rooms = λ spot. q.same_rooms spot ∙ p.same_rooms spot;
   same_submitted = q.same_submitted ∙ p.same_submitted;
   same_most = q.same_most ∙ p.same_most;
+  same_places = q.same_places ∙ p.same_places;
   same_adapter = q.same_adapter ∙ p.same_adapter;
 }
 
@@ -330,7 +331,7 @@ cancels_none below tables handle = record {
   label_places = (refl, refl, refl);
   after = refl;
   run = IsSame-refl below.state;
-  beside = record { same_rules = refl; same_packets = IsPermutation-refl _; same_rooms = λ spot. refl; same_submitted = refl; same_most = refl; same_adapter = refl };
+  beside = record { same_rules = refl; same_packets = IsPermutation-refl _; same_rooms = λ spot. refl; same_submitted = refl; same_most = refl; same_places = refl; same_adapter = refl };
 }
 
 module _ {w : Bool} (below0 : DeviceView) (tables0 : Tables) (handle : ℕ) (below : DeviceView) (tables : Tables) (h : CancelsAll below0 tables0 handle below tables) (slot : ℕ) (low : IsLowestToMark tables.requests handle slot)

@@ -1,7 +1,7 @@
 -- A piece writes inside a partition, so no step writes outside all of them.
 use Rattle.std.proofs.Common.{◌≡◌, ◌<◌, ◌≤◌, inl, inr, ℕ, zero, suc, ◌+◌, Bool, true, false, List, [], ◌∷◌, Option, Some, None, refl, sym, ◌∙◌, ap, subst, arith, map, length, get_or}
 use Rattle.std.specs.Prelude.{IsPermutation, All, Any, slice_get, is_some, unwrap_or, if◌then◌else◌}
-use Rattle.io_manager.proofs.Common.{cases_lt, slice_get-get_or, slice_get_past, IsPermutation-sym, All-permutation, All-head, All-tail, All-cons, Extent, IsIn, splice, length-splice, Cdb, Read10, Write10, Sync10, ReadCapacity10, Read16, Write16, Sync16, ReadCapacity16, Means, AsksToWrite, means_once, DeviceLabel, Start, Act, Fault, Return, AdapterView, TagInUse, ReservesMore, NotesReset, met_by_reset, MovesOn, MovesByAll, acted, faulted, in_use_from, CarriesOut, Srb, Kind, Read, Write, Flush, ClientRequest, Rules, first_sector, place_count, is_transfer, sectors_of, home, Starts, command_for, partition_number, DeviceStep, Run, as_label, past, get_or-splice_below, get_or-splice_above, IsSized, KeepsOutside, ReservesFor, LieIn, WritesInside, AllWriteInside}
+use Rattle.io_manager.proofs.Common.{Need, cases_lt, slice_get-get_or, slice_get_past, IsPermutation-sym, All-permutation, All-head, All-tail, All-cons, Extent, IsIn, splice, length-splice, Cdb, Read10, Write10, Sync10, ReadCapacity10, Read16, Write16, Sync16, ReadCapacity16, Means, AsksToWrite, means_once, DeviceLabel, Start, Act, Fault, Return, AdapterView, TagInUse, ReservesMore, NotesReset, met_by_reset, MovesOn, MovesByAll, acted, faulted, in_use_from, CarriesOut, Srb, Kind, Read, Write, Flush, ClientRequest, Rules, first_sector, place_count, is_transfer, sectors_of, home, Starts, command_for, partition_number, DeviceStep, Run, as_label, past, get_or-splice_below, get_or-splice_above, IsSized, KeepsOutside, ReservesFor, LieIn, WritesInside, AllWriteInside}
 use Rattle.machine.specs.State.{OpenRequest, State}
 use Rattle.machine_laws.proofs.Sound.{IsSound, IsSound-Step}
 use Rattle.io_manager.proofs.AdapterJoins.{reserves_more}
@@ -138,7 +138,7 @@ module _ (partitions : List Extent) where
     λ i apart. ap (λ (v : AdapterView). slice_get v.sectors i) h.after,
   )
 
-  pub first_inside : (reserves : Option Extent) (old first : AdapterView) → ReservesFor reserves old first → AllWriteInside partitions old → AllWriteInside partitions first × KeepsOutside partitions old first
+  pub first_inside : (reserves : Option Need) (old first : AdapterView) → ReservesFor reserves old first → AllWriteInside partitions old → AllWriteInside partitions first × KeepsOutside partitions old first
   first_inside reserves old first h inside = reserves_inside old first (reserves_more reserves old first h) inside
 
   noted_all : (tags : List TagInUse) → All (WritesInside partitions) tags → All (WritesInside partitions) (map met_by_reset tags)

@@ -1,6 +1,6 @@
 -- Plug and play calls as steps of the manager.
 use Rattle.pnp.specs.declared.InvalidDeviceRequest.{InvalidDeviceRequest as InvalidDeviceRequestFault}
-use Rattle.io_manager.proofs.Common.{result_ok, IsPermutation-sym, IsPermutation-refl, IsPermutation-map, All-permutation, All-head, All-append, Slab, DeviceLabel, Start, Act, Fault, Return, AdapterView, MovesByAll, Label, Pause, Resume, Remove, Surprise, Rules, IsStart, beyond, held_back, as_timely, FreeStep, Run, as_label, IsSame-refl, DeviceView, IsTopmost, SameRooms, IsBeside, PausesAll, ResumesAll, DrainsAll, OpenHandle, Limits, InvalidDeviceRequest, Tables, ManagerView, Told, SameHandles, tells_nothing, TellsOne, pnp_state, IsInvalid, IsRecalled, PnpReplies, RecallReplies, IsRight, SameQueue, RequestReplies, label_of, MayDo, Does, rules_of}
+use Rattle.io_manager.proofs.Common.{deque_capacity, result_ok, IsPermutation-sym, IsPermutation-refl, IsPermutation-map, All-permutation, All-head, All-append, Slab, DeviceLabel, Start, Act, Fault, Return, AdapterView, MovesByAll, Label, Pause, Resume, Remove, Surprise, Rules, IsStart, beyond, held_back, as_timely, FreeStep, Run, as_label, IsSame-refl, DeviceView, IsTopmost, SameRooms, IsBeside, PausesAll, ResumesAll, DrainsAll, OpenHandle, Limits, InvalidDeviceRequest, Tables, ManagerView, Told, SameHandles, tells_nothing, TellsOne, pnp_state, IsInvalid, IsRecalled, PnpReplies, RecallReplies, IsRight, SameQueue, RequestReplies, label_of, MayDo, Does, rules_of}
 use Rattle.std.proofs.Common.{◌≡◌, ◌≤◌, Result, Ok, Err, inl, inr, ℕ, Bool, true, false, List, [], ◌∷◌, ◌++◌, Option, Some, None, refl, sym, ◌∙◌, ap, subst, map}
 use Rattle.std.specs.Prelude.{IsPermutation, IsTrue, IsFalse, All, if◌then◌else◌}
 use Rattle.machine.specs.State.{OpenRequest, State, IsSame}
@@ -17,7 +17,7 @@ use Rattle.io_manager.proofs.Fitted.{FitsBelow-same}
 use Rattle.io_manager.proofs.KeptBack.{paused_none}
 use Rattle.io_manager.proofs.Over.{shown_same}
 use Rattle.io_manager.proofs.Quiet.{IsRightBy-unmoved}
-use Rattle.io_manager.proofs.Righting.{IsServed, have_partitions, IsSound-moves}
+use Rattle.io_manager.proofs.Righting.{same_queue, shown_places, IsServed, have_partitions, IsSound-moves}
 use Rattle.io_manager.proofs.Telling.{step_kept}
 
 -- THE STATE
@@ -210,8 +210,8 @@ module _ (limits : Limits) (below : DeviceView) (tables : Tables) (old : Manager
 
     -- the label leads the manager's machine to where the device below changed its flags
     served : (opened : State) (labels : List DeviceLabel) (below1 : DeviceView) → FreeStep over (seen below.state) label (seen opened) → AsksSame below.state opened → below1.rules ≡ below.rules
-        → Run below.rules opened (map as_label labels) below1.state → below1.adapter.labels ≡ labels → IsServed limits below tables (label ∷ []) labels below1 tables1
-    served opened labels below1 step asks same_rules device recorded = record {
+        → Run below.rules opened (map as_label labels) below1.state → below1.adapter.labels ≡ labels → below1.places ≡ below.places → IsServed None limits below tables (label ∷ []) labels below1 tables1
+    served opened labels below1 step asks same_rules device recorded as_many = record {
       opened = opened;
       given = have_partitions tables.requests opened.requests (AreHeld-along tables.requests below.state opened asks kept.sound.held);
       none_untaken = kept.none_recorded;
@@ -226,6 +226,13 @@ module _ (limits : Limits) (below : DeviceView) (tables : Tables) (old : Manager
       same_keeps = moved.label_places.1;
       own_labels = moved.tells ∙ ap (λ before. before ++ label ∷ []) none_told;
       same_untaken = ap (λ (t : Tables). t.untaken.items) moved.after;
+      places = shown_places limits below below1 tables tables1 as_many (record {
+        labels = moved.label_places;
+        answered = same_queue (ap (λ (t : Tables). t.answered) moved.after);
+        untaken = ap (λ (t : Tables). deque_capacity t.untaken) moved.after;
+        handles = ap (λ (t : Tables). t.handles.capacity) moved.after;
+        requests = ap (λ (t : Tables). t.requests.capacity) moved.after;
+      });
     }
 
     still : (below1 : DeviceView) → IsBeside below below1 → MovesByAll below.adapter [] below1.adapter
@@ -237,7 +244,7 @@ module _ (limits : Limits) (below : DeviceView) (tables : Tables) (old : Manager
         → IsRight (PnpReplies old event p label OkReply (view_of limits' below2 tables2)) old (view_of limits' below2 tables2) × ManagerKept limits' below2 tables2
     valid_kept event below1 limits' below2 tables2 valid beside step asks same sound c none =
         step_kept limits below tables old kept shown (λ v new told. PnpReplies v event p label OkReply new told) (label ∷ []) [] below1 tables1
-        (served below1.state [] below1 step asks beside.same_rules (IsSame-refl _) (ap (λ (a : AdapterView). a.labels) beside.same_adapter ∙ kept.none_recorded))
+        (served below1.state [] below1 step asks beside.same_rules (IsSame-refl _) (ap (λ (a : AdapterView). a.labels) beside.same_adapter ∙ kept.none_recorded) beside.same_places)
         limits' below2 tables2 (still below1 beside) same sound c (record {
           valid = ap (next event) (state_is tables.state below.state kept.sound.in_state) ∙ valid;
           tells = record { own = refl; holders = ap (λ (t : Tables). (view_of limits below t).holders) moved.after; reserves_none = refl };
@@ -312,7 +319,7 @@ module _ (limits : Limits) (below : DeviceView) (tables : Tables) (old : Manager
     resume_sound =
         IsSound-moves limits (record below { state = resumes.resumed }) tables1 resumes.starts below1
         (beside_sound limits below (record below { state = resumes.resumed }) tables tables1 Started Resume kept.sound
-        (record { same_rules = refl; same_packets = IsPermutation-refl _; same_rooms = λ spot. refl; same_submitted = refl; same_most = refl; same_adapter = refl })
+        (record { same_rules = refl; same_packets = IsPermutation-refl _; same_rooms = λ spot. refl; same_submitted = refl; same_most = refl; same_places = refl; same_adapter = refl })
         resumed_asks (resumes.resumes.after.paused, subst IsFalse (sym resumes.resumes.after.removing) (subst (λ p. IsInState p below.state) was kept.sound.in_state).1) moved)
         resumes.moves
 
@@ -322,7 +329,7 @@ module _ (limits : Limits) (below : DeviceView) (tables : Tables) (old : Manager
         step_kept limits below tables old kept shown (λ v new told. RecallReplies v OkReply new told) (Resume ∷ []) resumes.starts below1 tables1
         (served Started Resume tables1 moved (ap is_gone was) refl resumes.resumed resumes.starts below1
         (record { is_paused = resumes.resumes.is_paused; after = shown_same tables.next_request false resumes.resumed _ resumes.resumes.after }) resumed_asks resumes.moves.same_rules resumes.moves.run
-        (labels_moved below.adapter resumes.starts below1.adapter resumes.moves.adapter ∙ ap (λ before. before ++ resumes.starts) kept.none_recorded))
+        (labels_moved below.adapter resumes.starts below1.adapter resumes.moves.adapter ∙ ap (λ before. before ++ resumes.starts) kept.none_recorded) resumes.moves.same_places)
         limits' below2 tables2 resumes.moves.adapter same sound c (
           recalled (view_of limits below2 tables2) _ (record { own = refl; holders = ap (λ (t : Tables). (view_of limits below t).holders) moved.after; reserves_none = refl }) (All-append IsStart resumes.starts c.starts resumes.only_starts c.only_starts),
           same_handles Started Resume tables1 moved (ap is_gone was) refl below1 below2 tables2 c,

@@ -1,13 +1,13 @@
 -- From the moves of the device below, and what was collected after them, to a right step of the manager.
-use Rattle.std.proofs.Common.{◌≡◌, inl, ℕ, Bool, true, false, List, [], ◌++◌, Option, None, refl, sym, ◌∙◌, ap, subst, map, length, arith}
+use Rattle.std.proofs.Common.{◌+◌, Some, ◌≡◌, inl, ℕ, Bool, true, false, List, [], ◌++◌, Option, None, refl, sym, ◌∙◌, ap, subst, map, length, arith}
 use Rattle.std.specs.Prelude.{IsPermutation, All, option_map, slice_index_or}
 use Rattle.std.proofs.Math.ListN.{get_or-map}
-use Rattle.io_manager.proofs.Common.{map-append, All-permutation, IsPermutation-sym, All-weaker, Slab, Extent, DeviceLabel, AdapterView, MovesByAll, moves_joined, Label, Rules, Run, as_label, DeviceView, KeepsOutside, IsTopmost, Moves, IsSame-refl, Run-append, IsReached, IsSound-Run, IsSound-reached, Limits, Tables, AllWriteInside, as_answer, labels_of, end_labels, Told, ReservesFor, AdapterMoves, IsRightBy, unless_answered, rules_of}
+use Rattle.io_manager.proofs.Common.{Need, SamePlacesUnless, QueueView, SameQueue, deque_capacity, map-append, All-permutation, IsPermutation-sym, All-weaker, Slab, Extent, DeviceLabel, AdapterView, MovesByAll, moves_joined, Label, Rules, Run, as_label, DeviceView, KeepsOutside, IsTopmost, Moves, IsSame-refl, Run-append, IsReached, IsSound-Run, IsSound-reached, Limits, Tables, AllWriteInside, as_answer, labels_of, end_labels, Told, ReservesFor, AdapterMoves, IsRightBy, unless_answered, rules_of}
 use Rattle.machine.specs.State.{OpenRequest, State}
 use Rattle.pnp.specs.declared.State.{State as PnpState}
 use Rattle.pnp.specs.declared.State.TheVariants.{Removed}
 use Rattle.io_manager.specs.declared.tables.OpenRequest.{OpenRequest as OpenEntry}
-use Rattle.io_manager.specs.inside.Sound.{shown_state, is_gone, holder_of, holders_of, view_of, IsHeldAt, AreHeld, IsSpotted, IsInState, EndsIf, IsSound, AsksInside, Collects}
+use Rattle.io_manager.specs.inside.Sound.{SamePlaces, own_places, shown_state, is_gone, holder_of, holders_of, view_of, IsHeldAt, AreHeld, IsSpotted, IsInState, EndsIf, IsSound, AsksInside, Collects}
 use Rattle.io_manager.proofs.Over.{labels_over, answers_over}
 use Rattle.io_manager.proofs.Ordering.{Run-split}
 use Rattle.io_manager.proofs.Outside.{HasPartition, first_inside, stays_inside}
@@ -48,11 +48,32 @@ IsSound-moves limits below tables labels below' h moves =
 pub have_partitions : {w : Bool} (requests : Slab OpenEntry) (below : List OpenRequest) → AreHeld w requests below → All HasPartition below
 have_partitions requests below h = All-weaker (IsHeldAt _ requests) HasPartition (λ o held. held.has_partition) below h.held
 
+-- PLACES
+
+pub same_queue : {X : Type 0} {old new : QueueView X} → new ≡ old → SameQueue old new
+same_queue e = (ap (λ (q : QueueView _). q.places) e, ap (λ (q : QueueView _). q.keeps) e, ap (λ (q : QueueView _). q.keeps_bytes) e)
+
+-- what is shown stays where each table, and all below, have as many
+pub shown_places : (limits : Limits) (below below' : DeviceView) (tables tables' : Tables) → below'.places ≡ below.places → SamePlaces tables tables'
+    → (view_of limits below' tables').places ≡ (view_of limits below tables).places
+shown_places limits below below' tables tables' e h =
+    let a = h.labels.0 in
+    let b = h.answered.0 in
+    let c = h.untaken in
+    let d = h.handles in
+    let f = h.requests in
+    omega (arith, e)
+
+-- as many as before a part of the step where there are as many as after it
+then_same : (asks : Option Need) (first mid last : ℕ) → last ≡ mid → SamePlacesUnless asks first mid → SamePlacesUnless asks first last
+then_same None first mid last e h = e ∙ h
+then_same (Some need) first mid last e h = tt
+
 -- A RIGHT STEP
 
 -- own labels of a step lead the manager's machine to where the device below opened what it opens or changed its flags, and then the
 -- device moved on by these labels
-pub record IsServed (limits : Limits) (below : DeviceView) (tables : Tables) (own : List Label) (labels : List DeviceLabel) (below1 : DeviceView) (tables1 : Tables) : Type 0 where
+pub record IsServed (asks : Option Need) (limits : Limits) (below : DeviceView) (tables : Tables) (own : List Label) (labels : List DeviceLabel) (below1 : DeviceView) (tables1 : Tables) : Type 0 where
   pub opened : State
   pub given : All HasPartition opened.requests
   pub none_untaken : below.adapter.labels ≡ []
@@ -64,14 +85,15 @@ pub record IsServed (limits : Limits) (below : DeviceView) (tables : Tables) (ow
   pub recorded : below1.adapter.labels ≡ labels
   pub own_labels : tables1.labels.items ≡ own
   pub same_untaken : tables1.untaken.items ≡ tables.untaken.items
+  pub places : SamePlacesUnless asks (view_of limits below tables).places (view_of limits below1 tables1).places
 
-module _ (limits : Limits) (below : DeviceView) (tables : Tables) (own : List Label) (labels : List DeviceLabel) (below1 : DeviceView) (tables1 : Tables) (below2 : DeviceView) (tables2 : Tables)
-    (h : IsServed limits below tables own labels below1 tables1) (c : Collects below1 tables1 below2 tables2) where
+module _ {asks : Option Need} (limits : Limits) (below : DeviceView) (tables : Tables) (own : List Label) (labels : List DeviceLabel) (below1 : DeviceView) (tables1 : Tables) (below2 : DeviceView) (tables2 : Tables)
+    (h : IsServed asks limits below tables own labels below1 tables1) (c : Collects below1 tables1 below2 tables2) where
   abbrev over : Rules
   over = rules_of limits below.rules
 
   -- what the step tells, which reserved for these sectors first
-  abbrev pub told_by : Option Extent → Told
+  abbrev pub told_by : Option Need → Told
   told_by reserves = record {
     own = own;
     device = labels ++ c.starts;
@@ -148,13 +170,14 @@ module _ (limits : Limits) (below : DeviceView) (tables : Tables) (own : List La
       ∙ c.holders slot
       ∙ ap (unless_answered c.answers) (sym (get_or-map (option_map holder_of) tables1.requests.slots slot None))
 
-  pub right_by : (reset : Bool) (reserves : Option Extent) → AdapterMoves reset reserves below.adapter (labels ++ c.starts) below2.adapter → KeepsOutside below.rules.partitions below.adapter below2.adapter → IsInState tables2.state below2.state
-      → IsRightBy reset (told_by reserves) (view_of limits below tables) (view_of limits below2 tables2)
-  right_by reset reserves moves outside k = record {
+  pub right_by : (reset : Bool) → AdapterMoves reset asks below.adapter (labels ++ c.starts) below2.adapter → KeepsOutside below.rules.partitions below.adapter below2.adapter → IsInState tables2.state below2.state
+      → IsRightBy reset (told_by asks) (view_of limits below tables) (view_of limits below2 tables2)
+  right_by reset moves outside k = record {
     in_order = all_labels;
     rising = c.rising;
     same_rules = ap (rules_of limits) same_rules;
     same_keeps = c.places.labels.1 ∙ h.same_keeps;
+    places = then_same asks (view_of limits below tables).places (view_of limits below1 tables1).places (view_of limits below2 tables2).places (shown_places limits below1 below2 tables1 tables2 c.places_below c.places) h.places;
     run =
         subst (λ all. Run over (view_of limits below tables).state all (view_of limits below2 tables2).state) (sym all_labels)
         (subst (λ n. Run over (view_of limits below tables).state (labels_of (told_by None)) (shown_state n (is_gone tables2.state) below2.state)) (sym c.same_next_request) (whole_run k));
@@ -172,15 +195,15 @@ module _ (limits : Limits) (below : DeviceView) (tables : Tables) (own : List La
       (IsSound-Run over _ own (shown1 h.opened) (IsSound-reached over _ reached) h.run) h.given device_over moves inside
 
   -- as it moved without a reset
-  pub IsRightBy-served : (reserves : Option Extent) (first : AdapterView) → IsReached over (view_of limits below tables).state → AsksInside below → ReservesFor reserves below.adapter first
+  pub IsRightBy-served : (first : AdapterView) → IsReached over (view_of limits below tables).state → AsksInside below → ReservesFor asks below.adapter first
       → MovesByAll first labels below1.adapter → IsInState tables2.state below2.state
-      → IsRightBy false (told_by reserves) (view_of limits below tables) (view_of limits below2 tables2) × AsksInside below2
-  IsRightBy-served reserves first reached inside before moves k =
+      → IsRightBy false (told_by asks) (view_of limits below tables) (view_of limits below2 tables2) × AsksInside below2
+  IsRightBy-served first reached inside before moves k =
       let on : MovesByAll below1.adapter c.starts c.adapter.moved = subst (λ v. MovesByAll v c.starts c.adapter.moved) c.adapter.before c.adapter.moves in
       let all : MovesByAll first (labels ++ c.starts) c.adapter.moved = moves_joined first labels below1.adapter c.starts c.adapter.moved moves on in
-      let a : AllWriteInside below.rules.partitions first × KeepsOutside below.rules.partitions below.adapter first = first_inside below.rules.partitions reserves below.adapter first before inside in
+      let a : AllWriteInside below.rules.partitions first × KeepsOutside below.rules.partitions below.adapter first = first_inside below.rules.partitions asks below.adapter first before inside in
       let b : AllWriteInside below.rules.partitions c.adapter.moved × KeepsOutside below.rules.partitions first c.adapter.moved = stays first c.adapter.moved reached a.0 all in
       let outside : KeepsOutside below.rules.partitions below.adapter (record c.adapter.moved { labels = [] }) = λ i apart. b.1 i apart ∙ a.1 i apart in (
-        right_by false reserves (record { first = first; before = before; moved = c.adapter.moved; moves = all; taken = c.adapter.taken }) (subst (KeepsOutside below.rules.partitions below.adapter) (sym c.adapter.taken) outside) k,
+        right_by false (record { first = first; before = before; moved = c.adapter.moved; moves = all; taken = c.adapter.taken }) (subst (KeepsOutside below.rules.partitions below.adapter) (sym c.adapter.taken) outside) k,
         subst (λ (r : Rules). AllWriteInside r.partitions below2.adapter) (sym same_rules) (subst (AllWriteInside below.rules.partitions) (sym c.adapter.taken) b.0),
       )

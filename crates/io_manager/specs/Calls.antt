@@ -103,14 +103,13 @@ disk_extent rules q = record {
       rules.sector_size;
 }
 
--- the sectors of the disk for which a call reserves at the adapter: those of a write
-abbrev pub reserved_of : Kind → Extent → Option Extent
-reserved_of Write extent = Some extent
-reserved_of Read extent = None
-reserved_of Flush extent = None
+-- what memory is asked for: a request of this kind, on these sectors of the disk
+abbrev pub Need : Type 0
+Need = Kind × Extent
 
-abbrev pub reserved_by : Rules → ClientRequest → Option Extent
-reserved_by rules q = reserved_of q.kind (disk_extent rules q)
+-- what a call asks memory for, where nothing refuses it
+abbrev pub reserved_by : Rules → ClientRequest → Option Need
+reserved_by rules q = Some (q.kind, disk_extent rules q)
 
 -- the number of pieces that a request is cut into, and its sectors of the disk
 abbrev pub opened_as : Rules → ClientRequest → ℕ × Extent

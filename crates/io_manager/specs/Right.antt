@@ -16,7 +16,7 @@ use Rattle.adapter.specs.View.{AdapterView, MovesByAll, NotesReset, ReservesMore
 use Rattle.adapter.specs.Calls.{IsBooked}
 use Rattle.adapter.specs.Booking.{Books}
 use Rattle.srb.specs.declared.Kind.{Kind}
-use Rattle.srb.specs.declared.Kind.TheVariants.{Write}
+use Rattle.srb.specs.declared.Kind.TheVariants.{Read, Write, Flush}
 use Rattle.machine.specs.declared.ClientRequest.{ClientRequest}
 use Rattle.machine.specs.Bare.{in_memory}
 use Rattle.machine.specs.declared.Label.{Label}
@@ -44,7 +44,7 @@ use Rattle.io_manager.specs.declared.Reply.TheVariants.{Handle as HandleReply, O
 use Rattle.io_manager.specs.declared.Reply.TheVariants.{Answered, Refused, Ignored}
 use Rattle.io_manager.specs.Shown.{ManagerView, Holder}
 use Rattle.io_manager.specs.Calls.{handle_limit, are_used_up, status_of_refusal, call_on, partition_of, without_bytes}
-use Rattle.io_manager.specs.Calls.{open_refusal, reserved_by}
+use Rattle.io_manager.specs.Calls.{Need, open_refusal, reserved_by}
 
 -- the label of an answer
 abbrev pub as_answer : Answer → Label
@@ -75,15 +75,15 @@ pub record Updates {X : Type 0} (old new : List (Option X)) (slot : ℕ) (item :
 -- WHAT A STEP TELLS
 
 -- a step's own labels, then the device's, then the answers of requests that were open, and last whether a removal
--- ended; the requests by slot that were open before it, with the one that it opened; and for which sectors of the disk
--- it reserved, if for any
+-- ended; the requests by slot that were open before it, with the one that it opened; and what it asked memory for, if
+-- for anything
 pub record Told : Type 0 where
   pub own : List Label
   pub device : List DeviceLabel
   pub answers : List Answer
   pub ends : Bool
   pub admitted : List (Option Holder)
-  pub reserves : Option Extent
+  pub reserves : Option Need
 
 -- the label of a removal that ended
 abbrev pub end_labels : Bool → List Label
@@ -94,7 +94,7 @@ end_labels false = []
 abbrev pub labels_of : Told → List Label
 labels_of told = ((told.own ++ map as_label told.device) ++ map as_answer told.answers) ++ end_labels told.ends
 
--- nothing is told, no request came or went, and nothing was reserved
+-- nothing is told, no request came or went, and no memory was asked for
 abbrev pub tells_nothing : ManagerView → Told
 tells_nothing v = record {
   own = [];
@@ -112,7 +112,7 @@ pub record SameHandles (old new : ManagerView) : Type 0 where
   pub handles : new.handles ≡ old.handles
   pub next_handle : new.next_handle ≡ old.next_handle
 
--- nothing happened, and nothing was reserved
+-- nothing happened, and no memory was asked for
 pub record IsUnmoved (old new : ManagerView) (told : Told) : Type 0 where
   pub nothing : told ≡ tells_nothing old
   pub same_state : new.state ≡ old.state
@@ -128,13 +128,13 @@ pub record RefusesAlone (old : ManagerView) (reason why : Refusal) (bytes : List
 
 -- READ, WRITE, FLUSH
 
--- nothing happened, except that more may be reserved for a write
+-- nothing happened, except that memory was asked for: tables may have grown, and more may be reserved for a write
 pub record ReservesAlone (old : ManagerView) (q : ClientRequest) (new : ManagerView) (told : Told) : Type 0 where
   pub nothing : told ≡ record (tells_nothing old) { reserves = reserved_by old.rules q }
   pub same_state : new.state ≡ old.state
   pub unless_write : q.kind ≢ Write → new.adapter ≡ old.adapter
 
--- a call that is refused, or has no bytes, tells its two labels and no more; nothing was reserved
+-- a call that is refused, or has no bytes, tells its two labels and no more; no memory was asked for
 pub record IsAnsweredAtOnce (old : ManagerView) (q : ClientRequest) (status : NtStatus) (new : ManagerView)
     (told : Told) : Type 0 where
   pub numbers_last : are_used_up old.state.next_request ≡ false
@@ -456,18 +456,25 @@ abbrev pub unless_answered : List Answer → Option Holder → Option Holder
 unless_answered answers None = None
 unless_answered answers (Some holder) = if list_any (is_answer_of holder) answers then None else Some holder
 
--- more may be reserved for these sectors, in runs with one of them; for none nothing is
-abbrev pub ReservesFor : Option Extent → AdapterView → AdapterView → Type 0
+-- for a write more may be reserved, in runs with one of its sectors; for nothing else anything is
+abbrev pub ReservesFor : Option Need → AdapterView → AdapterView → Type 0
 ReservesFor None old new = new ≡ old
-ReservesFor (Some extent) old new = ReservesMore old new × ReservesNear old extent new
+ReservesFor (Some (Write, extent)) old new = ReservesMore old new × ReservesNear old extent new
+ReservesFor (Some (Read, extent)) old new = new ≡ old
+ReservesFor (Some (Flush, extent)) old new = new ≡ old
+
+-- no table grew or shrank, unless memory was asked for
+abbrev pub SamePlacesUnless : Option Need → ℕ → ℕ → Type 0
+SamePlacesUnless None old new = new ≡ old
+SamePlacesUnless (Some need) old new = Unit {0}
 
 -- the adapter moves by these labels, and where it was reset it notes that behind them
 abbrev pub MovesWith : Bool → AdapterView → List DeviceLabel → AdapterView → Type 0
 MovesWith false old labels new = MovesByAll old labels new
 MovesWith true old labels new = (faulted : AdapterView) × MovesByAll old labels faulted × NotesReset faulted new
 
--- the adapter reserves for these sectors, and then moves by these labels, which are then taken from its record
-pub record AdapterMoves (reset : Bool) (reserves : Option Extent) (old : AdapterView) (labels : List DeviceLabel)
+-- the adapter reserves for what was asked for, and then moves by these labels, which are then taken from its record
+pub record AdapterMoves (reset : Bool) (reserves : Option Need) (old : AdapterView) (labels : List DeviceLabel)
     (new : AdapterView) : Type 0 where
   pub first : AdapterView
   pub before : ReservesFor reserves old first
@@ -482,6 +489,7 @@ pub record IsRightBy (reset : Bool) (told : Told) (old new : ManagerView) : Type
   pub rising : AreRising (map answer_number told.answers)
   pub same_rules : new.rules ≡ old.rules
   pub same_keeps : new.keeps ≡ old.keeps
+  pub places : SamePlacesUnless told.reserves old.places new.places
   pub run : Run old.rules old.state new.labels new.state
   pub adapter : AdapterMoves reset told.reserves old.adapter told.device new.adapter
   pub outside : KeepsOutside old.rules.partitions old.adapter new.adapter

@@ -28,3 +28,5 @@ pub record ManagerView : Type 0 where
   pub answers : List Answer
   -- whether labels are kept until they are taken; if not, contracts alone read them
   pub keeps : Bool
+  -- how many items all tables have room for, here and below, before one has to grow
+  pub places : ℕ

@@ -10,9 +10,9 @@
 //! (`takes`), `first_answer` shows the next (`IsNextAnswer`). `admits` tells what a call would open; `book` books alone
 //! (`BooksPiece`). `refuse` is the step of the refused call, with any buffer of that length (`Refuses`). With no label
 //! kept (`keep_labels`) each call is the same. A refused call opens nothing and gives its bytes back: for want of
-//! numbers nothing changed (`IsTurnedAway`, `IsUnmoved`), for want of memory only a write's reservations
-//! (`ReservesAlone`). A write's call alone reserves sectors, in runs with a sector of its own (`AdapterMoves`,
-//! `reserves_none`). Not promised: that a cancelled request is answered CANCELLED where another cause fits too.
+//! numbers nothing changed (`IsTurnedAway`, `IsUnmoved`), for want of memory only places and a write's reservations
+//! (`ReservesAlone`). A call alone asks for memory (`reserves_none`), and no other step changes the room of a table
+//! (`SamePlacesUnless`); a write's reserves sectors, in runs with a sector of its own (`AdapterMoves`). Not promised: that a cancelled request is answered CANCELLED where another cause fits too.
 #![tactic(auto)]
 
 mod admission;

@@ -44,7 +44,7 @@ pub use Rattle.partition.specs.Opening.{IsWholeDisk}
 pub use Rattle.partition.specs.Shown.{as_called, called, on_partitions, packet_above, shown_of, view_of}
 pub use Rattle.partition.specs.inside.Invariant.{ComesBack, IsKept, IsNotedAt, IsOnDisk, IsWantedFor, LiesInside}
 pub use Rattle.partition.specs.inside.Noted.{asked, kind_in, noted_by, noted_in, noted_last, noting, passed_on}
-pub use Rattle.partition.specs.inside.Rooms.{Notes, first_of, for_wanted, others_of, rooms_with, wanted_at, with_rooms}
+pub use Rattle.partition.specs.inside.Rooms.{Notes, Wanted, first_of, for_wanted, others_of, rooms_for, rooms_with, wanted_at, wanted_by, with_rooms}
 pub use Rattle.sector.proofs.Splicing.{length-splice}
 pub use Rattle.sector.specs.Extents.{CoversMoreNear, IsIn, sectors_in}
 pub use Rattle.sector.specs.Splice.{splice}
@@ -70,4 +70,4 @@ pub use Rattle.std.proofs.lemmas.Nat.{mul-le}
 pub use Rattle.std.proofs.lemmas.Option.{slice_get-get_or, slice_get_past}
 pub use Rattle.std.specs.Global.{Box}
 pub use Rattle.std.specs.List.{IsDistinct, remove}
-pub use Rattle.std.specs.Prelude.{All, Any, Contains, IsNone, IsPermutation, IsTrue, MatchBool, if◌then◌else◌, slice_get, slice_range, slice_set, unwrap_or}
+pub use Rattle.std.specs.Prelude.{All, Any, Contains, IsNone, IsPermutation, IsTrue, MatchBool, if◌then◌else◌, slice_get, slice_index_or, slice_range, slice_set, unwrap_or, vec_capacity}

@@ -1,6 +1,6 @@
 -- What holds between the calls, after a call of the layer below.
 use Rattle.std.proofs.Common.{◌≡◌, ◌≢◌, ◌⊎◌, inl, inr, ℕ, Bool, true, false, List, [], Option, Some, None, Result, refl, sym, ◌∙◌, ap, subst, get_or}
-use Rattle.partition.proofs.Common.{All, IsPermutation, MatchBool, cases_eq, IsPermutation-refl, IsPermutation-sym, All-permutation, All-map, Extent, CoversMoreNear, Completion, DeviceLabel, Entry, AdapterView, ReservesMore, Request, Rules, home, array_at, Cancels, DeviceView, Packet, Reserved, IsOrderly, IsOffRooms, IsBounded, IsReady, KeepsOutside, request_of, room_at, sectors_asked, whole_for, HasOtherSpot, SameRooms, SetsRoom, IsBeside, Reserves, ReservesSpot, ReservesNone, ReservesNear, Frees, BooksPiece, ActsOrFaults, ActsNot, Finishes, FinishesNot, Resets, CancelsIfOpen, CancelsAt, NoneToCancel, DrainsAll, PausesAll, ResumesAll, HandsUpNone, TakesLabel, ForgetsLabels, home_of_whole, rules_over, on_disk, IsWholeDisk, for_wanted, rooms_with, wanted_at, Notes, IsKept, IsNotedAt, IsOnDisk, IsWantedFor, packet_above, view_of, shown_of}
+use Rattle.partition.proofs.Common.{◌+◌, Wanted, All, IsPermutation, MatchBool, cases_eq, IsPermutation-refl, IsPermutation-sym, All-permutation, All-map, Extent, CoversMoreNear, Completion, DeviceLabel, Entry, AdapterView, ReservesMore, Request, Rules, home, array_at, Cancels, DeviceView, Packet, Reserved, IsOrderly, IsOffRooms, IsBounded, IsReady, KeepsOutside, request_of, room_at, sectors_asked, whole_for, HasOtherSpot, SameRooms, SetsRoom, IsBeside, Reserves, ReservesSpot, ReservesNone, ReservesNear, Frees, BooksPiece, ActsOrFaults, ActsNot, Finishes, FinishesNot, Resets, CancelsIfOpen, CancelsAt, NoneToCancel, DrainsAll, PausesAll, ResumesAll, HandsUpNone, TakesLabel, ForgetsLabels, home_of_whole, rules_over, on_disk, IsWholeDisk, for_wanted, rooms_with, wanted_at, Notes, IsKept, IsNotedAt, IsOnDisk, IsWantedFor, packet_above, view_of, shown_of}
 use Rattle.partition.proofs.Steps.{Keeps}
 use Rattle.partition.proofs.Settled.{IsOrderly-over, disk_is}
 use Rattle.partition.proofs.Moving.{GoesOn, ActsOver, acts_over, finishes_over, resets_over, cancels_over, cancels_at_over, drains_over, pauses_over, resumes_over, hands_up_none, goes_same}
@@ -44,7 +44,7 @@ beside_label old new None h = beside_same old new h.1
 beside_label old new (Some label) h = subst (StaysBeside old) (sym h.2) (record { same_rooms = λ k. refl; same_packets = IsPermutation-refl _ })
 
 -- what holds after a call, by its rooms and its packets
-pub kept_with : (locations_below : ℕ) (table : List Extent) (wanted wanted' : List (Option Request)) (v v' : DeviceView)
+pub kept_with : (locations_below : ℕ) (table : List Extent) (wanted wanted' : Wanted) (v v' : DeviceView)
     → IsKept locations_below table wanted v → GoesOn table v v' → IsOrderly v'
     → ((spot : ℕ) (reserved : Reserved) → room_at v'.rooms spot ≡ Some reserved → IsWantedFor (rules_over table v.rules) (wanted_at wanted' spot) reserved)
     → All (IsNotedAt wanted') v'.packets → IsKept locations_below table wanted' v'
@@ -59,7 +59,7 @@ kept_with locations_below table wanted wanted' v v' h goes orderly rooms noted =
 }
 
 -- a call that leaves the rooms and the packets as they are
-pub kept_after : (locations_below : ℕ) (table : List Extent) (wanted : List (Option Request)) (v v' : DeviceView)
+pub kept_after : (locations_below : ℕ) (table : List Extent) (wanted : Wanted) (v v' : DeviceView)
     → IsKept locations_below table wanted v → GoesOn table v v' → IsOrderly v' → StaysBeside v v' → IsKept locations_below table wanted v'
 kept_after locations_below table wanted v v' h goes orderly beside =
     kept_with locations_below table wanted wanted v v' h goes orderly
@@ -78,7 +78,7 @@ keeps_outside table v v' k o k' o' keeps =
 
 -- EACH CALL
 
-module _ (locations_below : ℕ) (table : List Extent) (wanted : List (Option Request)) (v v' : DeviceView)
+module _ (locations_below : ℕ) (table : List Extent) (wanted : Wanted) (v v' : DeviceView)
     (h : IsKept locations_below table wanted v) (orderly : IsOrderly v') where
   abbrev shown : DeviceView
   shown = shown_of table wanted v
@@ -179,12 +179,12 @@ module _ (locations_below : ℕ) (table : List Extent) (wanted : List (Option Re
 -- ROOMS
 
 -- what is shown as reserved at a spot is reserved below, for that request of the disk
-pub record IsUnder (table : List Extent) (wanted : List (Option Request)) (v : DeviceView) (spot : ℕ) (reserved : Reserved) : Type 0 where
+pub record IsUnder (table : List Extent) (wanted : Wanted) (v : DeviceView) (spot : ℕ) (reserved : Reserved) : Type 0 where
   pub bounded : IsBounded (rules_over table v.rules) reserved.request
   pub is_wanted : wanted_at wanted spot ≡ Some reserved.request
   pub is_room : room_at v.rooms spot ≡ Some (record reserved { request = on_disk (rules_over table v.rules) reserved.request })
 
-pub under : (locations_below : ℕ) (table : List Extent) (wanted : List (Option Request)) (v : DeviceView) (spot : ℕ) (reserved : Reserved)
+pub under : (locations_below : ℕ) (table : List Extent) (wanted : Wanted) (v : DeviceView) (spot : ℕ) (reserved : Reserved)
     → IsKept locations_below table wanted v → room_at (shown_of table wanted v).rooms spot ≡ Some reserved → IsUnder table wanted v spot reserved
 under locations_below table wanted v spot reserved h is =
     by (room_at v.rooms spot) refl (sym (at_room wanted v.rooms spot) ∙ is)
@@ -216,7 +216,7 @@ pub same_wanted : (x y : Request) → Some x ≡ Some y → x ≡ y
 same_wanted x y e = cc (e)
 
 -- so it is ready below
-pub ready_under : (table : List Extent) (wanted : List (Option Request)) (v : DeviceView) (spot : ℕ) (r : Request) → IsUnder table wanted v spot (whole_for r)
+pub ready_under : (table : List Extent) (wanted : Wanted) (v : DeviceView) (spot : ℕ) (r : Request) → IsUnder table wanted v spot (whole_for r)
     → IsReady v.rooms spot
 ready_under table wanted v spot r u = u.is_room ∙ ap (λ (q : Request). Some (whole_for q)) (sym (ap request_of u.is_room))
 
@@ -227,7 +227,7 @@ same_request : (x y : Reserved) → Some x ≡ Some y → x.request ≡ y.reques
 same_request x y e = cc (e)
 
 -- a room is gone
-pub rooms_less : (rules : Rules) (wanted : List (Option Request)) (old new : List (Option Reserved)) (spot : ℕ) (before : Option Reserved)
+pub rooms_less : (rules : Rules) (wanted : Wanted) (old new : List (Option Reserved)) (spot : ℕ) (before : Option Reserved)
     → SetsRoom old spot before None new
     → ((at : ℕ) (reserved : Reserved) → room_at old at ≡ Some reserved → IsWantedFor rules (wanted_at wanted at) reserved)
     → (at : ℕ) (reserved : Reserved) → room_at new at ≡ Some reserved → IsWantedFor rules (wanted_at wanted at) reserved
@@ -237,7 +237,7 @@ rooms_less rules wanted old new spot before set given at reserved is = elim (cas
 ]
 
 -- or there is one more
-pub rooms_more : (rules : Rules) (wanted wanted' : List (Option Request)) (old new : List (Option Reserved)) (spot : ℕ) (x : Reserved)
+pub rooms_more : (rules : Rules) (wanted wanted' : Wanted) (old new : List (Option Reserved)) (spot : ℕ) (x : Reserved)
     → SetsRoom old spot None (Some x) new → ((other : ℕ) → other ≢ spot → wanted_at wanted' other ≡ wanted_at wanted other)
     → (r : Request) → wanted_at wanted' spot ≡ Some r → IsBounded rules r → x.request ≡ on_disk rules r
     → ((at : ℕ) (reserved : Reserved) → room_at old at ≡ Some reserved → IsWantedFor rules (wanted_at wanted at) reserved)
@@ -263,15 +263,15 @@ goes_reserved table v v' k reserves = subst (GoesOn table v) (sym reserves.same)
 })
 
 -- places are made below, whatever the rooms that are shown
-reserves_shown : (table : List Extent) (wanted wanted' : List (Option Request)) (v v' : DeviceView) → Reserves v v'
+reserves_shown : (table : List Extent) (wanted wanted' : Wanted) (v v' : DeviceView) → Reserves v v'
     → Reserves (shown_of table wanted v) (shown_of table wanted' v')
 reserves_shown table wanted wanted' v v' h = record {
-  same = ap (λ (x : DeviceView). record (view_of table x) { rooms = rooms_with wanted' v'.rooms }) h.same;
+  same = ap (λ (x : DeviceView). record (view_of table x) { rooms = rooms_with wanted' v'.rooms; places = v'.places + wanted'.places }) h.same;
   adapter = h.adapter;
 }
 
 -- a spot is reserved below, and noted
-pub spot_reserved : (locations_below : ℕ) (table : List Extent) (wanted wanted' : List (Option Request)) (v v' : DeviceView) (spot : ℕ) (r : Request)
+pub spot_reserved : (locations_below : ℕ) (table : List Extent) (wanted wanted' : Wanted) (v v' : DeviceView) (spot : ℕ) (r : Request)
     → IsKept locations_below table wanted v → IsBounded (rules_over table v.rules) r
     → ReservesSpot v spot (on_disk (rules_over table v.rules) r) v' → IsOrderly v' → Notes wanted spot r wanted'
     → ReservesSpot (shown_of table wanted v) spot r (shown_of table wanted' v') × IsKept locations_below table wanted' v'
@@ -293,7 +293,7 @@ spot_reserved locations_below table wanted wanted' v v' spot r h bounded reserve
     away p off same = no_room (whole_for (on_disk (rules_over table v.rules) r)) (sym off ∙ ap (room_at v'.rooms) same ∙ reserves.room.is)
 
 -- where the request below is that one of the disk
-pub spot_reserved_as : (locations_below : ℕ) (table : List Extent) (wanted wanted' : List (Option Request)) (v v' : DeviceView) (spot : ℕ) (r q : Request)
+pub spot_reserved_as : (locations_below : ℕ) (table : List Extent) (wanted wanted' : Wanted) (v v' : DeviceView) (spot : ℕ) (r q : Request)
     → q ≡ on_disk (rules_over table v.rules) r → IsKept locations_below table wanted v → IsBounded (rules_over table v.rules) r
     → ReservesSpot v spot q v' → IsOrderly v' → Notes wanted spot r wanted'
     → ReservesSpot (shown_of table wanted v) spot r (shown_of table wanted' v') × IsKept locations_below table wanted' v'
@@ -301,7 +301,7 @@ spot_reserved_as locations_below table wanted wanted' v v' spot r q e h bounded 
     spot_reserved locations_below table wanted wanted' v v' spot r h bounded (subst (λ (x : Request). ReservesSpot v spot x v') e reserves) orderly notes
 
 -- none is, and what is wanted stays at each spot
-pub none_reserved : (locations_below : ℕ) (table : List Extent) (wanted wanted' : List (Option Request)) (v v' : DeviceView)
+pub none_reserved : (locations_below : ℕ) (table : List Extent) (wanted wanted' : Wanted) (v v' : DeviceView)
     → IsKept locations_below table wanted v → ReservesNone v v' → IsOrderly v' → ((spot : ℕ) → wanted_at wanted' spot ≡ wanted_at wanted spot)
     → ReservesNone (shown_of table wanted v) (shown_of table wanted' v') × IsKept locations_below table wanted' v'
 none_reserved locations_below table wanted wanted' v v' h none orderly alike =
@@ -322,11 +322,12 @@ none_reserved locations_below table wanted wanted' v v' h none orderly alike =
 pub given_back : (v mid v' : DeviceView) (spot : ℕ) (r : Request) → ReservesSpot v spot r mid → Frees mid spot v' → ReservesNone v v'
 given_back v mid v' spot r s f =
     let same_adapter : v'.adapter ≡ mid.adapter = ap (λ (x : DeviceView). x.adapter) f.same in
-    let first : v' ≡ record v { rooms = v'.rooms; adapter = record v.adapter { reserved = mid.adapter.reserved } } =
+    let first : v' ≡ record v { rooms = v'.rooms; places = mid.places; adapter = record v.adapter { reserved = mid.adapter.reserved } } =
     f.same ∙ ap (λ (x : DeviceView). record x { rooms = v'.rooms }) s.reserves.same in
     record {
       reserves = record {
-        same = first ∙ ap (λ (a : AdapterView). record v { rooms = v'.rooms; adapter = record v.adapter { reserved = a.reserved } }) (sym same_adapter);
+        same = first ∙ ap (λ (a : AdapterView). record v { rooms = v'.rooms; places = mid.places; adapter = record v.adapter { reserved = a.reserved } }) (sym same_adapter)
+            ∙ ap (λ (n : ℕ). record v { rooms = v'.rooms; places = n; adapter = record v.adapter { reserved = v'.adapter.reserved } }) (sym (ap (λ (x : DeviceView). x.places) f.same));
         adapter = subst (λ (a : AdapterView). ReservesMore v.adapter a) (sym same_adapter) s.reserves.adapter;
       };
       room = λ at. elim (cases_eq at spot) [
@@ -337,7 +338,7 @@ given_back v mid v' spot r s f =
 
 -- A ROOM IS GIVEN BACK
 
-pub frees_shown : (locations_below : ℕ) (table : List Extent) (wanted : List (Option Request)) (v v' : DeviceView) (spot : ℕ) (reserved : Reserved)
+pub frees_shown : (locations_below : ℕ) (table : List Extent) (wanted : Wanted) (v v' : DeviceView) (spot : ℕ) (reserved : Reserved)
     → IsKept locations_below table wanted v → IsOrderly v' → IsUnder table wanted v spot reserved → Frees v spot v'
     → Frees (shown_of table wanted v) spot (shown_of table wanted v') × IsKept locations_below table wanted v'
 frees_shown locations_below table wanted v v' spot reserved h orderly u f =
@@ -351,7 +352,7 @@ frees_shown locations_below table wanted v v' spot reserved h orderly u f =
         reserved = record f.reserved { request = reserved.request };
         room = subst (λ (x : Option Reserved). SetsRoom (rooms_with wanted v.rooms) spot x None (rooms_with wanted v'.rooms))
             (ap (λ (w : Option Request). for_wanted (Some f.reserved) w) u.is_wanted) (rooms_set wanted v.rooms v'.rooms spot (Some f.reserved) None f.room);
-        same = ap (λ (x : DeviceView). record (view_of table x) { rooms = rooms_with wanted v'.rooms }) f.same;
+        same = ap (λ (x : DeviceView). record (view_of table x) { rooms = rooms_with wanted v'.rooms; places = x.places + wanted.places }) f.same;
       },
       kept_with locations_below table wanted wanted v v' h goes orderly
           (rooms_less (rules_over table v.rules) wanted v.rooms v'.rooms spot (Some f.reserved) f.room h.rooms)

@@ -1,5 +1,5 @@
 -- A packet comes back from the layer below, and is handed up.
-use Rattle.partition.proofs.Common.{◌≡◌, ◌≢◌, ◌<◌, ℕ, suc, ◌-◌, ◌*◌, ◌/◌, Bool, List, [], ◌∷◌, Option, Some, None, refl, sym, ◌∙◌, ap, subst, arith, map, length, take, eqb, get_or, All, Contains, IsPermutation, IsDistinct, mul-div_cancel, IsDistinct-IsPermutation, IsPermutation-sym, IsPermutation-map, All-permutation, Contains-permutation, All-head, All-tail, All-contains, Contains-get_or, NtStatus, Success, Extent, CancelRoutine, Climb, Routine, Finished, Climbs, BringsRoutine, Box, Driver, Irp, Payload, StackLocation, above, succeeds, HasOwn, cancel_routine_of, Request, ClientRequest, Rules, as_client, Done, OpenRequest, information, request_number, flips, differ_first, Read, Flush, DeviceView, Packet, Reserved, Carries, IsOrderly, IsBounded, sent_bytes, payload_bytes, packet_number, HandsUp, Moves, SetsRoom, StaysIfStarted, IsBack, sectors_moved, noted_in, asked, rules_over, on_disk, called, as_called, on_partitions, packet_above, view_of, shown_of, for_wanted, rooms_with, wanted_at, ComesBack, LiesInside, IsOnDisk, IsKept, IsNotedAt}
+use Rattle.partition.proofs.Common.{◌+◌, Wanted, ◌≡◌, ◌≢◌, ◌<◌, ℕ, suc, ◌-◌, ◌*◌, ◌/◌, Bool, List, [], ◌∷◌, Option, Some, None, refl, sym, ◌∙◌, ap, subst, arith, map, length, take, eqb, get_or, All, Contains, IsPermutation, IsDistinct, mul-div_cancel, IsDistinct-IsPermutation, IsPermutation-sym, IsPermutation-map, All-permutation, Contains-permutation, All-head, All-tail, All-contains, Contains-get_or, NtStatus, Success, Extent, CancelRoutine, Climb, Routine, Finished, Climbs, BringsRoutine, Box, Driver, Irp, Payload, StackLocation, above, succeeds, HasOwn, cancel_routine_of, Request, ClientRequest, Rules, as_client, Done, OpenRequest, information, request_number, flips, differ_first, Read, Flush, DeviceView, Packet, Reserved, Carries, IsOrderly, IsBounded, sent_bytes, payload_bytes, packet_number, HandsUp, Moves, SetsRoom, StaysIfStarted, IsBack, sectors_moved, noted_in, asked, rules_over, on_disk, called, as_called, on_partitions, packet_above, view_of, shown_of, for_wanted, rooms_with, wanted_at, ComesBack, LiesInside, IsOnDisk, IsKept, IsNotedAt}
 use Rattle.device.proofs.Returning.{ComesBack as CameBack, comes_back, above_is}
 use Rattle.partition.proofs.Noted.{Contains-map, asked_behind, asked_same, asked_at, noted_at, front_is}
 use Rattle.partition.proofs.Steps.{Stands}
@@ -140,7 +140,7 @@ module _ (table : List Extent) (old new : DeviceView) (takes_srb : Bool) (k : Is
           behind x (j, low, is) = (suc j, omega arith, is)
 
   -- where the layer below knows it as its request of the disk
-  hands : (locations_below : ℕ) (wanted : List (Option Request)) (r : Request) (climb climb' : Climb) (spot : ℕ)
+  hands : (locations_below : ℕ) (wanted : Wanted) (r : Request) (climb climb' : Climb) (spot : ℕ)
       → IsKept locations_below table wanted old → IsOrderly new → (h : HandsUp takes_srb old climb spot new)
       → h.request ≡ on_disk over r → IsBounded over r → wanted_at wanted spot ≡ Some r
       → asked old.packets h.answers.request.number ≡ r → ClimbsUp climb spot h climb'
@@ -170,6 +170,7 @@ module _ (table : List Extent) (old new : DeviceView) (takes_srb : Bool) (k : Is
         same_rooms = λ k. refl;
         same_submitted = m.moves.same_submitted;
         same_most = m.moves.same_most;
+        same_places = ap (λ n. n + wanted.places) m.moves.same_places;
         run = m.moves.run;
         adapter = m.moves.adapter;
       } in
@@ -221,7 +222,7 @@ module _ (table : List Extent) (old new : DeviceView) (takes_srb : Bool) (k : Is
             (All-permutation (IsNotedAt wanted) _ _ (IsPermutation-sym _ _ h.moves.same_packets) noted),
       )
 
-  pub handed_up : (locations_below : ℕ) (wanted : List (Option Request)) (climb : Climb) (driver : Driver) (irp : Box Irp) (climb' : Climb)
+  pub handed_up : (locations_below : ℕ) (wanted : Wanted) (climb : Climb) (driver : Driver) (irp : Box Irp) (climb' : Climb)
       (spot : ℕ) → IsKept locations_below table wanted old → climb ≡ Routine driver irp
       → IsOrderly new → HandsUp takes_srb old climb spot new
       → Climbs (above irp.value) irp.value.number irp.value.cancelled irp.value.io_status.status irp.value.io_status.information irp.value.payload climb'

@@ -110,6 +110,7 @@ moves_on table from new labels k back h numbers =
         same_rooms = h.same_rooms;
         same_submitted = h.same_submitted;
         same_most = h.same_most;
+        same_places = h.same_places;
         run = subst (λ t. Run over before (map as_label labels) t) same r.0;
         adapter = h.adapter;
       };
@@ -208,6 +209,7 @@ module _ (table : List Extent) (old new : DeviceView) (k : IsOnDisk table old) (
     same_rooms = h.same_rooms;
     same_submitted = h.same_submitted;
     same_most = h.same_most;
+    same_places = h.same_places;
     same_adapter = h.same_adapter;
   }
 

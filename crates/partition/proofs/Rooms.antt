@@ -1,32 +1,36 @@
 -- What a call does to the rooms below it does to the rooms that the partition driver shows.
 use Rattle.std.proofs.Common.{◌≡◌, ◌⊎◌, inl, inr, ℕ, zero, suc, Bool, true, false, List, [], ◌∷◌, Option, Some, None, Result, refl, sym, ◌∙◌, ap}
-use Rattle.partition.proofs.Common.{MatchBool, All-weaker, Completion, DeviceLabel, Entry, Request, Cancels, DeviceView, Packet, Reserved, IsOrderly, IsOffRooms, room_at, SameRooms, SetsRoom, Moves, IsBeside, BooksPiece, ActsOrFaults, ActsNot, Finishes, FinishesNot, Resets, CancelsIfOpen, CancelsAt, NoneToCancel, DrainsAll, PausesAll, ResumesAll, HandsUpNone, TakesLabel, ForgetsLabels, for_wanted, first_of, others_of, rooms_with, with_rooms, wanted_at, Notes}
+use Rattle.partition.proofs.Common.{◌+◌, slice_index_or, rooms_for, Wanted, MatchBool, All-weaker, Completion, DeviceLabel, Entry, Request, Cancels, DeviceView, Packet, Reserved, IsOrderly, IsOffRooms, room_at, SameRooms, SetsRoom, Moves, IsBeside, BooksPiece, ActsOrFaults, ActsNot, Finishes, FinishesNot, Resets, CancelsIfOpen, CancelsAt, NoneToCancel, DrainsAll, PausesAll, ResumesAll, HandsUpNone, TakesLabel, ForgetsLabels, for_wanted, first_of, others_of, rooms_with, with_rooms, wanted_at, Notes}
 
 -- BY SPOTS
 
-first_is : (wanted : List (Option Request)) → first_of wanted ≡ wanted_at wanted 0
+first_is : (wanted : List (Option Request)) → first_of wanted ≡ slice_index_or wanted 0 None
 first_is [] = refl
 first_is (x ∷ xs) = refl
 
-others_at : (wanted : List (Option Request)) (k : ℕ) → wanted_at (others_of wanted) k ≡ wanted_at wanted (suc k)
+others_at : (wanted : List (Option Request)) (k : ℕ) → slice_index_or (others_of wanted) k None ≡ slice_index_or wanted (suc k) None
 others_at [] k = refl
 others_at (x ∷ xs) k = refl
 
-pub at_room : (wanted : List (Option Request)) (rooms : List (Option Reserved)) (spot : ℕ)
+at_spot : (wanted : List (Option Request)) (rooms : List (Option Reserved)) (spot : ℕ)
+    → room_at (rooms_for wanted rooms) spot ≡ for_wanted (room_at rooms spot) (slice_index_or wanted spot None)
+at_spot wanted [] spot = refl
+at_spot wanted (x ∷ xs) zero = ap (λ (w : Option Request). for_wanted x w) (first_is wanted)
+at_spot wanted (x ∷ xs) (suc k) =
+    at_spot (others_of wanted) xs k ∙ ap (λ (w : Option Request). for_wanted (room_at xs k) w) (others_at wanted k)
+
+pub at_room : (wanted : Wanted) (rooms : List (Option Reserved)) (spot : ℕ)
     → room_at (rooms_with wanted rooms) spot ≡ for_wanted (room_at rooms spot) (wanted_at wanted spot)
-at_room wanted [] spot = refl
-at_room wanted (x ∷ xs) zero = ap (λ (w : Option Request). for_wanted x w) (first_is wanted)
-at_room wanted (x ∷ xs) (suc k) =
-    at_room (others_of wanted) xs k ∙ ap (λ (w : Option Request). for_wanted (room_at xs k) w) (others_at wanted k)
+at_room wanted rooms spot = at_spot wanted.by_spot rooms spot
 
 -- the rooms below stay
-pub rooms_same : (wanted : List (Option Request)) (old new : List (Option Reserved)) → SameRooms old new
+pub rooms_same : (wanted : Wanted) (old new : List (Option Reserved)) → SameRooms old new
     → SameRooms (rooms_with wanted old) (rooms_with wanted new)
 rooms_same wanted old new same = λ spot.
     at_room wanted new spot ∙ ap (λ (x : Option Reserved). for_wanted x (wanted_at wanted spot)) (same spot) ∙ sym (at_room wanted old spot)
 
 -- one of them changes
-pub rooms_set : (wanted : List (Option Request)) (old new : List (Option Reserved)) (spot : ℕ) (before after : Option Reserved)
+pub rooms_set : (wanted : Wanted) (old new : List (Option Reserved)) (spot : ℕ) (before after : Option Reserved)
     → SetsRoom old spot before after new
     → SetsRoom (rooms_with wanted old) spot (for_wanted before (wanted_at wanted spot)) (for_wanted after (wanted_at wanted spot)) (rooms_with wanted new)
 rooms_set wanted old new spot before after h = record {
@@ -38,7 +42,7 @@ rooms_set wanted old new spot before after h = record {
 }
 
 -- one of them is reserved, and noted
-pub rooms_noted : (wanted wanted' : List (Option Request)) (old new : List (Option Reserved)) (spot : ℕ) (r : Request) (reserved : Reserved)
+pub rooms_noted : (wanted wanted' : Wanted) (old new : List (Option Reserved)) (spot : ℕ) (r : Request) (reserved : Reserved)
     → SetsRoom old spot None (Some reserved) new → Notes wanted spot r wanted'
     → SetsRoom (rooms_with wanted old) spot None (Some (record reserved { request = r })) (rooms_with wanted' new)
 rooms_noted wanted wanted' old new spot r reserved h n = record {
@@ -52,14 +56,14 @@ rooms_noted wanted wanted' old new spot r reserved h n = record {
 }
 
 -- where the array says the same at each spot, the same rooms are shown
-pub rooms_alike : (wanted wanted' : List (Option Request)) (rooms : List (Option Reserved)) → ((spot : ℕ) → wanted_at wanted' spot ≡ wanted_at wanted spot)
+pub rooms_alike : (wanted wanted' : Wanted) (rooms : List (Option Reserved)) → ((spot : ℕ) → wanted_at wanted' spot ≡ wanted_at wanted spot)
     → SameRooms (rooms_with wanted rooms) (rooms_with wanted' rooms)
 rooms_alike wanted wanted' rooms same = λ spot.
     at_room wanted' rooms spot ∙ ap (λ (w : Option Request). for_wanted (room_at rooms spot) w) (same spot) ∙ sym (at_room wanted rooms spot)
 
 -- BY CALLS
 
-module _ (wanted : List (Option Request)) (old new : DeviceView) where
+module _ (wanted : Wanted) (old new : DeviceView) where
   abbrev from : DeviceView
   from = with_rooms wanted old
 
@@ -73,6 +77,7 @@ module _ (wanted : List (Option Request)) (old new : DeviceView) where
     same_rooms = rooms_same wanted old.rooms new.rooms h.same_rooms;
     same_submitted = h.same_submitted;
     same_most = h.same_most;
+    same_places = ap (λ n. n + wanted.places) h.same_places;
     run = h.run;
     adapter = h.adapter;
   }
@@ -84,6 +89,7 @@ module _ (wanted : List (Option Request)) (old new : DeviceView) where
     same_rooms = rooms_same wanted old.rooms new.rooms h.same_rooms;
     same_submitted = h.same_submitted;
     same_most = h.same_most;
+    same_places = ap (λ n. n + wanted.places) h.same_places;
     same_adapter = h.same_adapter;
   }
 
@@ -150,7 +156,7 @@ module _ (wanted : List (Option Request)) (old new : DeviceView) where
   pub none_up : HandsUpNone old new → HandsUpNone from to
   none_up h = record { unfinished = h.unfinished; settled = h.settled; same = same_up h.same }
 
-pub resumes_up : (wanted : List (Option Request)) (old new : DeviceView) → ResumesAll old new → ResumesAll (with_rooms wanted old) (with_rooms wanted new)
+pub resumes_up : (wanted : Wanted) (old new : DeviceView) → ResumesAll old new → ResumesAll (with_rooms wanted old) (with_rooms wanted new)
 resumes_up wanted old new h = record {
   resumed = h.resumed;
   starts = h.starts;
@@ -159,7 +165,7 @@ resumes_up wanted old new h = record {
   moves = moves_up wanted (record old { state = h.resumed }) new h.starts h.moves;
 }
 
-pub resets_up : (wanted : List (Option Request)) (old new : DeviceView) → Resets old new → Resets (with_rooms wanted old) (with_rooms wanted new)
+pub resets_up : (wanted : Wanted) (old new : DeviceView) → Resets old new → Resets (with_rooms wanted old) (with_rooms wanted new)
 resets_up wanted old new h = record {
   fresh = h.fresh;
   all_faulted = h.all_faulted;
@@ -169,20 +175,20 @@ resets_up wanted old new h = record {
   noted = h.noted;
 }
 
-pub label_up : (wanted : List (Option Request)) (old new : DeviceView) (label : Option DeviceLabel) → TakesLabel old label new
+pub label_up : (wanted : Wanted) (old new : DeviceView) (label : Option DeviceLabel) → TakesLabel old label new
     → TakesLabel (with_rooms wanted old) label (with_rooms wanted new)
 label_up wanted old new None h = (h.0, ap (λ (v : DeviceView). with_rooms wanted v) h.1)
 label_up wanted old new (Some label) h = (h.0, h.1, ap (λ (v : DeviceView). with_rooms wanted v) h.2)
 
-pub forgets_up : (wanted : List (Option Request)) (old new : DeviceView) → ForgetsLabels old new → ForgetsLabels (with_rooms wanted old) (with_rooms wanted new)
+pub forgets_up : (wanted : Wanted) (old new : DeviceView) → ForgetsLabels old new → ForgetsLabels (with_rooms wanted old) (with_rooms wanted new)
 forgets_up wanted old new h = ap (λ (v : DeviceView). with_rooms wanted v) h
 
 -- the spots of the packets are as vacant as below
-off_up : (wanted : List (Option Request)) (rooms : List (Option Reserved)) (packet : Packet) → IsOffRooms rooms packet → IsOffRooms (rooms_with wanted rooms) packet
+off_up : (wanted : Wanted) (rooms : List (Option Reserved)) (packet : Packet) → IsOffRooms rooms packet → IsOffRooms (rooms_with wanted rooms) packet
 off_up wanted rooms packet off =
     at_room wanted rooms packet.spot ∙ ap (λ (x : Option Reserved). for_wanted x (wanted_at wanted packet.spot)) off
 
-pub orderly_up : (wanted : List (Option Request)) (v : DeviceView) → IsOrderly v → IsOrderly (with_rooms wanted v)
+pub orderly_up : (wanted : Wanted) (v : DeviceView) → IsOrderly v → IsOrderly (with_rooms wanted v)
 orderly_up wanted v o = record {
   adapter = o.adapter;
   read = o.read;

@@ -1,5 +1,5 @@
 -- A packet is passed on to the layer below.
-use Rattle.partition.proofs.Common.{◌≡◌, ◌<◌, ◌≤◌, ℕ, zero, suc, Option, None, map, ◌+◌, ◌-◌, ◌*◌, ◌/◌, ◌^◌, Bool, true, false, List, [], ◌∷◌, ◌++◌, Some, refl, sym, ◌∙◌, ap, subst, arith, add-zero, length, take, ◌==◌, bit_and, All, Contains, if◌then◌else◌, IsPermutation-sym, All-permutation, mul-div_cancel, All-cons, All-head, All-tail, Extent, IsPlain, Means, Irp, Payload, StackLocation, above, HasOwn, KeepsAllButLocations, above_is, always_asks, Kind, Read, Write, Flush, Request, Rules, home, as_client, sectors_of, Opens, command_for, read_command, write_command, all_places, OpenRequest, IsGiven, IsPartition, DeviceView, Packet, IsOrderly, IsBounded, AsksInLocation, Carries, major_of, Reserved, packet_of, request_at, request_of, sent_bytes, whole_command, whole_for, Moves, SetsRoom, StaysOpen, Submits, noting, passed_on, kind_in, noted_in, noted_last, asked, rules_over, on_disk, called, as_called, on_partitions, packet_above, view_of, shown_of, IsWholeDisk, for_wanted, rooms_with, ComesBack, IsOnDisk, IsKept, IsNotedAt, count_at, home_at}
+use Rattle.partition.proofs.Common.{Wanted, ◌≡◌, ◌<◌, ◌≤◌, ℕ, zero, suc, Option, None, map, ◌+◌, ◌-◌, ◌*◌, ◌/◌, ◌^◌, Bool, true, false, List, [], ◌∷◌, ◌++◌, Some, refl, sym, ◌∙◌, ap, subst, arith, add-zero, length, take, ◌==◌, bit_and, All, Contains, if◌then◌else◌, IsPermutation-sym, All-permutation, mul-div_cancel, All-cons, All-head, All-tail, Extent, IsPlain, Means, Irp, Payload, StackLocation, above, HasOwn, KeepsAllButLocations, above_is, always_asks, Kind, Read, Write, Flush, Request, Rules, home, as_client, sectors_of, Opens, command_for, read_command, write_command, all_places, OpenRequest, IsGiven, IsPartition, DeviceView, Packet, IsOrderly, IsBounded, AsksInLocation, Carries, major_of, Reserved, packet_of, request_at, request_of, sent_bytes, whole_command, whole_for, Moves, SetsRoom, StaysOpen, Submits, noting, passed_on, kind_in, noted_in, noted_last, asked, rules_over, on_disk, called, as_called, on_partitions, packet_above, view_of, shown_of, IsWholeDisk, for_wanted, rooms_with, ComesBack, IsOnDisk, IsKept, IsNotedAt, count_at, home_at}
 use Rattle.irp.specs.declared.Payload.TheVariants.{Buffer, Srb as Packed, Sent as AtAdapter}
 use Rattle.partition.proofs.Noted.{asked_first, asked_behind, noted_at, front_is}
 use Rattle.partition.proofs.Steps.{Stands}
@@ -212,7 +212,7 @@ pub record IsHandedDown (table : List Extent) (v : DeviceView) (takes_srb : Bool
   pub carries : Carries takes_srb (rules_over table v.rules) r irp.payload
   pub passed : IsPassedOn r.kind extent irp irp'
 
-pub handed_down : (locations_below : ℕ) (table : List Extent) (wanted : List (Option Request)) (v : DeviceView) (takes_srb : Bool) (spot : ℕ)
+pub handed_down : (locations_below : ℕ) (table : List Extent) (wanted : Wanted) (v : DeviceView) (takes_srb : Bool) (spot : ℕ)
     (reserved : Reserved) (extent : Extent) (irp irp' : Irp)
     → IsKept locations_below table wanted v → IsUnder table wanted v spot reserved
     → extent ≡ (on_disk_of table v reserved.request).extent → AsksInLocation takes_srb reserved.request irp
@@ -267,7 +267,7 @@ module _ (table : List Extent) (v : DeviceView) (takes_srb : Bool) (r below : Re
           not_given : (o : OpenRequest) → IsGiven v.state.next_request o → irp'.number ≡ o.number → ⊥
           not_given o given e = let n : v.state.next_request ≤ irp'.number = s.opens.new_number in absurd (omega arith)
 
-  pub submits_over : (locations_below : ℕ) (wanted : List (Option Request)) (v' : DeviceView) (spot : ℕ) → IsKept locations_below table wanted v
+  pub submits_over : (locations_below : ℕ) (wanted : Wanted) (v' : DeviceView) (spot : ℕ) → IsKept locations_below table wanted v
       → IsUnder table wanted v spot (whole_for r) → IsOrderly v' → Submits v (packet_of irp' spot) below irp'.payload v'
       → Submits (shown_of table wanted v) (packet_of irp spot) r irp.payload (shown_of table wanted v') × IsKept locations_below table wanted v'
   submits_over locations_below wanted v' spot kept u o' submits =
@@ -300,6 +300,7 @@ module _ (table : List Extent) (v : DeviceView) (takes_srb : Bool) (r below : Re
         same_rooms = λ k. refl;
         same_submitted = m.moves.same_submitted;
         same_most = m.moves.same_most;
+        same_places = ap (λ n. n + wanted.places) m.moves.same_places;
         run = m.moves.run;
         adapter = m.moves.adapter;
       } in

@@ -10,7 +10,7 @@ use Rattle.sector.specs.Extents.{sectors_in}
 use Rattle.device.specs.View.{Packet, DeviceView}
 use Rattle.partition.specs.inside.Noted.{asked}
 use Rattle.partition.specs.OnDisk.{rules_over}
-use Rattle.partition.specs.inside.Rooms.{with_rooms}
+use Rattle.partition.specs.inside.Rooms.{Wanted, with_rooms}
 
 -- a request of the disk as the partition's client called it: its packet notes the partition, and the sector there
 abbrev pub called : Rules → Request → ClientRequest → ClientRequest
@@ -43,6 +43,7 @@ view_of table v = record v {
   packets = map packet_above v.packets;
 }
 
--- all that the partition driver shows: each room is for the request that its spot is wanted for
-abbrev pub shown_of : List Extent → List (Option Request) → DeviceView → DeviceView
+-- all that the partition driver shows: each room is for the request that its spot is wanted for, and there is room for
+-- these spots beside that of the disk
+abbrev pub shown_of : List Extent → Wanted → DeviceView → DeviceView
 shown_of table wanted v = with_rooms wanted (view_of table v)

@@ -1,13 +1,13 @@
 //! The partition driver as a layer of the stack.
 
-ghost use Rattle.std.specs.Prelude.{◌≡◌, ◌<◌, ◌≤◌, ◌+◌, ◌-◌, ◌^◌, ℕ, Some, min, MatchBool};
+ghost use Rattle.std.specs.Prelude.{◌≡◌, ◌<◌, ◌≤◌, ◌+◌, ◌-◌, ◌^◌, ℕ, Some, min, vec_capacity, MatchBool};
 ghost use Rattle.std.proofs.Common.{ap};
 ghost use Rattle.arrayvec.specs.ArrayVec.{array_vec_len};
 ghost use Rattle.machine.specs.Rules.{home};
 ghost use Rattle.device.specs.View.{label_places, KeepsOutside};
 ghost use Rattle.device.specs.Served.{ActsOrFaults, ActsNot};
 ghost use Rattle.partition.specs.OnDisk.{rules_over, on_disk};
-ghost use Rattle.partition.specs.inside.Rooms.{wanted_at};
+ghost use Rattle.partition.specs.inside.Rooms.{wanted_at, wanted_by};
 
 use crate::locations::pass_on;
 use crate::wanted::note;
@@ -33,7 +33,7 @@ impl<D: Shown> Parts<D> {
 
     /// Returns what a spot was last reserved for.
     fn wanted_at(&self, spot: usize) -> Option<Request>
-        ensures { result ≡ wanted_at self.now.wanted.items spot }
+        ensures { result ≡ wanted_at (wanted_by self.now.wanted.items (vec_capacity self.now.wanted)) spot }
     {
         self.wanted.get(spot).copied().flatten()
     }

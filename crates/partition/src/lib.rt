@@ -45,14 +45,18 @@ impl<D: Shown> Drop for Partitions<D> {
 
 impl<D: Shown> Model for Partitions<D> {
     ghost use Rattle.device.specs.View.{DeviceView};
+    ghost use Rattle.std.specs.Prelude.{vec_capacity};
     ghost use Rattle.partition.specs.Shown.{shown_of};
+    ghost use Rattle.partition.specs.inside.Rooms.{wanted_by};
     ghost use Rattle.partition.specs.inside.Invariant.{IsKept};
 
     ghost Value = { DeviceView };
 
-    ghost view = { λ s. shown_of s.parts.table.items s.parts.wanted.items (D.view s.parts.device) };
+    ghost view = { λ s. shown_of s.parts.table.items
+        (wanted_by s.parts.wanted.items (vec_capacity s.parts.wanted)) (D.view s.parts.device) };
 
-    ghost invariant = { λ s. IsKept D.stack_size s.parts.table.items s.parts.wanted.items (D.view s.parts.device) };
+    ghost invariant = { λ s. IsKept D.stack_size s.parts.table.items
+        (wanted_by s.parts.wanted.items (vec_capacity s.parts.wanted)) (D.view s.parts.device) };
 }
 
 impl<D: Shown> Partitions<D> {

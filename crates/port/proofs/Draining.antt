@@ -110,7 +110,7 @@ hand_drained b b' v rooms e i = subst (λ x. IsInHand x v rooms) (sym e) (in_han
 pub drains_all : (b b' : TableView) (v : AdapterView) → b' ≡ drained b → DrainsAll (view_of b v) (view_of b' v)
 drains_all b b' v e = subst (λ x. DrainsAll (view_of b v) (view_of x v)) (sym e) (record {
   drains = drains b v;
-  beside = record { same_rules = refl; same_packets = packets_drained packet_as b v; same_rooms = λ _. refl; same_submitted = refl; same_most = refl; same_adapter = refl };
+  beside = record { same_rules = refl; same_packets = packets_drained packet_as b v; same_rooms = λ _. refl; same_submitted = refl; same_most = refl; same_places = refl; same_adapter = refl };
 })
 
 -- WHO CAN BE CANCELLED
@@ -225,7 +225,7 @@ module _ (b : TableView) (v : AdapterView) (number : ℕ) (before : List PortPac
   withdrawn_fields : IsCancelled b v number (books_withdrawn b (before ++ behind) withdrawn)
   withdrawn_fields = record {
     rooms = λ rooms i. in_hand (books_withdrawn b (before ++ behind) withdrawn) v rooms (kept_withdrawn rooms i.kept) (λ free. absurd (not_empty (i.busy free)));
-    cancels = record { one_of = inl (withdraw_cancels, record { same_rules = refl; same_packets = packets_withdrawn packet_as (λ e. refl); same_rooms = λ _. refl; same_submitted = refl; same_most = refl; same_adapter = refl }) };
+    cancels = record { one_of = inl (withdraw_cancels, record { same_rules = refl; same_packets = packets_withdrawn packet_as (λ e. refl); same_rooms = λ _. refl; same_submitted = refl; same_most = refl; same_places = refl; same_adapter = refl }) };
   }
 
 pub cancelled_waiting : (b b' : TableView) (v : AdapterView) (number : ℕ) → Withdraws b number b' → IsCancelled b v number b'

@@ -1,5 +1,5 @@
 -- A port of which nothing was asked yet.
-use Rattle.std.proofs.Common.{◌≡◌, ◌≤◌, ℕ, Bool, false, List, [], Option, eqb, refl, sym, subst, ap, ◌∙◌, arith, length, map}
+use Rattle.std.proofs.Common.{◌≡◌, ◌≤◌, ◌+◌, ℕ, Bool, false, List, [], Option, eqb, refl, sym, subst, ap, ◌∙◌, arith, length, map}
 use Rattle.std.proofs.lemmas.List.Elements.{All-nil}
 use Rattle.srb.specs.declared.DeviceLabel.{DeviceLabel}
 use Rattle.adapter.specs.View.{AdapterView, TagInUse, IsInOrder}
@@ -9,7 +9,7 @@ use Rattle.machine.specs.Rules.{Rules}
 use Rattle.sector.specs.Extents.{sectors_in}
 use Rattle.machine.proofs.Numbers.{AreDistinct-opening}
 use Rattle.port.specs.declared.queues.Sizes.{Sizes}
-use Rattle.port.specs.inside.TableView.{TableView}
+use Rattle.port.specs.inside.TableView.{TableView, Capacity}
 use Rattle.port.specs.inside.TableCalls.{IsEmpty}
 use Rattle.port.specs.Shown.{rules_of, view_of}
 use Rattle.port.specs.inside.Invariant.{IsInHand, IsRoom, IsWaiting, IsAtWork, HasEnded, IsTaken}
@@ -18,9 +18,12 @@ use Rattle.machine.specs.declared.Request.{Request}
 use Rattle.port.specs.Opening.{IsFresh, sizes_of, opening_view}
 use Rattle.port.proofs.Orderly.{in_hand}
 
+abbrev fresh_capacity : ℕ → Capacity
+fresh_capacity depth = record { started = depth; waiting = 0; done = 0; rooms = 0 }
+
 -- the books of empty queues over this adapter
 abbrev books_empty : TableView → Sizes → TableView
-books_empty b sizes = record b { sizes = sizes; waiting = []; done = []; last_request = 0; next_piece = 1; submitted = 0; removing = false; places = 0; rooms = [] }
+books_empty b sizes = record b { sizes = sizes; waiting = []; done = []; last_request = 0; next_piece = 1; submitted = 0; removing = false; places = 0; rooms = []; capacity = fresh_capacity sizes.depth }
 
 empty_is : (b : TableView) (sizes : Sizes) → IsEmpty sizes b → b ≡ books_empty b sizes
 empty_is b sizes h =
@@ -33,6 +36,7 @@ empty_is b sizes h =
     ∙ ap (λ (x : Bool). record b { sizes = sizes; waiting = []; done = []; last_request = 0; next_piece = 1; submitted = 0; removing = x }) h.removing
     ∙ ap (λ (x : ℕ). record b { sizes = sizes; waiting = []; done = []; last_request = 0; next_piece = 1; submitted = 0; removing = false; places = x }) h.places
     ∙ ap (λ (x : List (Option (Option Request))). record b { sizes = sizes; waiting = []; done = []; last_request = 0; next_piece = 1; submitted = 0; removing = false; places = 0; rooms = x }) h.rooms
+    ∙ ap (λ (x : Capacity). record b { sizes = sizes; waiting = []; done = []; last_request = 0; next_piece = 1; submitted = 0; removing = false; places = 0; rooms = []; capacity = x }) h.capacity
 
 distinct_none : IsDistinct eqb []
 unfolding IsDistinct
@@ -83,7 +87,8 @@ pub opens_seen : (b : TableView) (v : AdapterView) (sizes : Sizes) → sizes ≡
 opens_seen b v sizes e h f =
     let h' : IsEmpty (sizes_of v) b = subst (λ (x : Sizes). IsEmpty x b) e h in
     let v_is : v ≡ view_fresh v = fresh_is v f in
-    ap (λ (x : TableView). view_of x v) (empty_is b (sizes_of v) h') ∙ ap (λ (x : AdapterView). view_of (books_empty b (sizes_of v)) x) v_is ∙ ap (λ (x : AdapterView). opening_view x) (sym v_is)
+    ap (λ (x : TableView). view_of x v) (empty_is b (sizes_of v) h') ∙ ap (λ (x : AdapterView). view_of (books_empty b (sizes_of v)) x) v_is
+    ∙ ap (λ (n : ℕ). record (opening_view (view_fresh v)) { places = n }) (let e : v.depth + 0 + 0 + 0 ≡ v.depth = omega arith in e) ∙ ap (λ (x : AdapterView). opening_view x) (sym v_is)
 
 pub sizes_are : (v : AdapterView) (sector_size sectors max_transfer depth : ℕ) (faithful keeps_bytes : Bool) → sector_size ≡ v.sector_size → sectors ≡ length v.sectors → max_transfer ≡ v.max_transfer → depth ≡ v.depth
     → faithful ≡ v.faithful → keeps_bytes ≡ v.keeps_bytes → sizes_by sector_size sectors max_transfer depth faithful keeps_bytes ≡ sizes_of v

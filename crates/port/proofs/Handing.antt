@@ -312,7 +312,7 @@ hands_up b b' v rooms d status bytes_moved climb k h status_is moved_is climbs b
           (subst (λ (n : ℕ). Climbs (entry d.irp.value d.request d.spot).above d.irp.value.number d.irp.value.cancelled status n d.irp.value.payload climb) (subst (λ (y : TableView). bytes_moved ≡ information (as_client (rules_of y.sizes) d.request []) status) h.after (moved_is (rules_of b'.sizes) refl)) climbs);
       brings_routine = brings;
       only_starts = All-nil IsStart;
-      moves = record { same_rules = refl; same_packets = IsPermutation-refl _; same_rooms = λ _. refl; same_submitted = refl; same_most = refl; run = IsSame-refl _; adapter = moves_none v };
+      moves = record { same_rules = refl; same_packets = IsPermutation-refl _; same_rooms = λ _. refl; same_submitted = refl; same_most = refl; same_places = refl; run = IsSame-refl _; adapter = moves_none v };
       started_stay = λ i o low started. All-contains_itself (requests_of (books_left b h.rest b'.rooms) v) i o low;
       still = λ window. (refl, refl);
     })

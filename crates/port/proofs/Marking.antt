@@ -136,7 +136,7 @@ module _ (b : TableView) (v : AdapterView) (number tag : ℕ) (use' : TagInUse) 
   marked_fields : IsCancelled b v number (books_marked b tag marked)
   marked_fields = record {
     rooms = λ rooms i. in_hand (books_marked b tag marked) v rooms (kept_marked rooms i.kept) i.busy;
-    cancels = record { one_of = inl (mark_cancels, record { same_rules = refl; same_packets = packets_marked packet_as (λ e. refl); same_rooms = λ _. refl; same_submitted = refl; same_most = refl; same_adapter = refl }) };
+    cancels = record { one_of = inl (mark_cancels, record { same_rules = refl; same_packets = packets_marked packet_as (λ e. refl); same_rooms = λ _. refl; same_submitted = refl; same_most = refl; same_places = refl; same_adapter = refl }) };
   }
 
 pub cancelled_out : (b b' : TableView) (v : AdapterView) (rooms : List Request) (number tag : ℕ) → IsInHand b v rooms → Any (HasTag tag) v.tags → CancelsOn b tag number b' → IsCancelled b v number b'
@@ -251,7 +251,7 @@ module _ (b : TableView) (v : AdapterView) (number : ℕ) (before : List Ended) 
   ended_fields : IsCancelled b v number (books_ended b (before ++ marked ∷ behind))
   ended_fields = record {
     rooms = λ rooms i. in_hand (books_ended b (before ++ marked ∷ behind)) v rooms (kept_ended rooms i.kept) i.busy;
-    cancels = record { one_of = inl (end_cancels, record { same_rules = refl; same_packets = packets_ended packet_as (λ e. refl); same_rooms = λ _. refl; same_submitted = refl; same_most = refl; same_adapter = refl }) };
+    cancels = record { one_of = inl (end_cancels, record { same_rules = refl; same_packets = packets_ended packet_as (λ e. refl); same_rooms = λ _. refl; same_submitted = refl; same_most = refl; same_places = refl; same_adapter = refl }) };
   }
 
 pub cancelled_ended : (b b' : TableView) (v : AdapterView) (number : ℕ) → CancelsEnded b number b' → IsCancelled b v number b'

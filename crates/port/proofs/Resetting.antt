@@ -280,6 +280,7 @@ reset_all b v v' rooms k space h order =
           same_rooms = λ _. refl;
           same_submitted = refl;
           same_most = refl;
+          same_places = refl;
           run = reset_run h.left b v h.tags h.fresh h.failures (map use_fault h.fresh) h.in_use h.are_fresh so k.kept.at_work;
           adapter = subst (λ ls. MovesByAll v ls h.all_faulted) (sym faults) h.moves;
         };

@@ -272,6 +272,7 @@ module _ (b : TableView) (v : AdapterView) (tag : ℕ) (use' : TagInUse) (others
     same_rooms = λ _. refl;
     same_submitted = refl;
     same_most = refl;
+    same_places = refl;
     run = (state_of (books_returned b tag ended) (view_returned v tags' failures use'.piece class), inl (refl, machine_returns rooms k h), IsSame-refl _);
     adapter = moves_one v (view_returned v tags' failures use'.piece class) tag (Return use'.piece class)
         (record { use' = use'; others = others; tags = tags'; failures = failures; is_on = h.on; is_piece = refl; counted = h.counted; may = h.may; in_use = h.left; after = refl });

@@ -17,8 +17,8 @@ use Rattle.device.specs.Served.{HasOtherSpot as SpotApart, SameRooms, SetsRoom, 
 use Rattle.device.proofs.Reserving.{home_of_whole, packets_apart}
 use Rattle.port.specs.declared.queues.Waiting.{Waiting}
 use Rattle.port.specs.declared.queues.Ended.{Ended}
-use Rattle.port.specs.inside.TableView.{TableView, held_at, spot_in}
-use Rattle.port.specs.inside.TableCalls.{HasOtherSpot, IsEndedTaken, AddsPlace, RemovesPlace, Queued, TakesDone, IsEmpty}
+use Rattle.port.specs.inside.TableView.{TableView, held_at, in_all, spot_in}
+use Rattle.port.specs.inside.TableCalls.{HasOtherSpot, IsEndedTaken, AddsNone, AddsPlace, RemovesPlace, Queued, TakesDone, IsEmpty}
 use Rattle.port.specs.Shown.{rules_of, view_of, packets_of, reserved_in, reserved_of, of_waiting, of_tag, of_done}
 use Rattle.port.specs.inside.Invariant.{PortKept, IsInHand, IsSound, IsTaken}
 use Rattle.port.specs.inside.Order.{any_order_lem}
@@ -87,10 +87,10 @@ sound_made b c d v v' r spot e f h order bounded reserved k =
     any_order_lem d v' (r ∷ R) (reserved_of d.rooms) (IsPermutation-sym _ _ more) (hand_made b c d v v' r spot R e f h order bounded reserved k)
 
 -- the sectors and the tags are as they were
-pub reserves_none_shown : (b c : TableView) (v v' : AdapterView) → c ≡ b → ReservesMore v v' → ReservesNone (view_of b v) (view_of c v')
+pub reserves_none_shown : (b c : TableView) (v v' : AdapterView) → AddsNone b c → ReservesMore v v' → ReservesNone (view_of b v) (view_of c v')
 reserves_none_shown b c v v' e h =
     subst (λ (x : TableView). ReservesNone (view_of b v) (view_of x v')) (sym e)
-    (subst (λ (x : AdapterView). ReservesNone (view_of b v) (view_of b x)) (sym h.after) (record {
+    (subst (λ (x : AdapterView). ReservesNone (view_of b v) (view_of (record b { capacity = c.capacity }) x)) (sym h.after) (record {
       reserves = record { same = refl; adapter = subst (ReservesMore v) h.after h };
       room = λ k. refl;
     }))
@@ -100,7 +100,7 @@ reserves_spot_shown b c d v v' r spot e f h k =
     subst (λ (y : TableView). ReservesSpot (view_of y v) spot r (view_of d v')) e
     (subst (λ (x : AdapterView). ReservesSpot (view_of c v) spot r (view_of d x)) (sym h.after) (record {
       reserves = record {
-        same = ap (λ (x : TableView). record (view_of x (record v { reserved = h.reserved })) { rooms = map reserved_in d.rooms }) f.after;
+        same = ap (λ (x : TableView). record (view_of x (record v { reserved = h.reserved })) { rooms = map reserved_in d.rooms; places = in_all d.capacity }) f.after;
         adapter = subst (ReservesMore v) h.after h;
       };
       apart = apart;

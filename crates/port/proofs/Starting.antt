@@ -302,6 +302,7 @@ start_moves b v front rest tag srb packet tags' is same inside low free few p st
     same_rooms = λ _. refl;
     same_submitted = refl;
     same_most = refl;
+    same_places = refl;
     run = (state_of (books_started b rest tag packet) (view_started v tags' tag b.next_piece srb), inl (refl, starts), IsSame-refl _);
     adapter = moves_one v (view_started v tags' tag b.next_piece srb) tag (Start b.next_piece tag srb.block)
         (refl, record { srb = srb; has_block = refl; accepts = record { tags = tags'; is_free = free; below = low; in_use = p; after = refl } });
@@ -359,7 +360,7 @@ pub releases_none : (b : TableView) (v : AdapterView) → Releases b v b v
 releases_none b v = record {
   starts = [];
   only_starts = All-nil IsStart;
-  moves = record { same_rules = refl; same_packets = IsPermutation-refl _; same_rooms = λ _. refl; same_submitted = refl; same_most = refl; run = IsSame-refl _; adapter = moves_none v };
+  moves = record { same_rules = refl; same_packets = IsPermutation-refl _; same_rooms = λ _. refl; same_submitted = refl; same_most = refl; same_places = refl; run = IsSame-refl _; adapter = moves_none v };
   stay = All-contains_itself (begun_of b v);
   full = λ all. (refl, refl);
 }
@@ -371,6 +372,7 @@ moves_then o m n xs ys h k = record {
   same_rooms = λ spot. k.same_rooms spot ∙ h.same_rooms spot;
   same_submitted = k.same_submitted ∙ h.same_submitted;
   same_most = k.same_most ∙ h.same_most;
+  same_places = k.same_places ∙ h.same_places;
   run = subst (λ ls. Run o.rules o.state ls n.state) (sym (map-append as_label xs ys)) (Run-append o.rules o.state (map as_label xs) m.state (map as_label ys) n.state h.run (subst (λ r. Run r m.state (map as_label ys) n.state) h.same_rules k.run));
   adapter = moves_joined o.adapter xs m.adapter ys n.adapter h.adapter k.adapter;
 }

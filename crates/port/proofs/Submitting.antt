@@ -160,6 +160,7 @@ submits_queued b v irp r spot slots rooms b' v' k m busy slot h = record {
     same_rooms = λ _. refl;
     same_submitted = h.moves.same_submitted;
     same_most = h.moves.same_most;
+    same_places = h.moves.same_places;
     run = h.moves.run;
     adapter = h.moves.adapter;
   };

@@ -141,6 +141,7 @@ module _ (b : TableView) (v : AdapterView) (tag : ℕ) (use' use'' : TagInUse) (
         same_rooms = λ _. refl;
         same_submitted = refl;
         same_most = refl;
+        same_places = refl;
         run = (state_of b (view_turned v sectors tags' failures label), inl (refl, step), IsSame-refl _);
         adapter = moves_one v (view_turned v sectors tags' failures label) tag label moved;
       };

@@ -22,7 +22,7 @@ sizes_of v = record { sector_size = v.sector_size; sectors = length v.sectors; m
 abbrev pub rules_over : AdapterView → Rules
 rules_over v = rules_of (sizes_of v)
 
--- what the port shows: the machine's opening, with all sectors of the adapter
+-- what the port shows: the machine's opening, with all sectors of the adapter, and a place for a packet on each tag
 abbrev pub opening_view : AdapterView → DeviceView
 opening_view v = record {
   rules = rules_over v;
@@ -31,5 +31,6 @@ opening_view v = record {
   rooms = [];
   submitted = 0;
   most = most;
+  places = v.depth;
   adapter = v;
 }

@@ -22,7 +22,7 @@ use Rattle.port.specs.declared.queues.PortPacket.{PortPacket}
 use Rattle.port.specs.declared.queues.Ended.{Ended}
 use Rattle.port.specs.declared.queues.Outcome.{Outcome}
 use Rattle.port.specs.declared.queues.Outcome.TheVariants.{Returned, Withdrawn, Gone}
-use Rattle.port.specs.inside.TableView.{PacketEntry, TableView, entry_of, ended_entry}
+use Rattle.port.specs.inside.TableView.{PacketEntry, TableView, entry_of, ended_entry, in_all}
 use Rattle.port.specs.inside.TableCalls.{held_on}
 
 -- the disk is one volume; each request goes as one piece, once, and its first busy return ends it
@@ -210,5 +210,6 @@ view_of b v = record {
   rooms = map reserved_in b.rooms;
   submitted = b.submitted;
   most = most;
+  places = in_all b.capacity;
   adapter = v;
 }

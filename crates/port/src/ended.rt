@@ -23,9 +23,10 @@ impl EndedList {
     /// No packets, and no places.
     pub fn new(alloc: Global) -> EndedList
         ensures items { result.list.items ≡ [] }
+        ensures places { deque_capacity result.list ≡ 0 }
     {
         EndedList {
-            list: VecDeque::new(alloc),
+            list: VecDeque::from_vec(Vec::new(alloc)),
             walks: Visits::none(),
         }
     }

@@ -8,7 +8,7 @@ ghost use Rattle.machine.specs.declared.Request.{Request};
 ghost use Rattle.port.specs.inside.TableView.{books_of, visits_of, entry, entry_of};
 ghost use Rattle.port.specs.inside.TableCalls.{IsEmpty, IsPacked, cancelled};
 ghost use Rattle.port.specs.inside.TableCalls.{held_on};
-ghost use Rattle.port.specs.inside.TableCalls.{AddsPlace, RemovesPlace, HasOtherSpot, IsEndedTaken, Queued, Starts};
+ghost use Rattle.port.specs.inside.TableCalls.{AddsNone, AddsPlace, RemovesPlace, HasOtherSpot, IsEndedTaken, Queued, Starts};
 ghost use Rattle.port.specs.inside.TableCalls.{StartsNot, Ends, TakesDone, TakesNone, drained, as_returned};
 ghost use Rattle.port.specs.inside.TableCalls.{IsUncancelled};
 ghost use Rattle.port.specs.inside.TableCalls.{Withdraws, WithdrawsNot, WithdrawsAt, WithdrawsNotAt, CancelsIn};
@@ -138,7 +138,7 @@ impl Queues {
     {
         let mut started = Vec::with_capacity(alloc, sizes.depth as usize)?;
         for _ in 0..sizes.depth {
-            started.push(None)?;
+            started.push_reserved(None);
         }
         Ok(Queues {
             sizes,
@@ -161,7 +161,7 @@ impl Queues {
     pub fn add_place(&mut self, request: Request) -> Result<usize, AllocError>
         requires { length (books_of self.old).waiting + length (books_of self.old).done ≤ (books_of self.old).places }
         ensures added { IfOk result (λ spot. AddsPlace (books_of self.old) spot request (books_of self.new)) }
-        ensures refused { OnErr result (books_of self.new ≡ books_of self.old) }
+        ensures refused { OnErr result (AddsNone (books_of self.old) (books_of self.new)) }
     {
         self.rooms.reserve(1)?;
         let places = count_with_one_more(&self.rooms);

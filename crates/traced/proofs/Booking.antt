@@ -159,7 +159,7 @@ transfers_want _ is = absurd is
 pub served_wants : StepsTakeNoMemory → (client : ℕ) (old : TracedView) (event : Event) (reply : Reply) (new : TracedView) (bytes : List ℕ) → IsServed client old event reply new
     → reply ≡ Refused InsufficientResources bytes → may_want event ≡ true
 served_wants law client old event reply new bytes (inl carried) is =
-    transfers_want event (law old.stack event bytes carried.stepped (subst (λ (r : Reply). IsRight old.stack event r carried.stepped) is carried.right))
+    transfers_want event ((law old.stack event (Refused InsufficientResources bytes) carried.stepped (subst (λ (r : Reply). IsRight old.stack event r carried.stepped) is carried.right)).for_transfers tt)
 served_wants law client old event reply new bytes (inr wanting) is = wanting.wants
 
 -- AT FIRST

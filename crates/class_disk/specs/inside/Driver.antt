@@ -22,7 +22,7 @@ use Rattle.class_disk.specs.declared.parts.Outcome.{Outcome}
 use Rattle.class_disk.specs.declared.parts.Outcome.TheVariants.{Good, Failed as IsBad, Busy, Withdrawn}
 use Rattle.class_disk.specs.declared.parts.PartId.{PartId}
 use Rattle.class_disk.specs.inside.Blocks.{requests_for, goes_whole, AreSizes}
-use Rattle.class_disk.specs.inside.TableView.{Opened, TableView, ClosedSlot, is_whole, all_open, ended_in, restarts_left}
+use Rattle.class_disk.specs.inside.TableView.{Opened, TableView, ClosedSlot, is_whole, room_in_all, all_open, ended_in, restarts_left}
 use Rattle.class_disk.specs.inside.Parts.{HasBuffers, HoldsData, payload_in, status_by, tickets_of, WasSent}
 use Rattle.class_disk.specs.inside.Parts.{restarts_of, unfinished_of}
 use Rattle.class_disk.specs.inside.TableCalls.{bytes_from}
@@ -104,6 +104,7 @@ view_of v b = record {
   rooms = b.rooms;
   submitted = b.submitted;
   most = most_over v.most;
+  places = v.places + room_in_all b;
   adapter = v.adapter;
 }
 

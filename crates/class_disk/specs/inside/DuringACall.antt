@@ -14,7 +14,7 @@ use Rattle.device.specs.View.{DeviceView, Carries, IsBounded, packet_of, packet_
 use Rattle.device.specs.View.{whole_for}
 use Rattle.device.specs.inside.Out.{Ticket, ticket_spot}
 use Rattle.class_disk.specs.inside.Rooms.{AllOut}
-use Rattle.device.specs.Served.{Reserves, Submits, StaysOpen, HandsUpNone, CancelsAt}
+use Rattle.device.specs.Served.{SamePlaces, Reserves, Submits, StaysOpen, HandsUpNone, CancelsAt}
 use Rattle.class_disk.specs.declared.parts.Part.{Part}
 use Rattle.class_disk.specs.declared.parts.Place.{Place}
 use Rattle.class_disk.specs.declared.parts.Progress.TheVariants.{Ready}
@@ -32,7 +32,7 @@ use Rattle.class_disk.specs.inside.Parts.{HasBuffers, payload_in, ticket_for, ti
 use Rattle.class_disk.specs.inside.Parts.{restarts_of}
 use Rattle.class_disk.specs.inside.TableView.{Opened, TableView, opened, ended_in, all_open, restarts_left, open_at}
 use Rattle.class_disk.specs.inside.TableCalls.{IsReadyAt, CanNumber, SendsPart, SendsPartAgain}
-use Rattle.class_disk.specs.inside.Driver.{known, knowns, tickets, packet_above, IsReadyPart, IsHeld, IsOpen}
+use Rattle.class_disk.specs.inside.Driver.{view_of, known, knowns, tickets, packet_above, IsReadyPart, IsHeld, IsOpen}
 use Rattle.class_disk.specs.inside.Driver.{IsOpenCut, IsBuffered, IsWritten, HaveCauses, AreOwned, WentInTurn}
 use Rattle.class_disk.specs.inside.Driver.{AreAsked, AreSpotted, AreKept, AreBelow}
 use Rattle.class_disk.specs.Opening.{most_over}
@@ -58,6 +58,7 @@ pub record GoesOn (v : DeviceView) (b : TableView) (starts : List DeviceLabel) (
   pub adapter : MovesByAll v.adapter starts v'.adapter
   pub same_rules : v'.rules ≡ v.rules
   pub same_most : v'.most ≡ v.most
+  pub same_places : SamePlaces (view_of v b) (view_of v' b')
   pub same_last : b'.last_request ≡ b.last_request
   pub same_submitted : b'.submitted ≡ b.submitted
   pub same_packets : map packet_above b'.opens ≡ map packet_above b.opens

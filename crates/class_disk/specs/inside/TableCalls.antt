@@ -167,16 +167,18 @@ pub record Completes (sizes : Sizes) (o : Opened) (climb : Climb) (parts : List 
 
 -- THE TABLE
 
--- no request is open, and there are no slots; the list of the ended has room for this many
-abbrev pub empty_books : Sizes → ℕ → TableView
-empty_books sizes ended_places = record {
+-- no request is open, and there are no slots, nor room for any
+abbrev pub empty_books : Sizes → TableView
+empty_books sizes = record {
   sizes = sizes;
   opens = [];
   held = [];
   rooms = [];
   owners = [];
   ended = [];
-  ended_places = ended_places;
+  ended_places = 0;
+  slot_places = 0;
+  owner_places = 0;
   last_request = 0;
   next_packet = 1;
   submitted = 0;
@@ -189,10 +191,10 @@ pub record AddsSlot (old : TableView) (held : ClosedSlot) (new : TableView) : Ty
   pub room : SetsRoom old.rooms held.slot None (Some (reserved_for held)) new.rooms
   pub after : new ≡ record old { held = new.held; rooms = new.rooms }
 
--- no slot is added; the list of the ended may have more room
+-- no slot is added; there may be room for more, and the list of the ended has no less
 pub record AddsNoSlot (old new : TableView) : Type 0 where
   pub places : old.ended_places ≤ new.ended_places
-  pub after : new ≡ record old { ended_places = new.ended_places }
+  pub after : new ≡ record old { ended_places = new.ended_places; slot_places = new.slot_places }
 
 -- a slot with no packet is given up, and what it had is this
 pub record RemovesSlot (old : TableView) (slot : ℕ) (places : Places) (new : TableView) : Type 0 where

@@ -1,6 +1,6 @@
 -- What the class driver has in its table.
 use Rattle.std.specs.Prelude.{◌≡◌, ◌<◌, ◌≤◌, ℕ, ◌+◌, ◌-◌, ◌==◌, Bool, true, false, List, [], ◌∷◌, map}
-use Rattle.std.specs.Prelude.{Option, Some, None, if◌then◌else◌}
+use Rattle.std.specs.Prelude.{Option, Some, None, vec_capacity, if◌then◌else◌}
 use Rattle.std.specs.VecDeque.{deque_capacity}
 use Rattle.slab.specs.Slab.{HasRoomFor, Updates, get, slab_len}
 use Rattle.irp.specs.declared.Irp.{Irp}
@@ -49,6 +49,9 @@ pub record TableView : Type 0 where
   pub ended : List ℕ
   -- how many slots the list of the ended has room for
   pub ended_places : ℕ
+  -- how many slots there is room for, and for the owners of how many spots below
+  pub slot_places : ℕ
+  pub owner_places : ℕ
   pub last_request : ℕ
   -- the number of the next packet: one more than were sent so far
   pub next_packet : ℕ
@@ -123,11 +126,17 @@ books_of table = record {
   owners = table.owners.items;
   ended = table.ended.items;
   ended_places = deque_capacity table.ended;
+  slot_places = table.slots.capacity;
+  owner_places = vec_capacity table.owners;
   last_request = table.last_request;
   next_packet = table.next_packet;
   submitted = table.submitted;
   removing = table.removing;
 }
+
+-- for how many items the table has room before it has to grow
+abbrev pub room_in_all : TableView → ℕ
+room_in_all b = b.slot_places + b.owner_places + b.ended_places
 
 -- one more slot needs no memory
 pub record HasRoomForMore (table : Table) : Type 0 where
@@ -148,12 +157,14 @@ pub record IsVacantFor (table : Table) (slot : ℕ) : Type 0 where
 pub record TakesOut (old : Table) (slot : ℕ) (new : Table) : Type 0 where
   pub updates : Updates old.slots new.slots slot None
   pub vacant : IsVacantFor new slot
+  pub same_places : new.slots.capacity ≡ old.slots.capacity
   pub after : new ≡ record old { slots = new.slots }
 
 -- an open request is put back into its slot
 pub record PutsBack (old : Table) (slot : ℕ) (transfer : Transfer) (new : Table) : Type 0 where
   pub was_vacant : get old.slots slot ≡ None
   pub updates : Updates old.slots new.slots slot (Some (Open transfer))
+  pub same_places : new.slots.capacity ≡ old.slots.capacity
   pub after : new ≡ record old { slots = new.slots }
 
 -- an open request without its slot

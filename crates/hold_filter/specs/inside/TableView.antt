@@ -1,5 +1,5 @@
 -- What the filter has in its table.
-use Rattle.std.specs.Prelude.{ℕ, Bool, List, ◌++◌, map, Some}
+use Rattle.std.specs.Prelude.{ℕ, ◌+◌, Bool, List, ◌++◌, map, Some}
 use Rattle.irp.specs.declared.CancelRoutine.{CancelRoutine}
 use Rattle.irp.specs.declared.Driver.TheVariants.{Filter as IsFilter}
 use Rattle.irp.specs.declared.Irp.{Irp}
@@ -13,6 +13,10 @@ use Rattle.hold_filter.specs.declared.table.Table.{Table}
 pub record Limits : Type 0 where
   pub held : ℕ
   pub ended : ℕ
+
+-- the places of both
+abbrev pub in_all : Limits → ℕ
+in_all limits = limits.held + limits.ended
 
 -- the table, each queue as the list of its entries: the spot there and the packet
 pub record TableView : Type 0 where

@@ -10,7 +10,7 @@ use Rattle.device.specs.View.{DeviceView, Packet, Reserved, sent_bytes}
 use Rattle.hold_filter.specs.declared.table.Held.{Held}
 use Rattle.hold_filter.specs.declared.table.Table.{Table}
 use Rattle.hold_filter.specs.Shown.{Queued, FilterView}
-use Rattle.hold_filter.specs.inside.TableView.{TableView, books_of, here}
+use Rattle.hold_filter.specs.inside.TableView.{TableView, books_of, here, in_all}
 use Rattle.hold_filter.specs.inside.Packets.{request_in}
 
 -- PACKETS
@@ -80,6 +80,7 @@ view_of v b = record {
   rooms = without v.rooms (here b);
   submitted = b.submitted;
   most = v.most;
+  places = v.places + in_all b.places;
   adapter = v.adapter;
 }
 

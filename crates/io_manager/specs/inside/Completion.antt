@@ -140,6 +140,7 @@ pub record TakesEnded (below : DeviceView) (tables : Tables) (below' : DeviceVie
   pub run : Run below.rules answered (map as_label starts) below'.state
   pub adapter : MovesByAll below.adapter starts below'.adapter
   pub fewer : length below'.packets < length below.packets
+  pub places_below : below'.places ≡ below.places
   pub quiet : HasNoneToStart below.rules below.state → (starts ≡ []) × HasNoneToStart below'.rules below'.state
 
 -- some ended requests were taken and closed: first the machine starts all pieces that they made room for, then it
@@ -161,5 +162,6 @@ pub record Gathers (below : DeviceView) (tables : Tables) (below' : DeviceView) 
   pub same_next_request : tables'.next_request ≡ tables.next_request
   pub same_state : tables'.state ≡ tables.state
   pub places : SamePlaces tables tables'
+  pub places_below : below'.places ≡ below.places
   -- where no piece is left to start, none is started, and none is left afterwards
   pub quiet : HasNoneToStart below.rules below.state → (starts ≡ []) × HasNoneToStart below'.rules below'.state

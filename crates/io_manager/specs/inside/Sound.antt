@@ -51,6 +51,11 @@ holder_of request = record { number = request.number; handle = request.handle }
 abbrev pub holders_of : Slab OpenRequest → List (Option Holder)
 holders_of requests = map (option_map holder_of) requests.slots
 
+-- how many items the manager's own tables have room for
+abbrev pub own_places : Tables → ℕ
+own_places t =
+    t.labels.places + t.answered.places + deque_capacity t.untaken + t.handles.capacity + t.requests.capacity
+
 -- what the manager shows
 abbrev pub view_of : Limits → DeviceView → Tables → ManagerView
 view_of limits below tables = record {
@@ -63,6 +68,7 @@ view_of limits below tables = record {
   labels = tables.labels.items;
   answers = tables.untaken.items;
   keeps = tables.labels.keeps;
+  places = below.places + own_places tables;
 }
 
 -- the extent ends below 2^64, so that its sum fits a word
@@ -228,6 +234,7 @@ pub record Collects (below : DeviceView) (tables : Tables) (below' : DeviceView)
   pub same_next_handle : tables'.next_handle ≡ tables.next_handle
   pub same_next_request : tables'.next_request ≡ tables.next_request
   pub places : SamePlaces tables tables'
+  pub places_below : below'.places ≡ below.places
   pub removal : EndsIf ends tables.state below'.state tables'.state
   pub settled : Settled below'.rules below'.state
   pub quiet : HasNoneToStart below.rules below.state → starts ≡ []

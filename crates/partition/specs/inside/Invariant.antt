@@ -11,7 +11,7 @@ use Rattle.machine.specs.Map.{IsMap}
 use Rattle.device.specs.View.{Packet, DeviceView, Reserved, IsBounded, IsOrderly, room_at}
 use Rattle.partition.specs.inside.Noted.{asked, noted_last}
 use Rattle.partition.specs.OnDisk.{rules_over, on_disk}
-use Rattle.partition.specs.inside.Rooms.{wanted_at}
+use Rattle.partition.specs.inside.Rooms.{Wanted, wanted_at}
 use Rattle.partition.specs.Shown.{shown_of}
 use Rattle.partition.specs.Opening.{IsWholeDisk}
 
@@ -45,11 +45,11 @@ pub record IsWantedFor (rules : Rules) (wanted : Option Request) (reserved : Res
   pub is_below : reserved.request ≡ on_disk rules request
 
 -- a packet that is below notes what its spot is wanted for
-abbrev pub IsNotedAt : List (Option Request) → Packet → Type 0
+abbrev pub IsNotedAt : Wanted → Packet → Type 0
 IsNotedAt wanted packet = wanted_at wanted packet.spot ≡ Some (noted_last packet.above)
 
 -- what holds between calls
-pub record IsKept (locations_below : ℕ) (table : List Extent) (wanted : List (Option Request))
+pub record IsKept (locations_below : ℕ) (table : List Extent) (wanted : Wanted)
     (v : DeviceView) : Type 0 where
   pub on_disk : IsOnDisk table v
   -- a packet gets a stack location for the layer below

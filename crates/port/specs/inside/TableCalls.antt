@@ -28,6 +28,7 @@ pub record IsEmpty (sizes : Sizes) (b : TableView) : Type 0 where
   pub removing : b.removing ≡ false
   pub places : b.places ≡ 0
   pub rooms : b.rooms ≡ []
+  pub capacity : b.capacity ≡ record { started = sizes.depth; waiting = 0; done = 0; rooms = 0 }
 
 -- what stands at one spot changes, and at no other
 pub record SetsSlot (old : List (Option (Option Request))) (spot : ℕ) (before after : Option (Option Request)) (new : List (Option (Option Request))) : Type 0 where
@@ -46,7 +47,11 @@ IsEndedTaken rooms ended = slice_index_or rooms ended.spot None ≡ Some None
 -- a spot is reserved
 pub record AddsPlace (old : TableView) (spot : ℕ) (request : Request) (new : TableView) : Type 0 where
   pub slot : SetsSlot old.rooms spot None (Some (Some request)) new.rooms
-  pub after : new ≡ record old { places = old.places + 1; rooms = new.rooms }
+  pub after : new ≡ record old { places = old.places + 1; rooms = new.rooms; capacity = new.capacity }
+
+-- no spot is reserved, though tables may have grown
+abbrev pub AddsNone : TableView → TableView → Type 0
+AddsNone old new = new ≡ record old { capacity = new.capacity }
 
 -- a spot that was reserved is vacant
 pub record RemovesPlace (old : TableView) (spot : ℕ) (new : TableView) : Type 0 where

@@ -1,6 +1,7 @@
 -- What the port has in its queues.
 use Rattle.std.specs.Global.{Box}
-use Rattle.std.specs.Prelude.{ℕ, Bool, List, map, Option}
+use Rattle.std.specs.Prelude.{ℕ, ◌+◌, Bool, List, map, Option, vec_capacity}
+use Rattle.std.specs.VecDeque.{deque_capacity}
 use Rattle.irp.specs.declared.CancelRoutine.{CancelRoutine}
 use Rattle.irp.specs.declared.StackLocation.{StackLocation}
 use Rattle.irp.specs.declared.Irp.{Irp}
@@ -52,6 +53,17 @@ held_with irp request spot = record { irp = irp; request = request; spot = spot 
 abbrev pub held_at : ℕ × Waiting → PortPacket
 held_at e = held_with e.1.irp e.1.request e.0
 
+-- how many items each queue and table has room for before it has to grow
+pub record Capacity : Type 0 where
+  pub started : ℕ
+  pub waiting : ℕ
+  pub done : ℕ
+  pub rooms : ℕ
+
+-- all of that
+abbrev pub in_all : Capacity → ℕ
+in_all c = c.started + c.waiting + c.done + c.rooms
+
 -- the queues, each as the list of its packets
 pub record TableView : Type 0 where
   pub sizes : Sizes
@@ -69,6 +81,7 @@ pub record TableView : Type 0 where
   pub places : ℕ
   -- by spots: the request that a spot is reserved for, and Some None where a packet has the spot
   pub rooms : List (Option (Option Request))
+  pub capacity : Capacity
 
 -- what the queues show
 abbrev pub books_of : Queues → TableView
@@ -83,6 +96,12 @@ books_of q = record {
   removing = q.removing;
   places = slab_len q.rooms;
   rooms = q.rooms.slots;
+  capacity = record {
+    started = vec_capacity q.started;
+    waiting = q.waiting.places;
+    done = deque_capacity q.done.list;
+    rooms = q.rooms.capacity;
+  };
 }
 
 -- how often an entry of the queue was visited, and the packets that ended were walked

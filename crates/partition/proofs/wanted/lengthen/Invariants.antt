@@ -1,9 +1,9 @@
-use Rattle.partition.proofs.Common.{◌≡◌, ◌-◌, ◌+◌, ℕ, length, wanted_at}
+use Rattle.partition.proofs.Common.{◌≡◌, ◌-◌, ◌+◌, ℕ, length, vec_capacity, wanted_at, wanted_by}
 use Rattle.partition.proofs.wanted.lengthen.Given as goal
 
 abbrev pub invariant-loop-wanted : goal.invariant-loop-wanted
 invariant-loop-wanted l = record {
-  same : (at : ℕ) → wanted_at l.wanted.items at ≡ wanted_at l.fn.wanted.items at;
+  same : (at : ℕ) → wanted_at (wanted_by l.wanted.items (vec_capacity l.wanted)) at ≡ wanted_at (wanted_by l.fn.wanted.items (vec_capacity l.fn.wanted)) at;
 }
 
 abbrev pub decreases-loop-wanted : goal.decreases-loop-wanted

@@ -15,13 +15,13 @@ make_slot-requires g c = ended_open _ (books_of c.self.inside.extension.table) c
 pub invariant_of-self : goal.invariant_of-self
 invariant_of-self g c = record {
   takes = c.self.invariant.takes;
-  in_hand = (refused_there (g.D.Shown.view c.self.inside.extension.device) (books_of c.self.inside.extension.table) (books_of c.make_slot.new.self) c.self.invariant.in_hand c.make_slot.ensures.same (g.D.Shown.view c.self.inside.extension.device) _ (books_of c.make_slot.new.self) refl (none_asked (g.D.Shown.view c.self.inside.extension.device) _)).0;
+  in_hand = (refused_there (g.D.Shown.view c.self.inside.extension.device) (books_of c.self.inside.extension.table) (books_of c.make_slot.new.self) c.self.invariant.in_hand c.make_slot.ensures.same (g.D.Shown.view c.self.inside.extension.device) _ _ (books_of c.make_slot.new.self) refl (none_asked (g.D.Shown.view c.self.inside.extension.device) _)).0;
 }
 
 pub returns-in_err-slot-clause-refused : goal.returns-in_err-slot-clause-refused
 returns-in_err-slot-clause-refused g c =
     let h : ReservesNone c.args.self.now (view_of (g.D.Shown.view c.self.inside.extension.device) (books_of c.make_slot.new.self)) =
-    rw (← c.self.view_is) (refused_there (g.D.Shown.view c.self.inside.extension.device) (books_of c.self.inside.extension.table) (books_of c.make_slot.new.self) c.self.invariant.in_hand c.make_slot.ensures.same (g.D.Shown.view c.self.inside.extension.device) _ (books_of c.make_slot.new.self) refl (none_asked (g.D.Shown.view c.self.inside.extension.device) _)).1 in
+    rw (← c.self.view_is) (refused_there (g.D.Shown.view c.self.inside.extension.device) (books_of c.self.inside.extension.table) (books_of c.make_slot.new.self) c.self.invariant.in_hand c.make_slot.ensures.same (g.D.Shown.view c.self.inside.extension.device) _ _ (books_of c.make_slot.new.self) refl (none_asked (g.D.Shown.view c.self.inside.extension.device) _)).1 in
     on_err _ h
 
 pub reserve_parts-requires-clause-in_order : goal.reserve_parts-requires-clause-in_order
@@ -36,14 +36,14 @@ reserve_parts-requires-clause-cuts g c =
 pub invariant_of-self-in_err-parts : goal.invariant_of-self-in_err-parts
 invariant_of-self-in_err-parts g c = record {
   takes = c.self.invariant.takes;
-  in_hand = (refused_there (g.D.Shown.view c.self.inside.extension.device) (books_of c.self.inside.extension.table) (books_of c.make_slot.new.self) c.self.invariant.in_hand c.make_slot.ensures.same _ _ (books_of c.reserve_parts.new.self.table)
+  in_hand = (refused_there (g.D.Shown.view c.self.inside.extension.device) (books_of c.self.inside.extension.table) (books_of c.make_slot.new.self) c.self.invariant.in_hand c.make_slot.ensures.same _ _ _ (books_of c.reserve_parts.new.self.table)
       (ap (λ (t : Table). books_of t) c.reserve_parts.ensures.table) c.in_err-parts.ensures.refused).0;
 }
 
 pub returns-in_err-parts-clause-refused : goal.returns-in_err-parts-clause-refused
 returns-in_err-parts-clause-refused g c =
     let h : ReservesNone c.args.self.now (view_of (g.D.Shown.view c.reserve_parts.new.self.device) (books_of c.reserve_parts.new.self.table)) =
-    rw (← c.self.view_is) (refused_there (g.D.Shown.view c.self.inside.extension.device) (books_of c.self.inside.extension.table) (books_of c.make_slot.new.self) c.self.invariant.in_hand c.make_slot.ensures.same _ _ (books_of c.reserve_parts.new.self.table)
+    rw (← c.self.view_is) (refused_there (g.D.Shown.view c.self.inside.extension.device) (books_of c.self.inside.extension.table) (books_of c.make_slot.new.self) c.self.invariant.in_hand c.make_slot.ensures.same _ _ _ (books_of c.reserve_parts.new.self.table)
     (ap (λ (t : Table). books_of t) c.reserve_parts.ensures.table) c.in_err-parts.ensures.refused).1 in
     on_err _ h
 
@@ -53,7 +53,7 @@ fill-requires g c = still_vacant c.make_slot.new.self c.reserve_parts.new.self.t
 pub invariant_of-self-2 : goal.invariant_of-self-2
 invariant_of-self-2 g c = record {
   takes = c.self.invariant.takes;
-  in_hand = (reserved_above (g.D.Shown.view c.self.inside.extension.device) (books_of c.self.inside.extension.table) (books_of c.make_slot.new.self) c.self.invariant.in_hand c.make_slot.ensures.same _ _ (books_of c.reserve_parts.new.self.table)
+  in_hand = (reserved_above (g.D.Shown.view c.self.inside.extension.device) (books_of c.self.inside.extension.table) (books_of c.make_slot.new.self) c.self.invariant.in_hand c.make_slot.ensures.same _ _ _ (books_of c.reserve_parts.new.self.table)
       (ap (λ (t : Table). books_of t) c.reserve_parts.ensures.table) (held_as c.in_ok-slot.slot (record { request = c.args.request.now; parts = c.in_ok-parts.parts })) (subst (λ (x : DeviceView). IsBounded x.rules c.args.request.now) (sym c.self.view_is) c.requires.bounded)
       c.in_ok-parts.ensures.parts c.in_ok-parts.ensures.makes (books_of c.fill.new.self) c.fill.ensures
       (apart_in _ c.fill.new.self.slots.slots refl refl) (place_there c.make_slot.new.self c.in_ok-slot.ensures.place)).0;
@@ -61,7 +61,7 @@ invariant_of-self-2 g c = record {
 
 pub returns-clause-reserved : goal.returns-clause-reserved
 returns-clause-reserved g c =
-    rw (← c.self.view_is) (reserved_above (g.D.Shown.view c.self.inside.extension.device) (books_of c.self.inside.extension.table) (books_of c.make_slot.new.self) c.self.invariant.in_hand c.make_slot.ensures.same _ _ (books_of c.reserve_parts.new.self.table)
+    rw (← c.self.view_is) (reserved_above (g.D.Shown.view c.self.inside.extension.device) (books_of c.self.inside.extension.table) (books_of c.make_slot.new.self) c.self.invariant.in_hand c.make_slot.ensures.same _ _ _ (books_of c.reserve_parts.new.self.table)
     (ap (λ (t : Table). books_of t) c.reserve_parts.ensures.table) (held_as c.in_ok-slot.slot (record { request = c.args.request.now; parts = c.in_ok-parts.parts })) (subst (λ (x : DeviceView). IsBounded x.rules c.args.request.now) (sym c.self.view_is) c.requires.bounded)
     c.in_ok-parts.ensures.parts c.in_ok-parts.ensures.makes (books_of c.fill.new.self) c.fill.ensures
     (apart_in _ c.fill.new.self.slots.slots refl refl) (place_there c.make_slot.new.self c.in_ok-slot.ensures.place)).1

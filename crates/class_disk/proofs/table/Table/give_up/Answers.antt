@@ -9,5 +9,5 @@ unreachable-requires c =
 
 pub returns : goal.returns
 returns c =
-    removes_reserved c.args.self.now c.try_remove.new.self c.args.slot c.in-Some-Reserved.places
+    removes_reserved c.args.self.now c.try_remove.new.self c.args.slot c.in-Some-Reserved.places c.try_remove.ensures.capacity
     (sym c.try_remove.ensures.value ∙ c.in-Some-Reserved.is ∙ ap Some c.in-Some-Reserved.field-0-is) c.try_remove.ensures.updates
