@@ -112,6 +112,20 @@ fn is_again(places: &[Place], index: usize) -> bool
     before.partition == here.partition && before.sector == here.sector
 }
 
+/// How many different sectors these are.
+pub(crate) fn count_of(alloc: Global, places: &[Place]) -> Result<usize, AllocError> {
+    let mut places = Vec::from_slice(alloc, places)?;
+    places.sort()?;
+    let places = places.as_slice();
+    let mut count: usize = 0;
+    for index in 0..places.len() {
+        if !is_again(places, index) {
+            count = count.saturating_add(1);
+        }
+    }
+    Ok(count)
+}
+
 /// Judges these sectors.
 #[tactic(auto, using(crate::proofs::Judged::same_again))]
 fn judge_all(

@@ -7,10 +7,11 @@ ghost use Rattle.history_judge.specs.Verdicts.{IsRight, IsRightFromAny, IsUnfit}
 ghost use Rattle.history_judge.specs.inside.Histories.{IsWhole};
 ghost use Rattle.history_judge.specs.inside.Judging.{IsRightBy};
 
+use crate::allowing::allowed;
 use crate::entries::{Entry, Kept, Seen};
 use crate::fitting::{Known, Misfit};
 use crate::index::Index;
-use crate::judging::{Verdict, fails_without, judge_sectors};
+use crate::judging::{Verdict, count_of, fails_without, judge_sectors};
 use crate::service::{Place, Service};
 use crate::starting::Start;
 use crate::touched::add_moved;
@@ -138,12 +139,14 @@ impl History {
         Ok(self)
     }
 
-    /// The first label that can't come behind those before it, whatever the sectors hold: no run explains the history.
-    pub fn misfit(&self) -> Option<(usize, Misfit)>
+    /// Why the last label can't come behind those before it, if one can't: then no run explains the history, whatever the
+    /// sectors hold, and no label behind that one is counted.
+    pub fn misfit(&self) -> Option<Misfit>
         ensures { IfSome result (λ _. IsUnfit self.now.service self.now.labels) }
     {
         explained_fit();
-        self.misfit
+        let (_, why) = self.misfit?;
+        Some(why)
     }
 
     /// Judges the labels so far.
@@ -202,6 +205,15 @@ impl History {
     /// How many of them are calls.
     pub fn requests(&self) -> usize {
         self.fitted.index.spans.len().saturating_sub(1)
+    }
+
+    /// How many sectors their calls move.
+    ///
+    /// # Errors
+    ///
+    /// [`AllocError`] where memory was refused.
+    pub fn sectors(&self, alloc: Global) -> Result<usize, AllocError> {
+        count_of(alloc, self.fitted.places.as_slice())
     }
 
     /// The number of the request that a label calls or answers.
@@ -295,6 +307,30 @@ impl History {
         }
     }
 
+    /// What a read, at whose answer a sector has no schedule, might have given of it instead: the latest such writes, by the
+    /// labels of their calls, and `None` for what it had at the start. It tells four writes at most, of the latest ones that
+    /// bring 64 different bytes.
+    ///
+    /// # Errors
+    ///
+    /// [`AllocError`] where memory was refused.
+    pub fn allowed(
+        &self,
+        alloc: Global,
+        label: usize,
+        place: Place,
+        any_start: bool,
+    ) -> Result<Vec<Option<usize>>, AllocError> {
+        let start = self.start_of(alloc, any_start)?;
+        allowed(alloc, &self.fitted, &start, label, place)
+    }
+
+    /// What its sectors had at the start.
+    fn start_of(&self, alloc: Global, any: bool) -> Result<Start, AllocError> {
+        let bytes = Vec::from_slice(alloc, self.start.as_slice())?;
+        Ok(Start { bytes, any })
+    }
+
     /// The numbers of the requests that are answered DEVICE_BUSY, rising.
     fn busy(&self, alloc: Global) -> Result<Vec<u64>, AllocError> {
         let mut numbers = Vec::new(alloc);
@@ -331,10 +367,7 @@ impl History {
         if busy.is_empty() {
             return Ok(None);
         }
-        let start = Start {
-            bytes: Vec::from_slice(alloc, self.start.as_slice())?,
-            any: any_start,
-        };
+        let start = self.start_of(alloc, any_start)?;
         fails_without(alloc, &self.fitted, &start, busy.as_slice())
     }
 }

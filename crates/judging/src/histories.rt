@@ -6,22 +6,24 @@ ghost use Rattle.judging.specs.Histories.{IsOfSettings, JudgedBy};
 ghost use Rattle.judging.specs.inside.Saying.{IsBy, IsSaid, IsServiceOf};
 
 use crate::Error;
-use crate::fields::Fields;
+use crate::findings::{Finding, object_of, write_finding};
 use crate::opened::{extents, zero_sector};
 use crate::progress::Progress;
 use crate::reading::{is_ended, next_line, without_end};
 use crate::told::{Told, told_whole};
 use compose::LONGEST_REQUEST;
-use history_judge::{History, Misfit, Place, Service};
+use history_judge::{History, Place, Service};
 use machine::Label;
 use settings::Config;
 use startup::{Verdict, read_settings};
 use std::alloc::{AllocError, Global};
-use std::io;
 use std::io::{BufRead, BufReader, Read, Write};
 
 /// How many bytes are read at once.
 const BUFFER: usize = 65_536;
+
+/// How many labels are read before they are judged the first time.
+const FIRST_LOOK: usize = 4_096;
 
 /// How a history is judged, and told of.
 #[derive(Debug, Clone, Copy)]
@@ -41,11 +43,13 @@ pub struct Listeners<O, W> {
 
 /// The calls and answers of a text.
 #[derive(Drop)]
-struct Recorded {
-    history: History,
+pub(crate) struct Recorded {
+    pub history: History,
     /// The numbers of their lines, from 1.
     lines: Vec<u64>,
-    any_start: bool,
+    pub any_start: bool,
+    /// With how many of them it is judged next, though more may come.
+    next_look: usize,
 }
 
 /// What is said of a history.
@@ -57,48 +61,52 @@ pub(crate) enum Said {
     Busy(Place),
 }
 
-/// Where bytes are from that were read.
-#[derive(Debug, Clone, Copy)]
-enum Source {
-    Start,
-    Nobody,
-    /// The label of this call.
-    Call(usize),
-}
-
 impl Recorded {
+    /// Whether no run explains what was read, whatever comes behind it. That is looked at whenever the labels have doubled, and
+    /// where a label can't come behind those before it.
+    fn is_refused(&mut self, alloc: Global) -> Result<bool, AllocError> {
+        if self.history.misfit().is_some() {
+            return Ok(true);
+        }
+        if self.lines.len() < self.next_look {
+            return Ok(false);
+        }
+        self.next_look = self.lines.len().saturating_mul(2);
+        let verdict = verdict_of(alloc, &self.history, self.any_start)?;
+        Ok(matches!(verdict, history_judge::Verdict::Refused { .. }))
+    }
+
     /// The line of a label.
-    fn line_of(&self, label: usize) -> u64 {
+    pub fn line_of(&self, label: usize) -> u64 {
         self.lines.get(label).copied().unwrap_or(0)
     }
 
-    /// Where what an answer gives of a sector is from, if it is of a read.
-    fn source_of(&self, label: usize, place: Place) -> Option<Source> {
-        let bytes = self.history.read_at(label, place)?;
-        if let Some(call) = self.history.writer_of(label, place, bytes) {
-            return Some(Source::Call(call));
+    /// What a refused read might have seen instead, if one is refused.
+    fn allowed(&self, alloc: Global, said: Said) -> Result<Vec<Option<usize>>, AllocError> {
+        let Said::By(history_judge::Verdict::Refused { place, label }) = said else {
+            return Ok(Vec::new(alloc));
+        };
+        if self.history.read_at(label, place).is_none() {
+            return Ok(Vec::new(alloc));
         }
-        if are_zero(bytes) && !self.any_start {
-            Some(Source::Start)
-        } else {
-            Some(Source::Nobody)
-        }
+        self.history.allowed(alloc, label, place, self.any_start)
     }
-}
 
-/// Whether all bytes are zero, as at the start.
-fn are_zero(bytes: &[u8]) -> bool {
-    for byte in bytes {
-        if *byte != 0 {
-            return false;
-        }
+    /// What is told of it.
+    fn finding(&self, alloc: Global) -> Result<Finding, AllocError> {
+        let said = judged(alloc, self)?;
+        Ok(Finding {
+            said,
+            sectors: self.history.sectors(alloc)?,
+            allowed: self.allowed(alloc, said)?,
+        })
     }
-    true
 }
 
 /// Judges a history by the sizes and partitions of some settings, from sectors of zeros, or where it is asked for of any bytes,
 /// and writes what it is: `legal` with the number of its requests, the first line at which it is explained by no run, or the
-/// sector that is undecided. It has passed where it is legal. Lines of the service's device are passed over.
+/// sector that is undecided. It has passed where it is legal. Lines of the service's device are passed over. A line that can't
+/// stand where it does ends the reading; what no order of requests explains ends it when the lines have doubled.
 ///
 /// # Errors
 ///
@@ -115,24 +123,25 @@ pub fn judge_history<C: Read + Drop, T: Read + Drop, O: Write, W: Write>(
     let Ok(mut input) = BufReader::with_capacity(alloc, BUFFER, history) else {
         return Err(Error::NoMemory);
     };
-    let history = no_label(alloc, &config)?;
-    let recorded = read_history(alloc, &mut input, history, &mut listeners.progress)?;
     let recorded = Recorded {
+        history: no_label(alloc, &config)?,
+        lines: Vec::new(alloc),
         any_start: terms.any_start,
-        ..recorded
+        next_look: FIRST_LOOK,
     };
+    let recorded = read_history(alloc, &mut input, recorded, &mut listeners.progress)?;
     if recorded.history.count() == 0 {
         return Err(Error::NoLabel);
     }
-    let said = judged(alloc, &recorded)?;
+    let finding = recorded.finding(alloc)?;
     if terms.json {
-        let object = object_of(alloc, &recorded, said)?;
+        let object = object_of(alloc, &recorded, &finding)?;
         writeln!(listeners.out, "{object}")?;
     } else {
-        write_said(&mut listeners.out, &recorded, said)?;
+        write_finding(&mut listeners.out, &recorded, &finding)?;
     }
     listeners.out.flush()?;
-    Ok(match said {
+    Ok(match finding.said {
         Said::By(history_judge::Verdict::Passed) => Verdict::Passed,
         _ => Verdict::Failed,
     })
@@ -177,18 +186,13 @@ fn no_label(alloc: Global, config: &Config) -> Result<History, AllocError>
     History::new(alloc, service, start.as_slice())
 }
 
-/// Takes the calls and answers that the lines of an input tell.
+/// Takes the calls and answers that the lines of an input tell, up to the end or to where no run explains them.
 fn read_history<B: BufRead, W: Write>(
     alloc: Global,
     input: &mut B,
-    history: History,
+    mut recorded: Recorded,
     progress: &mut Progress<W>,
 ) -> Result<Recorded, Error> {
-    let mut recorded = Recorded {
-        history,
-        lines: Vec::new(alloc),
-        any_start: false,
-    };
     let mut line = Vec::new(alloc);
     for index in 0..u64::MAX {
         next_line(input, &mut line)?;
@@ -197,6 +201,9 @@ fn read_history<B: BufRead, W: Write>(
             Told::Line(told) => {
                 recorded = with(alloc, recorded, number, told.line.label)?;
                 progress.say_read(recorded.lines.len() as u64);
+                if recorded.is_refused(alloc)? {
+                    return Ok(recorded);
+                }
             }
             Told::Nothing => {}
             Told::BadWord { column } => {
@@ -228,6 +235,7 @@ fn with(
         history,
         mut lines,
         any_start,
+        next_look,
     } = recorded;
     lines.push(line)?;
     let history = history.push(alloc, label)?;
@@ -235,6 +243,7 @@ fn with(
         history,
         lines,
         any_start,
+        next_look,
     })
 }
 
@@ -263,179 +272,4 @@ fn verdict_of(
         return history.judge_any_start(alloc);
     }
     history.judge(alloc)
-}
-
-/// Writes what is said of a history.
-fn write_said<O: Write>(out: &mut O, recorded: &Recorded, said: Said) -> io::Result<()> {
-    match said {
-        Said::By(verdict) => write_verdict(out, recorded, verdict),
-        Said::Busy(Place { partition, sector }) => writeln!(
-            out,
-            "undecided: a write that was answered DEVICE_BUSY had an effect on sector {sector} of partition {partition}"
-        ),
-    }
-}
-
-/// Writes a verdict.
-fn write_verdict<O: Write>(
-    out: &mut O,
-    recorded: &Recorded,
-    verdict: history_judge::Verdict,
-) -> io::Result<()> {
-    match verdict {
-        history_judge::Verdict::Passed => {
-            let requests = recorded.history.requests();
-            writeln!(out, "legal: {requests} requests")
-        }
-        history_judge::Verdict::Misfit { label, why } => {
-            let line = recorded.line_of(label);
-            let told = text_of(why);
-            writeln!(out, "line {line}: {told}")
-        }
-        history_judge::Verdict::Refused { place, label } => {
-            write_refused(out, recorded, place, label)
-        }
-        history_judge::Verdict::Undecided { place } => {
-            let Place { partition, sector } = place;
-            writeln!(
-                out,
-                "undecided: sector {sector} of partition {partition} may be in too many states"
-            )
-        }
-    }
-}
-
-/// Why a label can't come where it stands.
-fn text_of(why: Misfit) -> &'static str {
-    match why {
-        Misfit::Number => "the call has not the next number",
-        Misfit::Bytes =>
-            "the call has not the bytes that it asks to write, or is refused and has some",
-        Misfit::Owing => "the refused call before it is to be answered first",
-        Misfit::NotOpen => "no request of this number is open",
-        Misfit::Answer => "no run answers the request so",
-    }
-}
-
-/// Writes of which sector no order of requests explains an answer, what it read there, and who wrote that.
-fn write_refused<O: Write>(
-    out: &mut O,
-    recorded: &Recorded,
-    place: Place,
-    label: usize,
-) -> io::Result<()> {
-    let line = recorded.line_of(label);
-    let request = recorded.history.number_of(label);
-    let Place { partition, sector } = place;
-    write!(out, "line {line}: request {request} ")?;
-    let Some(source) = recorded.source_of(label, place) else {
-        return writeln!(
-            out,
-            "ended, and no order of the requests explains sector {sector} of partition {partition}"
-        );
-    };
-    write!(out, "read sector {sector} of partition {partition} as ")?;
-    write_source(out, recorded, source)?;
-    writeln!(out, ", and no order of the requests explains that")
-}
-
-/// Writes where bytes that were read are from.
-fn write_source<O: Write>(out: &mut O, recorded: &Recorded, source: Source) -> io::Result<()> {
-    match source {
-        Source::Start => write!(out, "it was at the start"),
-        Source::Nobody => write!(out, "nobody had written it"),
-        Source::Call(call) => {
-            let request = recorded.history.number_of(call);
-            let line = recorded.line_of(call);
-            write!(out, "request {request} (line {line}) wrote it")
-        }
-    }
-}
-
-/// What is said of a history, as a JSON object.
-fn object_of(alloc: Global, recorded: &Recorded, said: Said) -> Result<String, AllocError> {
-    match said {
-        Said::By(verdict) => verdict_object(alloc, recorded, verdict),
-        Said::Busy(place) => undecided_object(alloc, "busy", place),
-    }
-}
-
-/// That a sector is undecided, and why.
-fn undecided_object(alloc: Global, why: &str, place: Place) -> Result<String, AllocError> {
-    let Place { partition, sector } = place;
-    format!(in alloc;
-        "{{\"verdict\": \"undecided\", \"why\": \"{why}\", \"partition\": {partition}, \"sector\": {sector}}}"
-    )
-}
-
-/// A verdict.
-fn verdict_object(
-    alloc: Global,
-    recorded: &Recorded,
-    verdict: history_judge::Verdict,
-) -> Result<String, AllocError> {
-    match verdict {
-        history_judge::Verdict::Passed => {
-            let requests = recorded.history.requests();
-            format!(in alloc; "{{\"verdict\": \"legal\", \"requests\": {requests}}}")
-        }
-        history_judge::Verdict::Misfit { label, why } => {
-            broken_object(alloc, recorded, label, text_of(why), None)
-        }
-        history_judge::Verdict::Refused { place, label } => {
-            broken_object(alloc, recorded, label, NO_ORDER, Some(place))
-        }
-        history_judge::Verdict::Undecided { place } => undecided_object(alloc, "states", place),
-    }
-}
-
-/// The rule of an answer that no order of requests explains.
-const NO_ORDER: &str = "no order of the requests explains it";
-
-/// Which line is refused, and why.
-fn broken_object(
-    alloc: Global,
-    recorded: &Recorded,
-    label: usize,
-    why: &str,
-    place: Option<Place>,
-) -> Result<String, AllocError> {
-    let line = recorded.line_of(label);
-    let mut fields = Fields::new(alloc, true);
-    fields.number("request", Some(recorded.history.number_of(label) as u128))?;
-    if let Some(place) = place {
-        tell_place(recorded, label, place, &mut fields)?;
-    }
-    let more = fields.text.as_str();
-    format!(in alloc; "{{\"verdict\": \"refused\", \"line\": {line}, \"rule\": \"{why}\"{more}}}")
-}
-
-/// Tells of which sector an answer is not explained, and what it read there, if it is of a read.
-fn tell_place(
-    recorded: &Recorded,
-    label: usize,
-    place: Place,
-    fields: &mut Fields,
-) -> Result<(), AllocError> {
-    let Place { partition, sector } = place;
-    fields.number("partition", Some(partition as u128))?;
-    fields.number("sector", Some(sector as u128))?;
-    let Some(bytes) = recorded.history.read_at(label, place) else {
-        return Ok(());
-    };
-    match recorded.source_of(label, place) {
-        None => Ok(()),
-        Some(Source::Start) => tell_found(fields, bytes, "start"),
-        Some(Source::Nobody) => tell_found(fields, bytes, "nobody"),
-        Some(Source::Call(call)) => {
-            fields.bytes("found", bytes, Some(recorded.line_of(call)))?;
-            fields.number("writer", Some(recorded.history.number_of(call) as u128))
-        }
-    }
-}
-
-/// Tells bytes that no call wrote.
-fn tell_found(fields: &mut Fields, bytes: &[u8], writer: &str) -> Result<(), AllocError> {
-    fields.bytes("found", bytes, None)?;
-    fields.word("writer", writer)
 }

@@ -24,6 +24,7 @@ mod details;
 pub mod drawing;
 mod faults;
 mod fields;
+mod findings;
 pub mod histories;
 mod left;
 mod misstep;
