@@ -276,6 +276,14 @@ can_multi_conn(void *handle)
 	return 1;
 }
 
+/* Holes are what the file system tells of; the stack knows none. */
+static int
+can_extents(void *handle)
+{
+	(void) handle;
+	return image_file != NULL && !is_target;
+}
+
 static int
 can_fua(void *handle)
 {
@@ -358,6 +366,22 @@ flush_(void *handle, uint32_t flags)
 	return answered("flush", image_file != NULL ? own_disk_flush(&image) : saddlemug_flush(&volume));
 }
 
+static int
+extents_(void *handle, uint32_t count, uint64_t offset, uint32_t flags, struct nbdkit_extents *extents)
+{
+	(void) handle;
+	for (uint64_t end = offset + count; offset < end;) {
+		bool is_hole;
+		uint64_t length = own_disk_extent(&image, offset, end - offset, &is_hole);
+		if (nbdkit_add_extent(extents, offset, length, is_hole ? NBDKIT_EXTENT_HOLE | NBDKIT_EXTENT_ZERO : 0) != 0)
+			return -1;
+		if ((flags & NBDKIT_FLAG_REQ_ONE) != 0)
+			return 0;
+		offset += length;
+	}
+	return 0;
+}
+
 static struct nbdkit_plugin plugin = {
 	.name = "saddlemug",
 	.description = "a disk in memory, or a raw image file, behind a proved storage stack",
@@ -382,6 +406,8 @@ static struct nbdkit_plugin plugin = {
 	.pread = pread_,
 	.pwrite = pwrite_,
 	.flush = flush_,
+	.can_extents = can_extents,
+	.extents = extents_,
 	.errno_is_preserved = 1,
 };
 

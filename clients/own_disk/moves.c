@@ -99,6 +99,22 @@ hole_of(int file, uint64_t length, uint64_t offset)
 	return length;
 }
 
+uint64_t
+own_disk_extent(const struct own_disk *disk, uint64_t offset, uint64_t length, bool *is_hole)
+{
+	*is_hole = false;
+	if (disk->target != NULL)
+		return length;
+	offset += disk->start;
+	uint64_t hole = hole_of(disk->file, length, offset);
+	if (hole > 0) {
+		*is_hole = true;
+		return hole;
+	}
+	off_t end = lseek(disk->file, offset, SEEK_HOLE);
+	return end > (off_t) offset && (uint64_t) end - offset < length ? end - offset : length;
+}
+
 /* All bytes, but for zeros where the file has a hole. 0, or the number of the error. */
 static int
 write_sparse(int file, const uint8_t *at, uint64_t length, uint64_t offset)

@@ -40,14 +40,14 @@ make_table(uint8_t *sector, uint64_t count)
 	sector[511] = 0xAA;
 }
 
-/* The sectors of a partition, counted from 0 in the used entries of a table. 0: there is none. */
-static uint64_t
-sectors_of(const uint8_t *table, int partition)
+/* The entry of a partition, counted from 0 in the used entries of a table. NULL: there is none. */
+static const uint8_t *
+entry_of(const uint8_t *table, int partition)
 {
 	for (const uint8_t *entry = table + 446; entry < table + 510; entry += 16)
 		if (entry[4] != 0 && partition-- == 0)
-			return get_32(entry + 12);
-	return 0;
+			return entry;
+	return NULL;
 }
 
 /* Locks a byte for as long as the file is open. False where somebody keeps that off. */
@@ -115,7 +115,11 @@ read_sector(int file, uint8_t *at, size_t length)
 static const char *
 find_partition(struct own_disk *disk, int partition, const uint8_t *first)
 {
-	disk->size = sectors_of(first, partition) * disk->sector_size;
+	const uint8_t *entry = entry_of(first, partition);
+	if (entry != NULL) {
+		disk->start = (uint64_t) get_32(entry + 8) * disk->sector_size;
+		disk->size = (uint64_t) get_32(entry + 12) * disk->sector_size;
+	}
 	return disk->size != 0 ? NULL
 		: "it has no such partition: they are counted from 0, and unused entries of the table left out";
 }

@@ -2,7 +2,7 @@
 //!
 //! # Promises
 //!
-//! A history of calls and answers that `history_judge::judge` passes is explained by a run of the sector machine
+//! A history of calls and answers that `judge` of history_judge passes is explained by a run of the sector machine
 //! (`passed_are_explained`), from arrays of which each sector has the bytes that the judge was given. Each sector must have
 //! an address of 64 bits, and no write be answered DEVICE_BUSY. What `judge_any_start` passes is explained so from some
 //! arrays, whose sectors have the right size (`passed_from_some_are_explained`).
