@@ -1,5 +1,5 @@
 -- Which steps ask for memory, and that no other changes the room of a table.
-use Rattle.compose.proofs.Common.{◌≡◌, ◌⊎◌, inl, inr, ℕ, Bool, true, false, List, [], ◌∷◌, Option, Some, None, refl, subst, ap, when, first_some, ClientRequest, Handle, Id, Refusal, Reply, ManagerView, Told, IsRight, OpenReplies, CloseReplies, TransferReplies, CancelReplies, MarkReplies, PnpReplies, RecallReplies, ActReplies, FinishReplies, RefusesAlone, IsRecalled, pnp_state, Event, IsTransferEvent, AsksMemory, TakesNoMemory, StepsTakeNoMemory}
+use Rattle.compose.proofs.Common.{◌≡◌, inl, inr, ℕ, Bool, true, false, List, [], ◌∷◌, Option, Some, None, refl, subst, ap, when, first_some, ClientRequest, Handle, Id, Refusal, Reply, ManagerView, Told, OpenReplies, CloseReplies, TransferReplies, CancelReplies, MarkReplies, PnpReplies, RecallReplies, ActReplies, FinishReplies, RefusesAlone, IsRecalled, pnp_state, Event, IsTransferEvent, AsksMemory, TakesNoMemory, StepsTakeNoMemory}
 use Rattle.ntstatus.specs.declared.NtStatus.TheVariants.{InvalidParameter as ParameterStatus, DeletePending as PendingStatus, DeviceBusy as BusyStatus, InsufficientResources as ResourcesStatus}
 use Rattle.machine.specs.declared.Label.{Label}
 use Rattle.pnp.specs.declared.State.{State as PnpState}

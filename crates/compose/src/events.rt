@@ -168,7 +168,7 @@ fn carry_all<D: Hold>(
     Ok(shown)
 }
 
-/// Carries out one event and takes its labels, in exchange for an empty queue with places for those of the next.
+/// Carries out one event and takes its labels, in an empty queue with places for them.
 fn carry_out<D: Hold>(
     manager: &mut IoManager<D>,
     alloc: Global,

@@ -333,21 +333,89 @@ fn label_of(alloc: Global, step: &Step) -> Result<Label, AllocError> {
     })
 }
 
+/// The history of these steps, of four sectors of zeros.
+fn recorded(alloc: Global, steps: &[Step]) -> Result<History, AllocError> {
+    let service = Service {
+        sector_size: 2,
+        partitions: vec![in alloc; Extent { first: 1, count: 4 }]?,
+        longest: 8,
+    };
+    let mut history = History::new(alloc, service, &[0, 0])?;
+    for step in steps {
+        history = history.push(alloc, label_of(alloc, step)?)?;
+    }
+    Ok(history)
+}
+
 #[test]
 fn histories_are_judged(rt: HostRuntime) -> Result<(), Fail> {
     let alloc = rt.alloc();
     for (name, steps, wanted) in CASES {
-        let service = Service {
-            sector_size: 2,
-            partitions: vec![in alloc; Extent { first: 1, count: 4 }]?,
-            longest: 8,
-        };
-        let mut history = History::new(alloc, service, &[0, 0])?;
-        for step in steps {
-            history = history.push(alloc, label_of(alloc, step)?)?;
-        }
-        let verdict = history.judge(alloc)?;
+        let verdict = recorded(alloc, steps)?.judge(alloc)?;
         assert_eq!(&rt; verdict, wanted, "{name}");
     }
+    Ok(())
+}
+
+/// A write of two sectors, and a read that finds the second as it was at the start.
+static LOST: [Step; 4] = [
+    Step::Write {
+        number: 1,
+        sector: 0,
+        bytes: &[1, 2, 3, 4],
+    },
+    Step::Written {
+        number: 1,
+        length: 4,
+    },
+    Step::Read {
+        number: 2,
+        sector: 0,
+        count: 2,
+    },
+    Step::Good {
+        number: 2,
+        bytes: &[1, 2, 0, 0],
+    },
+];
+
+#[test]
+fn a_refused_read_is_told(rt: HostRuntime) -> Result<(), Fail> {
+    let alloc = rt.alloc();
+    let history = recorded(alloc, LOST.as_slice())?;
+    assert!(&rt; history.count() == 4 && history.requests() == 2 && history.sectors(alloc)? == 2);
+    assert!(&rt; history.number_of(3) == 2 && history.misfit().is_none());
+    assert!(&rt; matches!(history.read_at(3, SECOND), Some([0, 0])));
+    assert!(&rt; history.writer_of(3, SECOND, &[3, 4]) == Some(0));
+    assert!(&rt; history.writer_of(3, SECOND, &[0, 0]).is_none());
+    assert!(&rt;
+        matches!(
+            history.allowed(alloc, 3, SECOND, false)?.as_slice(),
+            [Some(0)]
+        )
+    );
+    let verdict = history.judge_any_start(alloc)?;
+    assert!(&rt;
+        matches!(
+            verdict,
+            Verdict::Refused {
+                place: SECOND,
+                label: 3
+            }
+        )
+    );
+    assert!(&rt; history.fails_without_busy(alloc, false)?.is_none());
+    Ok(())
+}
+
+/// The answers to no call.
+static ANSWERS: [Step; 2] = [Step::Bad { number: 1 }, Step::Bad { number: 1 }];
+
+#[test]
+fn nothing_is_taken_behind_a_misfit(rt: HostRuntime) -> Result<(), Fail> {
+    let alloc = rt.alloc();
+    let history = recorded(alloc, ANSWERS.as_slice())?;
+    assert!(&rt; matches!(history.misfit(), Some(Misfit::NotOpen)));
+    assert!(&rt; history.count() == 1 && history.requests() == 0 && history.number_of(0) == 1);
     Ok(())
 }

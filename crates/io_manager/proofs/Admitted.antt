@@ -226,7 +226,7 @@ module _ (limits : Limits) (below : DeviceView) (tables : Tables) (q : ClientReq
                 (λ kept reads. subst (λ n. n ≤ copies.label_bytes) (sym same_length ∙ asks.length_is) (let e : copies.label_bytes ≡ length buffer = buffers.label_bytes (h.places.label_bytes ∙ kept) ∙ ap (λ kind. answer_room_of kind (length buffer)) reads in omega (arith, e))) distinct.given h.numbers.rising h.held);
             few = omega arith;
             places = record {
-              labels = subst (λ capacity. 256 ≤ capacity) (sym labels) h.places.labels;
+              labels = labels ∙ h.places.labels;
               answered = h.places.answered;
               alike = h.places.alike ∙ sym admits.label_places.1;
               label_bytes = admits.label_places.2 ∙ h.places.label_bytes;

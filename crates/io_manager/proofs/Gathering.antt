@@ -117,7 +117,7 @@ module _ {w : Bool} (takes_srb : Bool) (old new : DeviceView) (spot : ℕ) (irp 
       let some : 64 ≤ t.answered.places = p.answered in
       let as_many : t'.answered.places ≡ t.answered.places = c.places.answered.0 in
       record {
-        labels = rw c.same_labels p.labels;
+        labels = ap (λ (q : QueueView Label). q.places) c.same_labels ∙ p.labels;
         answered = omega arith;
         alike = c.places.answered.1 ∙ p.alike ∙ sym (ap (λ (q : QueueView Label). q.keeps) c.same_labels);
         label_bytes = ap (λ (q : QueueView Label). q.keeps_bytes) c.same_labels ∙ p.label_bytes;
@@ -386,7 +386,7 @@ told_sound limits mid new t t' t'' taken s kept none e removal label_places answ
       held = s.held;
       few = s.few;
       places = record {
-        labels = subst (λ n. 256 ≤ n) (sym (e.label_places.0 ∙ label_places.0)) s.places.labels;
+        labels = e.label_places.0 ∙ label_places.0 ∙ s.places.labels;
         answered = subst (λ n. 64 ≤ n) (sym answer_places.0) s.places.answered;
         alike = answer_places.1 ∙ s.places.alike ∙ sym (e.label_places.1 ∙ label_places.1);
         label_bytes = e.label_places.2 ∙ label_places.2 ∙ s.places.label_bytes;

@@ -108,7 +108,7 @@ module _ (below : DeviceView) (tables : Tables) (below' : DeviceView) (tables' :
         held = s.held;
         few = s.few;
         places = record {
-          labels = subst (λ n. 256 ≤ n) (sym t.label_places.0) s.places.labels;
+          labels = t.label_places.0 ∙ s.places.labels;
           answered = s.places.answered;
           alike = s.places.alike ∙ sym t.label_places.1;
           label_bytes = t.label_places.2 ∙ s.places.label_bytes;

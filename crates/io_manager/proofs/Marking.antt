@@ -239,7 +239,7 @@ marked_sound limits below below' tables tables' slot place h distinct m cancels 
           (distinct_first request_number below.state.requests cancels.request cancels.others distinct.requests cancels.is_open) h.held);
       few = rw m.counted h.few;
       places = record {
-        labels = subst (λ n. 256 ≤ n) (sym m.label_places.0) h.places.labels;
+        labels = m.label_places.0 ∙ h.places.labels;
         answered = h.places.answered;
         alike = h.places.alike ∙ sym m.label_places.1;
         label_bytes = m.label_places.2 ∙ h.places.label_bytes;

@@ -151,7 +151,7 @@ beside_sound limits below below' tables tables1 p label h beside asks in_state m
       held = AreHeld-along tables.requests below.state below'.state asks h.held;
       few = h.few;
       places = record {
-        labels = subst (λ n. 256 ≤ n) (sym moved.label_places.0) h.places.labels;
+        labels = moved.label_places.0 ∙ h.places.labels;
         answered = h.places.answered;
         alike = h.places.alike ∙ sym moved.label_places.1;
         label_bytes = moved.label_places.2 ∙ h.places.label_bytes;

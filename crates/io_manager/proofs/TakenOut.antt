@@ -1,11 +1,12 @@
 -- One of the answers that wait is taken out, or the earliest label.
-use Rattle.std.proofs.Common.{◌≡◌, ◌<◌, ◌≤◌, ℕ, zero, suc, Bool, IsTrue, refl, List, [], ◌∷◌, None, sym, ap, ◌∙◌, subst, arith, map}
+use Rattle.std.proofs.Common.{◌≡◌, ◌<◌, ◌≤◌, ◌+◌, ℕ, zero, suc, Bool, IsTrue, refl, List, [], ◌∷◌, None, sym, ap, ◌∙◌, subst, arith, map}
 use Rattle.std.specs.Prelude.{All, Option, Some, OnSome, MatchOption, remove, length, option_copied}
 use Rattle.io_manager.proofs.Common.{HoldsAt, Bor, deque_len, deque_capacity, All-head, All-tail, All-cons, All-nil, Slab, DeviceView, Limits, Tables, in_memory, Label, ManagerView, QueueView, SameQueue, TakesFirst, AreRising, IsAbove, IsNextAnswer, TakesLabel, TakesShown, answer_number, WasGiven, AreApart, ManagerKept, view_of}
 use Rattle.io_manager.specs.declared.Answer.{Answer}
 use Rattle.io_manager.specs.declared.tables.OpenRequest.{OpenRequest}
 use Rattle.io_manager.proofs.InMemory.{whole_label}
 use Rattle.io_manager.specs.inside.Ordering.{HasOtherNumber}
+use Rattle.io_manager.specs.inside.Sound.{own_places}
 
 all_but : {X : Type 0} (P : X → Type 0) (xs : List X) (at : ℕ) → All P xs → All P (remove xs at)
 all_but P [] zero all = All-nil _
@@ -87,16 +88,29 @@ seen_first v (a ∷ rest) (Some x) is rising first =
 
 -- THE EARLIEST LABEL
 
-first_taken : (v : ManagerView) (queue : QueueView Label) (k : Bool) (found : Option Label) → k ≡ v.rules.keeps_bytes → TakesFirst (in_memory k) v.labels found queue.items → queue.keeps ≡ v.keeps
-    → TakesShown v found (record v { labels = queue.items; keeps = queue.keeps })
-first_taken v queue k None is takes keeps = (takes.0, ap (λ items. record v { labels = items; keeps = queue.keeps }) takes.1 ∙ ap (λ kept. record v { keeps = kept }) keeps)
-first_taken v queue k (Some shown) is takes keeps = (queue.items, takes.0, takes.1, takes.2 ∙ ap (λ b. in_memory b takes.0) is, ap (λ kept. record v { labels = queue.items; keeps = kept }) keeps)
+first_taken : (v : ManagerView) (queue : QueueView Label) (k : Bool) (found : Option Label) (places : ℕ) → k ≡ v.rules.keeps_bytes → TakesFirst (in_memory k) v.labels found queue.items → queue.keeps ≡ v.keeps → places ≡ v.places
+    → TakesShown v found (record v { labels = queue.items; keeps = queue.keeps; places = places })
+first_taken v queue k None places is takes keeps as_many = (
+  takes.0,
+  ap (λ items. record v { labels = items; keeps = queue.keeps; places = places }) takes.1
+      ∙ ap (λ kept. record v { keeps = kept; places = places }) keeps
+      ∙ ap (λ n. record v { places = n }) as_many,
+)
+first_taken v queue k (Some shown) places is takes keeps as_many = (
+  queue.items,
+  takes.0,
+  takes.1,
+  takes.2 ∙ ap (λ b. in_memory b takes.0) is,
+  ap (λ kept. record v { labels = queue.items; keeps = kept; places = places }) keeps ∙ ap (λ n. record v { labels = queue.items; places = n }) as_many,
+)
 
 pub shown_first : (limits : Limits) (below : DeviceView) (tables : Tables) (queue : QueueView Label) (found : Option Label) (old : ManagerView) → view_of limits below tables ≡ old
     → tables.labels.keeps_bytes ≡ below.rules.keeps_bytes → TakesFirst (in_memory tables.labels.keeps_bytes) tables.labels.items found queue.items → SameQueue tables.labels queue
     → TakesShown old found (view_of limits below (record tables { labels = queue }))
 shown_first limits below tables queue found old shown bytes takes same =
-    subst (λ v. TakesShown v found (view_of limits below (record tables { labels = queue }))) shown (first_taken (view_of limits below tables) queue tables.labels.keeps_bytes found bytes takes same.1)
+    subst (λ v. TakesShown v found (view_of limits below (record tables { labels = queue }))) shown
+    (first_taken (view_of limits below tables) queue tables.labels.keeps_bytes found (below.places + own_places (record tables { labels = queue })) bytes takes same.1
+    (ap (λ (n : ℕ). below.places + (n + tables.answered.places + deque_capacity tables.untaken + tables.handles.capacity + tables.requests.capacity)) same.0))
 
 pub taken_whole : (old : ManagerView) (found : Option Label) (new : ManagerView) → IsTrue old.rules.keeps_bytes → TakesShown old found new → TakesLabel old found new
 taken_whole old None new is takes = takes

@@ -11,11 +11,9 @@ use Rattle.srb.specs.declared.Completion.{Completion}
 use Rattle.srb.specs.declared.Entry.{Entry}
 use Rattle.srb.specs.declared.DeviceLabel.{DeviceLabel}
 use Rattle.srb.specs.declared.DeviceLabel.TheVariants.{Return}
-use Rattle.sector.specs.declared.Extent.{Extent}
 use Rattle.adapter.specs.View.{AdapterView, MovesByAll, NotesReset, ReservesMore, ReservesNear}
 use Rattle.adapter.specs.Calls.{IsBooked}
 use Rattle.adapter.specs.Booking.{Books}
-use Rattle.srb.specs.declared.Kind.{Kind}
 use Rattle.srb.specs.declared.Kind.TheVariants.{Read, Write, Flush}
 use Rattle.machine.specs.declared.ClientRequest.{ClientRequest}
 use Rattle.machine.specs.Bare.{in_memory}

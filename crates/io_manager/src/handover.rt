@@ -45,9 +45,9 @@ impl<D: Device> IoManager<D> {
         VecDeque::with_capacity(alloc, LABEL_PLACES)
     }
 
-    /// Takes all labels of the last step that were not taken yet, in order, in exchange for an empty queue with places
-    /// for those of the next step ([`IoManager::spare_labels`]). It takes no memory; the places that the labels don't
-    /// use are given back. Only while labels are kept ([`IoManager::keep_labels`]).
+    /// Takes all labels of the last step that were not taken yet, in order, in an empty queue with places for them
+    /// ([`IoManager::spare_labels`]). It takes no memory; the places that the labels don't use are given back. Only while
+    /// labels are kept ([`IoManager::keep_labels`]).
     pub fn take_labels(&mut self, spare: VecDeque<Label>) -> Vec<Label>
         requires empty { spare.items ≡ [] }
         requires places { 256 ≤ deque_capacity spare }

@@ -1,6 +1,6 @@
 //! Queues of what a step tells. Memory keeps it until it is taken, with its bytes or without, or contracts alone read it.
 
-ghost use Rattle.std.specs.Prelude.{◌≡◌, ◌<◌, ◌+◌, ◌++◌, ◌∷◌, [], true, Bool, List, length, IfOk, IsTrue, IsFalse, map};
+ghost use Rattle.std.specs.Prelude.{◌≡◌, ◌<◌, ◌≤◌, ◌+◌, ◌++◌, ◌∷◌, [], true, Bool, List, length, IfOk, IsTrue, IsFalse, map};
 ghost use Rattle.std.specs.VecDeque.{deque_capacity};
 ghost use Rattle.machine.specs.Bare.{in_memory as label_in_memory};
 ghost use Rattle.io_manager.specs.inside.Queue.{QueueView, SameQueue, TakesFirst, answer_in_memory};
@@ -11,7 +11,6 @@ use noted::Noted;
 use std::alloc::{AllocError, Global};
 use std::collections::VecDeque;
 use std::marker::Model;
-use std::mem;
 
 /// What has bytes that memory may keep or not.
 pub(crate) trait Told: Drop {
@@ -146,16 +145,19 @@ impl<T: Told> LabelQueue<T> {
         first
     }
 
-    /// Takes all items, and leaves this empty queue for the next.
-    pub(crate) fn take_all(&mut self, spare: VecDeque<T>) -> Vec<T>
+    /// Takes all items, in an empty queue that has places for them. It takes no memory.
+    pub(crate) fn take_all(&mut self, mut into: VecDeque<T>) -> Vec<T>
         requires kept { IsTrue self.old.keeps }
-        requires empty { spare.items ≡ [] }
+        requires empty { into.items ≡ [] }
+        requires places { self.old.places ≤ deque_capacity into }
         ensures all { result.items ≡ map (T.in_memory self.old.keeps_bytes) self.old.items }
-        ensures taken { self.new ≡ record self.old { items = []; places = deque_capacity spare } }
+        ensures taken { self.new ≡ record self.old { items = [] } }
     {
-        let all = mem::replace(&mut self.queue, spare);
+        let Ok(()) = into.append(&mut self.queue) else {
+            unreachable!()
+        };
         self.told = Noted::none();
-        all.into_vec()
+        into.into_vec()
     }
 
     /// Forgets all items.

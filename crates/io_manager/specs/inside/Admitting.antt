@@ -1,6 +1,6 @@
 -- A call as it comes in: how it is answered at once, and the request and the packet of one that is admitted.
 use Rattle.std.specs.Prelude.{◌≡◌, ◌<◌, ◌≤◌, ◌&&◌, ℕ, true, false, Bool, ◌+◌, ◌/◌, max, nat_le, List, [], ◌∷◌, ◌++◌}
-use Rattle.std.specs.Prelude.{Option, Some, None, MatchOption, IsTrue, IsFalse, length, slice_index, slice_set}
+use Rattle.std.specs.Prelude.{Option, Some, None, IsTrue, length, slice_index, slice_set}
 use Rattle.std.specs.Prelude.{if◌then◌else◌}
 use Rattle.std.specs.VecDeque.{deque_len, deque_capacity}
 use Rattle.slab.specs.Slab.{get, slab_len, Updates}

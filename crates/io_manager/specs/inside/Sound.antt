@@ -119,7 +119,7 @@ pub record AreHeld (keeps_bytes : Bool) (requests : Slab OpenRequest) (below : L
 -- places for what a step may add, so that it takes no memory, and memory keeps all that is told or none of it; and as
 -- many slots as requests may be open
 pub record HasPlaces (limits : Limits) (tables : Tables) : Type 0 where
-  pub labels : 256 ≤ tables.labels.places
+  pub labels : tables.labels.places ≡ 256
   pub answered : 64 ≤ tables.answered.places
   pub alike : tables.answered.keeps ≡ tables.labels.keeps
   pub label_bytes : tables.labels.keeps_bytes ≡ limits.keeps_bytes
