@@ -156,6 +156,23 @@ run_told_at_once() {
     echo 0 > "$scratch/found/$it.status"
 }
 
+# Has the judge refuse a history that goes on: it ends before its input does.
+run_history_told_at_once() {
+    local it=told.history_at_once left
+    want "$it" 1 <<< 'line 1: the call has not the next number'
+    rm -f "$scratch/going_on" && mkfifo "$scratch/going_on"
+    note_run "$scratch/found/$it" "$scratch/going_on" timeout 150 "$program" history "$top/examples/history/config.toml" - &
+    exec 8> "$scratch/going_on"
+    echo 'call 2 read 0 512 in 0' >&8
+    for ((left = 100; left > 0; left--)); do
+        kill -0 "$!" 2> /dev/null || break
+        sleep 0.1
+    done
+    exec 8>&-
+    wait "$!" || true
+    [ "$left" -gt 0 ] || echo 'it waited for the end' >> "$scratch/found/$it.stdout"
+}
+
 # Waits until a file has bytes, a few seconds at most.
 await_text() {
     local left
@@ -319,6 +336,7 @@ run_judge_cases() {
         run_readings "${it##*/}"
     done
     run_told_at_once
+    run_history_told_at_once
     run_picture
     run_letters
     for it in "$top"/examples/judged/pictures/*/{picture,events}; do run_drawing "${it%/*}" "${it##*/}"; done

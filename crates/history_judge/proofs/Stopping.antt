@@ -1,6 +1,6 @@
 -- Histories, label by label.
 use Rattle.std.proofs.Common.{◌≡◌, ◌<◌, ℕ, ◌+◌, true, false, List, [], ◌∷◌, ◌++◌, Option, Some, None, refl, sym, ◌∙◌, ap, subst, append-nil, append_assoc, length, length-append}
-use Rattle.std.specs.Prelude.{IfSome, Result, OnOk, if◌then◌else◌}
+use Rattle.std.specs.Prelude.{Result, OnOk, if◌then◌else◌}
 use Rattle.ntstatus.specs.declared.NtStatus.{NtStatus}
 use Rattle.std.proofs.lemmas.Bool.{and_parts, eqb-true}
 use Rattle.std.proofs.lemmas.List.{length-set}
@@ -28,11 +28,6 @@ unfit_stopped law f behind whole stopped =
     unfit law f.service (f.kept.labels ++ behind)
     (whole.known behind ∙ ap (all_fit (rules_of f.service) f.known.asked.items f.known.owed) stopped.is
     ∙ ap (λ b. if b then all_fit (rules_of f.service) (asked_after (rules_of f.service) f.known.asked.items f.known.owed stopped.label) (owed_after (rules_of f.service) f.known.owed stopped.label) stopped.rest else false) stopped.misfit)
-
-pub unfit_if_stopped : ExplainedFit → (f : Fitted) (misfit : Option (ℕ × Misfit)) (behind labels : List Label) → f.kept.labels ++ behind ≡ labels → IsWhole f → StopsAt f misfit behind
-    → IfSome misfit (λ _. IsUnfit f.service labels)
-unfit_if_stopped law f None behind labels same whole stops = tt
-unfit_if_stopped law f (Some at) behind labels same whole stops = subst (IsUnfit f.service) same (unfit_stopped law f behind whole stops)
 
 pub unfit_by : ExplainedFit → (f : Fitted) (misfit : Option (ℕ × Misfit)) (behind labels : List Label) (at : ℕ × Misfit) → misfit ≡ Some at → f.kept.labels ++ behind ≡ labels → IsWhole f → StopsAt f misfit behind
     → IsUnfit f.service labels

@@ -6,15 +6,14 @@
 //! A `History` has just the labels that it took (`new`, `push`). `misfit` tells only of one that no run of the sector machine
 //! explains, however the service cuts its requests and whatever it has open at once: a call has not the next number or not
 //! its bytes, a refused one isn't answered at once, an answer is to no open call, or by a status or with a length that no
-//! run gives. `judge` (`right`) refuses the labels so far only for that, or where a sector has no schedule, and then that is
-//! said of runs that begin with the given bytes in it. It passes them only if none of that is so (`all_fit_at_first`), and
-//! each sector that they touch has a schedule (`Passes`), in which different bytes of the sector are different values
-//! (`numbers_tell`). `judge_any_start` (`right`) does so of sectors that begin with anything: each has a schedule from some
-//! bytes on (`PassesFromSome`), or one has none from any (`IsUnexplainedFromAny`).
+//! run gives. `judge` (`right`) refuses the labels so far only for that, or where no run from the given bytes explains a
+//! sector. It passes them only if they fit (`all_fit_at_first`), and each sector that they touch has a schedule (`Passes`),
+//! in which different bytes are different values (`numbers_tell`). `judge_any_start` (`right`) does so of sectors that begin
+//! with anything: each has a schedule from some bytes on (`PassesFromSome`), or one has none from any
+//! (`IsUnexplainedFromAny`).
 //!
-//! The crate history_legal says that a run explains what passes, where no write is answered DEVICE_BUSY. There may be no
-//! verdict: a sector that may be in more than 1,024 states is undecided. Which line a label stands for, who wrote what a
-//! sector had, and whether DEVICE_BUSY is to blame (`fails_without_busy`) is only tested.
+//! The crate history_legal says that a run explains what passes, where no write is answered DEVICE_BUSY. A sector that may be
+//! in more than 1,024 states is undecided. What is told of lines, bytes and DEVICE_BUSY is only tested.
 #![tactic(auto)]
 
 mod allowing;

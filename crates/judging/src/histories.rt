@@ -48,8 +48,6 @@ pub(crate) struct Recorded {
     /// The numbers of their lines, from 1.
     lines: Vec<u64>,
     pub any_start: bool,
-    /// With how many of them it is judged next, though more may come.
-    next_look: usize,
 }
 
 /// What is said of a history.
@@ -62,20 +60,6 @@ pub(crate) enum Said {
 }
 
 impl Recorded {
-    /// Whether no run explains what was read, whatever comes behind it. That is looked at whenever the labels have doubled, and
-    /// where a label can't come behind those before it.
-    fn is_refused(&mut self, alloc: Global) -> Result<bool, AllocError> {
-        if self.history.misfit().is_some() {
-            return Ok(true);
-        }
-        if self.lines.len() < self.next_look {
-            return Ok(false);
-        }
-        self.next_look = self.lines.len().saturating_mul(2);
-        let verdict = verdict_of(alloc, &self.history, self.any_start)?;
-        Ok(matches!(verdict, history_judge::Verdict::Refused { .. }))
-    }
-
     /// The line of a label.
     pub fn line_of(&self, label: usize) -> u64 {
         self.lines.get(label).copied().unwrap_or(0)
@@ -127,7 +111,6 @@ pub fn judge_history<C: Read + Drop, T: Read + Drop, O: Write, W: Write>(
         history: no_label(alloc, &config)?,
         lines: Vec::new(alloc),
         any_start: terms.any_start,
-        next_look: FIRST_LOOK,
     };
     let recorded = read_history(alloc, &mut input, recorded, &mut listeners.progress)?;
     if recorded.history.count() == 0 {
@@ -186,24 +169,28 @@ fn no_label(alloc: Global, config: &Config) -> Result<History, AllocError>
     History::new(alloc, service, start.as_slice())
 }
 
-/// Takes the calls and answers that the lines of an input tell, up to the end or to where no run explains them.
+/// Takes the calls and answers that the lines of an input tell, up to the end or to where no run explains them. Whether one
+/// does is looked at whenever the labels have doubled, and where one can't come behind those before it.
 fn read_history<B: BufRead, W: Write>(
     alloc: Global,
     input: &mut B,
-    mut recorded: Recorded,
+    recorded: Recorded,
     progress: &mut Progress<W>,
 ) -> Result<Recorded, Error> {
+    let Recorded {
+        mut history,
+        mut lines,
+        any_start,
+    } = recorded;
     let mut line = Vec::new(alloc);
+    let mut next_look = FIRST_LOOK;
     for index in 0..u64::MAX {
         next_line(input, &mut line)?;
         let number = index + 1;
         match told_whole(alloc, without_end(line.as_slice()))? {
             Told::Line(told) => {
-                recorded = with(alloc, recorded, number, told.line.label)?;
-                progress.say_read(recorded.lines.len() as u64);
-                if recorded.is_refused(alloc)? {
-                    return Ok(recorded);
-                }
+                history = with(alloc, history, &mut lines, number, told.line.label)?;
+                progress.say_read(lines.len() as u64);
             }
             Told::Nothing => {}
             Told::BadWord { column } => {
@@ -213,8 +200,12 @@ fn read_history<B: BufRead, W: Write>(
                 });
             }
         }
-        if !is_ended(line.as_slice()) {
-            return Ok(recorded);
+        if !is_ended(line.as_slice()) || is_refused(alloc, &history, any_start, &mut next_look)? {
+            return Ok(Recorded {
+                history,
+                lines,
+                any_start,
+            });
         }
     }
     Err(Error::TraceUnreadable)
@@ -223,28 +214,34 @@ fn read_history<B: BufRead, W: Write>(
 /// Takes the label of a line, unless it is of the service's device.
 fn with(
     alloc: Global,
-    recorded: Recorded,
+    history: History,
+    lines: &mut Vec<u64>,
     line: u64,
     label: Label,
-) -> Result<Recorded, AllocError> {
-    let is_seen = matches!(label, Label::Call { .. } | Label::Answer { .. });
-    if !is_seen {
-        return Ok(recorded);
+) -> Result<History, AllocError> {
+    if !matches!(label, Label::Call { .. } | Label::Answer { .. }) {
+        return Ok(history);
     }
-    let Recorded {
-        history,
-        mut lines,
-        any_start,
-        next_look,
-    } = recorded;
     lines.push(line)?;
-    let history = history.push(alloc, label)?;
-    Ok(Recorded {
-        history,
-        lines,
-        any_start,
-        next_look,
-    })
+    history.push(alloc, label)
+}
+
+/// Whether no run explains a history, whatever comes behind it.
+fn is_refused(
+    alloc: Global,
+    history: &History,
+    any_start: bool,
+    next_look: &mut usize,
+) -> Result<bool, AllocError> {
+    if history.misfit().is_some() {
+        return Ok(true);
+    }
+    if history.count() < *next_look {
+        return Ok(false);
+    }
+    *next_look = history.count().saturating_mul(2);
+    let verdict = verdict_of(alloc, history, any_start)?;
+    Ok(matches!(verdict, history_judge::Verdict::Refused { .. }))
 }
 
 /// The service that some settings describe.
