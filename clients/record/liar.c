@@ -5,8 +5,8 @@
  * Once in so many requests (100) it does what the name says: drop (a write isn't written), tear (its first half is),
  * misdirect (it goes to the next 4,096 bytes), stale (a read gives what stood there before the last write), flip (it
  * gives a turned bit), early (a write is answered 2 ms before it is written), twice (it is written again 5 ms later),
- * late (it fails, and is written 3 ms later). `half` fails with its first half written, and `none` never lies: they are
- * legal. */
+ * late (it fails, and is written 3 ms later). `half` fails with its first half written, which is legal where that is
+ * whole sectors, and `none` never lies. */
 #include <errno.h>
 #include <pthread.h>
 #include <stdbool.h>
@@ -37,19 +37,29 @@ struct late {
 };
 
 static int
+config_lie(const char *value)
+{
+	static const char *const names[] = {"none", "drop", "tear", "misdirect", "stale", "flip", "early", "twice", "late", "half"};
+	for (size_t i = 0; i < sizeof names / sizeof *names; i++)
+		if (strcmp(names[i], value) == 0) {
+			lie = names[i];
+			return 0;
+		}
+	nbdkit_error("lie=%s is none", value);
+	return -1;
+}
+
+static int
 config(const char *key, const char *value)
 {
 	if (strcmp(key, "lie") == 0)
-		lie = value;
-	else if (strcmp(key, "one-in") == 0)
+		return config_lie(value);
+	if (strcmp(key, "one-in") == 0)
 		return nbdkit_parse_unsigned(key, value, &one_in);
-	else if (strcmp(key, "size") == 0)
+	if (strcmp(key, "size") == 0)
 		return (size = nbdkit_parse_size(value)) < 0 ? -1 : 0;
-	else {
-		nbdkit_error("%s is unknown", key);
-		return -1;
-	}
-	return 0;
+	nbdkit_error("%s is unknown", key);
+	return -1;
 }
 
 static int
