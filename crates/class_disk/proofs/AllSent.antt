@@ -122,8 +122,8 @@ module _ {v : DeviceView}
 pub none_handed : (takes : Bool) (v : DeviceView) (climb : Climb) (spot : ℕ) (v' : DeviceView) → EndedAre IsNothing v.rules v.state
     → HandsUp takes v climb spot v' → ⊥
 none_handed takes v climb spot v' none h =
-    All-contains (IsIfEnded IsNothing v.rules v.state) v.state.requests h.answers.request none
-    (Contains-permutation _ _ h.answers.request (IsPermutation-sym _ _ h.answers.is_open) (0, omega arith, refl)) h.answers.ended
+    All-contains (IsIfEnded IsNothing v.rules v.state) v.state.requests h.answer.answers.request none
+    (Contains-permutation _ _ h.answer.answers.request (IsPermutation-sym _ _ h.answer.answers.is_open) (0, omega arith, refl)) h.answer.answers.ended
 
 -- ONE BY ONE
 

@@ -41,18 +41,18 @@ module _ (rules : Rules) (r : Request) (number : ℕ) where
       (All-weaker (IsGiven s.next_request) (AsksUnder rules r number) (λ o low same. absurd (let a = h.new_number in omega (arith, same))) s.requests distinct.given) h
 
   pub asks_handed : (takes : Bool) (v : DeviceView) (climb : Climb) (spot : ℕ) (v' : DeviceView) → AllUnder v.state → HandsUp takes v climb spot v' → AllUnder v'.state
-  asks_handed takes v climb spot v' all h = asks_run v.rules h.starts h.answered v'.state (asks_answer v.rules v.state h.packet.number h.status h.bytes h.answered all h.answers) h.moves.run
+  asks_handed takes v climb spot v' all h = asks_run v.rules h.left.starts h.answer.answered v'.state (asks_answer v.rules v.state h.answer.packet.number h.answer.status h.answer.bytes h.answer.answered all h.answer.answers) h.left.moves.run
 
   pub asks_submitted : (v : DeviceView) (packet : Packet) (request : Request) (payload : Payload) (v' : DeviceView) → number < v.state.next_request → AllUnder v.state → Submits v packet request payload v' → AllUnder v'.state
   asks_submitted v packet request payload v' given all h = asks_run v.rules h.starts h.opened v'.state (asks_other v.rules v.state packet.number _ h.opened given all h.opens) h.moves.run
 
 -- so the packet of a part that is handed up asked for just that
-pub asks_of_handed : (rules : Rules) (takes : Bool) (v : DeviceView) (climb : Climb) (spot : ℕ) (v' : DeviceView) → (h : HandsUp takes v climb spot v') → (part : Part) (at : ℕ) → part.progress ≡ Below h.packet.number at
-    → IsAsked rules v.state.requests part → record h.answers.request.request { bytes = [] } ≡ as_client rules part.request []
+pub asks_of_handed : (rules : Rules) (takes : Bool) (v : DeviceView) (climb : Climb) (spot : ℕ) (v' : DeviceView) → (h : HandsUp takes v climb spot v') → (part : Part) (at : ℕ) → part.progress ≡ Below h.answer.packet.number at
+    → IsAsked rules v.state.requests part → record h.answer.answers.request.request { bytes = [] } ≡ as_client rules part.request []
 asks_of_handed rules takes v climb spot v' h part at is_below asked =
-    let all : AllUnder rules part.request h.packet.number v.state = subst (IsAskedBy rules v.state.requests part.request) is_below asked in
-    All-contains (AsksUnder rules part.request h.packet.number) v.state.requests h.answers.request all
-    (Contains-permutation _ _ h.answers.request (IsPermutation-sym _ _ h.answers.is_open) (0, omega arith, refl)) h.answers.is_number
+    let all : AllUnder rules part.request h.answer.packet.number v.state = subst (IsAskedBy rules v.state.requests part.request) is_below asked in
+    All-contains (AsksUnder rules part.request h.answer.packet.number) v.state.requests h.answer.answers.request all
+    (Contains-permutation _ _ h.answer.answers.request (IsPermutation-sym _ _ h.answer.answers.is_open) (0, omega arith, refl)) h.answer.answers.is_number
 
 -- it had as many places as the part
 pub places_of_handed : (rules : Rules) (q : ClientRequest) (part : Part) → record q { bytes = [] } ≡ as_client rules part.request [] → place_count rules q ≡ places_of rules part
@@ -71,12 +71,12 @@ same_request a b volume kind extent through =
     ∙ ap (λ n. record b { extent = n; through = a.through }) extent ∙ ap (λ n. record b { through = n }) through
 
 pub request_of_handed : (takes : Bool) (v : DeviceView) (climb : Climb) (spot : ℕ) (v' : DeviceView) → 0 < v.rules.sector_size → (h : HandsUp takes v climb spot v') → (part : Part)
-    → record h.answers.request.request { bytes = [] } ≡ as_client v.rules part.request [] → part.request ≡ h.request
+    → record h.answer.answers.request.request { bytes = [] } ≡ as_client v.rules part.request [] → part.request ≡ h.answer.request
 request_of_handed takes v climb spot v' some h part asks =
-    let e : as_client v.rules part.request [] ≡ as_client v.rules h.request [] = sym asks ∙ ap (λ (q : ClientRequest). record q { bytes = [] }) h.is_request in
-    let first : part.request.extent.first ≡ h.request.extent.first = times_same v.rules.sector_size _ _ some (ap (λ (q : ClientRequest). q.offset) e) in
-    let count : part.request.extent.count ≡ h.request.extent.count = times_same v.rules.sector_size _ _ some (ap (λ (q : ClientRequest). q.length) e) in
-    same_request part.request h.request (some_is (ap (λ (q : ClientRequest). q.partition) e)) (ap (λ (q : ClientRequest). q.kind) e) (same_extent part.request.extent h.request.extent first count)
+    let e : as_client v.rules part.request [] ≡ as_client v.rules h.answer.request [] = sym asks ∙ ap (λ (q : ClientRequest). record q { bytes = [] }) h.answer.is_request in
+    let first : part.request.extent.first ≡ h.answer.request.extent.first = times_same v.rules.sector_size _ _ some (ap (λ (q : ClientRequest). q.offset) e) in
+    let count : part.request.extent.count ≡ h.answer.request.extent.count = times_same v.rules.sector_size _ _ some (ap (λ (q : ClientRequest). q.length) e) in
+    same_request part.request h.answer.request (some_is (ap (λ (q : ClientRequest). q.partition) e)) (ap (λ (q : ClientRequest). q.kind) e) (same_extent part.request.extent h.answer.request.extent first count)
     (ap (λ (q : ClientRequest). q.through) e)
   where
     some_is : {x y : ℕ} → Some x ≡ Some y → x ≡ y

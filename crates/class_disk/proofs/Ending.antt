@@ -57,10 +57,10 @@ failed_cause rules s o failure status (m ∷ marks) some all h =
 
 module _ (takes : Bool) (v : DeviceView) (climb : Climb) (spot : ℕ) (v' : DeviceView) (h : HandsUp takes v climb spot v') (port : IsPort v.rules) (sound : IsSound v.state) (counted : AreCounted v.rules v.state) (places : HavePlaces v.state) where
   abbrev pub ended_one : OpenRequest
-  ended_one = h.answers.request
+  ended_one = h.answer.answers.request
 
   open_there : Contains v.state.requests ended_one
-  open_there = Contains-permutation _ _ ended_one (IsPermutation-sym _ _ h.answers.is_open) (0, omega arith, refl)
+  open_there = Contains-permutation _ _ ended_one (IsPermutation-sym _ _ h.answer.answers.is_open) (0, omega arith, refl)
 
   some_mark : 0 < length ended_one.marks
   some_mark = All-contains HasPlaces v.state.requests ended_one places open_there
@@ -85,52 +85,52 @@ module _ (takes : Bool) (v : DeviceView) (climb : Climb) (spot : ℕ) (v' : Devi
 
   -- how it ended, after a return
   pub data Ends : Type 0 where
-    EndsGood : h.status ≡ Success → ended_one.busy_returns ≡ 0 → Ends
-    EndsBad : All (Is (Failed h.status)) ended_one.marks → h.status ≢ Success → h.status ≢ DeviceBusy → ended_one.busy_returns ≡ 0 → Ends
-    EndsBusy : All (Is Back) ended_one.marks → h.status ≡ DeviceBusy → ended_one.busy_returns ≡ 1 → Ends
+    EndsGood : h.answer.status ≡ Success → ended_one.busy_returns ≡ 0 → Ends
+    EndsBad : All (Is (Failed h.answer.status)) ended_one.marks → h.answer.status ≢ Success → h.answer.status ≢ DeviceBusy → ended_one.busy_returns ≡ 0 → Ends
+    EndsBusy : All (Is Back) ended_one.marks → h.answer.status ≡ DeviceBusy → ended_one.busy_returns ≡ 1 → Ends
 
   ends_by : WasSent ended_one → (like : Mark) → All (IsLike like) ended_one.marks → Ends
   ends_by started Untouched all = let e : list_all is_untouched ended_one.marks ≡ true = untouched_all ended_one.marks all in absurd (cc (e, started))
-  ends_by started Out all = absurd (out_ends_not v.rules v.state ended_one (subst (HasEnded v.rules v.state ended_one) (all 0 Untouched some_mark) (h.answers.ended 0 Untouched some_mark)))
-  ends_by started (Done sector) all = EndsGood (h.answers.success.1 (done_all ended_one.marks all)) (none_of_done _ _ (all 0 Untouched some_mark) first_busy)
+  ends_by started Out all = absurd (out_ends_not v.rules v.state ended_one (subst (HasEnded v.rules v.state ended_one) (all 0 Untouched some_mark) (h.answer.answers.ended 0 Untouched some_mark)))
+  ends_by started (Done sector) all = EndsGood (h.answer.answers.success.1 (done_all ended_one.marks all)) (none_of_done _ _ (all 0 Untouched some_mark) first_busy)
   ends_by started (Failed failure) all =
-      let is : h.status ≡ failure = failed_cause v.rules v.state ended_one failure h.status ended_one.marks some_mark all h.answers.cause in
+      let is : h.answer.status ≡ failure = failed_cause v.rules v.state ended_one failure h.answer.status ended_one.marks some_mark all h.answer.answers.cause in
       let first_is : get_or ended_one.marks 0 Untouched ≡ Failed failure = all 0 Untouched some_mark in
       let fails : (failure ≢ Success) × (failure ≢ DeviceBusy) = subst (IsEarned ended_one) first_is first_earned in
       EndsBad (subst (λ x. All (Is (Failed x)) ended_one.marks) (sym is) all) (λ e. fails.0 (sym is ∙ e)) (λ e. fails.1 (sym is ∙ e)) (subst (IsBusyBy ended_one.busy_returns) first_is first_busy)
-  ends_by started Back all = EndsBusy all (h.busy one_piece all) (subst (IsBusyBy ended_one.busy_returns) (all 0 Untouched some_mark) first_busy)
+  ends_by started Back all = EndsBusy all (h.brought.busy one_piece all) (subst (IsBusyBy ended_one.busy_returns) (all 0 Untouched some_mark) first_busy)
 
   pub ends : EndedAre WasSent v.rules v.state → Ends
-  ends sent = ends_by (All-contains (IsIfEnded WasSent v.rules v.state) v.state.requests ended_one sent open_there h.answers.ended) alike.0 alike.1
+  ends sent = ends_by (All-contains (IsIfEnded WasSent v.rules v.state) v.state.requests ended_one sent open_there h.answer.answers.ended) alike.0 alike.1
 
   -- its places, as many as its part has
   long : (part : Part) → place_count v.rules ended_one.request ≡ places_of (class_rules v.rules) part → length ended_one.marks ≡ places_of (class_rules v.rules) part
   long part asks = count.places ∙ asks
 
   module _ (part : Part) (asks : place_count v.rules ended_one.request ≡ places_of (class_rules v.rules) part) (again : ℕ) where
-    moved_by : h.status ≡ Success → map (shown_mark again) ended_one.marks ≡ marks_left (class_rules v.rules) part h.payload IsGood
+    moved_by : h.answer.status ≡ Success → map (shown_mark again) ended_one.marks ≡ marks_left (class_rules v.rules) part h.answer.payload IsGood
     moved_by good =
-        let same : place_count v.rules (as_client v.rules h.request []) ≡ places_of (class_rules v.rules) part = sym (ap (place_count v.rules) h.is_request) ∙ asks in
-        let are : ended_one.marks ≡ map Done (sectors_moved v.rules h.request h.payload) = h.moved good in
-        ap (map (shown_mark again)) are ∙ shown_done again (sectors_moved v.rules h.request h.payload)
-        ∙ ap (λ n. map Done (cut n v.rules.sector_size (payload_bytes h.payload))) same
+        let same : place_count v.rules (as_client v.rules h.answer.request []) ≡ places_of (class_rules v.rules) part = sym (ap (place_count v.rules) h.answer.is_request) ∙ asks in
+        let are : ended_one.marks ≡ map Done (sectors_moved v.rules h.answer.request h.answer.payload) = h.brought.moved good in
+        ap (map (shown_mark again)) are ∙ shown_done again (sectors_moved v.rules h.answer.request h.answer.payload)
+        ∙ ap (λ n. map Done (cut n v.rules.sector_size (payload_bytes h.answer.payload))) same
 
-    failed_by : All (Is (Failed h.status)) ended_one.marks → map (shown_mark again) ended_one.marks ≡ marks_left (class_rules v.rules) part h.payload (IsBad h.status)
+    failed_by : All (Is (Failed h.answer.status)) ended_one.marks → map (shown_mark again) ended_one.marks ≡ marks_left (class_rules v.rules) part h.answer.payload (IsBad h.answer.status)
     failed_by all =
-        ap (map (shown_mark again)) (so_many (Failed h.status) ended_one.marks _ (long part asks) all) ∙ shown_many again _ _ ∙ same_many _ _ _ (shown_failed again h.status)
+        ap (map (shown_mark again)) (so_many (Failed h.answer.status) ended_one.marks _ (long part asks) all) ∙ shown_many again _ _ ∙ same_many _ _ _ (shown_failed again h.answer.status)
 
-    back_by : (told : NtStatus) → All (Is Back) ended_one.marks → map (shown_mark again) ended_one.marks ≡ marks_left (class_rules v.rules) part h.payload (IsBusy told)
+    back_by : (told : NtStatus) → All (Is Back) ended_one.marks → map (shown_mark again) ended_one.marks ≡ marks_left (class_rules v.rules) part h.answer.payload (IsBusy told)
     back_by told all =
         ap (map (shown_mark again)) (so_many Back ended_one.marks _ (long part asks) all) ∙ shown_many again _ _ ∙ same_many _ _ _ (shown_back again)
 
     -- THE MARKS OF A PART THAT CAME BACK, and its busy returns
-    left_by : Ends → (outcome : Outcome) → EndsBack h.status outcome → (map (shown_mark again) ended_one.marks ≡ marks_left (class_rules v.rules) part h.payload outcome) × (ended_one.busy_returns ≡ busy_left outcome)
+    left_by : Ends → (outcome : Outcome) → EndsBack h.answer.status outcome → (map (shown_mark again) ended_one.marks ≡ marks_left (class_rules v.rules) part h.answer.payload outcome) × (ended_one.busy_returns ≡ busy_left outcome)
     left_by (EndsGood good none) IsGood is = (moved_by good, none)
     left_by (EndsGood good none) (IsBad failure) is = absurd (is.1 good)
     left_by (EndsGood good none) (IsBusy told) is = absurd (cc (sym good ∙ is))
     left_by (EndsGood good none) (Withdrawn told) is = absurd is
     left_by (EndsBad all bad idle none) IsGood is = absurd (bad is)
-    left_by (EndsBad all bad idle none) (IsBad failure) is = (subst (λ x. map (shown_mark again) ended_one.marks ≡ marks_left (class_rules v.rules) part h.payload (IsBad x)) (sym is.0) (failed_by all), none)
+    left_by (EndsBad all bad idle none) (IsBad failure) is = (subst (λ x. map (shown_mark again) ended_one.marks ≡ marks_left (class_rules v.rules) part h.answer.payload (IsBad x)) (sym is.0) (failed_by all), none)
     left_by (EndsBad all bad idle none) (IsBusy told) is = absurd (idle is)
     left_by (EndsBad all bad idle none) (Withdrawn told) is = absurd is
     left_by (EndsBusy all busy one) IsGood is = absurd (cc (sym busy ∙ is))
@@ -139,34 +139,34 @@ module _ (takes : Bool) (v : DeviceView) (climb : Climb) (spot : ℕ) (v' : Devi
     left_by (EndsBusy all busy one) (Withdrawn told) is = absurd is
 
     -- the marks of a part that was taken, and its busy returns: one that never went, or not again, has no other
-    pub marks_taken : (way : Way) → EndedAre (EndedBy way) v.rules v.state → again ≡ part.restarts → (outcome : Outcome) → EndsAs way h.status outcome
-        → (map (shown_mark again) ended_one.marks ≡ marks_left (class_rules v.rules) part h.payload outcome) × (ended_one.busy_returns ≡ busy_left outcome)
+    pub marks_taken : (way : Way) → EndedAre (EndedBy way) v.rules v.state → again ≡ part.restarts → (outcome : Outcome) → EndsAs way h.answer.status outcome
+        → (map (shown_mark again) ended_one.marks ≡ marks_left (class_rules v.rules) part h.answer.payload outcome) × (ended_one.busy_returns ≡ busy_left outcome)
     marks_taken Returned sent same outcome is = left_by (ends sent) outcome is
     marks_taken Unsent never same IsGood is = absurd is
     marks_taken Unsent never same (IsBad failure) is = absurd is
     marks_taken Unsent never same (IsBusy told) is = absurd is
     marks_taken Unsent never same (Withdrawn told) is =
-        let all : All (Is Untouched) ended_one.marks = All-contains (IsIfEnded NeverSent v.rules v.state) v.state.requests ended_one never open_there h.answers.ended in (
+        let all : All (Is Untouched) ended_one.marks = All-contains (IsIfEnded NeverSent v.rules v.state) v.state.requests ended_one never open_there h.answer.answers.ended in (
           ap (map (shown_mark again)) (so_many Untouched ended_one.marks _ (long part asks) all) ∙ ap (λ n. map (shown_mark n) (replicate (places_of (class_rules v.rules) part) Untouched)) same,
           subst (IsBusyBy ended_one.busy_returns) (all 0 Untouched some_mark) first_busy,
         )
 
   -- THE NOTE OF A PART THAT WAS TAKEN: what the coupling has in its place
-  module _ (part : Part) (ended : Ended) (is_ended : part.progress ≡ PartEnded ended) (payload : (payload_in ended.packet) ≡ h.payload) (asks : place_count v.rules ended_one.request ≡ places_of (class_rules v.rules) part) where
-    note_is : (map (shown_mark part.restarts) ended_one.marks ≡ marks_left (class_rules v.rules) part h.payload ended.outcome) × (ended_one.busy_returns ≡ busy_left ended.outcome)
+  module _ (part : Part) (ended : Ended) (is_ended : part.progress ≡ PartEnded ended) (payload : (payload_in ended.packet) ≡ h.answer.payload) (asks : place_count v.rules ended_one.request ≡ places_of (class_rules v.rules) part) where
+    note_is : (map (shown_mark part.restarts) ended_one.marks ≡ marks_left (class_rules v.rules) part h.answer.payload ended.outcome) × (ended_one.busy_returns ≡ busy_left ended.outcome)
         → Kept (map (shown_mark part.restarts) ended_one.marks) (part.restarts + ended_one.busy_returns) ≡ note (class_rules v.rules) part
     note_is (marks, busy) =
         ap (λ ms. Kept ms (part.restarts + ended_one.busy_returns)) marks
-        ∙ ap (λ n. Kept (marks_left (class_rules v.rules) part h.payload ended.outcome) (part.restarts + n)) busy
+        ∙ ap (λ n. Kept (marks_left (class_rules v.rules) part h.answer.payload ended.outcome) (part.restarts + n)) busy
         ∙ ap (λ (x : Payload). Kept (marks_left (class_rules v.rules) part x ended.outcome) (part.restarts + busy_left ended.outcome)) (sym payload)
         ∙ sym (ap (note_by (class_rules v.rules) part) is_ended)
 
-    pub noted_taken : (way : Way) → EndedAre (EndedBy way) v.rules v.state → EndsAs way h.status ended.outcome
+    pub noted_taken : (way : Way) → EndedAre (EndedBy way) v.rules v.state → EndsAs way h.answer.status ended.outcome
         → Kept (map (shown_mark part.restarts) ended_one.marks) (part.restarts + ended_one.busy_returns) ≡ note (class_rules v.rules) part
     noted_taken way were is = note_is (marks_taken part asks part.restarts way were refl ended.outcome is)
 
   -- one that came back busy shows as one that waits to be sent again
-  busy_by : (again : ℕ) → h.status ≡ DeviceBusy → Ends
+  busy_by : (again : ℕ) → h.answer.status ≡ DeviceBusy → Ends
       → (map (shown_mark again) ended_one.marks ≡ map (shown_mark (suc again)) (replicate (place_count v.rules ended_one.request) Untouched)) × (ended_one.busy_returns ≡ 1)
   busy_by again is (EndsGood good none) = absurd (cc (sym is ∙ good))
   busy_by again is (EndsBad all bad idle none) = absurd (idle is)
@@ -176,7 +176,7 @@ module _ (takes : Bool) (v : DeviceView) (climb : Climb) (spot : ℕ) (v' : Devi
     one,
   )
 
-  pub waits_again : EndedAre WasSent v.rules v.state → (again : ℕ) → h.status ≡ DeviceBusy
+  pub waits_again : EndedAre WasSent v.rules v.state → (again : ℕ) → h.answer.status ≡ DeviceBusy
       → (map (shown_mark again) ended_one.marks ≡ map (shown_mark (suc again)) (replicate (place_count v.rules ended_one.request) Untouched)) × (ended_one.busy_returns ≡ 1)
   waits_again sent again is = busy_by again is (ends sent)
 
@@ -239,7 +239,7 @@ module _ (Is' : OpenRequest → Type 0) (rules : Rules) where
 -- a packet handed up, and a packet taken in
 pub ended_handed : (Is' : OpenRequest → Type 0) (takes : Bool) (v : DeviceView) (climb : Climb) (spot : ℕ) (v' : DeviceView) → EndedAre Is' v.rules v.state → HandsUp takes v climb spot v' → EndedAre Is' v.rules v'.state
 ended_handed Is' takes v climb spot v' k h =
-    ended_starts Is' v.rules h.starts h.answered v'.state h.only_starts (ended_answer Is' v.rules v.state h.packet.number h.status h.bytes h.answered k h.answers) h.moves.run
+    ended_starts Is' v.rules h.left.starts h.answer.answered v'.state h.left.only_starts (ended_answer Is' v.rules v.state h.answer.packet.number h.answer.status h.answer.bytes h.answer.answered k h.answer.answers) h.left.moves.run
 
 pub ended_submitted : (Is' : OpenRequest → Type 0) (v : DeviceView) (packet : Packet) (request : Request) (payload : Payload) (v' : DeviceView) → 0 < place_count v.rules (as_client v.rules request []) → EndedAre Is' v.rules v.state
     → Submits v packet request payload v' → EndedAre Is' v.rules v'.state

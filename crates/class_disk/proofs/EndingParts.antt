@@ -40,15 +40,15 @@ ended_middle before slot o o' after ended some h =
         (IsPermutation-sym _ _ (IsPermutation-middle (ended_in before) slot (ended_in after))))
 
 module _ {takes : Bool} (v : DeviceView) (b : TableView) (climb : Climb) (spot : ℕ) (v' : DeviceView)
-    (h : HandsUp takes v climb spot v') (ordered : IsOrderly v) (packet : TransferPacket) (payload_is : payload_in packet ≡ h.payload)
-    (rooms_step : (others : List Ticket) → AllOut v others → AllOut v' (ticket_for h.request packet ∷ others))
-    (d : Handed b h.packet.number h.packet.spot) (some : 0 < d.o.unfinished) (way : Way) (outcome : Outcome) (ends : EndsAs way h.status outcome)
+    (h : HandsUp takes v climb spot v') (ordered : IsOrderly v) (packet : TransferPacket) (payload_is : payload_in packet ≡ h.answer.payload)
+    (rooms_step : (others : List Ticket) → AllOut v others → AllOut v' (ticket_for h.answer.request packet ∷ others))
+    (d : Handed b h.answer.packet.number h.answer.packet.spot) (some : 0 < d.o.unfinished) (way : Way) (outcome : Outcome) (ends : EndsAs way h.answer.status outcome)
     (reason : HasReason d.o.irp.cancelled b.removing d.o.restarts outcome) where
   abbrev slot : ℕ
-  slot = slot_at b.owners h.packet.spot
+  slot = slot_at b.owners h.answer.packet.spot
 
   abbrev place : ℕ
-  place = place_at b.owners h.packet.spot
+  place = place_at b.owners h.answer.packet.spot
 
   abbrev rules : Rules
   rules = class_rules v.rules
@@ -56,7 +56,7 @@ module _ {takes : Bool} (v : DeviceView) (b : TableView) (climb : Climb) (spot :
   abbrev ended : Ended
   ended = record { packet = packet; outcome = outcome }
 
-  abbrev s : PartStands b slot place d.o d.part h.packet.number h.packet.spot
+  abbrev s : PartStands b slot place d.o d.part h.answer.packet.number h.answer.packet.spot
   s = d.stands
 
   abbrev gone : Part
@@ -78,13 +78,13 @@ module _ {takes : Bool} (v : DeviceView) (b : TableView) (climb : Climb) (spot :
   pub books_are : ended_books slot (ended_at place ended d.part d.o) b ≡ b'
   books_are =
       ap (λ ps. ended_books slot (record d.o { parts = ps; unfinished = left }) b)
-      (parts_now b slot place d.o d.part h.packet.number h.packet.spot s ended)
+      (parts_now b slot place d.o d.part h.answer.packet.number h.answer.packet.spot s ended)
       ∙ ap (λ es. record b { opens = es; ended = ended_slots }) (is_put b.opens slot d.o s.stands o')
 
   busy_stays : noted_busy (note rules d.part ∷ []) ≤ noted_busy (note rules gone ∷ [])
   busy_stays = let e = ap (λ (n : Note). noted_busy (n ∷ [])) is_note in omega arith
     where
-      is_note : note rules d.part ≡ Sent h.packet.number d.part.restarts
+      is_note : note rules d.part ≡ Sent h.answer.packet.number d.part.restarts
       is_note = ap (note_by rules d.part) s.is_below
 
   module _ (first : State) (labels : List DeviceLabel)
@@ -92,7 +92,7 @@ module _ {takes : Bool} (v : DeviceView) (b : TableView) (climb : Climb) (spot :
     w : IsOpen rules b.owners (slot, d.o)
     w = entry_open h ordered d m
 
-    taken : IsTaking rules first (labels ++ h.starts) v'.state
+    taken : IsTaking rules first (labels ++ h.left.starts) v'.state
         (known_at (known rules d.o) (map (note rules) s.front) (note rules gone) (map (note rules) s.back) ∷ map (known rules)
         (map (λ (e : ℕ × Opened). e.1) (s.stands.before ++ s.stands.after)))
         × EndedAre (EndedBy way) v.rules v'.state
@@ -102,7 +102,7 @@ module _ {takes : Bool} (v : DeviceView) (b : TableView) (climb : Climb) (spot :
         (taking_here h ordered d m) gone ended refl payload_is
         (as_many_places h ordered d m) refl way m.ended ends
 
-    taking_then : IsTaking rules first (labels ++ h.starts) v'.state (knowns rules b')
+    taking_then : IsTaking rules first (labels ++ h.left.starts) v'.state (knowns rules b')
     taking_then =
         let t = taken.0 in
         record {
@@ -127,7 +127,7 @@ module _ {takes : Bool} (v : DeviceView) (b : TableView) (climb : Climb) (spot :
         omega arith
 
     cause : IsCause d.o.irp.cancelled b.removing (busy_now rules s gone d.o.restarts left b.next_packet ended_slots) outcome
-    cause = cause_of way d.o.irp.cancelled b.removing d.o.restarts _ h.status outcome many ends reason
+    cause = cause_of way d.o.irp.cancelled b.removing d.o.restarts _ h.answer.status outcome many ends reason
         (λ is. unsent_as h ordered d m (subst (λ w. EndedAre (EndedBy w) v.rules v.state) is m.ended))
 
     -- WHAT IS KEPT
@@ -157,19 +157,19 @@ module _ {takes : Bool} (v : DeviceView) (b : TableView) (climb : Climb) (spot :
     below_then =
         let next = next_stays h ordered d m in
         let removing = removing_stays h ordered d m in
-        let submitted = h.moves.same_submitted in
+        let submitted = h.left.moves.same_submitted in
         record {
           removing = m.below.removing ∙ sym removing;
           next_number = let a = m.below.next_number in omega arith;
           sent = let a = m.below.sent in omega arith;
-          submitted = subst (λ n. b.submitted ≤ most_over n) (sym h.moves.same_most) m.below.submitted;
+          submitted = subst (λ n. b.submitted ≤ most_over n) (sym h.left.moves.same_most) m.below.submitted;
           asked = all_parts rules s gone d.o.restarts left b.next_packet ended_slots (IsAsked rules v.state.requests)
               (IsAsked rules v'.state.requests) m.kept.opens tt
               (λ x other is. part_asked h rules x is) m.below.asked;
           spotted = all_parts rules s gone d.o.restarts left b.next_packet ended_slots (IsSpotted v.packets)
               (IsSpotted v'.packets) m.kept.opens tt
               (λ x other is. part_spotted h x other is) m.below.spotted;
-          topmost = All-tail IsTopmost h.packet v'.packets (All-permutation IsTopmost _ _ (packets_taken h) m.below.topmost);
+          topmost = All-tail IsTopmost h.answer.packet v'.packets (All-permutation IsTopmost _ _ (packets_taken h) m.below.topmost);
           some = some_now rules s gone d.o.restarts left b.next_packet ended_slots m.below.some;
           over = over_now rules s gone d.o.restarts left b.next_packet ended_slots busy_stays v'.state.removing
               (over_outcome rules gone (payload_in packet) d.o.irp.cancelled v'.state.removing _ outcome
@@ -178,17 +178,17 @@ module _ {takes : Bool} (v : DeviceView) (b : TableView) (climb : Climb) (spot :
               (subst (λ t. All (IsOver 17 t) (knowns rules b)) (sym removing) m.below.over);
         }
 
-    midway_then : IsMidway (EndedBy way) first (labels ++ h.starts) v' b'
+    midway_then : IsMidway (EndedBy way) first (labels ++ h.left.starts) v' b'
     midway_then =
-        subst (λ (r : Rules). IsMidway (EndedBy way) first (labels ++ h.starts) (record v' { rules = r }) b')
-        (sym h.moves.same_rules) (record {
+        subst (λ (r : Rules). IsMidway (EndedBy way) first (labels ++ h.left.starts) (record v' { rules = r }) b')
+        (sym h.left.moves.same_rules) (record {
           port = m.port;
           taking = taking_then;
-          rooms_out = subst (λ (u : Rules). AllOut (record v' { rules = u }) (tickets b')) h.moves.same_rules (out_any_order v' _ _ (IsPermutation-trans _ _ _ (IsPermutation-sym _ _
+          rooms_out = subst (λ (u : Rules). AllOut (record v' { rules = u }) (tickets b')) h.left.moves.same_rules (out_any_order v' _ _ (IsPermutation-trans _ _ _ (IsPermutation-sym _ _
               (IsPermutation-middle (tickets_held b.held) (ticket_for d.part.request packet) (tickets_open (all_open b))))
               (IsPermutation-append_right (tickets_held b.held) _ _
               (subst (λ (x : TableView). IsPermutation (ticket_for d.part.request packet ∷ tickets_open (all_open b)) (tickets_open (all_open x))) books_are
-              (rooms_now b slot place d.o d.part h.packet.number h.packet.spot s ended))))
+              (rooms_now b slot place d.o d.part h.answer.packet.number h.answer.packet.spot s ended))))
               (subst (λ q. AllOut v' (ticket_for q packet ∷ tickets b)) (sym (same_request h ordered d m)) (rooms_step _ m.rooms_out)));
           kept = kept_then;
           below = below_then;
@@ -198,14 +198,14 @@ module _ {takes : Bool} (v : DeviceView) (b : TableView) (climb : Climb) (spot :
   -- ONE PACKET IS TAKEN
   pub takes_ended : IsPort v.rules → TakesOne way v b v' (ended_books slot (ended_at place ended d.part d.o) b)
   takes_ended port = subst (TakesOne way v b v') (sym books_are) (record {
-    starts = h.starts;
-    still = λ is. (h.still port.no_window).0;
+    starts = h.left.starts;
+    still = λ is. (h.left.still port.no_window).0;
     goes_on = record {
-      only_starts = h.only_starts;
-      adapter = h.moves.adapter;
-      same_rules = h.moves.same_rules;
-      same_most = h.moves.same_most;
-      same_places = ap (λ n. n + room_in_all b) h.moves.same_places;
+      only_starts = h.left.only_starts;
+      adapter = h.left.moves.adapter;
+      same_rules = h.left.moves.same_rules;
+      same_most = h.left.moves.same_most;
+      same_places = ap (λ n. n + room_in_all b) h.left.moves.same_places;
       same_last = refl;
       same_submitted = refl;
       same_rooms = refl;

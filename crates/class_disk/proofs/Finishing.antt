@@ -29,29 +29,29 @@ finish_begins v books tag v' port c sound counted unfinished h = (
 
 module _ (takes : Bool) (v : DeviceView) (climb : Climb) (spot : ℕ) (v' : DeviceView) (h : HandsUp takes v climb spot v') (port : IsPort v.rules) (ordered : IsOrderly v)
     (first : State) (labels : List DeviceLabel) (k : Known) (front back : List Note) (again : ℕ) (others : List Known)
-    (t : IsTaking (class_rules v.rules) first labels v.state (known_at k front (Sent h.packet.number again) back ∷ others)) where
+    (t : IsTaking (class_rules v.rules) first labels v.state (known_at k front (Sent h.answer.packet.number again) back ∷ others)) where
   counted : AreCounted v.rules v.state
   counted = subst (λ r. AreCounted r v.state) (sym (port_rules port)) t.counted
 
-  kept : IsTaking (class_rules v.rules) first (labels ++ h.starts) v'.state (known_at k front (Kept (map (shown_mark again) h.answers.request.marks) (again + h.answers.request.busy_returns)) back ∷ others)
+  kept : IsTaking (class_rules v.rules) first (labels ++ h.left.starts) v'.state (known_at k front (Kept (map (shown_mark again) h.answer.answers.request.marks) (again + h.answer.answers.request.busy_returns)) back ∷ others)
   kept =
-      subst (λ r. (x : Answers r v.state h.packet.number h.status h.bytes h.answered) → Run r h.answered (map as_label h.starts) v'.state
-      → IsTaking (class_rules v.rules) first (labels ++ h.starts) v'.state (known_at k front (Kept (map (shown_mark again) x.request.marks) (again + x.request.busy_returns)) back ∷ others))
+      subst (λ r. (x : Answers r v.state h.answer.packet.number h.answer.status h.answer.bytes h.answer.answered) → Run r h.answer.answered (map as_label h.left.starts) v'.state
+      → IsTaking (class_rules v.rules) first (labels ++ h.left.starts) v'.state (known_at k front (Kept (map (shown_mark again) x.request.marks) (again + x.request.busy_returns)) back ∷ others))
       (sym (port_rules port))
-      (λ x run. kept_taken (class_rules v.rules) refl first labels v.state ordered.places k front back again others h.packet.number h.status h.bytes h.answered x t h.starts v'.state run)
-      h.answers h.moves.run
+      (λ x run. kept_taken (class_rules v.rules) refl first labels v.state ordered.places k front back again others h.answer.packet.number h.answer.status h.answer.bytes h.answer.answered x t h.left.starts v'.state run)
+      h.answer.answers h.left.moves.run
 
-  module _ (part : Part) (ended : Ended) (is_ended : part.progress ≡ PartEnded ended) (payload : payload_in ended.packet ≡ h.payload) (asks : place_count v.rules h.answers.request.request ≡ places_of (class_rules v.rules) part)
+  module _ (part : Part) (ended : Ended) (is_ended : part.progress ≡ PartEnded ended) (payload : payload_in ended.packet ≡ h.answer.payload) (asks : place_count v.rules h.answer.answers.request.request ≡ places_of (class_rules v.rules) part)
       (same : part.restarts ≡ again) where
-    by_note_is : Kept (map (shown_mark part.restarts) h.answers.request.marks) (part.restarts + h.answers.request.busy_returns) ≡ note (class_rules v.rules) part
-        → IsTaking (class_rules v.rules) first (labels ++ h.starts) v'.state (known_at k front (note (class_rules v.rules) part) back ∷ others)
+    by_note_is : Kept (map (shown_mark part.restarts) h.answer.answers.request.marks) (part.restarts + h.answer.answers.request.busy_returns) ≡ note (class_rules v.rules) part
+        → IsTaking (class_rules v.rules) first (labels ++ h.left.starts) v'.state (known_at k front (note (class_rules v.rules) part) back ∷ others)
     by_note_is is =
-        subst (λ n. IsTaking (class_rules v.rules) first (labels ++ h.starts) v'.state (known_at k front n back ∷ others))
-        (ap (λ n. Kept (map (shown_mark n) h.answers.request.marks) (n + h.answers.request.busy_returns)) (sym same) ∙ is) kept
+        subst (λ n. IsTaking (class_rules v.rules) first (labels ++ h.left.starts) v'.state (known_at k front n back ∷ others))
+        (ap (λ n. Kept (map (shown_mark n) h.answer.answers.request.marks) (n + h.answer.answers.request.busy_returns)) (sym same) ∙ is) kept
 
     -- A PART IS NOTED
-    pub notes_taken : (way : Way) → EndedAre (EndedBy way) v.rules v.state → EndsAs way h.status ended.outcome
-        → IsTaking (class_rules v.rules) first (labels ++ h.starts) v'.state (known_at k front (note (class_rules v.rules) part) back ∷ others) × EndedAre (EndedBy way) v.rules v'.state
+    pub notes_taken : (way : Way) → EndedAre (EndedBy way) v.rules v.state → EndsAs way h.answer.status ended.outcome
+        → IsTaking (class_rules v.rules) first (labels ++ h.left.starts) v'.state (known_at k front (note (class_rules v.rules) part) back ∷ others) × EndedAre (EndedBy way) v.rules v'.state
     notes_taken way were is = (
       by_note_is (noted_taken takes v climb spot v' h port t.sound counted ordered.places part ended is_ended payload asks way were is),
       ended_handed (EndedBy way) takes v climb spot v' were h,
@@ -59,29 +59,29 @@ module _ (takes : Bool) (v : DeviceView) (climb : Climb) (spot : ℕ) (v' : Devi
 
   -- A PART THAT CAME BACK BUSY GOES DOWN AGAIN
 
-  answered_is : IsSame h.answered v'.state
-  answered_is = subst (λ (ls : List DeviceLabel). Run v.rules h.answered (map as_label ls) v'.state) (h.still port.no_window).0 h.moves.run
+  answered_is : IsSame h.answer.answered v'.state
+  answered_is = subst (λ (ls : List DeviceLabel). Run v.rules h.answer.answered (map as_label ls) v'.state) (h.left.still port.no_window).0 h.left.moves.run
 
-  pub goes_again : (packet : Packet) (v'' : DeviceView) → (d : Submits v' packet h.request h.payload v'') → EndedAre WasSent v.rules v.state → h.status ≡ DeviceBusy → 0 < place_count v.rules (as_client v.rules h.request [])
-      → noted_busy (front ++ (Sent h.packet.number again ∷ back)) < noted_back (front ++ (Sent h.packet.number again ∷ back)) + restarts (class_rules v.rules)
+  pub goes_again : (packet : Packet) (v'' : DeviceView) → (d : Submits v' packet h.answer.request h.answer.payload v'') → EndedAre WasSent v.rules v.state → h.answer.status ≡ DeviceBusy → 0 < place_count v.rules (as_client v.rules h.answer.request [])
+      → noted_busy (front ++ (Sent h.answer.packet.number again ∷ back)) < noted_back (front ++ (Sent h.answer.packet.number again ∷ back)) + restarts (class_rules v.rules)
       → IsFalse k.cancelled → (limit : ℕ) → All (IsOver limit v.state.removing) others → All (HasSome (class_rules v.rules)) others
       → IsTaking (class_rules v.rules) first (labels ++ d.starts) v''.state (known_at k front (Sent packet.number (suc again)) back ∷ others) × EndedAre WasSent v.rules v''.state
   goes_again packet v'' d sent busy some few timely limit over all_some =
       let w = waits_again takes v climb spot v' h port t.sound counted ordered.places sent again busy in
-      let same_rules : v'.rules ≡ v.rules = h.moves.same_rules in
-      let opens : Opens v.rules v'.state packet.number h.answers.request.request d.opened =
-      subst (λ q. Opens v.rules v'.state packet.number q d.opened) (sym h.is_request)
-      (subst (λ r. Opens r v'.state packet.number (as_client r h.request (sent_bytes h.request.kind h.payload)) d.opened) same_rules d.opens) in
+      let same_rules : v'.rules ≡ v.rules = h.left.moves.same_rules in
+      let opens : Opens v.rules v'.state packet.number h.answer.answers.request.request d.opened =
+      subst (λ q. Opens v.rules v'.state packet.number q d.opened) (sym h.answer.is_request)
+      (subst (λ r. Opens r v'.state packet.number (as_client r h.answer.request (sent_bytes h.answer.request.kind h.answer.payload)) d.opened) same_rules d.opens) in
       let run : Run v.rules d.opened (map as_label d.starts) v''.state = subst (λ r. Run r d.opened (map as_label d.starts) v''.state) same_rules d.moves.run in (
-        subst (λ r. (x : Answers r v.state h.packet.number h.status h.bytes h.answered) → Opens r v'.state packet.number x.request.request d.opened → Run r d.opened (map as_label d.starts) v''.state
+        subst (λ r. (x : Answers r v.state h.answer.packet.number h.answer.status h.answer.bytes h.answer.answered) → Opens r v'.state packet.number x.request.request d.opened → Run r d.opened (map as_label d.starts) v''.state
             → (map (shown_mark again) x.request.marks ≡ map (shown_mark (suc again)) (replicate (place_count (class_rules v.rules) x.request.request) Untouched)) → x.request.busy_returns ≡ 1
             → IsTaking (class_rules v.rules) first (labels ++ d.starts) v''.state (known_at k front (Sent packet.number (suc again)) back ∷ others))
             (sym (port_rules port))
-            (λ x opened go shows once. sent_again (class_rules v.rules) refl first labels v.state ordered.places k front back again others h.packet.number h.status h.bytes h.answered x t shows once few
+            (λ x opened go shows once. sent_again (class_rules v.rules) refl first labels v.state ordered.places k front back again others h.answer.packet.number h.answer.status h.answer.bytes h.answer.answered x t shows once few
             v'.state answered_is packet.number d.opened opened timely limit over all_some d.starts v''.state go)
-            h.answers opens run w.0 w.1,
+            h.answer.answers opens run w.0 w.1,
         subst (λ r. EndedAre WasSent r v''.state) same_rules
-            (ended_submitted WasSent v' packet h.request h.payload v'' (subst (λ r. 0 < place_count r (as_client r h.request [])) (sym same_rules) some)
+            (ended_submitted WasSent v' packet h.answer.request h.answer.payload v'' (subst (λ r. 0 < place_count r (as_client r h.answer.request [])) (sym same_rules) some)
             (subst (λ r. EndedAre WasSent r v'.state) (sym same_rules) (ended_handed WasSent takes v climb spot v' sent h)) d),
       )
 

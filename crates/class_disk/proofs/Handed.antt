@@ -17,10 +17,10 @@ use Rattle.class_disk.proofs.Noting.{PartStands, owned_at, unfinished-append}
 pub finished_by : {takes : Bool} (v : DeviceView) (climb : Climb) (spot : ℕ) (v' : DeviceView) → HandsUp takes v climb spot v' → All IsTopmost v.packets → (irp : Box Irp) × (climb ≡ Finished irp)
 finished_by {takes} v climb spot v' h topmost = by climb h.climbs
   where
-    top : h.packet.above ≡ []
-    top = All-head IsTopmost h.packet h.others (All-permutation IsTopmost _ _ h.is_in topmost)
+    top : h.answer.packet.above ≡ []
+    top = All-head IsTopmost h.answer.packet h.left.others (All-permutation IsTopmost _ _ h.left.is_in topmost)
 
-    by : (c : Climb) → Climbs h.packet.above h.packet.number h.answers.request.cancelled h.status (information h.answers.request.request h.status) h.payload c → (irp : Box Irp) × (c ≡ Finished irp)
+    by : (c : Climb) → Climbs h.answer.packet.above h.answer.packet.number h.answer.answers.request.cancelled h.answer.status (information h.answer.answers.request.request h.answer.status) h.answer.payload c → (irp : Box Irp) × (c ≡ Finished irp)
     by (Finished irp) is = (irp, refl)
     by (Routine driver irp) is = absurd (none is.higher is.own is.nearer (sym top ∙ is.are_above))
       where
@@ -127,12 +127,12 @@ module _ (Is : OpenRequest → Type 0) (first : State) (labels : List DeviceLabe
         spotted = subst (IsSpottedBy v.packets) below.1 mine;
       }
 
-  pub handed : {takes : Bool} (climb : Climb) (spot : ℕ) (v' : DeviceView) → IsOrderly v → (h : HandsUp takes v climb spot v') → Handed b h.packet.number h.packet.spot
+  pub handed : {takes : Bool} (climb : Climb) (spot : ℕ) (v' : DeviceView) → IsOrderly v → (h : HandsUp takes v climb spot v') → Handed b h.answer.packet.number h.answer.packet.spot
   handed climb spot v' ordered h =
-      let d = handed_by h.answers.request (Contains-permutation _ _ h.answers.request (IsPermutation-sym _ _ h.answers.is_open) (0, omega arith, refl)) in
-      let there : Contains v.packets h.packet = Contains-permutation _ _ h.packet (IsPermutation-sym _ _ h.is_in) (0, omega arith, refl) in
-      let at : d.spot ≡ h.packet.spot = same_spot v ordered h.packet there d.spot h.answers.request.number (sym h.answers.is_number) d.spotted in
-      subst (λ n. Handed b n h.packet.spot) h.answers.is_number (subst (Handed b h.answers.request.number) at d.handed)
+      let d = handed_by h.answer.answers.request (Contains-permutation _ _ h.answer.answers.request (IsPermutation-sym _ _ h.answer.answers.is_open) (0, omega arith, refl)) in
+      let there : Contains v.packets h.answer.packet = Contains-permutation _ _ h.answer.packet (IsPermutation-sym _ _ h.left.is_in) (0, omega arith, refl) in
+      let at : d.spot ≡ h.answer.packet.spot = same_spot v ordered h.answer.packet there d.spot h.answer.answers.request.number (sym h.answer.answers.is_number) d.spotted in
+      subst (λ n. Handed b n h.answer.packet.spot) h.answer.answers.is_number (subst (Handed b h.answer.answers.request.number) at d.handed)
 
   -- the spot of a packet that is handed up has an owner
   pub spot_inside : (number spot : ℕ) (d : Handed b number spot) → spot < length b.owners

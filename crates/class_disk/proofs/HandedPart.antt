@@ -68,13 +68,13 @@ good_back Unsent status ends = absurd ends
 -- WHAT THE PART THAT IS HANDED UP WAS
 
 module _ {takes : Bool} {v : DeviceView} {b : TableView} {climb : Climb} {spot : ℕ} {v' : DeviceView} (h : HandsUp takes v climb spot v') (ordered : IsOrderly v)
-    (d : Handed b h.packet.number h.packet.spot) {first : State} {labels : List DeviceLabel}
+    (d : Handed b h.answer.packet.number h.answer.packet.spot) {first : State} {labels : List DeviceLabel}
     {Is : OpenRequest → Type 0} (m : IsMidway Is first labels v b) where
   abbrev pub rules_here : Rules
   rules_here = class_rules v.rules
 
   abbrev pub slot_here : ℕ
-  slot_here = slot_at b.owners h.packet.spot
+  slot_here = slot_at b.owners h.answer.packet.spot
 
   abbrev pub notes_front : List Note
   notes_front = map (note rules_here) d.stands.front
@@ -89,11 +89,11 @@ module _ {takes : Bool} {v : DeviceView} {b : TableView} {climb : Climb} {spot :
   entry_open = All-at (IsOpen rules_here b.owners) d.stands.stands.before (slot_here, d.o) d.stands.stands.after
       (subst (All (IsOpen rules_here b.owners)) d.stands.stands.opens_are m.kept.opens)
 
-  pub was_sent_as : note rules_here d.part ≡ Sent h.packet.number d.part.restarts
+  pub was_sent_as : note rules_here d.part ≡ Sent h.answer.packet.number d.part.restarts
   was_sent_as = ap (note_by rules_here d.part) d.stands.is_below
 
   pub taking_here : IsTaking rules_here first labels v.state
-      (known_at (known rules_here d.o) notes_front (Sent h.packet.number d.part.restarts) notes_back ∷ knowns_beside)
+      (known_at (known rules_here d.o) notes_front (Sent h.answer.packet.number d.part.restarts) notes_back ∷ knowns_beside)
   taking_here =
       let t = m.taking in
       record {
@@ -111,9 +111,9 @@ module _ {takes : Bool} {v : DeviceView} {b : TableView} {climb : Climb} {spot :
       }
 
   -- what it asked for
-  pub part_asks : record h.answers.request.request { bytes = [] } ≡ as_client v.rules d.part.request []
+  pub part_asks : record h.answer.answers.request.request { bytes = [] } ≡ as_client v.rules d.part.request []
   part_asks =
-      asks_of_handed rules_here takes v climb spot v' h d.part h.packet.spot d.stands.is_below
+      asks_of_handed rules_here takes v climb spot v' h d.part h.answer.packet.spot d.stands.is_below
       (All-at (IsAsked rules_here v.state.requests) d.stands.front d.part d.stands.back
       (subst (All (IsAsked rules_here v.state.requests)) d.stands.parts_are
       (All-contains (AreAsked rules_here v.state.requests) (all_open b) d.o m.below.asked in_opens)))
@@ -132,111 +132,111 @@ module _ {takes : Bool} {v : DeviceView} {b : TableView} {climb : Climb} {spot :
   pub some_bytes : 0 < v.rules.sector_size
   some_bytes = m.kept.sizes.whole.some_bytes
 
-  pub same_request : d.part.request ≡ h.request
+  pub same_request : d.part.request ≡ h.answer.request
   same_request = request_of_handed takes v climb spot v' some_bytes h d.part part_asks
 
-  pub as_many_places : place_count v.rules h.answers.request.request ≡ places_of rules_here d.part
-  as_many_places = places_of_handed rules_here h.answers.request.request d.part part_asks
+  pub as_many_places : place_count v.rules h.answer.answers.request.request ≡ places_of rules_here d.part
+  as_many_places = places_of_handed rules_here h.answer.answers.request.request d.part part_asks
 
-  pub open_below : Contains v.state.requests h.answers.request
-  open_below = Contains-permutation _ _ h.answers.request (IsPermutation-sym _ _ h.answers.is_open) (0, omega arith, refl)
+  pub open_below : Contains v.state.requests h.answer.answers.request
+  open_below = Contains-permutation _ _ h.answer.answers.request (IsPermutation-sym _ _ h.answer.answers.is_open) (0, omega arith, refl)
 
   -- nothing started
-  pub no_starts : h.starts ≡ []
-  no_starts = (h.still m.port.no_window).0
+  pub no_starts : h.left.starts ≡ []
+  no_starts = (h.left.still m.port.no_window).0
 
-  pub answered_there : IsSame h.answered v'.state
-  answered_there = subst (λ (ls : List DeviceLabel). Run v.rules h.answered (map as_label ls) v'.state) no_starts h.moves.run
+  pub answered_there : IsSame h.answer.answered v'.state
+  answered_there = subst (λ (ls : List DeviceLabel). Run v.rules h.answer.answered (map as_label ls) v'.state) no_starts h.left.moves.run
 
   pub next_stays : v'.state.next_request ≡ v.state.next_request
-  next_stays = sym answered_there.next_request ∙ h.answers.after.next_request
+  next_stays = sym answered_there.next_request ∙ h.answer.answers.after.next_request
 
   pub removing_stays : v'.state.removing ≡ v.state.removing
-  removing_stays = sym answered_there.removing ∙ h.answers.after.removing
+  removing_stays = sym answered_there.removing ∙ h.answer.answers.after.removing
 
   -- it is part of its request
-  by_its_note : FoundBy taking_here.j h.answers.request (known rules_here d.o) notes_front notes_back d.part.restarts knowns_beside
+  by_its_note : FoundBy taking_here.j h.answer.answers.request (known rules_here d.o) notes_front notes_back d.part.restarts knowns_beside
   by_its_note =
-      found_by taking_here.j v.state taking_here.same taking_here.sound.distinct h.answers.request open_below
+      found_by taking_here.j v.state taking_here.same taking_here.sound.distinct h.answer.answers.request open_below
       (known rules_here d.o) notes_front notes_back d.part.restarts knowns_beside
       (subst (λ (n : ℕ). IsPermutation (map known_of taking_here.j.divided)
       (known_at (known rules_here d.o) notes_front (Sent n d.part.restarts) notes_back ∷ knowns_beside))
-      (sym h.answers.is_number) taking_here.knows)
+      (sym h.answer.answers.is_number) taking_here.knows)
 
-  in_divided : (place : ℕ) × IsPartOf rules_here (known rules_here d.o).request place h.answers.request
+  in_divided : (place : ℕ) × IsPartOf rules_here (known rules_here d.o).request place h.answer.answers.request
   in_divided = by by_its_note
     where
-      by : FoundBy taking_here.j h.answers.request (known rules_here d.o) notes_front notes_back d.part.restarts knowns_beside →
-          (place : ℕ) × IsPartOf rules_here (known rules_here d.o).request place h.answers.request
+      by : FoundBy taking_here.j h.answer.answers.request (known rules_here d.o) notes_front notes_back d.part.restarts knowns_beside →
+          (place : ℕ) × IsPartOf rules_here (known rules_here d.o).request place h.answer.answers.request
       by f =
-          let e : Divided = divided_with f.found.whole f.found.front f.found.back h.answers.request f.found.again f.found.pieces in
+          let e : Divided = divided_with f.found.whole f.found.front f.found.back h.answer.answers.request f.found.again f.found.pieces in
           let made : IsMadeUp rules_here e = All-at (IsMadeUp rules_here) f.found.before e f.found.after
           (subst (All (IsMadeUp rules_here)) f.found.is_there taking_here.keeps.made_up) in
           let place : ℕ = length (parts_marks f.found.front) in (
             place,
-            subst (λ (q : ClientRequest). IsPartOf rules_here q place h.answers.request) f.request_is
-                (part_of_divided rules_here e.request h.answers.request f.found.again f.found.pieces f.found.front f.found.back made).0,
+            subst (λ (q : ClientRequest). IsPartOf rules_here q place h.answer.answers.request) f.request_is
+                (part_of_divided rules_here e.request h.answer.answers.request f.found.again f.found.pieces f.found.front f.found.back made).0,
           )
 
   -- a read that succeeded brought all that it asked for, a flush no bytes, and what came back busy its buffer
-  pub is_buffered : (only : Bool) (packet : TransferPacket) → payload_in packet ≡ h.payload → (way : Way) (outcome : Outcome) → EndsAs way h.status outcome
+  pub is_buffered : (only : Bool) (packet : TransferPacket) → payload_in packet ≡ h.answer.payload → (way : Way) (outcome : Outcome) → EndsAs way h.answer.status outcome
       → IsBuffered rules_here only (ended_part (record { packet = packet; outcome = outcome }) d.part)
   is_buffered only packet payload_is way outcome ends = (
-    λ good reads. filled (good_back way h.status (subst (EndsAs way h.status) good ends)) reads,
+    λ good reads. filled (good_back way h.answer.status (subst (EndsAs way h.answer.status) good ends)) reads,
     none,
-    λ is. held (busy_back way h.status outcome ends is),
+    λ is. held (busy_back way h.answer.status outcome ends is),
   )
     where
-      held : h.status ≡ DeviceBusy → HoldsData (transfer_length rules_here d.part.request) (payload_in packet)
+      held : h.answer.status ≡ DeviceBusy → HoldsData (transfer_length rules_here d.part.request) (payload_in packet)
       held is =
           subst (HoldsData (transfer_length rules_here d.part.request)) (sym payload_is)
-          (subst (λ (r : Request). HoldsData (transfer_length rules_here r) h.payload) (sym same_request)
-          (holds_data takes v.rules h.request h.payload (h.carries is)))
+          (subst (λ (r : Request). HoldsData (transfer_length rules_here r) h.answer.payload) (sym same_request)
+          (holds_data takes v.rules h.answer.request h.answer.payload (h.brought.carries is)))
 
-      filled : h.status ≡ Success → d.part.request.kind ≡ Read → length (payload_bytes (payload_in packet)) ≡ transfer_length rules_here d.part.request
+      filled : h.answer.status ≡ Success → d.part.request.kind ≡ Read → length (payload_bytes (payload_in packet)) ≡ transfer_length rules_here d.part.request
       filled success reads =
-          let reads' : h.request.kind ≡ Read = sym (ap (λ (r : Request). r.kind) same_request) ∙ reads in
-          let many : length h.bytes ≡ d.part.request.extent.count * v.rules.sector_size = h.filled reads' success ∙ ap
+          let reads' : h.answer.request.kind ≡ Read = sym (ap (λ (r : Request). r.kind) same_request) ∙ reads in
+          let many : length h.answer.bytes ≡ d.part.request.extent.count * v.rules.sector_size = h.brought.filled reads' success ∙ ap
           (λ (r : Request). r.extent.count * v.rules.sector_size) (sym same_request) in
-          ap (λ p. length (payload_bytes p)) payload_is ∙ ap length (h.brings reads' success) ∙ many ∙ sym
+          ap (λ p. length (payload_bytes p)) payload_is ∙ ap length (h.brought.brings reads' success) ∙ many ∙ sym
           (as_long rules_here d.part.request reads)
 
       none : d.part.request.kind ≡ Flush → payload_bytes (payload_in packet) ≡ []
-      none flushes = ap payload_bytes payload_is ∙ h.empty (sym (ap (λ (r : Request). r.kind) same_request) ∙ flushes)
+      none flushes = ap payload_bytes payload_is ∙ h.brought.empty (sym (ap (λ (r : Request). r.kind) same_request) ∙ flushes)
 
   -- what never went was cancelled, or the device was removed, and its status tells which
-  agrees : h.answers.request.cancelled ≡ d.o.irp.cancelled
+  agrees : h.answer.answers.request.cancelled ≡ d.o.irp.cancelled
   agrees =
-      let o : OpenRequest = h.answers.request in
+      let o : OpenRequest = h.answer.answers.request in
       let f = by_its_note in
       let e : Divided = divided_with f.found.whole f.found.front f.found.back o f.found.again f.found.pieces in
       let all : AgreesOnCancel e = All-at AgreesOnCancel f.found.before e f.found.after (subst (All AgreesOnCancel) f.found.is_there taking_here.keeps.agree) in
       All-contains (IsCancelledAs e.cancelled) (parts_requests e.parts) o all (there o f.found.again f.found.pieces f.found.front f.found.back) ∙ f.cancelled_is
 
-  pub unsent_as : EndedAre NeverSent v.rules v.state → (IsTrue d.o.irp.cancelled × (h.status ≡ Cancelled)) ⊎ (IsTrue b.removing × (h.status ≡ NoSuchDevice))
-  unsent_as never = by (unsent_cause v.rules v.state x h.status x.marks (All-contains HasPlaces v.state.requests x ordered.places open_below)
-      (All-contains (IsIfEnded NeverSent v.rules v.state) v.state.requests x never open_below h.answers.ended) in_divided.1.timely h.answers.cause)
+  pub unsent_as : EndedAre NeverSent v.rules v.state → (IsTrue d.o.irp.cancelled × (h.answer.status ≡ Cancelled)) ⊎ (IsTrue b.removing × (h.answer.status ≡ NoSuchDevice))
+  unsent_as never = by (unsent_cause v.rules v.state x h.answer.status x.marks (All-contains HasPlaces v.state.requests x ordered.places open_below)
+      (All-contains (IsIfEnded NeverSent v.rules v.state) v.state.requests x never open_below h.answer.answers.ended) in_divided.1.timely h.answer.answers.cause)
     where
       x : OpenRequest
-      x = h.answers.request
+      x = h.answer.answers.request
 
-      by : (IsTrue x.cancelled × (h.status ≡ Cancelled)) ⊎ (IsTrue v.state.removing × (h.status ≡ NoSuchDevice)) → (IsTrue d.o.irp.cancelled × (h.status ≡ Cancelled)) ⊎ (IsTrue b.removing × (h.status ≡ NoSuchDevice))
+      by : (IsTrue x.cancelled × (h.answer.status ≡ Cancelled)) ⊎ (IsTrue v.state.removing × (h.answer.status ≡ NoSuchDevice)) → (IsTrue d.o.irp.cancelled × (h.answer.status ≡ Cancelled)) ⊎ (IsTrue b.removing × (h.answer.status ≡ NoSuchDevice))
       by (inl (cancelled, is)) = inl (sym agrees ∙ cancelled, is)
       by (inr (removing, is)) = inr (m.below.removing ∙ removing, is)
 
   -- a write took its own bytes along, and brings them back
-  pub is_written : (packet : TransferPacket) → payload_in packet ≡ h.payload → (outcome : Outcome)
+  pub is_written : (packet : TransferPacket) → payload_in packet ≡ h.answer.payload → (outcome : Outcome)
       → IsWritten rules_here d.o (ended_part (record { packet = packet; outcome = outcome }) d.part)
   is_written packet payload_is outcome = λ writes.
-      let x : OpenRequest = h.answers.request in
+      let x : OpenRequest = h.answer.answers.request in
       let (place, p) = in_divided in
       let size : ℕ = v.rules.sector_size in
-      let writes_below : h.request.kind ≡ Write = sym (ap (λ (r : Request). r.kind) same_request) ∙ writes in
+      let writes_below : h.answer.request.kind ≡ Write = sym (ap (λ (r : Request). r.kind) same_request) ∙ writes in
       let asks = part_asks in
       let kind : x.request.kind ≡ Write = ap (λ (q : ClientRequest). q.kind) asks ∙ writes in
       let writes_above : d.o.request.kind ≡ Write = sym p.kind ∙ kind in
       let took : x.request.bytes ≡ payload_bytes (payload_in packet) =
-      ap (λ (q : ClientRequest). q.bytes) h.is_request ∙ ap (λ k. sent_bytes k h.payload) writes_below ∙ ap payload_bytes
+      ap (λ (q : ClientRequest). q.bytes) h.answer.is_request ∙ ap (λ k. sent_bytes k h.answer.payload) writes_below ∙ ap payload_bytes
       (sym payload_is) in
       let has : sent_bytes d.o.request.kind d.o.irp.payload ≡ payload_bytes d.o.irp.payload = ap
       (λ k. sent_bytes k d.o.irp.payload) writes_above in

@@ -224,45 +224,51 @@ module _ (v : DeviceView) (b : TableView) (h : IsInHand v b) (ordered : IsOrderl
 
     pub handed_up : HandsUp false (view_of v b) climb slot (view_of v left_now)
     handed_up = record {
-      request = o.request;
-      is_spot = refl;
-      whole = false;
-      is_whole = λ takes. takes;
-      room = sets;
-      packet = packet_above (slot, o);
-      others = map packet_above opens';
-      payload = payload;
-      status = lowest_status o.parts;
-      bytes = bytes;
-      answered = (view_of v (b' v b h ordered slot o opens' ended' is_in over)).state;
-      starts = [];
-      is_in = IsPermutation-map packet_above _ _ is_in;
-      answers = answers_up v b h ordered slot o opens' ended' is_in over;
-      is_request = request_up;
-      moved = moved_up;
-      busy = λ one back. absurd (cc (one));
-      carries = λ busy. either (Carries false own_rules o.request) (λ lent. up_carries lent busy) (λ own. elim (cases_Bool c.joins) [
-        | inl joins ↦ absurd (let s = (c.joins_if joins).1 in cc (s, busy))
-        | inr kept ↦ carries_up own_rules o.request c.joins o.irp.payload o.parts kept own_open.carries
-      ]);
-      brings = λ kind succeeds. read_bytes kind succeeds ∙ sym (brought kind succeeds);
-      filled = λ kind succeeds. ap length (brought kind succeeds) ∙ fits kind succeeds;
-      empty = none_brought;
+      answer = record {
+        packet = packet_above (slot, o);
+        is_spot = refl;
+        request = o.request;
+        payload = payload;
+        status = lowest_status o.parts;
+        bytes = bytes;
+        answered = (view_of v (b' v b h ordered slot o opens' ended' is_in over)).state;
+        answers = answers_up v b h ordered slot o opens' ended' is_in over;
+        is_request = request_up;
+      };
+      brought = record {
+        moved = moved_up;
+        busy = λ one back. absurd (cc (one));
+        carries = λ busy. either (Carries false own_rules o.request) (λ lent. up_carries lent busy) (λ own. elim (cases_Bool c.joins) [
+          | inl joins ↦ absurd (let s = (c.joins_if joins).1 in cc (s, busy))
+          | inr kept ↦ carries_up own_rules o.request c.joins o.irp.payload o.parts kept own_open.carries
+        ]);
+        brings = λ kind succeeds. read_bytes kind succeeds ∙ sym (brought kind succeeds);
+        filled = λ kind succeeds. ap length (brought kind succeeds) ∙ fits kind succeeds;
+        empty = none_brought;
+      };
+      left = record {
+        whole = false;
+        is_whole = λ takes. takes;
+        room = sets;
+        others = map packet_above opens';
+        is_in = IsPermutation-map packet_above _ _ is_in;
+        starts = [];
+        only_starts = All-nil IsStart;
+        moves = record {
+          same_rules = refl;
+          same_packets = IsPermutation-refl _;
+          same_rooms = λ spot. refl;
+          same_submitted = refl;
+          same_most = refl;
+          same_places = refl;
+          run = IsSame-refl _;
+          adapter = moves_none v.adapter;
+        };
+        started_stay = λ n d low started. Contains-get_or _ n d low;
+        still = λ none. (refl, refl);
+      };
       climbs = climbs_up;
       brings_routine = c.brings_routine;
-      only_starts = All-nil IsStart;
-      moves = record {
-        same_rules = refl;
-        same_packets = IsPermutation-refl _;
-        same_rooms = λ spot. refl;
-        same_submitted = refl;
-        same_most = refl;
-        same_places = refl;
-        run = IsSame-refl _;
-        adapter = moves_none v.adapter;
-      };
-      started_stay = λ n d low started. Contains-get_or _ n d low;
-      still = λ none. (refl, refl);
     }
       where
         none_brought : o.request.kind ≡ Flush → payload_bytes payload ≡ []

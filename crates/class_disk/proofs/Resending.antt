@@ -64,19 +64,19 @@ sizes_below sizes rules h = record {
 }
 
 module _ {takes : Bool} (v : DeviceView) (b : TableView) (brought : TransferPacket) (climb : Climb) (v' : DeviceView)
-    (h : HandsUp takes v climb brought.room.spot v') (ordered : IsOrderly v) (takes_srb : takes ≡ true) (payload_is : payload_in brought ≡ h.payload)
-    (rooms_step : (others : List Ticket) → AllOut v others → AllOut v' (ticket_for h.request brought ∷ others))
-    (d : Handed b h.packet.number h.packet.spot) (g : GoesAgain Returned d.o.irp.cancelled b.removing d.o.restarts h.status) where
+    (h : HandsUp takes v climb brought.room.spot v') (ordered : IsOrderly v) (takes_srb : takes ≡ true) (payload_is : payload_in brought ≡ h.answer.payload)
+    (rooms_step : (others : List Ticket) → AllOut v others → AllOut v' (ticket_for h.answer.request brought ∷ others))
+    (d : Handed b h.answer.packet.number h.answer.packet.spot) (g : GoesAgain Returned d.o.irp.cancelled b.removing d.o.restarts h.answer.status) where
   abbrev slot : ℕ
-  slot = slot_at b.owners h.packet.spot
+  slot = slot_at b.owners h.answer.packet.spot
 
   abbrev place : ℕ
-  place = place_at b.owners h.packet.spot
+  place = place_at b.owners h.answer.packet.spot
 
   abbrev rules : Rules
   rules = class_rules v.rules
 
-  abbrev s : PartStands b slot place d.o d.part h.packet.number h.packet.spot
+  abbrev s : PartStands b slot place d.o d.part h.answer.packet.number h.answer.packet.spot
   s = d.stands
 
   abbrev again_books : ℕ → ℕ → TableView
@@ -100,8 +100,8 @@ module _ {takes : Bool} (v : DeviceView) (b : TableView) (brought : TransferPack
     can_again is_open is_there =
         let next = next_stays h ordered d m in
         let removing = removing_stays h ordered d m in
-        let asks : d.part.request ≡ h.request = same_request h ordered d m in
-        let same_rules : v'.rules ≡ v.rules = h.moves.same_rules in
+        let asks : d.part.request ≡ h.answer.request = same_request h ordered d m in
+        let same_rules : v'.rules ≡ v.rules = h.left.moves.same_rules in
         let used = left_less 0 0 in
         let enough = few_enough v.submitted b.next_packet (restarts_left b.opens) b.submitted v.most m.below.sent
         (omega arith) m.kept.budget m.below.submitted in
@@ -112,7 +112,7 @@ module _ {takes : Bool} (v : DeviceView) (b : TableView) (brought : TransferPack
             rooms_out = subst (λ q. AllOut v' (ticket_for q brought ∷ tickets b)) (sym asks) (rooms_step _ m.rooms_out);
             not_removing = removing ∙ (sym m.below.removing ∙ g.not_removing);
             number = let a = m.below.next_number in omega arith;
-            few = let a = h.moves.same_submitted in let c = h.moves.same_most in let e = enough.0 in omega arith;
+            few = let a = h.left.moves.same_submitted in let c = h.left.moves.same_most in let e = enough.0 in omega arith;
             can_number = record { count = enough.1 };
             sizes = subst (AreSizes b.sizes) (sym same_rules) (sizes_below b.sizes v.rules m.kept.sizes);
           };
@@ -123,12 +123,12 @@ module _ {takes : Bool} (v : DeviceView) (b : TableView) (brought : TransferPack
               subst (λ t. Carries t v'.rules d.part.request (payload_in brought)) takes_srb
               (subst (λ r. Carries takes r d.part.request (payload_in brought)) (sym same_rules)
               (subst (λ r. Carries takes v.rules r (payload_in brought)) (sym asks)
-              (subst (Carries takes v.rules h.request) (sym payload_is) (h.carries g.busy))));
+              (subst (Carries takes v.rules h.answer.request) (sym payload_is) (h.brought.carries g.busy))));
         }
 
   -- ONE PACKET IS TAKEN
   module _ (ordered' : IsOrderly v') (v'' : DeviceView) (b'' : TableView) (x : SendsDownAgain v' b slot place brought d.o d.part v'' b'')
-      (asks : d.part.request ≡ h.request) where
+      (asks : d.part.request ≡ h.answer.request) where
     abbrev number : ℕ
     number = x.packet'.irp.value.number
 
@@ -163,11 +163,11 @@ module _ {takes : Bool} (v : DeviceView) (b : TableView) (brought : TransferPack
         ∙ ap (λ es. record b { opens = es; next_packet = b.next_packet + 1 }) (is_put b.opens slot d.o s.stands o_again)
 
     -- what was submitted
-    down : Submits v' packet h.request h.payload v''
-    down = subst (λ p. Submits v' packet h.request p v'') payload_is (subst (λ r. Submits v' packet r (payload_in brought) v'') asks x.submits)
+    down : Submits v' packet h.answer.request h.answer.payload v''
+    down = subst (λ p. Submits v' packet h.answer.request p v'') payload_is (subst (λ r. Submits v' packet r (payload_in brought) v'') asks x.submits)
 
     same_rules : v''.rules ≡ v.rules
-    same_rules = down.moves.same_rules ∙ h.moves.same_rules
+    same_rules = down.moves.same_rules ∙ h.left.moves.same_rules
 
     kept_run : (v''.state.next_request ≡ number + 1) × (v''.state.removing ≡ v'.state.removing)
     kept_run =
@@ -198,7 +198,7 @@ module _ {takes : Bool} (v : DeviceView) (b : TableView) (brought : TransferPack
         → IsAskedBy rules v''.state.requests r p
     asked_still r (Ready unsent) spotted is = tt
     asked_still r (HasEnded ended) spotted is = tt
-    asked_still r (Below n spot) spotted is = asks_submitted rules r n v' packet h.request h.payload v'' (given_number n spot spotted) is down
+    asked_still r (Below n spot) spotted is = asks_submitted rules r n v' packet h.answer.request h.answer.payload v'' (given_number n spot spotted) is down
 
     spotted_still : (p : Progress) → IsSpottedBy v'.packets p → IsSpottedBy v''.packets p
     spotted_still (Ready unsent) is = tt
@@ -209,7 +209,7 @@ module _ {takes : Bool} (v : DeviceView) (b : TableView) (brought : TransferPack
     own_asked =
         asks_run rules d.part.request number v'.rules down.starts down.opened v''.state
         (asks_own rules d.part.request number v'.rules v'.state _ down.opened ordered'.distinct
-        (ap (λ (r : Rules). as_client r h.request []) h.moves.same_rules ∙ ap (λ r. as_client rules r [])
+        (ap (λ (r : Rules). as_client r h.answer.request []) h.left.moves.same_rules ∙ ap (λ r. as_client rules r [])
         (sym asks)) down.opens) down.moves.run
 
     own_spotted : IsSpotted v''.packets sent_again_part
@@ -247,7 +247,7 @@ module _ {takes : Bool} (v : DeviceView) (b : TableView) (brought : TransferPack
     busy_more : noted_busy (note rules d.part ∷ []) ≤ noted_busy (note rules sent_again_part ∷ [])
     busy_more = let e = ap (λ (n : Note). noted_busy (n ∷ [])) is_note in omega arith
       where
-        is_note : note rules d.part ≡ Sent h.packet.number d.part.restarts
+        is_note : note rules d.part ≡ Sent h.answer.packet.number d.part.restarts
         is_note = ap (note_by rules d.part) s.is_below
 
     module _ (first : State) (labels : List DeviceLabel)
@@ -260,23 +260,23 @@ module _ {takes : Bool} (v : DeviceView) (b : TableView) (brought : TransferPack
           All-tail P _ others (All-permutation P _ _ (known_old rules s sent_again_part (d.o.restarts + 1) d.o.unfinished
           (b.next_packet + 1) b.ended) all)
 
-      some_places : 0 < place_count v.rules (as_client v.rules h.request [])
+      some_places : 0 < place_count v.rules (as_client v.rules h.answer.request [])
       some_places =
-          let y : OpenRequest = h.answers.request in
+          let y : OpenRequest = h.answer.answers.request in
           let c = open_below h ordered d m in
           let long : 0 < length y.marks = All-contains HasPlaces v.state.requests y ordered.places c in
           let count = (All-contains (IsCounted v.rules) v.state.requests y
           (subst (λ r. AreCounted r v.state) (sym (port_rules m.port)) m.taking.counted) c).places in
-          let e : place_count v.rules y.request ≡ place_count v.rules (as_client v.rules h.request []) = ap
-          (place_count v.rules) h.is_request in
+          let e : place_count v.rules y.request ≡ place_count v.rules (as_client v.rules h.answer.request []) = ap
+          (place_count v.rules) h.answer.is_request in
           omega arith
 
       -- a restart is left
-      few_noted : noted_busy (map (note rules) s.front ++ (Sent h.packet.number d.part.restarts ∷ map (note rules) s.back))
-          < noted_back (map (note rules) s.front ++ (Sent h.packet.number d.part.restarts ∷ map (note rules) s.back)) + restarts rules
+      few_noted : noted_busy (map (note rules) s.front ++ (Sent h.answer.packet.number d.part.restarts ∷ map (note rules) s.back))
+          < noted_back (map (note rules) s.front ++ (Sent h.answer.packet.number d.part.restarts ∷ map (note rules) s.back)) + restarts rules
       few_noted =
           let is : IsOpen rules b.owners (slot, d.o) = entry_open h ordered d m in
-          let notes : map (note rules) d.o.parts ≡ map (note rules) s.front ++ (Sent h.packet.number d.part.restarts ∷ map (note rules) s.back) =
+          let notes : map (note rules) d.o.parts ≡ map (note rules) s.front ++ (Sent h.answer.packet.number d.part.restarts ∷ map (note rules) s.back) =
           ap (map (note rules)) s.parts_are ∙ map-append (note rules) s.front (d.part ∷ s.back)
           ∙ ap (λ (n : Note). map (note rules) s.front ++ (n ∷ map (note rules) s.back)) (was_sent_as h ordered d m) in
           let noted = noted_few rules d.o.parts (parts_cut rules d.o.request d.o.parts m.kept.sizes.whole.some_bytes m.port.some_transfer is.cut) in
@@ -320,12 +320,12 @@ module _ {takes : Bool} (v : DeviceView) (b : TableView) (brought : TransferPack
           let few = g.few in
           let long = long_now rules s sent_again_part (d.o.restarts + 1) d.o.unfinished (b.next_packet + 1) b.ended in
           let used = left_less number brought.room.spot in
-          let its : IsOwnedBy b.owners slot (0 + length s.front) (Below h.packet.number h.packet.spot) =
+          let its : IsOwnedBy b.owners slot (0 + length s.front) (Below h.answer.packet.number h.answer.packet.spot) =
           subst (IsOwnedBy b.owners slot (0 + length s.front)) s.is_below (owned_at b.owners slot 0 s.front d.part s.back (subst (AreOwnedFrom b.owners slot 0) s.parts_are is.owned)) in
           let owned : IsOwnedBy b.owners slot place (Below number brought.room.spot) = (
-            ap (slot_at b.owners) (sym h.is_spot),
-            ap (place_at b.owners) (sym h.is_spot),
-            subst (λ n. n < length b.owners) h.is_spot its.2,
+            ap (slot_at b.owners) (sym h.answer.is_spot),
+            ap (place_at b.owners) (sym h.answer.is_spot),
+            subst (λ n. n < length b.owners) h.answer.is_spot its.2,
           ) in
           record {
             sizes = k.sizes;
@@ -350,8 +350,8 @@ module _ {takes : Bool} (v : DeviceView) (b : TableView) (brought : TransferPack
           record {
             removing = m.below.removing ∙ sym removing;
             next_number = let a = kept_run.0 in let c = number_is in omega arith;
-            sent = let a = m.below.sent in let c = down.moves.same_submitted in let e = h.moves.same_submitted in omega arith;
-            submitted = subst (λ n. b.submitted ≤ most_over n) (sym (down.moves.same_most ∙ h.moves.same_most)) m.below.submitted;
+            sent = let a = m.below.sent in let c = down.moves.same_submitted in let e = h.left.moves.same_submitted in omega arith;
+            submitted = subst (λ n. b.submitted ≤ most_over n) (sym (down.moves.same_most ∙ h.left.moves.same_most)) m.below.submitted;
             asked = all_parts rules s sent_again_part (d.o.restarts + 1) d.o.unfinished (b.next_packet + 1) b.ended
                 (λ y. IsAsked rules v.state.requests y × IsSpotted v.packets y) (IsAsked rules v''.state.requests) m.kept.opens own_asked
                 (λ y other is. asked_still y.request y.progress (part_spotted h y other is.1) (part_asked h rules y is.0))
@@ -360,7 +360,7 @@ module _ {takes : Bool} (v : DeviceView) (b : TableView) (brought : TransferPack
                 (IsSpotted v.packets) (IsSpotted v''.packets) m.kept.opens own_spotted
                 (λ y other is. spotted_still y.progress (part_spotted h y other is)) m.below.spotted;
             topmost = All-permutation IsTopmost _ _ packets_again (All-cons IsTopmost packet v'.packets own_topmost
-                (All-tail IsTopmost h.packet v'.packets (All-permutation IsTopmost _ _ (packets_taken h) m.below.topmost)));
+                (All-tail IsTopmost h.answer.packet v'.packets (All-permutation IsTopmost _ _ (packets_taken h) m.below.topmost)));
             some = some_now rules s sent_again_part (d.o.restarts + 1) d.o.unfinished (b.next_packet + 1) b.ended m.below.some;
             over = over_now rules s sent_again_part (d.o.restarts + 1) d.o.unfinished
                 (b.next_packet + 1) b.ended busy_more v''.state.removing tt
@@ -373,9 +373,9 @@ module _ {takes : Bool} (v : DeviceView) (b : TableView) (brought : TransferPack
           let r = out_less v' v'' (ticket_for d.part.request brought) (Some (whole_for d.part.request)) (tickets b) x.ordered x.submits.room before in
           subst (λ (u : Rules). AllOut (record v'' { rules = u }) (tickets b_again)) same_rules (subst (λ zs. AllOut v'' (tickets_held b.held ++ zs)) (sym rooms_stay) r)
 
-      midway_then : IsMidway WasSent first (labels ++ (h.starts ++ down.starts)) v'' b_again
+      midway_then : IsMidway WasSent first (labels ++ (h.left.starts ++ down.starts)) v'' b_again
       midway_then =
-          let none : h.starts ≡ [] = no_starts h ordered d m in
+          let none : h.left.starts ≡ [] = no_starts h ordered d m in
           subst (λ (ls : List DeviceLabel). IsMidway WasSent first
           (labels ++ (ls ++ down.starts)) v'' b_again) (sym none)
           (subst (λ (r : Rules). IsMidway WasSent first (labels ++ down.starts)
@@ -390,14 +390,14 @@ module _ {takes : Bool} (v : DeviceView) (b : TableView) (brought : TransferPack
 
     pub takes_again : TakesOne Returned v b v'' b''
     takes_again = subst (TakesOne Returned v b v'') (sym books_are) (record {
-      starts = h.starts ++ down.starts;
+      starts = h.left.starts ++ down.starts;
       still = λ is. absurd (cc (is));
       goes_on = record {
-        only_starts = All-append IsStart h.starts down.starts h.only_starts down.only_starts;
-        adapter = moves_joined v.adapter h.starts v'.adapter down.starts v''.adapter h.moves.adapter down.moves.adapter;
+        only_starts = All-append IsStart h.left.starts down.starts h.left.only_starts down.only_starts;
+        adapter = moves_joined v.adapter h.left.starts v'.adapter down.starts v''.adapter h.left.moves.adapter down.moves.adapter;
         same_rules = same_rules;
-        same_most = down.moves.same_most ∙ h.moves.same_most;
-        same_places = ap (λ n. n + room_in_all b) (down.moves.same_places ∙ h.moves.same_places);
+        same_most = down.moves.same_most ∙ h.left.moves.same_most;
+        same_places = ap (λ n. n + room_in_all b) (down.moves.same_places ∙ h.left.moves.same_places);
         same_last = refl;
         same_submitted = refl;
         same_rooms = refl;

@@ -57,22 +57,22 @@ over_outcome rules part payload cancelled removing busy (Withdrawn told) cause =
 -- WHAT THE STEP BELOW LEAVES
 
 module _ {takes : Bool} {v : DeviceView} {climb : Climb} {spot : ℕ} {v' : DeviceView} (h : HandsUp takes v climb spot v') where
-  pub packets_taken : IsPermutation v.packets (h.packet ∷ v'.packets)
-  packets_taken = IsPermutation-trans _ _ _ h.is_in (IsPermutation-cons h.packet _ _ (IsPermutation-sym _ _ h.moves.same_packets))
+  pub packets_taken : IsPermutation v.packets (h.answer.packet ∷ v'.packets)
+  packets_taken = IsPermutation-trans _ _ _ h.left.is_in (IsPermutation-cons h.answer.packet _ _ (IsPermutation-sym _ _ h.left.moves.same_packets))
 
   pub fewer_packets : length v.packets ≡ 1 + length v'.packets
   fewer_packets = let e : suc (length v'.packets) ≡ length v.packets = length_permutation _ _ packets_taken in omega arith
 
   -- another packet stays where it is, and asks for the same
-  pub part_spotted : (x : Part) → HasOther h.packet.spot x → IsSpotted v.packets x → IsSpotted v'.packets x
+  pub part_spotted : (x : Part) → HasOther h.answer.packet.spot x → IsSpotted v.packets x → IsSpotted v'.packets x
   part_spotted x other is = by x.progress other is
     where
-      by : (p : Progress) → ((number at : ℕ) → p ≡ Below number at → at ≢ h.packet.spot) → IsSpottedBy v.packets p → IsSpottedBy v'.packets p
+      by : (p : Progress) → ((number at : ℕ) → p ≡ Below number at → at ≢ h.answer.packet.spot) → IsSpottedBy v.packets p → IsSpottedBy v'.packets p
       by (Ready place) other is = tt
       by (HasEnded ended) other is = tt
       by (Below number at) other (i, y, low, is, found) = in_rest (Contains-permutation _ _ y packets_taken (i, low, is))
         where
-          in_rest : Contains (h.packet ∷ v'.packets) y → Any (IsAt at number) v'.packets
+          in_rest : Contains (h.answer.packet ∷ v'.packets) y → Any (IsAt at number) v'.packets
           in_rest (zero, low, is) = absurd (other number at refl (sym found.is_spot ∙ ap (λ (z : Packet). z.spot) (sym is)))
           in_rest (suc k, low, is) = (k, y, omega arith, is, found)
 

@@ -29,6 +29,13 @@ use std::sync::Wait;
 use std::thread::Threads;
 use traced::{StackSizes, TraceEntry};
 
+/// What clients are asked to do: so many threads, from 1 to 32, make so many rounds each.
+#[derive(Clone, Copy)]
+pub struct Load {
+    pub threads: u16,
+    pub rounds: u16,
+}
+
 /// What came of the clients.
 #[derive(Drop)]
 pub struct Outcome {
@@ -53,17 +60,17 @@ pub fn clients<C: Read + Drop, O: Write, R: Threads + Wait + Sync>(
     rt: &R,
     alloc: Global,
     config: C,
-    threads: u16,
-    rounds: u16,
+    load: Load,
     out: &mut O,
 ) -> Result<Outcome, Error>
-    requires { (1 ≤ threads) × (threads ≤ 32) }
-    ensures printed { IfOk result (λ o. PrintsTally threads rounds o.done.tally (O.contents out.old) (O.contents out.new)) }
-    ensures verdict { IfOk result (λ o. o.verdict ≡ verdict_on threads rounds o.done.tally (is_whole (labels_of o.done.trace.items) o.done.entries.items)) }
+    requires { (1 ≤ load.threads) × (load.threads ≤ 32) }
+    ensures printed { IfOk result (λ o. PrintsTally load.threads load.rounds o.done.tally (O.contents out.old) (O.contents out.new)) }
+    ensures verdict { IfOk result (λ o. o.verdict ≡ verdict_on load.threads load.rounds o.done.tally (is_whole (labels_of o.done.trace.items) o.done.entries.items)) }
     ensures run { IfOk result (λ o. IsRunOver (C.remaining config) (labels_of o.done.trace.items) o.done.entries.items (shown o.done.medium).sectors) }
-    ensures fault { IfErr result (IsClientsFault (C.remaining config) threads) }
+    ensures fault { IfErr result (IsClientsFault (C.remaining config) load.threads) }
     ensures untold { IfErr result (IsUntold (O.contents out.old) (O.contents out.new)) }
 {
+    let Load { threads, rounds } = load;
     let config = read_settings(alloc, config)?;
     let has_room = has_room(&config, threads);
     let sizes = sizes_for(&config);

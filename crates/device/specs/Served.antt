@@ -255,45 +255,58 @@ cut (suc count) size bytes = take size bytes ∷ cut count size (drop size bytes
 abbrev pub sectors_moved : Rules → Request → Payload → List (List ℕ)
 sectors_moved rules r payload = cut (place_count rules (as_client rules r [])) rules.sector_size (payload_bytes payload)
 
--- the request of a packet is answered, the packet climbs, its spot is reserved again, and then pieces of others are
--- started
-pub record HandsUp (takes_srb : Bool) (old : DeviceView) (climb : Climb) (spot : ℕ) (new : DeviceView) : Type 0 where
-  pub request : Request
+-- the request of the packet at the spot is answered by a status
+pub record AnswersPacket (old : DeviceView) (spot : ℕ) : Type 0 where
   pub packet : Packet
   pub is_spot : packet.spot ≡ spot
+  pub request : Request
+  pub payload : Payload
+  pub status : NtStatus
+  pub bytes : List ℕ
+  pub answered : State
+  pub answers : Answers old.rules old.state packet.number status bytes answered
+  pub is_request : answers.request.request ≡ as_client old.rules request (sent_bytes request.kind payload)
+
+-- a packet comes up with the bytes of its answer where it was done, and can be sent again as it is where it came back busy
+pub record BringsUp (takes_srb : Bool) (rules : Rules) (request : Request) (payload : Payload) (status : NtStatus)
+    (bytes : List ℕ) (marks : List Mark) : Type 0 where
+  -- a read or a write that succeeded moved just the sectors that are its packet's bytes
+  pub moved : status ≡ Success → marks ≡ map Done (sectors_moved rules request payload)
+  -- a request that went as a whole and came back busy is answered as busy
+  pub busy : IsTrue rules.one_piece → All IsBack marks → status ≡ DeviceBusy
+  pub carries : status ≡ DeviceBusy → Carries takes_srb rules request payload
+  pub brings : request.kind ≡ Read → status ≡ Success → payload_bytes payload ≡ bytes
+  -- a read that succeeded brings as many bytes as it asked for
+  pub filled : request.kind ≡ Read → status ≡ Success → length bytes ≡ request.extent.count * rules.sector_size
+  -- a flush brings none
+  pub empty : request.kind ≡ Flush → payload_bytes payload ≡ []
+
+-- the answered packet is gone, its spot is reserved for its request again, and then pieces of others are started
+pub record LeavesSpot (takes_srb : Bool) (old : DeviceView) (packet : Packet) (request : Request) (answered : State)
+    (spot : ℕ) (new : DeviceView) : Type 0 where
   -- whether the spot has all that its request needs; it does where packets bring their SRBs along
   pub whole : Bool
   pub is_whole : IsTrue takes_srb → IsTrue whole
   pub room : SetsRoom old.rooms spot None (Some (record { request = request; whole = whole })) new.rooms
   pub others : List Packet
-  pub payload : Payload
-  pub status : NtStatus
-  pub bytes : List ℕ
-  pub answered : State
-  pub starts : List DeviceLabel
   pub is_in : IsPermutation old.packets (packet ∷ others)
-  pub answers : Answers old.rules old.state packet.number status bytes answered
-  pub is_request : answers.request.request ≡ as_client old.rules request (sent_bytes request.kind payload)
-  -- a read or a write that succeeded moved just the sectors that are its packet's bytes
-  pub moved : status ≡ Success → answers.request.marks ≡ map Done (sectors_moved old.rules request payload)
-  -- a request that went as a whole and came back busy is answered as busy
-  pub busy : IsTrue old.rules.one_piece → All IsBack answers.request.marks → status ≡ DeviceBusy
-  -- a packet that came back busy can be sent again as it is, and a read that succeeded holds its bytes
-  pub carries : status ≡ DeviceBusy → Carries takes_srb old.rules request payload
-  pub brings : request.kind ≡ Read → status ≡ Success → payload_bytes payload ≡ bytes
-  -- a read that succeeded brings as many bytes as it asked for
-  pub filled : request.kind ≡ Read → status ≡ Success → length bytes ≡ request.extent.count * old.rules.sector_size
-  -- a flush brings none
-  pub empty : request.kind ≡ Flush → payload_bytes payload ≡ []
-  pub climbs : Climbs packet.above packet.number answers.request.cancelled status
-      (information answers.request.request status) payload climb
-  pub brings_routine : BringsRoutine packet.cancel_routine climb
+  pub starts : List DeviceLabel
   pub only_starts : All IsStart starts
   pub moves : Moves (record old { state = answered; packets = others; rooms = new.rooms }) starts new
   -- requests that were started stay as they are
   pub started_stay : All (StaysIfStarted new.state) answered.requests
   -- where no window holds requests back, no piece is started, and the adapter stays as it was
   pub still : old.rules.window ≡ None → (starts ≡ []) × (new.adapter ≡ old.adapter)
+
+-- the request of a packet is answered, the packet climbs with what it brings, and its spot is left reserved
+pub record HandsUp (takes_srb : Bool) (old : DeviceView) (climb : Climb) (spot : ℕ) (new : DeviceView) : Type 0 where
+  pub answer : AnswersPacket old spot
+  pub brought : BringsUp takes_srb old.rules answer.request answer.payload answer.status answer.bytes
+      answer.answers.request.marks
+  pub left : LeavesSpot takes_srb old answer.packet answer.request answer.answered spot new
+  pub climbs : Climbs answer.packet.above answer.packet.number answer.answers.request.cancelled answer.status
+      (information answer.answers.request.request answer.status) answer.payload climb
+  pub brings_routine : BringsRoutine answer.packet.cancel_routine climb
 
 -- a place of the request came back busy and waits for the restart that it was granted, whatever came back busy since
 pub record AwaitsRestart (rules : Rules) (s : State) (o : OpenRequest) : Type 0 where

@@ -128,50 +128,56 @@ module _ (stack_size : ℕ) (v : DeviceView) (b : TableView) (x : Held) (held en
         refl in
         subst (λ (r : Room). HandsUp false (view_of v b) climb r.spot (view_of v books_left)) (sym over.is_room)
         (record {
-          request = request_in x.irp.value;
-          packet = packet_here x;
-          is_spot = refl;
-          whole = true;
-          is_whole = λ takes. refl;
-          room = room_back;
-          others = packets_of v books_left;
-          payload = x.irp.value.payload;
-          status = status;
-          bytes = [];
-          answered = state_of v books_left;
-          starts = [];
-          is_in = IsPermutation-trans _ _ _
-              (IsPermutation-append_right (map packet_below v.packets) _ _
-              (IsPermutation-map packet_here _ _ h.first))
-              (IsPermutation-middle (map packet_below v.packets) (packet_here x)
-              (map packet_here (here books_left)));
-          answers = a;
-          is_request = ap (λ (o : OpenRequest). o.request) e;
-          moved = λ is. absurd (not_success is);
-          busy = λ one all. absurd
-              (untouched_not_back _ some_places (subst (λ (o : OpenRequest). All IsBack o.marks) e all));
-          carries = λ is. absurd (not_busy is);
-          brings = λ is succeeds. absurd (not_success succeeds);
-          filled = λ is succeeds. absurd (not_success succeeds);
-          empty = carries_none false v.rules (request_in x.irp.value) x.irp.value.payload h.carries;
+          answer = record {
+            packet = packet_here x;
+            is_spot = refl;
+            request = request_in x.irp.value;
+            payload = x.irp.value.payload;
+            status = status;
+            bytes = [];
+            answered = state_of v books_left;
+            answers = a;
+            is_request = ap (λ (o : OpenRequest). o.request) e;
+          };
+          brought = record {
+            moved = λ is. absurd (not_success is);
+            busy = λ one all. absurd
+                (untouched_not_back _ some_places (subst (λ (o : OpenRequest). All IsBack o.marks) e all));
+            carries = λ is. absurd (not_busy is);
+            brings = λ is succeeds. absurd (not_success succeeds);
+            filled = λ is succeeds. absurd (not_success succeeds);
+            empty = carries_none false v.rules (request_in x.irp.value) x.irp.value.payload h.carries;
+          };
+          left = record {
+            whole = true;
+            is_whole = λ takes. refl;
+            room = room_back;
+            others = packets_of v books_left;
+            is_in = IsPermutation-trans _ _ _
+                (IsPermutation-append_right (map packet_below v.packets) _ _
+                (IsPermutation-map packet_here _ _ h.first))
+                (IsPermutation-middle (map packet_below v.packets) (packet_here x)
+                (map packet_here (here books_left)));
+            starts = [];
+            only_starts = All-nil IsStart;
+            moves = record {
+              same_rules = refl;
+              same_packets = IsPermutation-refl _;
+              same_rooms = rooms_refl (without v.rooms (here books_left));
+              same_submitted = refl;
+              same_most = refl;
+              same_places = refl;
+              run = IsSame-refl _;
+              adapter = moves_none v.adapter;
+            };
+            started_stay = λ i d low started. Contains-get_or (state_of v books_left).requests i d low;
+            still = λ window. (refl, refl);
+          };
           climbs = subst (λ (o : OpenRequest). Climbs (packet_here x).above x.irp.value.number o.cancelled status
               (information o.request status) x.irp.value.payload climb) (sym e)
               (subst (λ (n : ℕ). Climbs (packet_here x).above x.irp.value.number x.irp.value.cancelled status n
               x.irp.value.payload climb) (sym (nothing (open_as x).request)) over.climbs);
           brings_routine = over.brings;
-          only_starts = All-nil IsStart;
-          started_stay = λ i d low started. Contains-get_or (state_of v books_left).requests i d low;
-          still = λ window. (refl, refl);
-          moves = record {
-            same_rules = refl;
-            same_packets = IsPermutation-refl _;
-            same_rooms = rooms_refl (without v.rooms (here books_left));
-            same_submitted = refl;
-            same_most = refl;
-            same_places = refl;
-            run = IsSame-refl _;
-            adapter = moves_none v.adapter;
-          };
         })
 
 -- AS THE CALLS SAY IT

@@ -1,7 +1,7 @@
 -- What the trace tells of a client's call.
 use Rattle.std.proofs.Common.{◌≡◌, ℕ, zero, suc, ◌+◌, ◌-◌, ◌<◌, ◌≤◌, ◌==◌, Bool, true, false, if◌then◌else◌, List, [], ◌∷◌, ◌++◌, length, map, Option, Some, None, refl, sym, ap, ◌∙◌, subst, arith, append_assoc, length-append, inl, inr}
 use Rattle.std.specs.Prelude.{◌⊎◌, ◌^◌, slice_get, slice_index_or}
-use Rattle.host.proofs.Common.{nat_tests, NtStatus, Success, ClientRequest, Kind, Label, AreDistinct, Rules, as_label, OpenHandle, InvalidHandle, InvalidParameter, DeletePending, DeviceBusy, InsufficientResources, InvalidDeviceRequest, NotFound, Event, Reply, are_used_up, bytes_called, call_on, partition_at, partition_of, status_of_refusal, without_bytes, IsWant, ManagerView, TraceEntry, entry, is_call, owner_of, row_of, LogView, noted, noted_all, AreNoCalls, open_at, ShareView, IsOpenOn, bytes_of}
+use Rattle.host.proofs.Common.{nat_tests, NtStatus, Success, ClientRequest, Kind, Label, AreDistinct, Rules, as_label, OpenHandle, InvalidHandle, InvalidParameter, DeletePending, DeviceBusy, InsufficientResources, InvalidDeviceRequest, NotFound, Event, Reply, are_used_up, bytes_called, call_on, partition_at, partition_of, status_of_refusal, without_bytes, IsWant, ManagerView, TraceEntry, entry, is_call, owner_of, row_of, LogView, State, noted, noted_all, AreNoCalls, open_at, ShareView, IsOpenOn, bytes_of}
 use Rattle.srb.specs.declared.Kind.TheVariants.{Read as ReadKind, Write as WriteKind, Flush as FlushKind}
 use Rattle.machine.specs.declared.Label.TheVariants.{Call as CallLabel, Answer as AnswerLabel}
 use Rattle.io_manager.specs.declared.Handle.{Handle}
@@ -226,6 +226,11 @@ module _ (slots : ℕ) (old mid new : TracedView) (before after : ShareView) (q 
   turned_away InsufficientResources stepped' told t = (ap labels_of t.2.nothing, tt)
   turned_away _ stepped' told t = absurd t
 
+  used_up : (reason : Refusal) (told : Told) → IsTurnedAway mid.stack q reason stepped told → reason ≡ DeviceBusy → are_used_up new.stack.state.next_request ≡ true
+  used_up DeviceBusy told t busy = ap (λ (v : ManagerView). are_used_up v.state.next_request) carried.stack ∙ ap (λ (s : State). are_used_up s.next_request) t.1.same_state ∙ t.0
+  used_up InsufficientResources told t busy = absurd (cc (busy))
+  used_up _ told t busy = absurd t
+
   told_place : (reply : Reply) (p : ℕ) (place : Option ℕ) → place ≡ Some p → IsTold slots before after q buffer new reply (Some p) → IsTold slots before after q buffer new reply place
   told_place reply p place is t = subst (IsTold slots before after q buffer new reply) (sym is) t
 
@@ -244,7 +249,7 @@ module _ (slots : ℕ) (old mid new : TracedView) (before after : ShareView) (q 
           let away = turned_away reason stepped told t in
           let same = no_labels (right.in_order ∙ away.0) in
           let u = unheard old mid new before after still counts same.0 same.1 place finds in
-          subst (IsTold slots before after q buffer new (Refused reason bytes)) (sym u.0) (r.0, away.1, u.1)
+          subst (IsTold slots before after q buffer new (Refused reason bytes)) (sym u.0) (r.0, away.1, u.1, used_up reason told t)
   by_reply handle (HandleReply given) told right r place finds = absurd r
   by_reply handle _ told right r place finds = absurd r
 
@@ -289,7 +294,7 @@ module _ (slots partition : ℕ) (old mid new : TracedView) (before after : Shar
   wanting event q w =
       let u = unheard old mid new before after still counts (ap (λ b. b.entries) w.same) (ap (λ b. b.owners) w.same) place finds in
       subst (λ (r : Reply). IsTold slots before after q (bytes_of event) new r place) (sym w.replies)
-      (subst (IsTold slots before after q (bytes_of event) new (Refused InsufficientResources (bytes_of event))) (sym u.0) (refl, tt, u.1))
+      (subst (IsTold slots before after q (bytes_of event) new (Refused InsufficientResources (bytes_of event))) (sym u.0) (refl, tt, u.1, λ e. absurd (cc (e))))
 
   by_call : (call : Call) → IsServed before.client mid (event_of before.handle call) reply new → IsTold slots before after (request_of partition call) (buffer_of call) new reply place
   by_call (Read offset buffer) (inl c) = carried_out ReadKind offset buffer false c.stepped (record { entries = c.entries; owners = c.owners; stack = c.stack }) c.right

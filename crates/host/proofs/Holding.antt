@@ -13,6 +13,7 @@ use Rattle.host.specs.declared.call.Call.{Call}
 use Rattle.host.specs.declared.call.Reason.{Reason}
 use Rattle.host.specs.declared.call.Reason.TheVariants.{Refused, TooManyTickets}
 use Rattle.host.specs.declared.call.Refusal.{Refusal}
+use Rattle.host.specs.Tickets.{IsBusy}
 use Rattle.host.specs.Accounts.{AreAnsweredAt, HasLabels, partition_of as partition_for}
 use Rattle.host.specs.Clients.{ClientKept, HasNoHold, HasNoReceipt, HasReceipts, HoldsView, IsIssued, IsRefused}
 
@@ -97,6 +98,15 @@ module _ (gate marks : TableId) (account account' : AccountView) (holds holds' :
           seat_is = kept.seat_is;
           room = omega (arith, same, out, awaited_is, room, less);
         }
+
+-- WHY IT IS BUSY
+
+-- a call that did not reach the book was refused for another reason
+pub not_busy : (reason : Reason) (refusal : Refusal) (bytes : List ℕ) {P : Type 0} → refusal ≡ record { reason = reason; bytes = bytes; places = None } → (reason ≡ Refused DeviceBusy → ⊥) → IsBusy refusal → P
+not_busy reason refusal bytes is other busy = absurd (other (sym (ap (λ (r : Refusal). r.reason) is) ∙ busy.0))
+
+pub no_hold_other : (reason : Reason) (old new : PassView) → HasNoHold reason old new → reason ≡ Refused DeviceBusy → ⊥
+no_hold_other reason old new h is = subst (λ (r : Reason). HasNoHold r old new) is h
 
 -- WHAT THE CLIENT SEES
 

@@ -1,9 +1,11 @@
 -- A call that was taken in, and its receipt.
-use Rattle.host.proofs.Common.{◌≡◌, ℕ, ◌-◌, ◌<◌, ◌≤◌, List, [], ◌∷◌, ◌++◌, length, Option, Some, sym, ap, ◌∙◌, subst, IfOk, Result, Ok, Err, slice_get, slice_index_or, slice_get_within, ClientRequest, Label, Rules, State, OpenHandle, BookView, AllStand, TraceEntry, ShareView, TracedView, IsTraced, AccountKept, AccountView, IsCalled, HasCounted, Stands, HoldsRequest, TicketView, WasOpen}
+use Rattle.host.proofs.Common.{◌≡◌, ℕ, ◌-◌, ◌<◌, ◌≤◌, List, [], ◌∷◌, ◌++◌, length, Option, Some, sym, ap, ◌∙◌, subst, IfOk, Result, Ok, Err, slice_get, slice_index_or, slice_get_within, ClientRequest, Label, Rules, State, OpenHandle, BookView, AllStand, TraceEntry, ShareView, TracedView, IsTraced, AccountKept, AccountView, IsCalled, HasCounted, Stands, HoldsRequest, TicketView, WasOpen, are_used_up, true}
 use Rattle.machine.specs.declared.Label.TheVariants.{Call as CallLabel}
 use Rattle.host.specs.Receipts.{Receipt, ReceiptsView, AreBelow, Answers, receipt}
 use Rattle.host.specs.declared.call.Call.{Call}
 use Rattle.host.specs.declared.call.Refusal.{Refusal}
+use Rattle.host.specs.Tickets.{IsBusy, WasUsedUp}
+use Rattle.std.specs.Prelude.{IfErr}
 use Rattle.host.proofs.Keeping.{below_more, below_stand}
 use Rattle.host.proofs.Accounts.{account_answered, account_called, receipt_is}
 
@@ -64,6 +66,13 @@ pub was_open : (rules : Rules) (start : State) (partitions : List ℕ) (handles 
     → IfOk issued (λ t. AllStand book.entries t.call) → IfOk issued (λ t. HoldsRequest book.stack t.slot t.number) → IfOk issued (λ t. WasOpen rules start partitions handles t)
 was_open rules start partitions handles book (Ok t) whole stands held = record { book = book; whole = whole; called = stands; held = held }
 was_open rules start partitions handles book (Err e) whole stands held = tt
+
+-- a whole book in which all receipts stand, and no number is left
+pub was_used_up : (rules : Rules) (start : State) (partitions : List ℕ) (handles : List (Option OpenHandle)) (book : TracedView) (called answered : List Receipt) (issued : Result TicketView Refusal) → IsTraced rules start partitions handles book
+    → IfErr issued (λ r. IsBusy r → (AllStand book.entries called) × (AllStand book.entries answered) × (are_used_up book.stack.state.next_request ≡ true)) → IfErr issued (λ r. IsBusy r → WasUsedUp rules start partitions handles called answered)
+was_used_up rules start partitions handles book called answered (Ok t) whole used = tt
+was_used_up rules start partitions handles book called answered (Err r) whole used = λ busy.
+    let u = used busy in record { book = book; whole = whole; calls = u.0; answers = u.1; used_up = u.2 }
 
 -- an answer's receipt
 pub record IsAnswerReceived (handles : List (Option OpenHandle)) (partitions : List ℕ) (client : ℕ) (share' : ShareView) (called answered answered' claim : List Receipt) (place : ℕ) (label : Label) : Type 0 where

@@ -1,4 +1,6 @@
+pub mod Undisturbed
 pub mod Quiet
+pub mod Standing
 pub mod Admitting
 pub mod Calling
 pub mod Answering

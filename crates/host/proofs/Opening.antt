@@ -1,6 +1,9 @@
 -- What a host is opened with.
 use Rattle.host.proofs.Common.{◌≡◌, ℕ, zero, suc, ◌+◌, ◌≤◌, List, length, map, replicate, Some, refl, sym, ap, ◌∙◌, subst, arith, All-nil, All-cons, slice_get-get_or, slice_get_within, TableId, ManagerView, StackSizes, AreOpened, IsNew, AreSizes, sizes_of, IsClientPass, IsOpening, IsReady, client_limit, ticket_limit}
 use Rattle.std.specs.Prelude.{All, IsFalse, max, slice_index_or}
+use Rattle.machine.specs.State.{State}
+use Rattle.pnp.specs.declared.State.TheVariants.{Started}
+use Rattle.io_manager.specs.Right.{pnp_state}
 use Rattle.io_manager.specs.declared.Handle.{Handle}
 use Rattle.remove_lock.specs.Gate.{Standing, issued, standing, fresh}
 use Rattle.cancel_marks.specs.Marks.{Standing as SeatStanding, standing as seat_of, starting, IsOther}
@@ -19,11 +22,11 @@ passes_are gate n quotas passes is equal = subst (All (IsClientPass gate)) (sym 
 opens_first : (v : ManagerView) → IsNew v → IsOpening v.state
 opens_first v new = subst IsOpening (sym new.state) refl
 
-pub is_ready : (partitions : List ℕ) (old stack : ManagerView) (handles : List Handle) (sizes : StackSizes) (slots parts : ℕ) (marks : TableId × ℕ) (owner : SeatStanding) (seats : List SeatStanding) (gate : TableId) (passes : List Standing)
-    → length partitions ≤ client_limit → IsNew old → AreOpened partitions handles old stack → IsFalse stack.adapter.faithful → sizes ≡ sizes_of old.rules → AreSizes sizes → old.rules.open_requests ≡ Some slots → parts ≡ length partitions + 1
+pub is_ready : (partitions : List ℕ) (old stack : ManagerView) (handles : List Handle) (sizes : StackSizes) (slots parts steps : ℕ) (marks : TableId × ℕ) (owner : SeatStanding) (seats : List SeatStanding) (gate : TableId) (passes : List Standing)
+    → length partitions ≤ client_limit → IsNew old → AreOpened partitions handles old stack → IsFalse stack.adapter.faithful → sizes ≡ sizes_of old.rules → AreSizes sizes → old.rules.open_requests ≡ Some slots → parts ≡ length partitions + 1 → steps ≡ 1
     → marks.1 ≡ slots → owner ≡ seat_of marks.0 0 (starting (max slots 1)) → length seats ≡ length partitions → All (IsOther marks.0) seats → length passes ≡ length partitions + 1 → All (IsClientPass gate) passes
-    → IsReady partitions stack handles sizes slots parts marks owner seats gate passes
-is_ready partitions old stack handles sizes slots parts marks owner seats gate passes few new opened apart same are as_many parts_is slots_is owner_is count_seats are_seats count_passes are_passes = record {
+    → IsReady partitions stack handles sizes slots parts steps marks owner seats gate passes
+is_ready partitions old stack handles sizes slots parts steps marks owner seats gate passes few new opened apart same are as_many parts_is steps_is slots_is owner_is count_seats are_seats count_passes are_passes = record {
   few = few;
   first = opened.first;
   opens = subst IsOpening (sym opened.same_state) (opens_first old new);
@@ -37,6 +40,7 @@ is_ready partitions old stack handles sizes slots parts marks owner seats gate p
   same_sizes = same ∙ ap sizes_of (sym opened.same_rules);
   are_sizes = are;
   parts_is = parts_is;
+  steps_is = steps_is;
   slots_is = slots_is;
   owner_is = owner_is;
   count_seats = count_seats;
@@ -47,3 +51,7 @@ is_ready partitions old stack handles sizes slots parts marks owner seats gate p
 
 pub marks_are : (marks : TableId × ℕ) (table : TableId) (slots : ℕ) → marks.0 ≡ table → marks.1 ≡ slots → marks ≡ (table, slots)
 marks_are marks table slots first second = ap (λ (t : TableId). (t, marks.1)) first ∙ ap (λ (n : ℕ). (table, n)) second
+
+-- a device of which nothing was asked is at work
+pub started_first : (s : State) → IsOpening s → pnp_state s ≡ Started
+started_first s opens = ap pnp_state opens

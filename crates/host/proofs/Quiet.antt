@@ -8,6 +8,7 @@ use Rattle.io_manager.specs.declared.Reply.TheVariants.{Handle, Ok as OkReply, R
 use Rattle.io_manager.specs.Right.{MarkReplies, Told, CancelsOne, as_answer, end_labels, labels_of}
 use Rattle.srb.specs.declared.Entry.{Entry as Booked}
 use Rattle.compose.specs.declared.Event.TheVariants.{Mark}
+use Rattle.host.proofs.Undisturbed.{IsWhereItWas, LeaveDevice, leaves_run, right_leaves, where_same, where_then}
 
 -- LABELS
 
@@ -92,6 +93,7 @@ pub record Still (old new : TracedView) : Type 0 where
   pub rules : new.stack.rules ≡ old.stack.rules
   pub next : new.stack.state.next_request ≡ old.stack.state.next_request
   pub distinct : AreDistinct old.stack.state → AreDistinct new.stack.state
+  pub device : IsWhereItWas old.stack.state new.stack.state
 
 still_same : (old new : TracedView) → new.entries ≡ old.entries → new.owners ≡ old.owners → new.stack ≡ old.stack → Still old new
 still_same old new entries owners stack = record {
@@ -103,6 +105,7 @@ still_same old new entries owners stack = record {
   rules = ap (λ v. v.rules) stack;
   next = ap (λ v. v.state.next_request) stack;
   distinct = subst (λ (v : ManagerView). AreDistinct v.state) (sym stack);
+  device = where_same old.stack.state new.stack.state (ap (λ (v : ManagerView). v.state) stack);
 }
 
 still_then : (a b c : TracedView) → Still a b → Still b c → Still a c
@@ -115,6 +118,7 @@ still_then a b c x y = record {
   rules = y.rules ∙ x.rules;
   next = y.next ∙ x.next;
   distinct = λ d. y.distinct (x.distinct d);
+  device = where_then a.stack.state b.stack.state c.stack.state x.device y.device;
 }
 
 mark_own : (old : ManagerView) (number : ℕ) (told : Told) → CancelsOne old number told → AreNoCalls told.own
@@ -123,6 +127,18 @@ mark_own old number told c = subst AreNoCalls (sym c.own) (go c.request.cancelle
     go : (b : Bool) → AreNoCalls (if b then [] else Cancel number ∷ [])
     go true = tt
     go false = tt
+
+mark_leaves : (old : ManagerView) (number : ℕ) (told : Told) → CancelsOne old number told → LeaveDevice told.own
+mark_leaves old number told c = subst LeaveDevice (sym c.own) (go c.request.cancelled)
+  where
+    go : (b : Bool) → LeaveDevice (if b then [] else Cancel number ∷ [])
+    go true = tt
+    go false = (tt, tt)
+
+mark_leaves_device : (old : ManagerView) (number : ℕ) (reply : Reply) (new : ManagerView) (told : Told) → MarkReplies old number reply new told → LeaveDevice told.own
+mark_leaves_device old number OkReply new told r = mark_leaves old number told r.0
+mark_leaves_device old number Ignored new told r = subst LeaveDevice (sym (ap (λ t. t.own) r.0.nothing)) tt
+mark_leaves_device old number _ new told r = absurd r
 
 mark_tells : (old : ManagerView) (number : ℕ) (reply : Reply) (new : ManagerView) (told : Told) → MarkReplies old number reply new told → AreNoCalls told.own × (new.handles ≡ old.handles)
 mark_tells old number OkReply new told r = (mark_own old number told r.0, r.1.handles)
@@ -146,6 +162,8 @@ still_marked count old number reply new c =
       rules = ap (λ v. v.rules) c.stack ∙ c.right.by.same_rules;
       next = ap (λ v. v.state.next_request) c.stack ∙ next;
       distinct = λ d. subst (λ (v : ManagerView). AreDistinct v.state) (sym c.stack) (AreDistinct-Run old.stack.rules old.stack.state c.stepped.labels c.stepped.state d c.right.by.run);
+      device = where_then old.stack.state c.stepped.state new.stack.state (right_leaves false c.right.told old.stack c.stepped c.right.by (mark_leaves_device old.stack number reply c.stepped c.right.told c.right.replies))
+          (where_same c.stepped.state new.stack.state (ap (λ (v : ManagerView). v.state) c.stack));
     }
 
 still_looked : CallsCount → (slot : ℕ) (old new : TracedView) → IsLooked slot old new → Still old new
@@ -155,7 +173,7 @@ still_looked count slot old new l = go l.seen l.carries
     go None e = still_same old new (ap (λ b. b.entries) e) (ap (λ b. b.owners) e) (ap (λ b. b.stack) e)
     go (Some number) c =
         let s = still_marked count (record old { marks = l.looked }) number c.0 new c.1 in
-        record { more = s.more; entries = s.entries; none = s.none; owners = s.owners; handles = s.handles; rules = s.rules; next = s.next; distinct = s.distinct }
+        record { more = s.more; entries = s.entries; none = s.none; owners = s.owners; handles = s.handles; rules = s.rules; next = s.next; distinct = s.distinct; device = s.device }
 
 pub still_all : CallsCount → (slots : ℕ) (old new : TracedView) → AreLooked slots old new → Still old new
 still_all count zero old new e = still_same old new (ap (λ b. b.entries) e) (ap (λ b. b.owners) e) (ap (λ b. b.stack) e)
@@ -184,6 +202,9 @@ still_acted count old booked new acts =
       next = ap (λ (v : ManagerView). v.state.next_request) c.stack ∙ next ∙ ap (λ (v : ManagerView). v.state.next_request) stack;
       distinct = λ d. subst (λ (v : ManagerView). AreDistinct v.state) (sym c.stack)
           (AreDistinct-Run held.stack.rules held.stack.state c.stepped.labels c.stepped.state (subst (λ (v : ManagerView). AreDistinct v.state) (sym stack) d) c.right.by.run);
+      device = where_then old.stack.state held.stack.state new.stack.state (where_same old.stack.state held.stack.state (ap (λ (v : ManagerView). v.state) stack))
+          (where_then held.stack.state c.stepped.state new.stack.state (leaves_run held.stack.rules held.stack.state c.stepped.labels c.stepped.state (subst LeaveDevice (sym acts.tells) (tt, tt)) c.right.by.run)
+          (where_same c.stepped.state new.stack.state (ap (λ (v : ManagerView). v.state) c.stack)));
     }
 
 still_booked : CallsCount → (many : ℕ) (old new : BookView) → AreBooked many old new → Still old.traced new.traced

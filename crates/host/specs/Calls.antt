@@ -9,7 +9,8 @@ use Rattle.machine_laws.specs.NumberLaws.{AnswersOnce, AnswersWereCalled, CallsO
 use Rattle.io_manager.specs.declared.Handle.{Handle}
 use Rattle.io_manager.specs.declared.Reply.{Reply}
 use Rattle.io_manager.specs.declared.Reply.TheVariants.{Request as Requested, Answered, Refused}
-use Rattle.io_manager.specs.Calls.{IsWant, bytes_called, status_of_refusal, without_bytes}
+use Rattle.io_manager.specs.Calls.{IsWant, are_used_up, bytes_called, status_of_refusal, without_bytes}
+use Rattle.io_manager.specs.declared.Refusal.TheVariants.{DeviceBusy}
 use Rattle.io_manager.specs.Right.{as_answer}
 use Rattle.compose.specs.declared.Event.{Event}
 use Rattle.compose.specs.declared.Event.TheVariants.{Read as ReadEvent, Write as WriteEvent, Flush as FlushEvent}
@@ -81,13 +82,15 @@ pub record IsAnsweredAtOnce (old new : ShareView) (q : ClientRequest) (entries :
   pub called : Stands entries place (CallLabel number (without_bytes q)) old.client
   pub answered : Stands entries (place + 1) answer old.client
 
--- what the book tells of a call, by its reply and the place of its label
+-- what the book tells of a call, by its reply and the place of its label; one that was busy and is not told found no
+-- number left
 abbrev pub IsTold : ℕ → ShareView → ShareView → ClientRequest → List ℕ → TracedView → Reply → Option ℕ → Type 0
 IsTold slots old new q buffer book (Requested id) (Some place) = IsOpened slots old new q book id.slot id.number place
 IsTold slots old new q buffer book (Answered answer) (Some place) = IsAnsweredAtOnce old new q book.entries answer.number (as_answer answer) place
 IsTold slots old new q buffer book (Refused reason bytes) (Some place) =
     (bytes ≡ buffer) × ((number : ℕ) × IsAnsweredAtOnce old new q book.entries number (AnswerLabel number (status_of_refusal reason) 0 []) place)
 IsTold slots old new q buffer book (Refused reason bytes) None = (bytes ≡ buffer) × IsWant reason × HasCounted old 0 new
+    × (reason ≡ DeviceBusy → are_used_up book.stack.state.next_request ≡ true)
 IsTold slots old new q buffer book _ _ = ⊥
 
 -- WHAT IS TOLD OF AN ANSWER

@@ -5,8 +5,10 @@ use Rattle.machine.specs.declared.Label.TheVariants.{Pause as PauseLabel, Remove
 use Rattle.remove_lock.specs.declared.rule.View.{View as PassView}
 use Rattle.io_manager.specs.declared.Reply.{Reply}
 use Rattle.io_manager.specs.declared.Reply.TheVariants.{Ok as OkReply}
+use Rattle.pnp.specs.declared.State.{State as PnpState}
+use Rattle.pnp.specs.declared.Request.{Request}
+use Rattle.pnp.specs.declared.Request.TheVariants.{QueryRemove as QueryRequest, Remove as RemoveRequest, SurpriseRemove as SurpriseRequest}
 use Rattle.compose.specs.declared.Event.{Event}
-use Rattle.compose.specs.declared.Event.TheVariants.{QueryRemove as QueryEvent, Remove as RemoveEvent, SurpriseRemove as SurpriseEvent}
 use Rattle.traced.specs.declared.TraceEntry.{TraceEntry}
 use Rattle.traced.specs.Entries.{entry}
 use Rattle.host.specs.declared.notice.Notice.{Notice}
@@ -14,11 +16,13 @@ use Rattle.host.specs.declared.notice.Notice.TheVariants.{Pause, Remove, Surpris
 use Rattle.host.specs.declared.notice.Minor.{Minor}
 use Rattle.host.specs.declared.notice.Minor.TheVariants.{QueryRemove, Remove as RemoveDevice, SurpriseRemove}
 use Rattle.host.specs.Receipts.{Receipt, AreBelow}
+use Rattle.host.specs.Standing.{call_of}
 
--- what a keeper knows of the gate, and its receipts
+-- what a keeper knows of the gate, its receipts, and where its calls have left the device
 pub record KeeperView : Type 0 where
   pub pass : PassView
   pub told : List Receipt
+  pub standing : PnpState
 
 abbrev pub label_of : Notice → Label
 label_of Pause = PauseLabel
@@ -49,11 +53,15 @@ is_notice Remove label = is_remove label
 is_notice Surprise label = is_surprise label
 is_notice Removed label = is_removed label
 
--- a keeper's call as an event, and the label that it tells first where it is accepted
+-- a keeper's call as a request of the PnP manager and as an event, and the label that it tells first where it is
+-- accepted
+abbrev pub request_by : Minor → Request
+request_by QueryRemove = QueryRequest
+request_by RemoveDevice = RemoveRequest
+request_by SurpriseRemove = SurpriseRequest
+
 abbrev pub event_of : Minor → Event
-event_of QueryRemove = QueryEvent
-event_of RemoveDevice = RemoveEvent
-event_of SurpriseRemove = SurpriseEvent
+event_of minor = call_of (request_by minor)
 
 abbrev pub notice_of : Minor → Notice
 notice_of QueryRemove = Pause
@@ -99,12 +107,11 @@ pub record HasRemovedIfOk (label : Label) (reply : Reply) (old new : List Receip
   pub accepted : reply ≡ OkReply → HasRemoved label old new
   pub otherwise : reply ≢ OkReply → new ≡ old
 
--- a query was granted, and the removal was asked for behind it
+-- a query was granted, and the removal behind it was accepted
 pub record IsQueriedFirst (old new : List Receipt) : Type 0 where
   pub paused : List Receipt
-  pub reply : Reply
   pub granted : HasNoted PauseLabel old paused
-  pub removed : HasRemovedIfOk RemoveLabel reply paused new
+  pub removed : HasRemoved RemoveLabel paused new
 
 -- the device was pulled out behind a query
 pub record IsPulledOut (old new : List Receipt) : Type 0 where

@@ -5,5 +5,6 @@ pub mod Accounts
 pub mod Clients
 pub mod Opening
 pub mod Replies
+pub mod Standing
 pub mod Keepers
 pub mod Closing

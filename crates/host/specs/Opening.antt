@@ -26,7 +26,8 @@ abbrev pub client_limit : ℕ
 client_limit = 64
 
 -- all that a host's type names: the rules of its stack, the state that it was opened with, the clients' partitions, all
--- handles, the marks with the number of their slots, the history, the ledger with the number of its parts, and the gate
+-- handles, the marks with the number of their slots, the history, the ledger with the number of its parts, the gate, and
+-- the ledger of the keeper's steps
 pub record Names : Type 0 where
   pub rules : Rules
   pub opening : State
@@ -38,6 +39,7 @@ pub record Names : Type 0 where
   pub name : ℕ
   pub parts : ℕ
   pub gate : TableId
+  pub keeper : ℕ
 
 -- nothing was asked in this state: nothing is open or out, and the next numbers are 1
 abbrev pub IsOpening : State → Type 0
@@ -68,9 +70,9 @@ pub record AreResources (partitions : List ℕ) (slots : ℕ) (resources : Resou
   pub are_passes : All (IsClientPass resources.gate) resources.passes.items
 
 -- nothing was asked of the stack but a handle for each client; there is a part of the ledger, a seat and a pass for
--- each, and one more of each
-pub record IsReady (partitions : List ℕ) (stack : ManagerView) (handles : List Handle) (sizes : StackSizes) (slots parts : ℕ) (marks : TableId × ℕ)
-    (owner : SeatStanding) (seats : List SeatStanding) (gate : TableId) (passes : List PassStanding) : Type 0 where
+-- each, and one more of each; the ledger of the keeper's steps has one part
+pub record IsReady (partitions : List ℕ) (stack : ManagerView) (handles : List Handle) (sizes : StackSizes) (slots parts steps : ℕ)
+    (marks : TableId × ℕ) (owner : SeatStanding) (seats : List SeatStanding) (gate : TableId) (passes : List PassStanding) : Type 0 where
   pub few : length partitions ≤ client_limit
   pub first : IsFirst stack
   pub opens : IsOpening stack.state
@@ -81,6 +83,7 @@ pub record IsReady (partitions : List ℕ) (stack : ManagerView) (handles : List
   pub same_sizes : sizes ≡ sizes_of stack.rules
   pub are_sizes : AreSizes sizes
   pub parts_is : parts ≡ length partitions + 1
+  pub steps_is : steps ≡ 1
   pub slots_is : marks.1 ≡ slots
   pub owner_is : owner ≡ seat_of marks.0 0 (starting (max slots 1))
   pub count_seats : length seats ≡ length partitions

@@ -1,5 +1,5 @@
 -- A ticket: a call that was issued.
-use Rattle.std.specs.Prelude.{◌≡◌, ◌<◌, ◌^◌, ℕ, ◌+◌, List, Option, Some, None}
+use Rattle.std.specs.Prelude.{◌≡◌, ◌<◌, ◌^◌, ℕ, ◌+◌, true, List, Option, Some, None}
 use Rattle.machine.specs.declared.ClientRequest.{ClientRequest}
 use Rattle.machine.specs.declared.Label.TheVariants.{Call as CallLabel}
 use Rattle.machine.specs.Rules.{Rules}
@@ -11,6 +11,10 @@ use Rattle.traced.specs.Serving.{open_at}
 use Rattle.traced.specs.Traced.{TracedView, IsTraced}
 use Rattle.io_manager.specs.declared.Answer.{Answer}
 use Rattle.io_manager.specs.Right.{as_answer}
+use Rattle.io_manager.specs.Calls.{are_used_up}
+use Rattle.io_manager.specs.declared.Refusal.TheVariants.{DeviceBusy}
+use Rattle.host.specs.declared.call.Reason.TheVariants.{Refused}
+use Rattle.host.specs.declared.call.Refusal.{Refusal}
 use Rattle.host.specs.Receipts.{Receipt, receipt}
 
 -- its client, its request's number, the place of its call, its slot where its call opened a request, and the receipt of
@@ -49,3 +53,15 @@ pub record WasOpen (rules : Rules) (opening : State) (partitions : List ℕ) (ha
   pub whole : IsTraced rules opening partitions handles book
   pub called : AllStand book.entries t.call
   pub held : HoldsRequest book.stack t.slot t.number
+
+-- the call was refused as busy, and the trace tells nothing of it
+abbrev pub IsBusy : Refusal → Type 0
+IsBusy refusal = (refusal.reason ≡ Refused DeviceBusy) × (refusal.places ≡ None)
+
+-- at one moment all these receipts stood in the trace, and no number was left for a call
+pub record WasUsedUp (rules : Rules) (opening : State) (partitions : List ℕ) (handles : List (Option OpenHandle)) (called answered : List Receipt) : Type 0 where
+  pub book : TracedView
+  pub whole : IsTraced rules opening partitions handles book
+  pub calls : AllStand book.entries called
+  pub answers : AllStand book.entries answered
+  pub used_up : are_used_up book.stack.state.next_request ≡ true

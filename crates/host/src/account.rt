@@ -1,6 +1,6 @@
 //! What a client has called and was answered.
 
-ghost use Rattle.std.specs.Prelude.{◌≡◌, ◌<◌, ◌≤◌, ◌+◌, ◌-◌, ◌^◌, ◌++◌, ◌↔◌, ℕ, [], IfErr, IfOk, IfSome, IfNone, IsTrue, OnOk, length};
+ghost use Rattle.std.specs.Prelude.{◌≡◌, ◌<◌, ◌≤◌, ◌+◌, ◌-◌, ◌^◌, ◌++◌, ◌↔◌, ℕ, [], IfErr, IfOk, IfSome, IfNone, IsTrue, OnOk, length, true};
 ghost use Rattle.chronicle.specs.Claims.{AllStand};
 ghost use Rattle.machine.specs.declared.ClientRequest.{ClientRequest};
 ghost use Rattle.machine.specs.declared.Label.TheVariants.{Call as CallLabel};
@@ -10,16 +10,17 @@ ghost use Rattle.traced.specs.Opening.{IsOpenOn};
 ghost use Rattle.host.specs.Accounts.{IsCalled, IsTaken, IsTurnedDown, partition_of};
 ghost use Rattle.host.specs.Calls.{AnswerLaws, FindsCall, IsTold, Stands, buffer_of, request_of};
 ghost use Rattle.host.specs.Receipts.{none_yet, receipt};
-ghost use Rattle.host.specs.Tickets.{HoldsRequest, WasOpen};
+ghost use Rattle.host.specs.Tickets.{HoldsRequest, IsBusy, WasOpen, WasUsedUp};
+ghost use Rattle.io_manager.specs.Calls.{are_used_up};
 ghost use Rattle.host.specs.Opening.{IsHandleFor};
 
 use crate::call::{Answered, Call, Places, Refusal};
 use crate::condvars::Concerned;
 use crate::host::Host;
+use crate::kept::KeptBook;
 use crate::name::HostNaming;
 use crate::receipts::Receipts;
 use crate::ticket::Ticket;
-use book::Book;
 use chronicle::{Claims, History};
 use compose::{Answer, Handle, Reply};
 use disk::Medium;
@@ -65,7 +66,7 @@ fn laws_of_answers()
 }
 
 // The place of the first call from a place of the trace on.
-fn find_call<N: HostNaming>(book: &Book<N>, from: usize) -> Option<usize>
+fn find_call<N: HostNaming>(book: &KeptBook<N>, from: usize) -> Option<usize>
     ensures finds { FindsCall from book.now.traced.entries result }
     ensures fits { IfSome result (λ place. place + 1 < 2 ^ 64) }
 {
@@ -89,7 +90,7 @@ struct Awaited<N: HostNaming> {
 fn carry_call<M: Medium, N: HostNaming, R: Wait>(
     rt: &R,
     host: &Host<M, N>,
-    book: &mut Book<N>,
+    book: &mut KeptBook<N>,
     share: &mut Share<N>,
     call: Call,
 ) -> (Reply, Option<usize>)
@@ -103,7 +104,7 @@ fn carry_call<M: Medium, N: HostNaming, R: Wait>(
     book.shows_whole();
     let from = book.len();
     let event = call.on(share.handle());
-    let reply = book.step(rt, &host.beside(), Some(share), event);
+    let reply = book.call(rt, &host.beside(), share, event);
     book.shows_whole();
     let place = find_call(book, from);
     (reply, place)
@@ -112,7 +113,7 @@ fn carry_call<M: Medium, N: HostNaming, R: Wait>(
 // Takes the answer of a request whose call stands at this place, and finds the answer's own place.
 fn take_answer<M: Medium, N: HostNaming>(
     host: &Host<M, N>,
-    book: &mut Book<N>,
+    book: &mut KeptBook<N>,
     number: u64,
     call: usize,
 ) -> Option<(usize, Answer)>
@@ -195,18 +196,29 @@ impl<N: HostNaming> Account<N> {
         unreachable!()
     }
 
+    // Shows the caller that all receipts stand in the trace.
+    fn check_all(&mut self, history: &History<TraceEntry, N>, book: &mut KeptBook<N>)
+        ensures same { (book.new ≡ book.old) × (self.new ≡ self.old) }
+        ensures calls { AllStand book.old.traced.entries self.old.called.list }
+        ensures answers { AllStand book.old.traced.entries self.old.answered.list }
+    {
+        self.called.check(history, book);
+        self.answered.check(history, book);
+    }
+
     /// The part of `issue` that holds the book's lock.
     pub(crate) fn issue_in<M: Medium, R: Wait>(
         &mut self,
         rt: &R,
         host: &Host<M, N>,
-        book: &mut Book<N>,
+        book: &mut KeptBook<N>,
         call: Call,
     ) -> Result<Ticket<N>, Refusal>
         requires room { (0 < self.old.called.room) × (0 < self.old.answered.room) }
         ensures issued { IfOk result (λ t. IsCalled (partition_of N.partitions self.old.share.client) self.old t call self.new) }
         ensures stands { IfOk result (λ t. AllStand book.new.traced.entries t.call) }
         ensures held { IfOk result (λ t. HoldsRequest book.new.traced.stack t.slot t.number) }
+        ensures used_up { IfErr result (λ r. IsBusy r → (AllStand book.new.traced.entries self.old.called.list) × (AllStand book.new.traced.entries self.old.answered.list) × (are_used_up book.new.traced.stack.state.next_request ≡ true)) }
         ensures refused { IfErr result (λ r. IsTurnedDown (partition_of N.partitions self.old.share.client) self.old call r self.new) }
     {
         self.called.check(&host.history, book);
@@ -217,6 +229,7 @@ impl<N: HostNaming> Account<N> {
             let Reply::Refused { refusal, bytes } = reply else {
                 unreachable!()
             };
+            self.check_all(&host.history, book);
             return Err(Refusal::of_stack(refusal, bytes, None));
         };
         let claim = self.called.note(&host.history, book, place);
@@ -255,12 +268,13 @@ impl<N: HostNaming> Account<N> {
         &mut self,
         rt: &R,
         host: &Host<M, N>,
-        book: &mut Book<N>,
+        book: &mut KeptBook<N>,
         call: Call,
     ) -> (Result<Ticket<N>, Refusal>, Concerned)
         requires room { (0 < self.old.called.room) × (0 < self.old.answered.room) }
         ensures issued { IfOk result.0 (λ t. IsCalled (partition_of N.partitions self.old.share.client) self.old t call self.new) }
         ensures was_open { IfOk result.0 (λ t. WasOpen N.rules N.start N.partitions N.handles t) }
+        ensures used_up { IfErr result.0 (λ r. IsBusy r → WasUsedUp N.rules N.start N.partitions N.handles self.old.called.list self.old.answered.list) }
         ensures refused { IfErr result.0 (λ r. IsTurnedDown (partition_of N.partitions self.old.share.client) self.old call r self.new) }
     {
         let from = book.len();
@@ -310,7 +324,7 @@ impl<N: HostNaming> Account<N> {
     fn answer_in<M: Medium>(
         &mut self,
         host: &Host<M, N>,
-        book: &mut Book<N>,
+        book: &mut KeptBook<N>,
         awaited: &mut Awaited<N>,
     ) -> Option<Answered>
         requires claim { (q : ClientRequest) × (awaited.old.claim ≡ receipt awaited.old.place (CallLabel awaited.old.number q) self.old.share.client) }

@@ -1,7 +1,10 @@
 //! A client's call, and what the client is told.
 
-ghost use Rattle.std.specs.Prelude.{◌≡◌, ◌<◌, ◌+◌, ◌^◌, None};
+ghost use Rattle.std.specs.Prelude.{◌≡◌, ◌<◌, ◌+◌, ◌^◌, None, Some, false, true};
+ghost use Rattle.traced.specs.Serving.{is_handle_event};
+ghost use Rattle.book.specs.Book.{call_handle};
 ghost use Rattle.host.specs.Calls.{buffer_of, event_of};
+ghost use Rattle.host.specs.Standing.{is_others};
 ghost use Rattle.host.specs.declared.call.Reason.TheVariants.{Refused};
 
 use compose::{Answer, Event, Handle, Refusal as Why};
@@ -88,7 +91,8 @@ impl Refusal {
 impl Call {
     /// The call as an event on a handle.
     pub(crate) fn on(self, handle: Handle) -> Event
-        ensures { result ≡ event_of handle self }
+        ensures event { result ≡ event_of handle self }
+        ensures call { (is_handle_event result ≡ false) × (call_handle result ≡ Some handle) × (is_others result ≡ true) }
     {
         match self {
             Call::Read { offset, buffer } => Event::Read {

@@ -4,7 +4,7 @@ ghost use Rattle.std.specs.Prelude.{◌≡◌, IfErr, IfOk};
 ghost use Rattle.host.specs.Accounts.{partition_of};
 ghost use Rattle.host.specs.Clients.{IsIssued, IsMarked, IsRefused, IsWaited};
 ghost use Rattle.host.specs.Receipts.{places_of};
-ghost use Rattle.host.specs.Tickets.{WasOpen};
+ghost use Rattle.host.specs.Tickets.{IsBusy, WasOpen, WasUsedUp};
 
 use crate::account::Account;
 use crate::call::{Answered, Call, Reason, Refusal};
@@ -89,6 +89,7 @@ impl<N: HostNaming> Client<N> {
     ) -> Result<Ticket<N>, Refusal>
         ensures issued { IfOk result (λ t. IsIssued (partition_of N.partitions self.old.client) self.old t call self.new) }
         ensures was_open { IfOk result (λ t. WasOpen N.rules N.start N.partitions N.handles t) }
+        ensures used_up { IfErr result (λ r. IsBusy r → WasUsedUp N.rules N.start N.partitions N.handles self.old.called self.old.answered) }
         ensures refused { IfErr result (λ r. IsRefused (partition_of N.partitions self.old.client) self.old call r self.new) }
     {
         let Ok(()) = self.account.make_places(self.holds.out()) else {

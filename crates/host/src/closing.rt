@@ -12,7 +12,7 @@ ghost use Rattle.host.specs.Closing.{AreFirst, AreBorneOut, HasReceiptsIn, IsClo
 
 use crate::account::Account;
 use crate::client::Client;
-use crate::host::{Host, Keeper};
+use crate::host::{Host, Keeper, Known};
 use crate::name::HostNaming;
 use book::{Book, Records};
 use chronicle::{Claims, History};
@@ -64,11 +64,13 @@ fn collect_one<N: HostNaming>(
 {
     let Account {
         share,
-        mut called,
-        mut answered,
+        called,
+        answered,
     } = account;
-    called.check(history, book);
-    answered.check(history, book);
+    let mut called = called.into_claims();
+    let mut answered = answered.into_claims();
+    book.check(history, &mut called);
+    book.check(history, &mut answered);
     all.merge(share.into_part());
 }
 
@@ -113,16 +115,17 @@ impl<M: Medium, N: HostNaming> Host<M, N> {
         } = self;
         table.shows_opening();
         disk.shows_disk();
-        let mut book = book.into_inner();
+        let mut book = book.into_inner().into_book();
         let mut journal = journal.into_inner();
         let context = Context::new(alloc, &history, &table.marks);
         let records = Records::new(context, &words);
         book.book_rest(&records, &mut journal);
         let Keeper {
             part: mut all,
-            mut told,
+            known,
             ..
         } = keeper;
+        let Known { mut told, .. } = known;
         book.check(&history, &mut told);
         collect(&history, &mut book, &mut all, clients);
         book.audit(&mut all);

@@ -1,8 +1,8 @@
 //! Who is woken by a step. Each lane, each client, the worker and the keeper sleep on a condition variable of their own,
 //! which is notified where a label concerns them and at no other time.
 
+use crate::kept::KeptBook;
 use crate::name::HostNaming;
-use book::Book;
 use lanes::Signals;
 use machine::Label;
 use srb::DeviceLabel;
@@ -29,7 +29,7 @@ pub(crate) struct Concerned {
 
 impl Concerned {
     /// Returns whom the labels of the trace from a place on concern.
-    pub(crate) fn since<N: HostNaming>(book: &Book<N>, from: usize) -> Concerned {
+    pub(crate) fn since<N: HostNaming>(book: &KeptBook<N>, from: usize) -> Concerned {
         let mut concerned = Concerned {
             lanes: 0,
             clients: 0,

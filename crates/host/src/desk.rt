@@ -6,8 +6,8 @@ ghost use Rattle.srb.specs.Fate.{class_of};
 
 use crate::condvars::Concerned;
 use crate::host::Host;
+use crate::kept::KeptBook;
 use crate::name::HostNaming;
-use book::Book;
 use compose::Event;
 use disk::Medium;
 use lanes::{Desk, Signals, Step};
@@ -27,7 +27,7 @@ struct Tags {
 
 impl Tags {
     /// Looks at the labels that have come since the last look.
-    fn catch_up<N: HostNaming>(&mut self, book: &Book<N>) {
+    fn catch_up<N: HostNaming>(&mut self, book: &KeptBook<N>) {
         for place in self.seen..book.len() {
             match &book.entry(place).label {
                 Label::Device(DeviceLabel::Start { tag, .. }) => self.start(*tag),
@@ -78,7 +78,7 @@ impl SharedTags {
         }
     }
 
-    fn take<N: HostNaming, R: Wait>(&self, rt: &R, book: &Book<N>, tag: u8) -> Option<Step> {
+    fn take<N: HostNaming, R: Wait>(&self, rt: &R, book: &KeptBook<N>, tag: u8) -> Option<Step> {
         let mut tags = self.tags.lock(rt);
         tags.catch_up(book);
         tags.take(tag)
@@ -109,7 +109,7 @@ impl<M: Medium, N: HostNaming> Host<M, N> {
     fn fail_in<R: Wait>(
         &self,
         rt: &R,
-        book: &mut Book<N>,
+        book: &mut KeptBook<N>,
         tag: u8,
         completion: Completion,
     ) -> Concerned

@@ -1,6 +1,6 @@
 //! The host, and its keeper.
 
-ghost use Rattle.std.specs.Prelude.{◌≡◌, ◌+◌, [], All, IfErr, IfOk, None, false, length};
+ghost use Rattle.std.specs.Prelude.{◌≡◌, ◌+◌, [], All, IfErr, IfOk, None, false, length, true};
 ghost use mathlib.Core.Logic.{inl};
 ghost use Rattle.cancel_marks.specs.Marks.{IsOther};
 ghost use Rattle.book.specs.Book.{IsStepped, call_handle};
@@ -8,8 +8,10 @@ ghost use Rattle.traced.specs.Serving.{is_handle_event};
 ghost use Rattle.remove_lock.specs.Gate.{fresh as fresh_pass};
 ghost use Rattle.host.specs.Clients.{AreFresh, AreNumbered, ticket_limit};
 ghost use Rattle.host.specs.Opening.{AreHandlesFor, IsClientPass, IsJournalFor};
+ghost use Rattle.host.specs.Standing.{is_others};
 ghost use Rattle.host.specs.declared.opened.HostFault.TheVariants.{NoMemory};
 ghost use Rattle.host.specs.Replies.{IsReplyTo};
+ghost use Rattle.pnp.specs.declared.State.TheVariants.{Started};
 ghost use Rattle.compose.specs.declared.Event.TheVariants.{Act, Finish, Reset};
 
 use crate::account::Account;
@@ -17,6 +19,7 @@ use crate::client::Client;
 use crate::condvars::{Concerned, Condvars};
 use crate::desk::SharedTags;
 use crate::holds::Holds;
+use crate::kept::{KeptBook, OfKeeper, Standing};
 use crate::name::HostNaming;
 use crate::opened::{ClientResources, HostFault, Opened};
 use crate::shared::{Disk, HostGate, Table};
@@ -30,7 +33,7 @@ use std::alloc::{AllocError, Global};
 use std::marker::Model;
 use std::sync::ledger::Share as Part;
 use std::sync::{Mutex, Wait};
-use traced::{Context, Owned, Share, TraceEntry, Traced};
+use traced::{Context, Owned, TraceEntry, Traced};
 
 /// A book and its journal, each under its lock, and what threads share beside them.
 #[derive(Drop)]
@@ -39,7 +42,7 @@ where
     OfArmings<N>: chronicle::Naming,
     OfEntries<N>: chronicle::Naming,
 {
-    pub(crate) book: Mutex<Book<N>>,
+    pub(crate) book: Mutex<KeptBook<N>>,
     // Where both locks are held, the book's was taken first.
     pub(crate) journal: Mutex<Journal<M, N>>,
     pub(crate) words: sector_journal::History<N>,
@@ -52,13 +55,20 @@ where
     pub(crate) alloc: Global,
 }
 
+/// What a keeper knows of the device: its receipts, and where its calls have left it.
+#[derive(Drop)]
+pub(crate) struct Known<N: HostNaming> {
+    pub told: Claims<TraceEntry, N>,
+    pub standing: Standing<N>,
+}
+
 /// The right to remove the device and to close the host: the part of the ledger that no client has, and a pass of the
-/// gate. Contracts see it as what it knows of the gate, and its receipts.
+/// gate. Contracts see it as what it knows of the gate, its receipts, and where its calls have left the device.
 #[derive(Drop)]
 pub struct Keeper<N: HostNaming> {
     pub(crate) part: Part<N>,
     pub(crate) pass: Pass,
-    pub(crate) told: Claims<TraceEntry, N>,
+    pub(crate) known: Known<N>,
 }
 
 impl<N: HostNaming> Model for Keeper<N> {
@@ -67,7 +77,7 @@ impl<N: HostNaming> Model for Keeper<N> {
 
     ghost Value = { KeeperView };
 
-    ghost view = { λ k. record { pass = k.pass.view; told = k.told } };
+    ghost view = { λ k. record { pass = k.pass.view; told = k.known.told; standing = k.known.standing } };
 
     ghost invariant = { λ k. (k.part.parts ≡ 1) × (k.part.amount ≡ 0) × (k.pass.gate ≡ N.gate) };
 }
@@ -119,34 +129,48 @@ fn make_clients<N: HostNaming>(
     Ok((clients, passes))
 }
 
+/// All parts of the ledger of calls and of that of a keeper's steps.
+#[derive(Drop)]
+struct Parts<N: HostNaming> {
+    calls: Part<N>,
+    steps: Part<OfKeeper<N>>,
+}
+
 // Makes a client for each handle, and the keeper with what is left.
 fn hand_out<N: HostNaming>(
     alloc: Global,
     history: &History<TraceEntry, N>,
     whole: &mut Whole<TraceEntry, N>,
-    all: Part<N>,
+    parts: Parts<N>,
     for_clients: ClientResources,
 ) -> Result<(Vec<Client<N>>, Keeper<N>), AllocError>
     requires handles { AreHandlesFor N.partitions N.handles for_clients.handles.items }
     requires seats { (length for_clients.seats.items ≡ length N.partitions) × All (IsOther N.marks) for_clients.seats.items }
     requires passes { (length for_clients.passes.items ≡ length N.partitions + 1) × All (IsClientPass N.gate) for_clients.passes.items }
-    requires parts { (all.parts ≡ length N.partitions + 1) × (all.amount ≡ 0) }
+    requires parts { (parts.calls.parts ≡ length N.partitions + 1) × (parts.calls.amount ≡ 0) }
+    requires steps { (parts.steps.parts ≡ 1) × (parts.steps.amount ≡ 0) }
     ensures whole { whole.new ≡ whole.old }
     ensures clients { IfOk result (λ r. AreNumbered (length N.partitions) r.0.items) }
     ensures fresh { IfOk result (λ r. AreFresh (length N.partitions) r.0.items) }
-    ensures keeper { IfOk result (λ r. r.1 ≡ record { pass = fresh_pass ticket_limit; told = [] }) }
+    ensures keeper { IfOk result (λ r. r.1 ≡ record { pass = fresh_pass ticket_limit; told = []; standing = Started }) }
 {
-    let mut all = all;
+    let Parts {
+        calls: mut all,
+        steps,
+    } = parts;
     let (clients, passes) = make_clients(alloc, history, whole, &mut all, for_clients)?;
     let mut passes = passes;
     let Some(pass) = passes.pop() else {
         unreachable!()
     };
-    let told = whole.no_claims(history);
+    let known = Known {
+        told: whole.no_claims(history),
+        standing: Standing::new(steps),
+    };
     let keeper = Keeper {
         part: all,
         pass,
-        told,
+        known,
     };
     Ok((clients, keeper))
 }
@@ -174,11 +198,11 @@ impl<M: Medium, N: HostNaming> Host<M, N> {
         mut journal: Journal<M, N>,
         words: sector_journal::History<N>,
     ) -> Result<(Host<M, N>, Keeper<N>, Vec<Client<N>>), HostFault>
-        requires named { opened ≡ record { rules = N.rules; opening = N.start; partitions = N.partitions; handles = N.handles; marks = N.marks; slots = N.slots; table = N.table; name = N.name; parts = N.parts; gate = N.gate } }
+        requires named { opened ≡ record { rules = N.rules; opening = N.start; partitions = N.partitions; handles = N.handles; marks = N.marks; slots = N.slots; table = N.table; name = N.name; parts = N.parts; gate = N.gate; keeper = N.keeper } }
         requires disk { IsJournalFor N.rules journal }
         ensures clients { IfOk result (λ r. AreNumbered (length N.partitions) r.2.items) }
         ensures fresh { IfOk result (λ r. AreFresh (length N.partitions) r.2.items) }
-        ensures keeper { IfOk result (λ r. r.1 ≡ record { pass = fresh_pass ticket_limit; told = [] }) }
+        ensures keeper { IfOk result (λ r. r.1 ≡ record { pass = fresh_pass ticket_limit; told = []; standing = Started }) }
         ensures fault { IfErr result (λ fault. fault ≡ NoMemory) }
     {
         let Opened {
@@ -189,15 +213,18 @@ impl<M: Medium, N: HostNaming> Host<M, N> {
             slots,
             history,
             ledger,
+            keeping,
             marks,
             owner,
             gate,
         } = opened;
         let disk = Disk::of(&journal);
         let (history, mut whole) = history.named::<N>();
-        let (tally, all) = ledger.open::<N>();
+        let (tally, calls) = ledger.open::<N>();
+        let (count, steps) = keeping.open::<OfKeeper<N>>();
+        let parts = Parts { calls, steps };
         let condvars = Condvars::new(alloc, partitions.len())?;
-        let (clients, keeper) = hand_out(alloc, &history, &mut whole, all, for_clients)?;
+        let (clients, keeper) = hand_out(alloc, &history, &mut whole, parts, for_clients)?;
         let owned = Owned {
             whole,
             seat: owner,
@@ -206,10 +233,11 @@ impl<M: Medium, N: HostNaming> Host<M, N> {
         };
         let traced = Traced::new(alloc, stack, owned, partitions.len(), sizes)?;
         let book = Book::new(alloc, traced, &mut journal, &words)?;
+        let kept = KeptBook::new(book, count);
         let table = Table::new(marks);
         let host_gate = HostGate::new(gate);
         let host = Host {
-            book: Mutex::new(book),
+            book: Mutex::new(kept),
             journal: Mutex::new(journal),
             words,
             condvars,
@@ -255,17 +283,22 @@ impl<M: Medium, N: HostNaming> Host<M, N> {
     }
 
     // The part of a step that holds the book's lock.
-    pub(crate) fn step_in<R: Wait>(&self, rt: &R, book: &mut Book<N>, event: Event) -> Reply
-        requires { (is_handle_event event ≡ false) × (call_handle event ≡ None) }
+    pub(crate) fn step_in<R: Wait>(&self, rt: &R, book: &mut KeptBook<N>, event: Event) -> Reply
+        requires { (is_handle_event event ≡ false) × (call_handle event ≡ None) × (is_others event ≡ true) }
         ensures stepped { IsStepped N.slots None (inl tt) book.old event result book.new }
         ensures reply { IsReplyTo event result }
     {
-        book.step(rt, &self.beside(), Share::none(), event)
+        book.step(rt, &self.beside(), event)
     }
 
     // Carries out the step, and tells whom it concerns.
-    fn step_and_note<R: Wait>(&self, rt: &R, book: &mut Book<N>, event: Event) -> (Reply, Concerned)
-        requires { (is_handle_event event ≡ false) × (call_handle event ≡ None) }
+    fn step_and_note<R: Wait>(
+        &self,
+        rt: &R,
+        book: &mut KeptBook<N>,
+        event: Event,
+    ) -> (Reply, Concerned)
+        requires { (is_handle_event event ≡ false) × (call_handle event ≡ None) × (is_others event ≡ true) }
         ensures reply { IsReplyTo event result.0 }
     {
         let from = book.len();
@@ -275,7 +308,7 @@ impl<M: Medium, N: HostNaming> Host<M, N> {
 
     // Carries out a step that is no client's, and wakes those whom it concerns.
     pub(crate) fn step<R: Wait>(&self, rt: &R, event: Event) -> Reply
-        requires { (is_handle_event event ≡ false) × (call_handle event ≡ None) }
+        requires { (is_handle_event event ≡ false) × (call_handle event ≡ None) × (is_others event ≡ true) }
         ensures reply { IsReplyTo event result }
     {
         let (reply, concerned) = self.step_and_note(rt, &mut self.book.lock(rt), event);

@@ -1,14 +1,14 @@
 //! The labels of which a keeper has receipts.
 
 ghost use Rattle.std.specs.Prelude.{◌≡◌, ◌<◌, ◌≤◌, ◌+◌, ◌^◌, IfNone, IfSome};
-ghost use Rattle.host.specs.Keepers.{FindsNotice, HasNone, IsNoticed, event_of, is_notice, label_of, notice_of};
+ghost use Rattle.host.specs.Keepers.{FindsNotice, HasNone, IsNoticed, is_notice, label_of, notice_of, request_by};
 ghost use Rattle.host.specs.Receipts.{AreBelow};
 
+use crate::kept::KeptBook;
 use crate::name::HostNaming;
-use book::Book;
 use chronicle::{Claims, History};
-use compose::Event;
 use machine::Label;
+use pnp::Request;
 use traced::TraceEntry;
 
 /// A label of which a keeper has receipts.
@@ -29,14 +29,14 @@ pub(crate) enum Minor {
 }
 
 impl Minor {
-    /// The call as an event.
-    pub(crate) fn event(self) -> Event
-        ensures { result ≡ event_of self }
+    /// The call as a request of the PnP manager.
+    pub(crate) fn request(self) -> Request
+        ensures { result ≡ request_by self }
     {
         match self {
-            Minor::QueryRemove => Event::QueryRemove,
-            Minor::Remove => Event::Remove,
-            Minor::SurpriseRemove => Event::SurpriseRemove,
+            Minor::QueryRemove => Request::QueryRemove,
+            Minor::Remove => Request::Remove,
+            Minor::SurpriseRemove => Request::SurpriseRemove,
         }
     }
 
@@ -67,7 +67,7 @@ impl Notice {
 }
 
 // The place of the first such label from a place of the trace on.
-fn find_notice<N: HostNaming>(book: &Book<N>, notice: Notice, from: usize) -> Option<usize>
+fn find_notice<N: HostNaming>(book: &KeptBook<N>, notice: Notice, from: usize) -> Option<usize>
     ensures finds { FindsNotice notice from book.now.traced.entries result }
     ensures fits { IfSome result (λ place. place + 1 < 2 ^ 64) }
 {
@@ -82,7 +82,7 @@ fn find_notice<N: HostNaming>(book: &Book<N>, notice: Notice, from: usize) -> Op
 /// A claim on the first such label from a place of the trace on, if there is one, and its place.
 pub(crate) fn claim_notice<N: HostNaming>(
     history: &History<TraceEntry, N>,
-    book: &mut Book<N>,
+    book: &mut KeptBook<N>,
     notice: Notice,
     from: usize,
 ) -> Option<(usize, Claims<TraceEntry, N>)>

@@ -66,6 +66,7 @@ pub struct Opened {
     pub(crate) slots: usize,
     pub(crate) history: chronicle::Opened<TraceEntry>,
     pub(crate) ledger: Blank,
+    pub(crate) keeping: Blank,
     pub(crate) marks: Marks,
     pub(crate) owner: Seat,
     pub(crate) gate: Gate,
@@ -87,9 +88,10 @@ impl Model for Opened {
       name = o.ledger.name;
       parts = o.ledger.parts;
       gate = o.gate;
+      keeper = o.keeping.name;
     } };
 
-    ghost invariant = { λ o. IsReady o.partitions.items o.stack o.for_clients.handles.items o.sizes o.slots o.ledger.parts o.marks o.owner o.for_clients.seats.items o.gate o.for_clients.passes.items };
+    ghost invariant = { λ o. IsReady o.partitions.items o.stack o.for_clients.handles.items o.sizes o.slots o.ledger.parts o.keeping.parts o.marks o.owner o.for_clients.seats.items o.gate o.for_clients.passes.items };
 }
 
 // Makes a table of this many slots, with the owner's seat and one for each client.
@@ -213,6 +215,7 @@ impl Opened {
             slots,
             history,
             ledger: Blank::new(partitions.len() as u64 + 1),
+            keeping: Blank::new(1),
             marks: resources.marks,
             owner: resources.owner,
             gate: resources.gate,
@@ -229,12 +232,14 @@ impl Opened {
             slots: _,
             history,
             ledger,
+            keeping,
             marks: _,
             owner: _,
             gate: _,
         } = self;
         end_history::<Brand>(history);
         end_ledger::<Brand>(ledger);
+        end_keeping::<Brand>(keeping);
     }
 }
 
@@ -250,4 +255,11 @@ fn end_ledger<L: Ledger>(ledger: Blank)
     requires { (ledger.name ≡ L.name) × (ledger.parts ≡ L.parts) }
 {
     let (_tally, _all) = ledger.open::<L>();
+}
+
+// Ends a ledger of a keeper's steps that nobody needs.
+fn end_keeping<L: Ledger>(keeping: Blank)
+    requires { (keeping.name ≡ L.name) × (keeping.parts ≡ L.parts) }
+{
+    let (_tally, _all) = keeping.open::<L>();
 }

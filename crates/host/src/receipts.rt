@@ -5,8 +5,8 @@ ghost use Rattle.chronicle.specs.Claims.{AllStand};
 ghost use Rattle.traced.specs.declared.TraceEntry.{TraceEntry as EntryView};
 ghost use Rattle.host.specs.Receipts.{none_yet, places_of};
 
+use crate::kept::KeptBook;
 use crate::name::HostNaming;
-use book::Book;
 use chronicle::{Claims, History};
 use std::alloc::{AllocError, Global};
 use std::marker::Model;
@@ -65,6 +65,13 @@ impl<N: HostNaming> Receipts<N> {
         self.places.as_slice()
     }
 
+    /// The claims on their entries.
+    pub(crate) fn into_claims(self) -> Claims<TraceEntry, N>
+        ensures { result ≡ self.list }
+    {
+        self.claims
+    }
+
     /// Keeps one more receipt.
     pub(crate) fn keep(
         &mut self,
@@ -85,7 +92,7 @@ impl<N: HostNaming> Receipts<N> {
     pub(crate) fn note(
         &mut self,
         history: &History<TraceEntry, N>,
-        book: &mut Book<N>,
+        book: &mut KeptBook<N>,
         place: usize,
     ) -> Claims<TraceEntry, N>
         requires place { place < length book.old.traced.entries }
@@ -101,7 +108,7 @@ impl<N: HostNaming> Receipts<N> {
     }
 
     /// Shows the caller that all receipts stand in the trace.
-    pub(crate) fn check(&mut self, history: &History<TraceEntry, N>, book: &mut Book<N>)
+    pub(crate) fn check(&mut self, history: &History<TraceEntry, N>, book: &mut KeptBook<N>)
         ensures same { (book.new ≡ book.old) × (self.new ≡ self.old) }
         ensures stand { AllStand book.old.traced.entries self.old.list }
     {

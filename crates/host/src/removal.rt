@@ -4,22 +4,25 @@ ghost use Rattle.std.specs.Prelude.{◌≡◌, ◌≢◌, None, true, length};
 ghost use mathlib.Core.Logic.{inl};
 ghost use Rattle.machine.specs.declared.Label.TheVariants.{Pause as PauseLabel, Remove as RemoveLabel, Removed as RemovedLabel, Surprise as SurpriseLabel};
 ghost use Rattle.io_manager.specs.declared.Reply.TheVariants.{Ok as OkReply};
+ghost use Rattle.pnp.specs.declared.Request.TheVariants.{QueryRemove as QueryRequest, CancelRemove as RecallRequest, Remove as RemoveRequest, SurpriseRemove as SurpriseRequest};
 ghost use Rattle.book.specs.Book.{IsStepped};
-ghost use Rattle.host.specs.Keepers.{HasNoted, HasNotedIfOk, HasRemovedIfOk, IsNoticed, event_of, label_of, notice_of};
+ghost use Rattle.host.specs.Keepers.{HasNoted, HasNotedIfOk, HasRemovedIfOk, IsNoticed, event_of, label_of, notice_of, request_by};
 ghost use Rattle.host.specs.Receipts.{AreBelow};
 ghost use Rattle.host.specs.Replies.{IsReplyTo};
+ghost use Rattle.host.specs.Standing.{GoesBy};
 ghost use Rattle.compose.specs.declared.Event.TheVariants.{CancelRemove, QueryRemove, Remove, SurpriseRemove};
 
 use crate::account::laws_of_numbers;
 use crate::condvars::Concerned;
-use crate::host::{Host, Keeper};
+use crate::host::{Host, Keeper, Known};
+use crate::kept::{KeptBook, Standing};
 use crate::name::HostNaming;
 use crate::notice::{Minor, Notice, claim_notice};
 use crate::shared::HostGate;
-use book::Book;
 use chronicle::Claims;
-use compose::{Event, Reply};
+use compose::Reply;
 use disk::Medium;
+use pnp::Request;
 use remove_lock::Pass;
 use std::sync::Wait;
 use std::thread;
@@ -46,6 +49,7 @@ impl<N: HostNaming> Keeper<N> {
     fn drain<R: Wait>(&mut self, rt: &R, gate: &HostGate<N>)
         ensures drained { self.new.pass.saw_drained ≡ true }
         ensures told { self.new.told ≡ self.old.told }
+        ensures standing { self.new.standing ≡ self.old.standing }
     {
         close_and_drain(rt, gate, &mut self.pass);
     }
@@ -56,19 +60,20 @@ impl<M: Medium, N: HostNaming> Host<M, N> {
     fn begin<R: Wait>(
         &self,
         rt: &R,
-        book: &mut Book<N>,
-        told: &mut Claims<TraceEntry, N>,
+        book: &mut KeptBook<N>,
+        known: &mut Known<N>,
         minor: Minor,
     ) -> (Reply, usize)
-        ensures same { told.new ≡ told.old }
-        ensures above { AreBelow result.1 told.old }
+        ensures same { known.new.told ≡ known.old.told }
+        ensures above { AreBelow result.1 known.old.told }
         ensures from { result.1 ≡ length book.old.traced.entries }
         ensures stepped { IsStepped N.slots None (inl tt) book.old (event_of minor) result.0 book.new }
         ensures reply { IsReplyTo (event_of minor) result.0 }
+        ensures goes { GoesBy (request_by minor) known.old.standing result.0 known.new.standing }
     {
-        book.check(&self.history, told);
+        book.check(&self.history, &mut known.told);
         let from = book.len();
-        let reply = self.step_in(rt, book, minor.event());
+        let reply = book.keep(rt, &self.beside(), &mut known.standing, minor.request());
         (reply, from)
     }
 
@@ -77,22 +82,23 @@ impl<M: Medium, N: HostNaming> Host<M, N> {
     fn ask_in<R: Wait>(
         &self,
         rt: &R,
-        book: &mut Book<N>,
-        told: &mut Claims<TraceEntry, N>,
+        book: &mut KeptBook<N>,
+        known: &mut Known<N>,
         minor: Minor,
     ) -> (Reply, usize)
-        ensures told { HasNotedIfOk (label_of (notice_of minor)) result.0 told.old told.new }
-        ensures above { AreBelow result.1 told.new }
+        ensures told { HasNotedIfOk (label_of (notice_of minor)) result.0 known.old.told known.new.told }
+        ensures above { AreBelow result.1 known.new.told }
         ensures reply { IsReplyTo (event_of minor) result.0 }
+        ensures goes { GoesBy (request_by minor) known.old.standing result.0 known.new.standing }
     {
         laws_of_numbers();
-        let (reply, from) = self.begin(rt, book, told, minor);
+        let (reply, from) = self.begin(rt, book, known, minor);
         if let Reply::Ok = reply {
             let Some((place, claim)) = claim_notice(&self.history, book, minor.notice(), from)
             else {
                 unreachable!()
             };
-            told.join(&self.history, claim);
+            known.told.join(&self.history, claim);
             return (reply, place + 1);
         }
         (reply, from)
@@ -102,17 +108,33 @@ impl<M: Medium, N: HostNaming> Host<M, N> {
     fn ask<R: Wait>(
         &self,
         rt: &R,
-        book: &mut Book<N>,
-        told: &mut Claims<TraceEntry, N>,
+        book: &mut KeptBook<N>,
+        known: &mut Known<N>,
         minor: Minor,
     ) -> (Reply, usize, Concerned)
-        ensures told { HasNotedIfOk (label_of (notice_of minor)) result.0 told.old told.new }
-        ensures above { AreBelow result.1 told.new }
+        ensures told { HasNotedIfOk (label_of (notice_of minor)) result.0 known.old.told known.new.told }
+        ensures above { AreBelow result.1 known.new.told }
         ensures reply { IsReplyTo (event_of minor) result.0 }
+        ensures goes { GoesBy (request_by minor) known.old.standing result.0 known.new.standing }
     {
         let from = book.len();
-        let (reply, above) = self.ask_in(rt, book, told, minor);
+        let (reply, above) = self.ask_in(rt, book, known, minor);
         (reply, above, Concerned::since(book, from))
+    }
+
+    // Takes a query back, and tells whom it concerns.
+    fn recall<R: Wait>(
+        &self,
+        rt: &R,
+        book: &mut KeptBook<N>,
+        standing: &mut Standing<N>,
+    ) -> (Reply, Concerned)
+        ensures reply { IsReplyTo CancelRemove result.0 }
+        ensures goes { GoesBy RecallRequest standing.old result.0 standing.new }
+    {
+        let from = book.len();
+        let reply = book.keep(rt, &self.beside(), standing, Request::CancelRemove);
+        (reply, Concerned::since(book, from))
     }
 
     // Waits until the removal has ended: its label stands at a place from this one on.
@@ -137,10 +159,11 @@ impl<M: Medium, N: HostNaming> Host<M, N> {
         requires above { AreBelow from keeper.old.told }
         ensures drained { keeper.new.pass.saw_drained ≡ true }
         ensures told { HasNoted RemovedLabel keeper.old.told keeper.new.told }
+        ensures standing { keeper.new.standing ≡ keeper.old.standing }
     {
         keeper.drain(rt, &self.gate);
         let claim = self.await_removed(rt, from);
-        keeper.told.join(&self.history, claim);
+        keeper.known.told.join(&self.history, claim);
     }
 
     // Removes the device, by either kind of removal.
@@ -149,11 +172,12 @@ impl<M: Medium, N: HostNaming> Host<M, N> {
         ensures drained { result ≡ OkReply → keeper.new.pass.saw_drained ≡ true }
         ensures refused { result ≢ OkReply → keeper.new.pass ≡ keeper.old.pass }
         ensures told { HasRemovedIfOk (label_of (notice_of minor)) result keeper.old.told keeper.new.told }
+        ensures goes { GoesBy (request_by minor) keeper.old.standing result keeper.new.standing }
     {
         let (reply, above, concerned) = self.ask(
             rt,
             &mut self.book.lock(rt),
-            &mut keeper.told,
+            &mut keeper.known,
             minor,
         );
         self.condvars.notify(rt, concerned);
@@ -170,11 +194,12 @@ impl<M: Medium, N: HostNaming> Host<M, N> {
         ensures reply { IsReplyTo QueryRemove result }
         ensures pass { keeper.new.pass ≡ keeper.old.pass }
         ensures told { HasNotedIfOk PauseLabel result keeper.old.told keeper.new.told }
+        ensures goes { GoesBy QueryRequest keeper.old.standing result keeper.new.standing }
     {
         let (reply, _, concerned) = self.ask(
             rt,
             &mut self.book.lock(rt),
-            &mut keeper.told,
+            &mut keeper.known,
             Minor::QueryRemove,
         );
         self.condvars.notify(rt, concerned);
@@ -183,11 +208,19 @@ impl<M: Medium, N: HostNaming> Host<M, N> {
 
     /// Takes the query back, and held requests go on (WDK: IRP_MN_CANCEL_REMOVE_DEVICE). With no query pending it does
     /// nothing. Refused as `InvalidDeviceRequest` once the device is being removed.
-    pub fn cancel_remove<R: Wait>(&self, rt: &R, _keeper: &mut Keeper<N>) -> Reply
+    pub fn cancel_remove<R: Wait>(&self, rt: &R, keeper: &mut Keeper<N>) -> Reply
         ensures reply { IsReplyTo CancelRemove result }
-        ensures same { _keeper.new ≡ _keeper.old }
+        ensures pass { keeper.new.pass ≡ keeper.old.pass }
+        ensures told { keeper.new.told ≡ keeper.old.told }
+        ensures goes { GoesBy RecallRequest keeper.old.standing result keeper.new.standing }
     {
-        self.step(rt, Event::CancelRemove)
+        let (reply, concerned) = self.recall(
+            rt,
+            &mut self.book.lock(rt),
+            &mut keeper.known.standing,
+        );
+        self.condvars.notify(rt, concerned);
+        reply
     }
 
     /// Removes the device after a query (WDK: IRP_MN_REMOVE_DEVICE). Where it is accepted the gate is closed, and the
@@ -199,6 +232,7 @@ impl<M: Medium, N: HostNaming> Host<M, N> {
         ensures drained { result ≡ OkReply → keeper.new.pass.saw_drained ≡ true }
         ensures refused { result ≢ OkReply → keeper.new.pass ≡ keeper.old.pass }
         ensures told { HasRemovedIfOk RemoveLabel result keeper.old.told keeper.new.told }
+        ensures goes { GoesBy RemoveRequest keeper.old.standing result keeper.new.standing }
     {
         self.take_out(rt, keeper, Minor::Remove)
     }
@@ -211,6 +245,7 @@ impl<M: Medium, N: HostNaming> Host<M, N> {
         ensures drained { result ≡ OkReply → keeper.new.pass.saw_drained ≡ true }
         ensures refused { result ≢ OkReply → keeper.new.pass ≡ keeper.old.pass }
         ensures told { HasRemovedIfOk SurpriseLabel result keeper.old.told keeper.new.told }
+        ensures goes { GoesBy SurpriseRequest keeper.old.standing result keeper.new.standing }
     {
         self.take_out(rt, keeper, Minor::SurpriseRemove)
     }

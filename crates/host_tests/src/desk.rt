@@ -238,7 +238,7 @@ fn play_and_close<M: Medium, N: HostNaming, R: Wait + Abort>(
     ready: Ready<M>,
     run: &Run,
 ) -> Result<(Closed<M, N>, [Told; 2]), AllocError>
-    requires named { ready.opened ≡ record { rules = N.rules; opening = N.start; partitions = N.partitions; handles = N.handles; marks = N.marks; slots = N.slots; table = N.table; name = N.name; parts = N.parts; gate = N.gate } }
+    requires named { ready.opened ≡ record { rules = N.rules; opening = N.start; partitions = N.partitions; handles = N.handles; marks = N.marks; slots = N.slots; table = N.table; name = N.name; parts = N.parts; gate = N.gate; keeper = N.keeper } }
     requires histories { ready.histories ≡ record { armings = N.armings; entries = N.entries } }
     requires sectors { (M.view ready.medium).sectors ≡ N.opening }
     requires unfailed { (M.view ready.medium).failures ≡ 0 }
@@ -285,7 +285,7 @@ pub(crate) fn carry_out<M: Medium, N: HostNaming, R: Wait + Abort>(
     ready: Ready<M>,
     run: &Run,
 ) -> Result<(), AllocError>
-    requires named { ready.opened ≡ record { rules = N.rules; opening = N.start; partitions = N.partitions; handles = N.handles; marks = N.marks; slots = N.slots; table = N.table; name = N.name; parts = N.parts; gate = N.gate } }
+    requires named { ready.opened ≡ record { rules = N.rules; opening = N.start; partitions = N.partitions; handles = N.handles; marks = N.marks; slots = N.slots; table = N.table; name = N.name; parts = N.parts; gate = N.gate; keeper = N.keeper } }
     requires histories { ready.histories ≡ record { armings = N.armings; entries = N.entries } }
     requires sectors { (M.view ready.medium).sectors ≡ N.opening }
     requires unfailed { (M.view ready.medium).failures ≡ 0 }

@@ -258,7 +258,7 @@ pub(crate) fn play_scene<
     setting: &Setting<'_, C>,
     want: &Want,
 ) -> Result<(), AllocError>
-    requires named { ready.opened ≡ record { rules = N.rules; opening = N.start; partitions = N.partitions; handles = N.handles; marks = N.marks; slots = N.slots; table = N.table; name = N.name; parts = N.parts; gate = N.gate } }
+    requires named { ready.opened ≡ record { rules = N.rules; opening = N.start; partitions = N.partitions; handles = N.handles; marks = N.marks; slots = N.slots; table = N.table; name = N.name; parts = N.parts; gate = N.gate; keeper = N.keeper } }
     requires histories { ready.histories ≡ record { armings = N.armings; entries = N.entries } }
     requires sectors { (M.view ready.medium).sectors ≡ N.opening }
     requires unfailed { (M.view ready.medium).failures ≡ 0 }

@@ -17,7 +17,7 @@ no_middle (z ∷ zs) x ys e = cc
 
 pub no_routine : (takes_srb : Bool) (old new : DeviceView) (spot : ℕ) (driver : Driver) (irp : Box Irp) → All IsTopmost old.packets → HandsUp takes_srb old (Routine driver irp) spot new → ⊥
 no_routine takes_srb old new spot driver irp topmost h =
-    let top : IsTopmost h.packet = All-head IsTopmost h.packet h.others (All-permutation IsTopmost _ _ h.is_in topmost) in
+    let top : IsTopmost h.answer.packet = All-head IsTopmost h.answer.packet h.left.others (All-permutation IsTopmost _ _ h.left.is_in topmost) in
     no_middle h.climbs.higher h.climbs.own h.climbs.nearer (sym top ∙ h.climbs.are_above)
 
 pub handed : (takes_srb : Bool) (old new : DeviceView) (climb : Climb) (irp : Box Irp) (spot : ℕ) → climb ≡ Finished irp → HandsUp takes_srb old climb spot new → HandsUp takes_srb old (Finished irp) spot new
@@ -28,29 +28,29 @@ handed takes_srb old new climb irp spot e h = subst (λ x. HandsUp takes_srb old
 module _ {w : Bool} (takes_srb : Bool) (old new : DeviceView) (spot : ℕ) (irp : Box Irp) (done : Done) (left : done ≡ done_of irp.value) (requests : Slab OpenRequest) (h : HandsUp takes_srb old (Finished irp) spot new)
     (k : AreHeld w requests old.state.requests) where
   -- what is left of it is the packet as it was completed
-  pub number_left : done.number ≡ h.packet.number
+  pub number_left : done.number ≡ h.answer.packet.number
   number_left = ap (λ (d : Done). d.number) left ∙ h.climbs.number_is
 
-  pub status_left : done.status ≡ h.status
+  pub status_left : done.status ≡ h.answer.status
   status_left = ap (λ (d : Done). d.status) left ∙ h.climbs.status_is
 
-  pub payload_left : done.payload ≡ h.payload
+  pub payload_left : done.payload ≡ h.answer.payload
   payload_left = ap (λ (d : Done). d.payload) left ∙ h.climbs.payload_is
 
-  pub is_ended : h.answers.request.number ≡ done.number
-  is_ended = h.answers.is_number ∙ sym number_left
+  pub is_ended : h.answer.answers.request.number ≡ done.number
+  is_ended = h.answer.answers.is_number ∙ sym number_left
 
-  pub held_at : IsHeldAt w requests h.answers.request
-  held_at = All-head (IsHeldAt _ requests) h.answers.request h.answers.others (All-permutation (IsHeldAt _ requests) _ _ h.answers.is_open k.held)
+  pub held_at : IsHeldAt w requests h.answer.answers.request
+  held_at = All-head (IsHeldAt _ requests) h.answer.answers.request h.answer.answers.others (All-permutation (IsHeldAt _ requests) _ _ h.answer.answers.is_open k.held)
 
   pub is_at : (slot : ℕ) × IsAt requests done.number slot
   is_at = (held_at.slot, record { request = held_at.request; there = held_at.there; same_number = held_at.same_number ∙ is_ended })
 
   pub is_given : AreDistinct old.state → (next : ℕ) → old.state.next_request ≤ next → done.number < next
   is_given distinct next rising =
-      let low : h.answers.request.number < old.state.next_request =
-      All-head (IsGiven old.state.next_request) h.answers.request h.answers.others (All-permutation (IsGiven old.state.next_request) _ _ h.answers.is_open distinct.given) in
-      let same : h.answers.request.number ≡ done.number = is_ended in
+      let low : h.answer.answers.request.number < old.state.next_request =
+      All-head (IsGiven old.state.next_request) h.answer.answers.request h.answer.answers.others (All-permutation (IsGiven old.state.next_request) _ _ h.answer.answers.is_open distinct.given) in
+      let same : h.answer.answers.request.number ≡ done.number = is_ended in
       omega arith
 
   -- whichever slot has a request of its number, it is that request's
@@ -64,16 +64,16 @@ module _ {w : Bool} (takes_srb : Bool) (old new : DeviceView) (spot : ℕ) (irp 
   are_filled slot x there number kept is_read succeeded =
       let same : held_at.request ≡ x = only_there slot x there number in
       let kind : held_at.request.kind ≡ Read = ap (λ r. r.kind) same ∙ is_read in
-      let below : h.answers.request.request.kind ≡ Read = sym held_at.same_kind ∙ kind in
-      let asked : h.request.kind ≡ Read = ap (λ q. q.kind) (sym h.is_request) ∙ below in
-      let success : h.status ≡ Success = sym status_left ∙ succeeded in
-      let as_asked : h.answers.request.request.length ≡ length (payload_bytes done.payload) =
-      ap (λ q. q.length) h.is_request ∙ sym (h.filled asked success) ∙ ap length (sym (h.brings asked success)) ∙ ap (λ p. length (payload_bytes p)) (sym payload_left) in
+      let below : h.answer.answers.request.request.kind ≡ Read = sym held_at.same_kind ∙ kind in
+      let asked : h.answer.request.kind ≡ Read = ap (λ q. q.kind) (sym h.answer.is_request) ∙ below in
+      let success : h.answer.status ≡ Success = sym status_left ∙ succeeded in
+      let as_asked : h.answer.answers.request.request.length ≡ length (payload_bytes done.payload) =
+      ap (λ q. q.length) h.answer.is_request ∙ sym (h.brought.filled asked success) ∙ ap length (sym (h.brought.brings asked success)) ∙ ap (λ p. length (payload_bytes p)) (sym payload_left) in
       subst (λ r. length (payload_bytes done.payload) ≤ r.label_bytes) same (subst (λ n. n ≤ held_at.request.label_bytes) as_asked (held_at.label_bytes kept below))
 
   some_held : 0 < slab_len requests
   some_held =
-      let n : length (h.answers.request ∷ h.answers.others) ≡ length old.state.requests = length_permutation _ _ h.answers.is_open in
+      let n : length (h.answer.answers.request ∷ h.answer.answers.others) ≡ length old.state.requests = length_permutation _ _ h.answer.answers.is_open in
       let same : slab_len requests ≡ length old.state.requests = k.counted in
       omega arith
 

@@ -22,64 +22,64 @@ module _ {w : Bool} (takes_srb : Bool) (old new : DeviceView) (spot : ℕ) (irp 
     (k : AreHeld w t.requests old.state.requests) (c : Closes t done t') where
   -- THE STEP
 
-  bytes_are : h.bytes ≡ (answer_for c.request done).bytes
+  bytes_are : h.answer.bytes ≡ (answer_for c.request done).bytes
   bytes_are =
       let there : (held_at takes_srb old new spot irp done left t.requests h k).request ≡ c.request = only_there takes_srb old new spot irp done left t.requests h k c.slot c.request c.there c.same_number in
-      let kind : h.answers.request.request.kind ≡ c.request.kind = sym (held_at takes_srb old new spot irp done left t.requests h k).same_kind ∙ ap (λ r. r.kind) there in
-      brings h.answers.request.request.kind h.status h.answers.request.marks (payload_bytes h.payload) h.bytes h.answers.hands_back h.answers.success
-      (λ is_read. h.brings (ap (λ q. q.kind) (sym h.is_request) ∙ is_read))
-      ∙ ap (λ x. brought x h.status (payload_bytes h.payload)) kind
-      ∙ ap (λ s. brought c.request.kind s (payload_bytes h.payload)) (sym (status_left takes_srb old new spot irp done left t.requests h k))
+      let kind : h.answer.answers.request.request.kind ≡ c.request.kind = sym (held_at takes_srb old new spot irp done left t.requests h k).same_kind ∙ ap (λ r. r.kind) there in
+      brings h.answer.answers.request.request.kind h.answer.status h.answer.answers.request.marks (payload_bytes h.answer.payload) h.answer.bytes h.answer.answers.hands_back h.answer.answers.success
+      (λ is_read. h.brought.brings (ap (λ q. q.kind) (sym h.answer.is_request) ∙ is_read))
+      ∙ ap (λ x. brought x h.answer.status (payload_bytes h.answer.payload)) kind
+      ∙ ap (λ s. brought c.request.kind s (payload_bytes h.answer.payload)) (sym (status_left takes_srb old new spot irp done left t.requests h k))
       ∙ ap (λ p. brought c.request.kind done.status (payload_bytes p)) (sym (payload_left takes_srb old new spot irp done left t.requests h k))
 
-  answered_with : AnswersWith old.rules old.state h.packet.number h.status (information h.answers.request.request h.status) h.bytes h.answered
-  answered_with = record { answers = h.answers; informs = refl }
+  answered_with : AnswersWith old.rules old.state h.answer.packet.number h.answer.status (information h.answer.answers.request.request h.answer.status) h.answer.bytes h.answer.answered
+  answered_with = record { answers = h.answer.answers; informs = refl }
 
-  answers_are : AnswersWith old.rules old.state done.number done.status done.information (answer_for c.request done).bytes h.answered
+  answers_are : AnswersWith old.rules old.state done.number done.status done.information (answer_for c.request done).bytes h.answer.answered
   answers_are =
-      let P : ℕ → Type 0 = λ n. AnswersWith old.rules old.state n done.status done.information (answer_for c.request done).bytes h.answered in
-      let Q : NtStatus → Type 0 = λ s. AnswersWith old.rules old.state h.packet.number s done.information (answer_for c.request done).bytes h.answered in
-      let I : ℕ → Type 0 = λ n. AnswersWith old.rules old.state h.packet.number h.status n (answer_for c.request done).bytes h.answered in
-      let R : List ℕ → Type 0 = λ b. AnswersWith old.rules old.state h.packet.number h.status (information h.answers.request.request h.status) b h.answered in
+      let P : ℕ → Type 0 = λ n. AnswersWith old.rules old.state n done.status done.information (answer_for c.request done).bytes h.answer.answered in
+      let Q : NtStatus → Type 0 = λ s. AnswersWith old.rules old.state h.answer.packet.number s done.information (answer_for c.request done).bytes h.answer.answered in
+      let I : ℕ → Type 0 = λ n. AnswersWith old.rules old.state h.answer.packet.number h.answer.status n (answer_for c.request done).bytes h.answer.answered in
+      let R : List ℕ → Type 0 = λ b. AnswersWith old.rules old.state h.answer.packet.number h.answer.status (information h.answer.answers.request.request h.answer.status) b h.answer.answered in
       subst P (sym (number_left takes_srb old new spot irp done left t.requests h k)) (subst Q (sym (status_left takes_srb old new spot irp done left t.requests h k)) (subst I (sym (ap (λ (d : Done). d.information) left ∙ h.climbs.information_is)) (subst R bytes_are answered_with)))
 
   -- with its spot vacant again
   pub takes_ended : IsOrderly old → IsOrderly new → (rooms : List (Option Reserved)) → SameRooms old.rooms rooms → TakesEnded old t (record new { rooms = rooms }) t'
   takes_ended order order' rooms same_rooms =
-      let before : length (h.packet ∷ h.others) ≡ length old.packets = length_permutation _ _ h.is_in in
-      let after : length h.others ≡ length new.packets = length_permutation _ _ h.moves.same_packets in
+      let before : length (h.answer.packet ∷ h.left.others) ≡ length old.packets = length_permutation _ _ h.left.is_in in
+      let after : length h.left.others ≡ length new.packets = length_permutation _ _ h.left.moves.same_packets in
       record {
         done = done;
         closes = c;
-        answered = h.answered;
-        starts = h.starts;
+        answered = h.answer.answered;
+        starts = h.left.starts;
         answers = answers_are;
-        only_starts = h.only_starts;
-        same_rules = h.moves.same_rules;
+        only_starts = h.left.only_starts;
+        same_rules = h.left.moves.same_rules;
         same_rooms = same_rooms;
-        run = h.moves.run;
-        adapter = h.moves.adapter;
+        run = h.left.moves.run;
+        adapter = h.left.moves.adapter;
         fewer = omega arith;
-        places_below = h.moves.same_places;
+        places_below = h.left.moves.same_places;
         quiet = λ none. handed_still takes_srb old new (Finished irp) spot h order order' none;
       }
 
   -- WHAT HOLDS AFTER IT
 
-  keeps : KeepsAsked (record old.state { requests = h.answers.others }) new.state
+  keeps : KeepsAsked (record old.state { requests = h.answer.answers.others }) new.state
   keeps =
-      KeepsAsked-trans (record old.state { requests = h.answers.others }) h.answered new.state
-      (KeepsAsked-same (record old.state { requests = h.answers.others }) h.answered (IsSame-sym h.answered (record old.state { requests = h.answers.others }) h.answers.after))
-      (run_keeps old.rules h.answered h.starts new.state h.moves.run)
+      KeepsAsked-trans (record old.state { requests = h.answer.answers.others }) h.answer.answered new.state
+      (KeepsAsked-same (record old.state { requests = h.answer.answers.others }) h.answer.answered (IsSame-sym h.answer.answered (record old.state { requests = h.answer.answers.others }) h.answer.answers.after))
+      (run_keeps old.rules h.answer.answered h.left.starts new.state h.left.moves.run)
 
-  number_is : h.answers.request.number ≡ done.number
+  number_is : h.answer.answers.request.number ≡ done.number
   number_is = is_ended takes_srb old new spot irp done left t.requests h k
 
   held_after : AreDistinct old.state → AreHeld w t'.requests new.state.requests
   held_after distinct =
-      let differ : All (λ (x : OpenBelow). x.number ≢ h.answers.request.number) h.answers.others = distinct_first request_number old.state.requests h.answers.request h.answers.others distinct.requests h.answers.is_open in
-      AreHeld-along t'.requests (record old.state { requests = h.answers.others }) new.state (asks_same _ _ keeps)
-      (AreHeld-less t t' done c old.state.requests k h.answers.request h.answers.others number_is h.answers.is_open differ)
+      let differ : All (λ (x : OpenBelow). x.number ≢ h.answer.answers.request.number) h.answer.answers.others = distinct_first request_number old.state.requests h.answer.answers.request h.answer.answers.others distinct.requests h.answer.answers.is_open in
+      AreHeld-along t'.requests (record old.state { requests = h.answer.answers.others }) new.state (asks_same _ _ keeps)
+      (AreHeld-less t t' done c old.state.requests k h.answer.answers.request h.answer.answers.others number_is h.answer.answers.is_open differ)
 
   -- the answer is of a request that was open, so of no other answer's number
   others_untaken : AreApart t.requests t.untaken.items → All (HasOtherNumber (answer_for c.request done).number) t.untaken.items
@@ -96,8 +96,8 @@ module _ {w : Bool} (takes_srb : Bool) (old new : DeviceView) (spot : ℕ) (irp 
   -- no more are open than before
   in_state_after : IsInState t.state old.state → IsInState t'.state new.state
   in_state_after h' =
-      let fewer : length (h.answers.request ∷ h.answers.others) ≡ length old.state.requests = length_permutation _ _ h.answers.is_open in
-      let now : length new.state.requests ≡ length h.answers.others = as_many (record old.state { requests = h.answers.others }) new.state (asks_same _ _ keeps) in
+      let fewer : length (h.answer.answers.request ∷ h.answer.answers.others) ≡ length old.state.requests = length_permutation _ _ h.answer.answers.is_open in
+      let now : length new.state.requests ≡ length h.answer.answers.others = as_many (record old.state { requests = h.answer.answers.others }) new.state (asks_same _ _ keeps) in
       subst (λ p. IsInState p new.state) (sym c.same_state) (IsInState-fewer t.state old.state new.state keeps.paused keeps.removing (omega arith) h')
 
   count_after : (answer : Answer) (answers more : List Answer) → more ≡ inserted answer answers → length more ≡ length answers + 1
@@ -147,8 +147,8 @@ module _ {w : Bool} (takes_srb : Bool) (old new : DeviceView) (spot : ℕ) (irp 
   spots_after : All (IsSpotted t.next_request t.requests) old.packets → All (IsSpotted t'.next_request t'.requests) new.packets
   spots_after spots =
       let before : All (IsSpotted t.next_request t.requests) new.packets =
-      All-permutation (IsSpotted t.next_request t.requests) _ _ (IsPermutation-sym _ _ h.moves.same_packets)
-      (All-tail (IsSpotted t.next_request t.requests) h.packet h.others (All-permutation (IsSpotted t.next_request t.requests) _ _ h.is_in spots)) in
+      All-permutation (IsSpotted t.next_request t.requests) _ _ (IsPermutation-sym _ _ h.left.moves.same_packets)
+      (All-tail (IsSpotted t.next_request t.requests) h.answer.packet h.left.others (All-permutation (IsSpotted t.next_request t.requests) _ _ h.left.is_in spots)) in
       All-weaker (IsSpotted t.next_request t.requests) (IsSpotted t'.next_request t'.requests)
       (λ packet s. record {
         given = subst (λ n. packet.number < n) (sym c.same_next_request) s.given;
@@ -162,18 +162,18 @@ module _ {w : Bool} (takes_srb : Bool) (old new : DeviceView) (spot : ℕ) (irp 
 
   pub sound_after : (put_by : List Answer) (limits : Limits) → w ≡ limits.keeps_bytes → AreDistinct old.state → IsSoundWith put_by limits old t → (rooms : List (Option Reserved)) → IsSoundWith t'.answered.items limits (record new { rooms = rooms }) t'
   sound_after put_by limits same distinct s rooms = record {
-    fits = FitsBelow-same limits old (record new { rooms = rooms }) h.moves.same_rules h.moves.same_most s.fits;
+    fits = FitsBelow-same limits old (record new { rooms = rooms }) h.left.moves.same_rules h.left.moves.same_most s.fits;
     numbers = record {
       requests = rw c.same_next_request s.numbers.requests;
       handles = rw c.same_next_handle s.numbers.handles;
       rising = rw (c.same_next_request, keeps.next_request) s.numbers.rising;
-      submitted = rw (c.same_next_request, h.moves.same_submitted) s.numbers.submitted;
+      submitted = rw (c.same_next_request, h.left.moves.same_submitted) s.numbers.submitted;
     };
     held = subst (λ (b : Bool). AreHeld b t'.requests new.state.requests) same (held_after distinct);
     few = let n : slab_len t'.requests + 1 ≡ slab_len t.requests = c.fewer in let m : slab_len t.requests ≤ limits.open_requests = s.few in omega arith;
     places = places_after limits s.places;
-    on_map = rw (c.same_handles, h.moves.same_rules) s.on_map;
-    topmost = All-permutation IsTopmost _ _ (IsPermutation-sym _ _ h.moves.same_packets) (All-tail IsTopmost h.packet h.others (All-permutation IsTopmost _ _ h.is_in s.topmost));
+    on_map = rw (c.same_handles, h.left.moves.same_rules) s.on_map;
+    topmost = All-permutation IsTopmost _ _ (IsPermutation-sym _ _ h.left.moves.same_packets) (All-tail IsTopmost h.answer.packet h.left.others (All-permutation IsTopmost _ _ h.left.is_in s.topmost));
     spots = spots_after s.spots;
     in_state = in_state_after s.in_state;
     none_put_by = refl;

@@ -129,14 +129,14 @@ module _ (rules : Rules) (s : State) (number : ℕ) (status : NtStatus) (bytes :
 -- A PACKET IS HANDED UP
 
 pub handed_still : (takes_srb : Bool) (old new : DeviceView) (climb : Climb) (spot : ℕ) (h : HandsUp takes_srb old climb spot new)
-    → IsOrderly old → IsOrderly new → HasNoneToStart old.rules old.state → (h.starts ≡ []) × HasNoneToStart new.rules new.state
+    → IsOrderly old → IsOrderly new → HasNoneToStart old.rules old.state → (h.left.starts ≡ []) × HasNoneToStart new.rules new.state
 handed_still takes_srb old new climb spot h order order' none =
     let within : IsWithin old.rules.window (started_count new.state) =
-    subst (λ (r : Rules). IsWithin r.window (started_count new.state)) h.moves.same_rules order'.sending.within_window in
-    let no_starts : h.starts ≡ [] =
-    none_starts old.rules old.state h.packet.number h.status h.bytes h.answered h.answers none (λ tag low free. free_leaves old tag order low free)
-    new.state within order'.distinct h.started_stay h.starts h.only_starts h.moves.run in
-    let same : IsSame h.answered new.state = subst (λ starts. Run old.rules h.answered (map as_label starts) new.state) no_starts h.moves.run in (
+    subst (λ (r : Rules). IsWithin r.window (started_count new.state)) h.left.moves.same_rules order'.sending.within_window in
+    let no_starts : h.left.starts ≡ [] =
+    none_starts old.rules old.state h.answer.packet.number h.answer.status h.answer.bytes h.answer.answered h.answer.answers none (λ tag low free. free_leaves old tag order low free)
+    new.state within order'.distinct h.left.started_stay h.left.starts h.left.only_starts h.left.moves.run in
+    let same : IsSame h.answer.answered new.state = subst (λ starts. Run old.rules h.answer.answered (map as_label starts) new.state) no_starts h.left.moves.run in (
       no_starts,
-      subst (λ r. HasNoneToStart r new.state) (sym h.moves.same_rules) (none_after old.rules old.state h.packet.number h.status h.bytes h.answered h.answers none new.state same),
+      subst (λ r. HasNoneToStart r new.state) (sym h.left.moves.same_rules) (none_after old.rules old.state h.answer.packet.number h.answer.status h.answer.bytes h.answer.answered h.answer.answers none new.state same),
     )

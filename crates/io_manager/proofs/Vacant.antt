@@ -48,11 +48,11 @@ ready_at rooms spot request reserved = reserved ∙ ap (λ r. Some (whole_for r)
 
 -- the spot of a packet that is handed up is reserved
 pub handed_reserved : (takes_srb : Bool) (old new : DeviceView) (climb : Climb) (spot : ℕ) → HandsUp takes_srb old climb spot new → IsReserved new.rooms spot
-handed_reserved takes_srb old new climb spot h = (record { request = h.request; whole = h.whole }, h.room.is)
+handed_reserved takes_srb old new climb spot h = (record { request = h.answer.request; whole = h.left.whole }, h.left.room.is)
 
 -- and given back it is vacant, as it was before
 pub given_back : (takes_srb : Bool) (old mid new : DeviceView) (climb : Climb) (spot : ℕ) → HandsUp takes_srb old climb spot mid → Frees mid spot new → SameRooms old.rooms new.rooms
 given_back takes_srb old mid new climb spot h frees other = elim (cases_eq other spot) [
-  | inl same ↦ ap (room_at new.rooms) same ∙ frees.room.is ∙ sym (ap (room_at old.rooms) same ∙ h.room.was)
-  | inr apart ↦ frees.room.others other apart ∙ h.room.others other apart
+  | inl same ↦ ap (room_at new.rooms) same ∙ frees.room.is ∙ sym (ap (room_at old.rooms) same ∙ h.left.room.was)
+  | inr apart ↦ frees.room.others other apart ∙ h.left.room.others other apart
 ]

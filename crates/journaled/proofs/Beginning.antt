@@ -2,9 +2,9 @@
 use Rattle.journaled.proofs.Common.{◌≡◌, ◌≤◌, ℕ, List, [], length, map, Some, sym, ap, subst, ◌∙◌, arith, All, IsTrue, All-nil, Entry, Replays, IsSector, sectors_in, TagInUse, Rules, sectors_of, IsMap, array_at, State, IsSame, opening, IsSame-refl, AreWhole, IsReached, HaveSameLengths, RunsKeepLengths, ManagerView, IsStartedUse, JournalView, entries_in, entries_of, IsBelow, StandsIn, JournaledKept, next_behind, over, Reservation, Label, IsStarted, IsUnused, IsTold}
 
 module _ (stack : ManagerView) (journal : JournalView) (started : IsStarted stack) (unused : IsUnused journal) where
-  pub kept_at_first : (disk : List (List ℕ)) (max_transfer : ℕ) → StandsIn stack journal → 1 ≤ max_transfer → IsTrue stack.rules.keeps_bytes → Replays journal.medium.sector_size disk (entries_of journal) journal.medium.sectors
+  pub kept_at_first : (disk : List (List ℕ)) (max_transfer : ℕ) → StandsIn stack journal → 1 ≤ max_transfer → max_transfer ≡ stack.rules.max_transfer → IsTrue stack.rules.keeps_bytes → Replays journal.medium.sector_size disk (entries_of journal) journal.medium.sectors
       → JournaledKept disk stack journal max_transfer 1
-  kept_at_first disk max_transfer stands some bytes replays =
+  kept_at_first disk max_transfer stands some longest bytes replays =
       let same : journal.medium.sectors ≡ disk = subst (λ (es : List Entry). Replays journal.medium.sector_size disk es journal.medium.sectors) (ap entries_in unused.no_entry) replays in
       record {
         stands = stands;
@@ -14,6 +14,7 @@ module _ (stack : ManagerView) (journal : JournalView) (started : IsStarted stac
           many = sym (ap (λ (xs : List (List ℕ)). length xs) same) ∙ stands.sectors;
         };
         some = some;
+        longest = longest;
         bytes = bytes;
         counts = ap (λ (ls : List Label). next_behind 1 ls) started.first.no_labels ∙ sym (ap (λ (s : State). s.next_request) started.first.state);
         before = subst (λ (rs : List Reservation). All (IsBelow stack.state.next_request) rs) (sym unused.none_open) (All-nil (IsBelow stack.state.next_request));

@@ -19,6 +19,7 @@ stepped opening old new before after max_transfer next kept taken same stands co
     many = kept.disk.many ∙ ap (λ (r : Rules). r.disk_sectors) (sym same);
   };
   some = kept.some;
+  longest = kept.longest ∙ ap (λ (r : Rules). r.max_transfer) (sym same);
   bytes = subst (λ (r : Rules). IsTrue r.keeps_bytes) (sym same) kept.bytes;
   counts = ap (λ (n : ℕ). next_behind n new.labels) (next_is opening old before max_transfer next kept taken) ∙ counts;
   before = below;
@@ -42,6 +43,7 @@ noted opening stack new before after max_transfer next next' label kept takes ke
       map = kept.map;
       disk = record { whole = kept.disk.whole; many = kept.disk.many };
       some = kept.some;
+      longest = kept.longest;
       bytes = kept.bytes;
       counts = counts takes.0 ∙ ap (λ (ls : List Label). next_behind next ls) (sym takes.1) ∙ kept.counts;
       before = given_below stack.state.next_request label before.reservations after.reservations gives kept.before;

@@ -15,9 +15,9 @@ none_opened v _ none = refl
 
 -- ROOM IS MADE
 
-pub room_made : (v : ManagerView) (event : Event) (number : ℕ) (reservation : Reservation) (old new : JournalView) → reservation.request ≡ number → WouldOpen v event reservation.kind reservation.extent → Admits old reservation new
+pub room_made : (v : ManagerView) (event : Event) (number : ℕ) (reservation : Reservation) (old new : JournalView) → reservation.request ≡ number → WouldOpen v event reservation.kind reservation.extent → reservation.max_transfer ≡ v.rules.max_transfer → Admits old reservation new
     → MakesRoom v event number old new
-room_made v event number reservation old new is opens admits = inr (reservation, record { is_number = is; opens = opens }, admits)
+room_made v event number reservation old new is opens longest admits = inr (reservation, record { is_number = is; opens = opens; longest = longest }, admits)
 
 pub on_ok : {T E : Type 0} {P Q : Type 0} (r : Result T E) → (P → Q) → OnOk r P → OnOk r Q
 on_ok (Ok x) f h = f h
@@ -69,7 +69,7 @@ module _ (told : StepsOpenAsTold) (count : CallsCount) (once : StepsCallOnce) (o
           absurd (subst (λ (found : Option (ℕ × Extent)). MatchOption found (OpensNone (Requested id)) (λ (t : ℕ × Extent). OpensOrLacksMemory old t (Requested id) new)) none.0 (told old event (Requested id) new right))
       by (inr made) = (
         made.0,
-        record { is_number = made.1.is_number ∙ is ∙ sym next; opens = made.1.opens },
+        record { is_number = made.1.is_number ∙ is ∙ sym next; opens = made.1.opens; longest = made.1.longest },
         subst (λ (j : JournalView). Admits before made.0 j) (sym same) made.2,
       )
 

@@ -47,10 +47,11 @@ pub record WouldOpen (v : ManagerView) (event : Event) (kind : Kind) (extent : E
   pub pieces : ℕ
   pub moves : opened_by v event ≡ Some (pieces, extent)
 
--- the reservation is for the request that the event would open, under this number
+-- the reservation is for the request that the event would open, under this number and in pieces as long as the stack's
 pub record IsFor (v : ManagerView) (event : Event) (number : ℕ) (reservation : Reservation) : Type 0 where
   pub is_number : reservation.request ≡ number
   pub opens : WouldOpen v event reservation.kind reservation.extent
+  pub longest : reservation.max_transfer ≡ v.rules.max_transfer
 
 -- the reply opens a request
 abbrev pub is_opened : Reply → Bool

@@ -36,14 +36,15 @@ next_behind next (_ ∷ labels) = next_behind next labels
 abbrev pub IsBelow : ℕ → Reservation → Type 0
 IsBelow number reservation = reservation.request < number
 
--- what holds between two calls: the journal was opened with the sectors of the disk, which the partitions lie in. The
--- number of the next call is known once all labels are taken, and room is held for calls before it alone
+-- what holds between two calls: the journal was opened with the sectors of the disk, which the partitions lie in, and
+-- pieces are as long as the stack's. The number of the next call is known once all labels are taken, and room is held for calls before it alone
 pub record JournaledKept (opening : List (List ℕ)) (stack : ManagerView) (journal : JournalView)
     (max_transfer next : ℕ) : Type 0 where
   pub stands : StandsIn stack journal
   pub map : IsMap stack.rules.disk_sectors stack.rules.partitions
   pub disk : IsDiskOf opening stack
   pub some : 1 ≤ max_transfer
+  pub longest : max_transfer ≡ stack.rules.max_transfer
   pub bytes : IsTrue stack.rules.keeps_bytes
   pub counts : next_behind next stack.labels ≡ stack.state.next_request
   pub before : All (IsBelow stack.state.next_request) journal.reservations

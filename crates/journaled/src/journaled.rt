@@ -65,6 +65,7 @@ impl<M: Medium, N: Naming> Journaled<M, N> {
         requires unused { IsUnused journal }
         requires stands { StandsIn stack journal }
         requires some { 1 ≤ max_transfer }
+        requires longest { max_transfer ≡ stack.rules.max_transfer }
         requires bytes { IsTrue stack.rules.keeps_bytes }
         ensures stack { result.stack ≡ stack }
         ensures journal { result.journal ≡ journal }

@@ -64,6 +64,7 @@ fn make_room<M: Medium, N: Naming>(
     requires map { IsMap stack.now.rules.disk_sectors stack.now.rules.partitions }
     requires stands { StandsIn stack.now journal.old }
     requires some { 1 ≤ max_transfer }
+    requires longest { max_transfer ≡ stack.now.rules.max_transfer }
     ensures keeps { KeepsEntries journal.old journal.new }
     ensures transfer { OnErr result (IsTransferEvent event.now) }
     ensures made { OnOk result (MakesRoom stack.now event.now number journal.old journal.new) }
@@ -99,6 +100,7 @@ pub(crate) fn carry<M: Medium, N: Naming>(
     requires map { IsMap stack.old.rules.disk_sectors stack.old.rules.partitions }
     requires stands { StandsIn stack.old journal.old }
     requires some { 1 ≤ max_transfer }
+    requires longest { max_transfer ≡ stack.old.rules.max_transfer }
     requires no_act { IsNoAct event }
     requires next { number ≡ stack.old.state.next_request }
     requires before { All (IsBelow number) journal.old.reservations }

@@ -4,6 +4,7 @@ ghost use Rattle.std.specs.Prelude.{◌≡◌, ◌≤◌, ◌+◌, ◌*◌, ℕ,
 ghost use Rattle.std.specs.Bool.{Decides};
 ghost use Rattle.srb.specs.declared.Class.TheVariants.{Bad};
 ghost use Rattle.srb.specs.Fate.{class_of};
+ghost use Rattle.srb.specs.declared.Kind.TheVariants.{Read, Write};
 ghost use Rattle.adapter.specs.Booking.{IsOfSrb, SendsAll, SendsFor, Suits, handed_of};
 ghost use Rattle.miniport.specs.inside.Suiting.{agree, is_at, is_as_long, is_transfer_of, is_flush_of, is_sent_by, is_whole_of, may_be_of};
 
@@ -38,9 +39,38 @@ fn has_length(sizes: &Sizes, bytes: &[u8], entry: &Entry, lba: u64, count: u32) 
         && entry.bytes.len() == bytes.len()
 }
 
-fn is_transfer(sizes: &Sizes, bytes: &[u8], entry: &Entry, kind: Kind, lba: u64, count: u32) -> bool
-    ensures { result ≡ is_transfer_of sizes.now.sector_size sizes.now.sectors bytes.now kind lba count entry.now }
+/// What a command asks to move: `count` sectors from `lba` on.
+#[derive(Clone, Copy)]
+struct Transfer {
+    kind: Kind,
+    lba: u64,
+    count: u32,
+}
+
+fn reads(lba: u64, count: u32) -> Transfer
+    ensures { result ≡ record { kind = Read; lba = lba; count = count } }
 {
+    Transfer {
+        kind: Kind::Read,
+        lba,
+        count,
+    }
+}
+
+fn writes(lba: u64, count: u32) -> Transfer
+    ensures { result ≡ record { kind = Write; lba = lba; count = count } }
+{
+    Transfer {
+        kind: Kind::Write,
+        lba,
+        count,
+    }
+}
+
+fn is_transfer(sizes: &Sizes, bytes: &[u8], entry: &Entry, transfer: Transfer) -> bool
+    ensures { result ≡ is_transfer_of sizes.now.sector_size sizes.now.sectors bytes.now transfer.kind transfer.lba transfer.count entry.now }
+{
+    let Transfer { kind, lba, count } = transfer;
     has_kind(entry, kind)
         && stands_at(entry, lba, count)
         && has_length(sizes, bytes, entry, lba, count)
@@ -61,16 +91,15 @@ fn may_be(sizes: &Sizes, bytes: &[u8], entry: &Entry, command: Cdb) -> bool
 {
     match command {
         Cdb::Read10 { lba, count, .. } => {
-            is_transfer(sizes, bytes, entry, Kind::Read, lba as u64, count as u32)
+            is_transfer(sizes, bytes, entry, reads(lba as u64, count as u32))
         }
-        Cdb::Read16 { lba, count, .. } => is_transfer(sizes, bytes, entry, Kind::Read, lba, count),
+        Cdb::Read16 { lba, count, .. } => is_transfer(sizes, bytes, entry, reads(lba, count)),
         Cdb::Write10 { lba, count, .. } => {
-            is_transfer(sizes, bytes, entry, Kind::Write, lba as u64, count as u32)
+            is_transfer(sizes, bytes, entry, writes(lba as u64, count as u32))
                 && entry.bytes.as_slice() == bytes
         }
         Cdb::Write16 { lba, count, .. } => {
-            is_transfer(sizes, bytes, entry, Kind::Write, lba, count)
-                && entry.bytes.as_slice() == bytes
+            is_transfer(sizes, bytes, entry, writes(lba, count)) && entry.bytes.as_slice() == bytes
         }
         Cdb::Sync10 { lba, blocks } => is_flush(bytes, entry, lba as u64, blocks as u32),
         Cdb::Sync16 { lba, blocks } => is_flush(bytes, entry, lba, blocks),

@@ -70,7 +70,16 @@ fn carry_out<R: Read, A: Array>(
             offset,
             count,
             through,
-        } => write(alloc, array, input, offset, count, through),
+        } => write(
+            alloc,
+            array,
+            input,
+            WriteCommand {
+                offset,
+                count,
+                through,
+            },
+        ),
         Command::Flush => Ok(flush(alloc, array)),
         Command::WriteZeroes {
             offset,
@@ -95,7 +104,16 @@ fn read<A: Array>(alloc: Global, array: &mut A, offset: u64, count: u32) -> Answ
     }
 }
 
-/// Writes the `count` bytes that come, from byte `offset` on.
+/// What a write asks for (NBD_CMD_WRITE): `count` bytes from byte `offset` on, past volatile caches if `through`
+/// (NBD_CMD_FLAG_FUA).
+#[derive(Clone, Copy)]
+struct WriteCommand {
+    offset: u64,
+    count: u32,
+    through: bool,
+}
+
+/// Writes the bytes that come.
 ///
 /// # Errors
 ///
@@ -104,15 +122,18 @@ fn write<R: Read, A: Array>(
     alloc: Global,
     array: &mut A,
     input: &mut R,
-    offset: u64,
-    count: u32,
-    through: bool,
+    asked: WriteCommand,
 ) -> Result<Answer, End>
-    requires in_bounds { AreInBounds (A.content array.old).block (length (A.content array.old).bytes) offset count }
-    requires short { count ≤ LONGEST }
-    ensures written { IfOk result (λ answer. IsWritten A.fails offset count (A.content array.old) (R.remaining input.old) (R.remaining input.new) (outcome_of answer) (A.content array.new)) }
+    requires in_bounds { AreInBounds (A.content array.old).block (length (A.content array.old).bytes) asked.offset asked.count }
+    requires short { asked.count ≤ LONGEST }
+    ensures written { IfOk result (λ answer. IsWritten A.fails asked.offset asked.count (A.content array.old) (R.remaining input.old) (R.remaining input.new) (outcome_of answer) (A.content array.new)) }
     ensures ended { IfErr result (λ end. (end ≡ End.Input) × (A.content array.new ≡ A.content array.old)) }
 {
+    let WriteCommand {
+        offset,
+        count,
+        through,
+    } = asked;
     match take_all(alloc, input, count)? {
         Some(bytes) => Ok(put(alloc, array, offset, bytes, through)),
         None => Ok(Answer::Refused(ReplyError::Enomem)),

@@ -52,14 +52,14 @@ keeps_resets v v' h =
 
 pub keeps_hands : (v v' v'' : DeviceView) (takes : Bool) (climb : Climb) (spot : ℕ) → HandsUp takes v climb spot v' → Frees v' spot v'' → Keeps v v''
 keeps_hands v v' v'' takes climb spot h frees =
-    let k = keeps_moves _ v' h.starts h.moves in
+    let k = keeps_moves _ v' h.left.starts h.left.moves in
     subst (λ x. Keeps v x) (sym frees.same) (record {
       rules = k.rules;
       most = k.most;
-      next_request = k.next_request ∙ h.answers.after.next_request;
+      next_request = k.next_request ∙ h.answer.answers.after.next_request;
       submitted = k.submitted;
-      paused = k.paused ∙ h.answers.after.paused;
-      removing = k.removing ∙ h.answers.after.removing;
+      paused = k.paused ∙ h.answer.answers.after.paused;
+      removing = k.removing ∙ h.answer.answers.after.removing;
     })
 
 pub known_submits : (v v' : DeviceView) (packet : Packet) (request : Request) (payload : Payload) (table : List Extent) (next : ℕ) (paused removed : Bool) → packet.number ≡ next

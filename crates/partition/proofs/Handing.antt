@@ -76,23 +76,23 @@ module _ (table : List Extent) (old new : DeviceView) (takes_srb : Bool) (k : Is
   module _ (climb : Climb) (spot : ℕ) (h : HandsUp takes_srb old climb spot new) where
     -- what the request has moved
     abbrev informed : ℕ
-    informed = information h.answers.request.request h.status
+    informed = information h.answer.answers.request.request h.answer.status
 
     -- it climbs from the layer below, and where it goes from the partition driver on
     abbrev ClimbsFrom : List StackLocation → Climb → Type 0
-    ClimbsFrom above climb' = Climbs above h.packet.number h.answers.request.cancelled h.status informed h.payload climb'
+    ClimbsFrom above climb' = Climbs above h.answer.packet.number h.answer.answers.request.cancelled h.answer.status informed h.answer.payload climb'
 
     abbrev ClimbsUp : Climb → Type 0
-    ClimbsUp climb' = ClimbsFrom (packet_above h.packet).above climb'
+    ClimbsUp climb' = ClimbsFrom (packet_above h.answer.packet).above climb'
 
-    abbrev CameBackFrom : ComesBack h.packet → Type 0
-    CameBackFrom b = CameBack b.higher b.own h.packet.number h.answers.request.cancelled h.status informed h.payload climb
+    abbrev CameBackFrom : ComesBack h.answer.packet → Type 0
+    CameBackFrom b = CameBack b.higher b.own h.answer.packet.number h.answer.answers.request.cancelled h.answer.status informed h.answer.payload climb
 
-    came_back : (b : ComesBack h.packet) × CameBackFrom b
+    came_back : (b : ComesBack h.answer.packet) × CameBackFrom b
     came_back =
-        let b : ComesBack h.packet = packet_back h.packet h.others h.is_in in (
+        let b : ComesBack h.answer.packet = packet_back h.answer.packet h.left.others h.left.is_in in (
           b,
-          comes_back b.higher b.own _ _ _ _ _ climb (b.always (succeeds h.status) h.answers.request.cancelled)
+          comes_back b.higher b.own _ _ _ _ _ climb (b.always (succeeds h.answer.status) h.answer.answers.request.cancelled)
               (subst (λ above. ClimbsFrom above climb) b.is_last h.climbs),
         )
 
@@ -104,17 +104,17 @@ module _ (table : List Extent) (old new : DeviceView) (takes_srb : Bool) (k : Is
       no_routine e f = cc (e, f)
 
   -- what it notes is what it asks for, and what the layer below knows of it
-  noted_request : (climb : Climb) (spot : ℕ) → (h : HandsUp takes_srb old climb spot new) → (b : ComesBack h.packet)
-      → LiesInside over old.packets h.answers.request × (asked old.packets h.answers.request.number ≡ noted_in b.own)
+  noted_request : (climb : Climb) (spot : ℕ) → (h : HandsUp takes_srb old climb spot new) → (b : ComesBack h.answer.packet)
+      → LiesInside over old.packets h.answer.answers.request × (asked old.packets h.answer.answers.request.number ≡ noted_in b.own)
   noted_request climb spot h b =
-      let all : All (LiesInside over old.packets) (h.answers.request ∷ h.answers.others) =
-      All-permutation (LiesInside over old.packets) _ _ h.answers.is_open k.requests in
-      let there : Contains old.packets h.packet =
-      Contains-permutation _ _ h.packet (IsPermutation-sym _ _ h.is_in) (0, omega arith, refl) in (
-        All-head (LiesInside over old.packets) h.answers.request h.answers.others all,
-        ap (λ n. asked old.packets n) h.answers.is_number
-            ∙ asked_at old.packets h.packet (packets_distinct old o) there
-            ∙ noted_at h.packet.above b.higher b.own b.is_last,
+      let all : All (LiesInside over old.packets) (h.answer.answers.request ∷ h.answer.answers.others) =
+      All-permutation (LiesInside over old.packets) _ _ h.answer.answers.is_open k.requests in
+      let there : Contains old.packets h.answer.packet =
+      Contains-permutation _ _ h.answer.packet (IsPermutation-sym _ _ h.left.is_in) (0, omega arith, refl) in (
+        All-head (LiesInside over old.packets) h.answer.answers.request h.answer.answers.others all,
+        ap (λ n. asked old.packets n) h.answer.answers.is_number
+            ∙ asked_at old.packets h.answer.packet (packets_distinct old o) there
+            ∙ noted_at h.answer.packet.above b.higher b.own b.is_last,
       )
 
   -- the other packets note what they did
@@ -142,29 +142,29 @@ module _ (table : List Extent) (old new : DeviceView) (takes_srb : Bool) (k : Is
   -- where the layer below knows it as its request of the disk
   hands : (locations_below : ℕ) (wanted : Wanted) (r : Request) (climb climb' : Climb) (spot : ℕ)
       → IsKept locations_below table wanted old → IsOrderly new → (h : HandsUp takes_srb old climb spot new)
-      → h.request ≡ on_disk over r → IsBounded over r → wanted_at wanted spot ≡ Some r
-      → asked old.packets h.answers.request.number ≡ r → ClimbsUp climb spot h climb'
-      → BringsRoutine h.packet.cancel_routine climb'
+      → h.answer.request ≡ on_disk over r → IsBounded over r → wanted_at wanted spot ≡ Some r
+      → asked old.packets h.answer.answers.request.number ≡ r → ClimbsUp climb spot h climb'
+      → BringsRoutine h.answer.packet.cancel_routine climb'
       → HandsUp takes_srb (shown_of table wanted old) climb' spot (shown_of table wanted new) × IsKept locations_below table wanted new
   hands locations_below wanted r climb climb' spot kept o' h e bounded is_wanted notes climbs brings =
       let s : Stands old.rules table old.packets old.state = stands table old k o in
-      let alike : AreNotedAlike old.packets h.others h.answers.others =
-      others_alike h.packet h.others h.answers.request h.answers.others h.is_in h.answers.is_number h.answers.is_open in
-      let a : _ × _ × Stands old.rules table h.others h.answered =
-      Answers-over old.rules table old.packets old.state h.packet.number h.status h.bytes h.answered h.others s h.answers alike in
-      let others_back : All ComesBack h.others = All-tail ComesBack h.packet h.others (All-permutation ComesBack _ _ h.is_in k.packets) in
-      let from : DeviceView = record old { state = h.answered; packets = h.others; rooms = new.rooms } in
-      let m : MovesOn table from new h.starts = moves_on table from new h.starts a.2 others_back h.moves (numbered new o') in
-      let below : Reserved = record { request = h.request; whole = h.whole } in
-      let room : SetsRoom (rooms_with wanted old.rooms) spot None (Some (record { request = r; whole = h.whole })) (rooms_with wanted new.rooms) =
+      let alike : AreNotedAlike old.packets h.left.others h.answer.answers.others =
+      others_alike h.answer.packet h.left.others h.answer.answers.request h.answer.answers.others h.left.is_in h.answer.answers.is_number h.answer.answers.is_open in
+      let a : _ × _ × Stands old.rules table h.left.others h.answer.answered =
+      Answers-over old.rules table old.packets old.state h.answer.packet.number h.answer.status h.answer.bytes h.answer.answered h.left.others s h.answer.answers alike in
+      let others_back : All ComesBack h.left.others = All-tail ComesBack h.answer.packet h.left.others (All-permutation ComesBack _ _ h.left.is_in k.packets) in
+      let from : DeviceView = record old { state = h.answer.answered; packets = h.left.others; rooms = new.rooms } in
+      let m : MovesOn table from new h.left.starts = moves_on table from new h.left.starts a.2 others_back h.left.moves (numbered new o') in
+      let below : Reserved = record { request = h.answer.request; whole = h.left.whole } in
+      let room : SetsRoom (rooms_with wanted old.rooms) spot None (Some (record { request = r; whole = h.left.whole })) (rooms_with wanted new.rooms) =
       subst (λ (x : Option Reserved). SetsRoom (rooms_with wanted old.rooms) spot None x (rooms_with wanted new.rooms))
       (ap (λ (w : Option Request). for_wanted (Some below) w) is_wanted)
-      (rooms_set wanted old.rooms new.rooms spot None (Some below) h.room) in
+      (rooms_set wanted old.rooms new.rooms spot None (Some below) h.left.room) in
       let moves : Moves (record (shown_of table wanted old) {
-        state = on_partitions over h.others h.answered;
-        packets = map packet_above h.others;
+        state = on_partitions over h.left.others h.answer.answered;
+        packets = map packet_above h.left.others;
         rooms = rooms_with wanted new.rooms;
-      }) h.starts (shown_of table wanted new) = record {
+      }) h.left.starts (shown_of table wanted new) = record {
         same_rules = m.moves.same_rules;
         same_packets = m.moves.same_packets;
         same_rooms = λ k. refl;
@@ -175,51 +175,57 @@ module _ (table : List Extent) (old new : DeviceView) (takes_srb : Bool) (k : Is
         adapter = m.moves.adapter;
       } in
       let goes : GoesOn table old new = record { on_disk = m.goes.on_disk; same_rules = m.goes.same_rules } in
-      let noted : All (IsNotedAt wanted) h.others =
-      All-tail (IsNotedAt wanted) h.packet h.others (All-permutation (IsNotedAt wanted) _ _ h.is_in kept.noted) in (
+      let noted : All (IsNotedAt wanted) h.left.others =
+      All-tail (IsNotedAt wanted) h.answer.packet h.left.others (All-permutation (IsNotedAt wanted) _ _ h.left.is_in kept.noted) in (
         record {
-          request = r;
-          packet = packet_above h.packet;
-          is_spot = h.is_spot;
-          whole = h.whole;
-          is_whole = h.is_whole;
-          room = room;
-          others = map packet_above h.others;
-          payload = h.payload;
-          status = h.status;
-          bytes = h.bytes;
-          answered = on_partitions over h.others h.answered;
-          starts = h.starts;
-          is_in = IsPermutation-map packet_above _ _ h.is_in;
-          answers = a.0;
-          is_request = ap (λ (x : OpenRequest). x.request) a.1
-              ∙ ap (λ q. called over (asked old.packets h.answers.request.number) q)
-              (h.is_request ∙ ap (λ (q : Request). as_client old.rules q (sent_bytes q.kind h.payload)) e)
-              ∙ ap (λ q. called over q (as_client over r (sent_bytes r.kind h.payload))) notes;
-          moved = λ success.
-              ap (λ (x : OpenRequest). x.marks) a.1 ∙ h.moved success ∙ ap (λ (q : Request). map Done (sectors_moved old.rules q h.payload)) e;
-          busy = λ one back. h.busy one (subst (λ (x : OpenRequest). All IsBack x.marks) a.1 back);
-          carries = λ busy.
-              carries_up old.rules table s.some_bytes s.whole takes_srb r h.payload
-              (subst (λ (q : Request). Carries takes_srb old.rules q h.payload) e (h.carries busy));
-          brings = subst (λ (q : Request). q.kind ≡ Read → h.status ≡ Success → payload_bytes h.payload ≡ h.bytes) e h.brings;
-          filled = subst (λ (q : Request). q.kind ≡ Read → h.status ≡ Success → length h.bytes ≡ q.extent.count * old.rules.sector_size) e h.filled;
-          empty = subst (λ (q : Request). q.kind ≡ Flush → payload_bytes h.payload ≡ []) e h.empty;
+          answer = record {
+            packet = packet_above h.answer.packet;
+            is_spot = h.answer.is_spot;
+            request = r;
+            payload = h.answer.payload;
+            status = h.answer.status;
+            bytes = h.answer.bytes;
+            answered = on_partitions over h.left.others h.answer.answered;
+            answers = a.0;
+            is_request = ap (λ (x : OpenRequest). x.request) a.1
+                ∙ ap (λ q. called over (asked old.packets h.answer.answers.request.number) q)
+                (h.answer.is_request ∙ ap (λ (q : Request). as_client old.rules q (sent_bytes q.kind h.answer.payload)) e)
+                ∙ ap (λ q. called over q (as_client over r (sent_bytes r.kind h.answer.payload))) notes;
+          };
+          brought = record {
+            moved = λ success.
+                ap (λ (x : OpenRequest). x.marks) a.1 ∙ h.brought.moved success ∙ ap (λ (q : Request). map Done (sectors_moved old.rules q h.answer.payload)) e;
+            busy = λ one back. h.brought.busy one (subst (λ (x : OpenRequest). All IsBack x.marks) a.1 back);
+            carries = λ busy.
+                carries_up old.rules table s.some_bytes s.whole takes_srb r h.answer.payload
+                (subst (λ (q : Request). Carries takes_srb old.rules q h.answer.payload) e (h.brought.carries busy));
+            brings = subst (λ (q : Request). q.kind ≡ Read → h.answer.status ≡ Success → payload_bytes h.answer.payload ≡ h.answer.bytes) e h.brought.brings;
+            filled = subst (λ (q : Request). q.kind ≡ Read → h.answer.status ≡ Success → length h.answer.bytes ≡ q.extent.count * old.rules.sector_size) e h.brought.filled;
+            empty = subst (λ (q : Request). q.kind ≡ Flush → payload_bytes h.answer.payload ≡ []) e h.brought.empty;
+          };
+          left = record {
+            whole = h.left.whole;
+            is_whole = h.left.is_whole;
+            room = room;
+            others = map packet_above h.left.others;
+            is_in = IsPermutation-map packet_above _ _ h.left.is_in;
+            starts = h.left.starts;
+            only_starts = h.left.only_starts;
+            moves = moves;
+            started_stay =
+                each old.rules table h.left.others (StaysIfStarted new.state) (StaysIfStarted (view_of table new).state)
+                (λ x stays started. open_still table from new h.left.moves.same_rules h.left.moves.same_packets (numbered new o') x (stays started))
+                h.answer.answered.requests h.left.started_stay;
+            still = h.left.still;
+          };
           climbs =
-              climbs_too over old.packets h.answers.request a.0.request (packet_above h.packet).above h.packet.number h.status h.payload
+              climbs_too over old.packets h.answer.answers.request a.0.request (packet_above h.answer.packet).above h.answer.packet.number h.answer.status h.answer.payload
               climb' a.1 climbs;
           brings_routine = brings;
-          only_starts = h.only_starts;
-          moves = moves;
-          started_stay =
-              each old.rules table h.others (StaysIfStarted new.state) (StaysIfStarted (view_of table new).state)
-              (λ x stays started. open_still table from new h.moves.same_rules h.moves.same_packets (numbered new o') x (stays started))
-              h.answered.requests h.started_stay;
-          still = h.still;
         },
         kept_with locations_below table wanted wanted old new kept goes o'
-            (rooms_more over wanted wanted old.rooms new.rooms spot below h.room (λ other away. refl) r is_wanted bounded e kept.rooms)
-            (All-permutation (IsNotedAt wanted) _ _ (IsPermutation-sym _ _ h.moves.same_packets) noted),
+            (rooms_more over wanted wanted old.rooms new.rooms spot below h.left.room (λ other away. refl) r is_wanted bounded e kept.rooms)
+            (All-permutation (IsNotedAt wanted) _ _ (IsPermutation-sym _ _ h.left.moves.same_packets) noted),
       )
 
   pub handed_up : (locations_below : ℕ) (wanted : Wanted) (climb : Climb) (driver : Driver) (irp : Box Irp) (climb' : Climb)
@@ -230,21 +236,21 @@ module _ (table : List Extent) (old new : DeviceView) (takes_srb : Bool) (k : Is
       → HandsUp takes_srb (shown_of table wanted old) climb' spot (shown_of table wanted new) × IsKept locations_below table wanted new
   handed_up locations_below wanted climb driver irp climb' spot kept is o' h climbs brings =
       let s : Stands old.rules table old.packets old.state = stands table old k o in
-      let c : (b : ComesBack h.packet) × CameBackFrom climb spot h b = came_back climb spot h in
+      let c : (b : ComesBack h.answer.packet) × CameBackFrom climb spot h b = came_back climb spot h in
       let r : Request = noted_in c.0.own in
       let same : c.1.irp ≡ irp = same_irp driver c.0.own.driver irp c.1.irp (sym is ∙ c.1.climb_is) in
       let has : HasOwn irp.value c.0.higher c.0.own = subst (λ (p : Box Irp). HasOwn p.value c.0.higher c.0.own) same c.1.has_own in
-      let n : LiesInside over old.packets h.answers.request × (asked old.packets h.answers.request.number ≡ r) =
+      let n : LiesInside over old.packets h.answer.answers.request × (asked old.packets h.answer.answers.request.number ≡ r) =
       noted_request climb spot h c.0 in
-      let is_below : h.request ≡ on_disk over r =
-      same_client old.rules h.request (on_disk over r) _ _ s.some_bytes
-      (sym h.is_request ∙ n.0.is_asked ∙ ap (λ q. as_client over (on_disk over q) h.answers.request.request.bytes) n.1) in
-      let first : IsNotedAt wanted h.packet = All-head (IsNotedAt wanted) h.packet h.others (All-permutation (IsNotedAt wanted) _ _ h.is_in kept.noted) in
+      let is_below : h.answer.request ≡ on_disk over r =
+      same_client old.rules h.answer.request (on_disk over r) _ _ s.some_bytes
+      (sym h.answer.is_request ∙ n.0.is_asked ∙ ap (λ q. as_client over (on_disk over q) h.answer.answers.request.request.bytes) n.1) in
+      let first : IsNotedAt wanted h.answer.packet = All-head (IsNotedAt wanted) h.answer.packet h.left.others (All-permutation (IsNotedAt wanted) _ _ h.left.is_in kept.noted) in
       let is_wanted : wanted_at wanted spot ≡ Some r =
-      ap (wanted_at wanted) (sym h.is_spot) ∙ first ∙ ap (λ (q : Request). Some q) (noted_at h.packet.above c.0.higher c.0.own c.0.is_last) in
+      ap (wanted_at wanted) (sym h.answer.is_spot) ∙ first ∙ ap (λ (q : Request). Some q) (noted_at h.answer.packet.above c.0.higher c.0.own c.0.is_last) in
       let up_climbs : ClimbsUp climb spot h climb' =
-      climbs_as irp.value c.0.higher (packet_above h.packet).above h.packet.number h.answers.request.cancelled h.status (informed climb spot h)
-      h.payload climb'
+      climbs_as irp.value c.0.higher (packet_above h.answer.packet).above h.answer.packet.number h.answer.answers.request.cancelled h.answer.status (informed climb spot h)
+      h.answer.payload climb'
       (above_is irp.value c.0.higher c.0.own has)
       (ap (λ (xs : List StackLocation). take (length xs - 1) xs) c.0.is_last ∙ front_is c.0.higher c.0.own)
       (ap (λ (p : Box Irp). p.value.number) (sym same) ∙ c.1.number_is)
@@ -252,8 +258,8 @@ module _ (table : List Extent) (old new : DeviceView) (takes_srb : Bool) (k : Is
       (ap (λ (p : Box Irp). p.value.io_status.status) (sym same) ∙ c.1.status_is)
       (ap (λ (p : Box Irp). p.value.io_status.information) (sym same) ∙ c.1.information_is)
       (ap (λ (p : Box Irp). p.value.payload) (sym same) ∙ c.1.payload_is) climbs in
-      let up_brings : BringsRoutine h.packet.cancel_routine climb' =
-      subst (λ q. BringsRoutine q climb') (brings_of climb driver irp h.packet.cancel_routine is h.brings_routine) brings in
+      let up_brings : BringsRoutine h.answer.packet.cancel_routine climb' =
+      subst (λ q. BringsRoutine q climb') (brings_of climb driver irp h.answer.packet.cancel_routine is h.brings_routine) brings in
       hands locations_below wanted r climb climb' spot kept o' h is_below (subst (λ q. IsBounded over q) n.1 n.0.bounded) is_wanted n.1 up_climbs up_brings
     where
       same_irp : (d d' : Driver) (p p' : Box Irp) → Routine d p ≡ Routine d' p' → p' ≡ p

@@ -284,37 +284,43 @@ hands_up b b' v rooms d status bytes_moved climb k h status_is moved_is climbs b
     let rules : Rules = rules_of b.sizes in
     let x = is_handed b v rooms d h.rest b'.rooms k.kept h.is_front in
     subst (λ (y : TableView). HandsUp true (view_of b v) climb d.spot (view_of y v)) (sym h.after) (record {
-      request = d.request;
-      is_spot = refl;
-      whole = true;
-      is_whole = λ _. refl;
-      room = sets_room b.rooms d.spot (Some None) (Some (Some d.request)) b'.rooms h.slot;
-      packet = packet_as (ended_entry d);
-      others = of_packets packet_as (books_left b h.rest b'.rooms) v;
-      payload = d.irp.value.payload;
-      status = status_left d.outcome;
-      bytes = answer_bytes d.request.kind (marks_left rules d.request d.irp.value.payload d.outcome);
-      answered = state_of (books_left b h.rest b'.rooms) v;
-      starts = [];
-      is_in = packets_left packet_as b v d h.rest b'.rooms h.is_front;
-      answers = answers_left b v rooms d h.rest b'.rooms k.kept h.is_front x;
-      is_request = refl;
-      moved = x.moved;
-      busy = λ _. x.busy;
-      carries = x.carries;
-      brings = x.brings;
-      filled = λ is succeeds.
-          let long : length (payload_bytes d.irp.value.payload) ≡ transfer_length rules d.request = x.filled is succeeds in
-          let whole : transfer_length rules d.request ≡ d.request.extent.count * rules.sector_size = rw is refl in
-          ap (λ (bytes : List ℕ). length bytes) (sym (x.brings is succeeds)) ∙ long ∙ whole;
-      empty = (All-head (HasEndedBy rules b.removing) d h.rest (subst (All (HasEndedBy rules b.removing)) h.is_front k.kept.ended)).empty;
+      answer = record {
+        packet = packet_as (ended_entry d);
+        is_spot = refl;
+        request = d.request;
+        payload = d.irp.value.payload;
+        status = status_left d.outcome;
+        bytes = answer_bytes d.request.kind (marks_left rules d.request d.irp.value.payload d.outcome);
+        answered = state_of (books_left b h.rest b'.rooms) v;
+        answers = answers_left b v rooms d h.rest b'.rooms k.kept h.is_front x;
+        is_request = refl;
+      };
+      brought = record {
+        moved = x.moved;
+        busy = λ _. x.busy;
+        carries = x.carries;
+        brings = x.brings;
+        filled = λ is succeeds.
+            let long : length (payload_bytes d.irp.value.payload) ≡ transfer_length rules d.request = x.filled is succeeds in
+            let whole : transfer_length rules d.request ≡ d.request.extent.count * rules.sector_size = rw is refl in
+            ap (λ (bytes : List ℕ). length bytes) (sym (x.brings is succeeds)) ∙ long ∙ whole;
+        empty = (All-head (HasEndedBy rules b.removing) d h.rest (subst (All (HasEndedBy rules b.removing)) h.is_front k.kept.ended)).empty;
+      };
+      left = record {
+        whole = true;
+        is_whole = λ _. refl;
+        room = sets_room b.rooms d.spot (Some None) (Some (Some d.request)) b'.rooms h.slot;
+        others = of_packets packet_as (books_left b h.rest b'.rooms) v;
+        is_in = packets_left packet_as b v d h.rest b'.rooms h.is_front;
+        starts = [];
+        only_starts = All-nil IsStart;
+        moves = record { same_rules = refl; same_packets = IsPermutation-refl _; same_rooms = λ _. refl; same_submitted = refl; same_most = refl; same_places = refl; run = IsSame-refl _; adapter = moves_none v };
+        started_stay = λ i o low started. All-contains_itself (requests_of (books_left b h.rest b'.rooms) v) i o low;
+        still = λ window. (refl, refl);
+      };
       climbs = subst (λ (st : NtStatus). Climbs (entry d.irp.value d.request d.spot).above d.irp.value.number d.irp.value.cancelled st (information (as_client rules d.request []) st) d.irp.value.payload climb) status_is
           (subst (λ (n : ℕ). Climbs (entry d.irp.value d.request d.spot).above d.irp.value.number d.irp.value.cancelled status n d.irp.value.payload climb) (subst (λ (y : TableView). bytes_moved ≡ information (as_client (rules_of y.sizes) d.request []) status) h.after (moved_is (rules_of b'.sizes) refl)) climbs);
       brings_routine = brings;
-      only_starts = All-nil IsStart;
-      moves = record { same_rules = refl; same_packets = IsPermutation-refl _; same_rooms = λ _. refl; same_submitted = refl; same_most = refl; same_places = refl; run = IsSame-refl _; adapter = moves_none v };
-      started_stay = λ i o low started. All-contains_itself (requests_of (books_left b h.rest b'.rooms) v) i o low;
-      still = λ window. (refl, refl);
     })
 
 pub moved_few : (b b' : TableView) (v : AdapterView) (rooms : List Request) (d : Ended) → IsInHand b v rooms → TakesDone b d b' → d.request.extent.count * b'.sizes.sector_size < 2 ^ 64

@@ -4,9 +4,9 @@
 //!
 //! # Promises
 //!
-//! `remove`: which receipts the keeper has then (`told`). `run`: no more succeed than two a round and client (`most`);
-//! the journal's entries give the sectors (`replays`); the trace is a faithful run (`run`); a partition is missed only
-//! where there is none (`fault`).
+//! `remove`: which receipts the keeper has then (`told`), and that the device goes (`removed`). `run`: no more succeed
+//! than two a round and client (`most`); the journal's entries give the sectors (`replays`); the trace is a faithful run
+//! (`run`); a partition is missed only where there is none (`fault`).
 #![tactic(auto)]
 
 mod client;

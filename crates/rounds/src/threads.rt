@@ -1,6 +1,6 @@
 //! The threads: lanes, a completion worker, and clients.
 
-ghost use Rattle.std.specs.Prelude.{◌≡◌, ◌≤◌, ◌<◌, ◌*◌, ℕ, suc, IfErr, IfOk, IfSome, MatchBool, get_or, length};
+ghost use Rattle.std.specs.Prelude.{◌≡◌, ◌≤◌, ◌<◌, ◌*◌, ℕ, suc, IfErr, IfOk, IfSome, IsTrue, MatchBool, get_or, length};
 ghost use Rattle.lanes.specs.Queue.{fresh_lane, issued, lanes_of, standing};
 ghost use Rattle.host.specs.Clients.{AreNumbered};
 ghost use Rattle.host.specs.Closing.{IsFaithfulRun};
@@ -9,6 +9,7 @@ ghost use Rattle.sector_journal.specs.Journal.{entries_in};
 ghost use Rattle.srb.specs.Replaying.{Replays};
 ghost use Rattle.traced.specs.Entries.{labels_of};
 ghost use Rattle.host.specs.Keepers.{IsPulledOut, IsQueriedFirst};
+ghost use Rattle.pnp.specs.Laws.{is_going};
 ghost use Rattle.rounds.specs.declared.RoundsFault.TheVariants.{NoMemory};
 
 use crate::client::{Served, Shared, serve_client};
@@ -178,13 +179,14 @@ fn join_clients<N: HostNaming, R: Threads>(
 }
 
 /// Removes the device, by surprise where the query is refused. Returns whether the query was granted; the keeper has
-/// receipts of it then, and of a removal that was accepted.
+/// receipts of it then, and of the removal. The device is gone then.
 pub fn remove<M: Medium, N: HostNaming, R: Wait>(
     rt: &R,
     host: &Host<M, N>,
     keeper: &mut Keeper<N>,
 ) -> bool
     ensures told { MatchBool result (IsQueriedFirst keeper.old.told keeper.new.told) (IsPulledOut keeper.old.told keeper.new.told) }
+    ensures removed { IsTrue (is_going keeper.new.standing) }
 {
     let asked = host.query_remove(rt, keeper);
     if let Reply::Ok = asked {
@@ -273,7 +275,7 @@ pub(crate) fn serve<M: Medium + Send, N: HostNaming + Send + Sync, R: Threads + 
     blank: Blank<M>,
     plan: Plan,
 ) -> Result<Done<M>, RoundsFault>
-    requires named { opened ≡ record { rules = N.rules; opening = N.start; partitions = N.partitions; handles = N.handles; marks = N.marks; slots = N.slots; table = N.table; name = N.name; parts = N.parts; gate = N.gate } }
+    requires named { opened ≡ record { rules = N.rules; opening = N.start; partitions = N.partitions; handles = N.handles; marks = N.marks; slots = N.slots; table = N.table; name = N.name; parts = N.parts; gate = N.gate; keeper = N.keeper } }
     requires histories { blank.histories ≡ record { armings = N.armings; entries = N.entries } }
     requires sectors { (M.view blank.medium).sectors ≡ N.opening }
     requires unfailed { (M.view blank.medium).failures ≡ 0 }

@@ -56,7 +56,7 @@ fn started_apart<A: Adapter>(
     ensures started { IfOk result IsStarted }
     ensures apart { IfOk result (λ s. IsFalse s.adapter.faithful) }
     ensures bytes { IfOk result (λ s. IsTrue s.rules.keeps_bytes) }
-    ensures sizes { IfOk result (λ s. (s.rules.sector_size ≡ 512) × (s.rules.disk_sectors ≡ 4096)) }
+    ensures sizes { IfOk result (λ s. (s.rules.sector_size ≡ 512) × (s.rules.disk_sectors ≡ 4096) × (s.rules.max_transfer ≡ 2)) }
     ensures taken { IfOk result (λ s. s.labels ≡ []) }
 {
     let keeps_bytes = adapter.keeps_bytes();
@@ -64,8 +64,9 @@ fn started_apart<A: Adapter>(
     let size = adapter.sector_size();
     let sectors = adapter.sectors();
     let faithful = adapter.is_faithful();
+    let most = adapter.max_transfer();
     assert!(rt; size == 512 && sectors == 4096);
-    assert!(rt; !faithful);
+    assert!(rt; most == 2 && !faithful);
     let settings = Settings {
         window: 2,
         open_requests: 4,
@@ -93,7 +94,7 @@ fn stack_apart(rt: &impl Abort, alloc: Global) -> Result<Stack<BookedAdapter>, A
     ensures started { IfOk result IsStarted }
     ensures apart { IfOk result (λ s. IsFalse s.adapter.faithful) }
     ensures bytes { IfOk result (λ s. IsTrue s.rules.keeps_bytes) }
-    ensures sizes { IfOk result (λ s. (s.rules.sector_size ≡ 512) × (s.rules.disk_sectors ≡ 4096)) }
+    ensures sizes { IfOk result (λ s. (s.rules.sector_size ≡ 512) × (s.rules.disk_sectors ≡ 4096) × (s.rules.max_transfer ≡ 2)) }
     ensures taken { IfOk result (λ s. s.labels ≡ []) }
 {
     let adapter = adapter_apart(alloc)?;

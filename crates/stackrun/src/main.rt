@@ -7,7 +7,7 @@
 #![tactic(auto)]
 
 use commands::Error;
-use commands::clients::clients;
+use commands::clients::{Load, clients};
 use commands::trace::trace;
 use commands::words::asked::Command;
 use commands::words::command;
@@ -44,7 +44,13 @@ fn run<H: Threads + Wait + Sync>(rt: &HostRuntime, host: &H) -> Result<Verdict, 
             rounds,
         } => {
             let config = open_input(rt, config);
-            let outcome = clients(host, alloc, config, threads, rounds, &mut rt.stdout())?;
+            let outcome = clients(
+                host,
+                alloc,
+                config,
+                Load { threads, rounds },
+                &mut rt.stdout(),
+            )?;
             Ok(outcome.verdict)
         }
     }

@@ -4,7 +4,7 @@ abbrev pub ghosts-serve-N-Ledger : goal.ghosts-serve-N-Ledger
 ghosts-serve-N-Ledger g a = record { name = a.opened.name; parts = a.opened.parts }
 
 abbrev pub ghosts-serve-N-HostNaming : goal.ghosts-serve-N-HostNaming
-ghosts-serve-N-HostNaming g a = record { gate = a.opened.gate }
+ghosts-serve-N-HostNaming g a = record { gate = a.opened.gate; keeper = a.opened.keeper }
 
 abbrev pub ghosts-serve-N-TraceNaming : goal.ghosts-serve-N-TraceNaming
 ghosts-serve-N-TraceNaming g a = record {

@@ -16,11 +16,11 @@ returns-clause-told g c =
     let distinct : AreDistinct old.stack.state =
     AreDistinct-Run g.N.TraceNaming.rules g.N.TraceNaming.start (labels_of old.entries) old.stack.state (distinct_at_first g.N.TraceNaming.start c.shows_opening.ensures.opening) shown.run in
     let is : IsOpenOn old.stack.handles c.args.share.now.handle partition = subst (λ (hs : List (Option OpenHandle)). IsOpenOn hs c.args.share.now.handle partition) (sym shown.same_handles) c.requires.open in
-    let stepped = c.step-reply.ensures.stepped in
-    let calls = stepped.serves in
+    let called = c.call-reply.ensures in
+    let calls = called.2 in
     let mid : TracedView = calls.booked.traced in
-    let event : c.on-event.result ≡ event_of c.args.share.now.handle c.args.call = c.on-event.ensures ∙ ap (λ h. event_of h c.args.call) c.handle.ensures in
-    let served = subst (λ e. IsServed c.args.share.now.client mid e c.step-reply.result c.step-reply.new.self.traced) event calls.served in
-    told_call g.N.TraceNaming.slots partition c.args.call old mid c.step-reply.new.self.traced c.args.share.now _ c.step-reply.result c.find_call-place.result
-    (still_before c.laws_of_numbers.ensures.count g.N.TraceNaming.slots calls.count c.args.book.now stepped.marked calls.booked stepped.looks calls.books) shown.told.next rules bytes distinct is served calls.counted
-    (subst (λ (n : ℕ). FindsCall n c.step-reply.new.self.traced.entries c.find_call-place.result) c.len-from.ensures c.find_call-place.ensures.finds)
+    let event : c.on-event.result ≡ event_of c.args.share.now.handle c.args.call = c.on-event.ensures.event ∙ ap (λ h. event_of h c.args.call) c.handle.ensures in
+    let served = subst (λ e. IsServed c.args.share.now.client mid e c.call-reply.result c.call-reply.new.self.traced) event calls.served in
+    told_call g.N.TraceNaming.slots partition c.args.call old mid c.call-reply.new.self.traced c.args.share.now _ c.call-reply.result c.find_call-place.result
+    (still_before c.laws_of_numbers.ensures.count g.N.TraceNaming.slots calls.count c.args.book.now called.0 calls.booked called.1 calls.books) shown.told.next rules bytes distinct is served calls.counted
+    (subst (λ (n : ℕ). FindsCall n c.call-reply.new.self.traced.entries c.find_call-place.result) c.len-from.ensures c.find_call-place.ensures.finds)

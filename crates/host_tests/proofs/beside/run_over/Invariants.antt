@@ -4,7 +4,7 @@ abbrev pub ghosts-play_scene-N-Ledger : goal.ghosts-play_scene-N-Ledger
 ghosts-play_scene-N-Ledger g a = record { name = a.ready.opened.name; parts = a.ready.opened.parts }
 
 abbrev pub ghosts-play_scene-N-HostNaming : goal.ghosts-play_scene-N-HostNaming
-ghosts-play_scene-N-HostNaming g a = record { gate = a.ready.opened.gate }
+ghosts-play_scene-N-HostNaming g a = record { gate = a.ready.opened.gate; keeper = a.ready.opened.keeper }
 
 abbrev pub ghosts-play_scene-N-TraceNaming : goal.ghosts-play_scene-N-TraceNaming
 ghosts-play_scene-N-TraceNaming g a = record {

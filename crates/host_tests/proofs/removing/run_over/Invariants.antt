@@ -4,7 +4,7 @@ abbrev pub ghosts-go_beside-N-Ledger : goal.ghosts-go_beside-N-Ledger
 ghosts-go_beside-N-Ledger g a = record { name = a.ready.opened.name; parts = a.ready.opened.parts }
 
 abbrev pub ghosts-go_beside-N-HostNaming : goal.ghosts-go_beside-N-HostNaming
-ghosts-go_beside-N-HostNaming g a = record { gate = a.ready.opened.gate }
+ghosts-go_beside-N-HostNaming g a = record { gate = a.ready.opened.gate; keeper = a.ready.opened.keeper }
 
 abbrev pub ghosts-go_beside-N-TraceNaming : goal.ghosts-go_beside-N-TraceNaming
 ghosts-go_beside-N-TraceNaming g a = record {

@@ -4,7 +4,7 @@ abbrev pub ghosts-carry_out-N-Ledger : goal.ghosts-carry_out-N-Ledger
 ghosts-carry_out-N-Ledger g a = record { name = a.ready.opened.name; parts = a.ready.opened.parts }
 
 abbrev pub ghosts-carry_out-N-HostNaming : goal.ghosts-carry_out-N-HostNaming
-ghosts-carry_out-N-HostNaming g a = record { gate = a.ready.opened.gate }
+ghosts-carry_out-N-HostNaming g a = record { gate = a.ready.opened.gate; keeper = a.ready.opened.keeper }
 
 abbrev pub ghosts-carry_out-N-TraceNaming : goal.ghosts-carry_out-N-TraceNaming
 ghosts-carry_out-N-TraceNaming g a = record {

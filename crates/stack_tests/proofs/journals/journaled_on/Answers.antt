@@ -20,3 +20,6 @@ new-requires-2-clause-stands g c =
       sector_size = ap (λ (m : MediumView). m.sector_size) c.in_ok-journal.ensures.medium_is ∙ size ∙ sym c.in_ok-stack.ensures.sizes.0;
       sectors = ap (λ (m : MediumView). length m.sectors) c.in_ok-journal.ensures.medium_is ∙ many ∙ sym c.in_ok-stack.ensures.sizes.1;
     }
+
+pub new-requires-2-clause-longest : goal.new-requires-2-clause-longest
+new-requires-2-clause-longest g c = sym c.in_ok-stack.ensures.sizes.2

@@ -10,9 +10,11 @@ returns-in-Ok-clause-apart g c =
 pub returns-in-Ok-clause-sizes : goal.returns-in-Ok-clause-sizes
 returns-in-Ok-clause-sizes g c =
     let size : c.sector_size-size.result ≡ 512 = search rules in
-    let many : c.sectors-sectors.result ≡ 4096 = search rules in (
+    let many : c.sectors-sectors.result ≡ 4096 = search rules in
+    let most : c.max_transfer-most.result ≡ 2 = search rules in (
       ap (λ r. r.sector_size) c.in-Ok.ensures.view.rules ∙ sym c.sector_size-size.ensures.exact ∙ size,
       ap (λ r. r.disk_sectors) c.in-Ok.ensures.view.rules ∙ sym c.sectors-sectors.ensures.exact ∙ many,
+      ap (λ r. r.max_transfer) c.in-Ok.ensures.view.rules ∙ sym c.max_transfer-most.ensures.exact ∙ most,
     )
 
 pub returns-in-Ok-clause-bytes : goal.returns-in-Ok-clause-bytes

@@ -1,5 +1,9 @@
+use Rattle.std.proofs.Common.{List, subst}
 use Rattle.host.specs.Accounts.{IsCalled, IsTurnedDown, partition_of}
-use Rattle.host.proofs.Holding.{if_err, if_ok, issued, kept_back, kept_out, kept_without, refused_early, refused_late}
+use Rattle.host.specs.Clients.{ClientView}
+use Rattle.host.specs.Receipts.{Receipt}
+use Rattle.host.specs.Tickets.{IsBusy, WasUsedUp}
+use Rattle.host.proofs.Holding.{if_err, if_ok, issued, kept_back, kept_out, kept_without, no_hold_other, not_busy, refused_early, refused_late}
 use Rattle.host.proofs.client.Client.issue.Goals as goal
 
 pub invariant_of-self-in-Err : goal.invariant_of-self-in-Err
@@ -35,3 +39,14 @@ returns-in-Err-issued-clause-refused g c =
     let refused = if_err (λ e. IsTurnedDown (partition_of g.N.TraceNaming.partitions c.make_places.new.self.share.client) c.make_places.new.self c.args.call e c.issue_and_note-issued.new.self) c.issue_and_note-issued.result.0 c.in-Err-issued.refusal c.in-Err-issued.is c.issue_and_note-issued.ensures.refused in
     refused_late g.N.TraceNaming.partitions c.args.call c.self.inside.account c.make_places.new.self c.self.inside.holds c.take.new.self c.self.inside.seat.view c.args.self.now c.self.view_is
     c.make_places.ensures.share c.make_places.ensures.lists.0 c.make_places.ensures.lists.1 c.issue_and_note-issued.new.self c.take_back.new.self c.in-Ok-take.ensures.held c.in-Err-issued.refusal refused c.take_back.ensures.back
+
+pub returns-in-Err-clause-used_up : goal.returns-in-Err-clause-used_up
+returns-in-Err-clause-used_up g c = not_busy c.in-Err.reason c.refused-in-Err.result _ c.refused-in-Err.ensures (no_hold_other c.in-Err.reason _ _ c.in-Err.ensures.refused)
+
+pub returns-in-Err-issued-clause-used_up : goal.returns-in-Err-issued-clause-used_up
+returns-in-Err-issued-clause-used_up g c busy =
+    let Used : List Receipt → List Receipt → Type 0 = WasUsedUp g.N.TraceNaming.rules g.N.TraceNaming.start g.N.TraceNaming.partitions g.N.TraceNaming.handles in
+    let used = if_err (λ r. IsBusy r → Used c.make_places.new.self.called.list c.make_places.new.self.answered.list) c.issue_and_note-issued.result.0 c.in-Err-issued.refusal c.in-Err-issued.is c.issue_and_note-issued.ensures.used_up in
+    subst (λ (v : ClientView). Used v.called v.answered) c.self.view_is
+    (subst (λ (cs : List Receipt). Used cs c.self.inside.account.answered.list) c.make_places.ensures.lists.0
+    (subst (λ (cs : List Receipt). Used c.make_places.new.self.called.list cs) c.make_places.ensures.lists.1 (used busy)))

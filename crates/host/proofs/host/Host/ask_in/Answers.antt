@@ -15,14 +15,14 @@ unreachable-requires g c =
 
 pub returns-in-Ok-clause-told : goal.returns-in-Ok-clause-told
 returns-in-Ok-clause-told g c =
-    let same : c.join.new.self ≡ c.args.told.now ++ c.in-Some.claim = c.join.ensures ∙ ap (λ (cs : List Receipt). cs ++ c.in-Some.claim) c.begin-reply.ensures.same in
+    let same : c.join.new.self ≡ c.args.known.now.told ++ c.in-Some.claim = c.join.ensures ∙ ap (λ (cs : List Receipt). cs ++ c.in-Some.claim) c.begin-reply.ensures.same in
     let noticed = subst (λ (n : Notice). IsNoticed c.begin-reply.result.1 (label_of n) c.in-Some.claim) c.notice.ensures c.in-Some.ensures.noticed in
     record {
-      accepted = λ ok. noted_one (label_of (notice_of c.args.minor)) c.begin-reply.result.1 c.args.told.now c.in-Some.claim c.join.new.self c.begin-reply.ensures.above noticed same;
+      accepted = λ ok. noted_one (label_of (notice_of c.args.minor)) c.begin-reply.result.1 c.args.known.now.told c.in-Some.claim c.join.new.self c.begin-reply.ensures.above noticed same;
       otherwise = λ not. absurd (not c.in-Ok.is);
     }
 
 pub returns-in-Ok-clause-above : goal.returns-in-Ok-clause-above
 returns-in-Ok-clause-above g c =
-    let same : c.join.new.self ≡ c.args.told.now ++ c.in-Some.claim = c.join.ensures ∙ ap (λ (cs : List Receipt). cs ++ c.in-Some.claim) c.begin-reply.ensures.same in
-    below_noted c.begin-reply.result.1 c.in-Some.place c.args.told.now c.in-Some.claim c.join.new.self c.begin-reply.ensures.above c.in-Some.ensures.place.0 c.in-Some.ensures.place.1 same
+    let same : c.join.new.self ≡ c.args.known.now.told ++ c.in-Some.claim = c.join.ensures ∙ ap (λ (cs : List Receipt). cs ++ c.in-Some.claim) c.begin-reply.ensures.same in
+    below_noted c.begin-reply.result.1 c.in-Some.place c.args.known.now.told c.in-Some.claim c.join.new.self c.begin-reply.ensures.above c.in-Some.ensures.place.0 c.in-Some.ensures.place.1 same

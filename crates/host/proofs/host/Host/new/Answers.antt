@@ -1,5 +1,6 @@
-use Rattle.host.proofs.Common.{◌≡◌, ◌<◌, ◌+◌, ap, sym, ◌∙◌, Some, length, subst, Rules, StackSizes, IsOpening, Names}
-use Rattle.host.proofs.Opening.{marks_are}
+use Rattle.host.proofs.Common.{ManagerView, TracedView, ◌≡◌, ◌<◌, ◌+◌, ap, sym, ◌∙◌, Some, length, subst, Rules, StackSizes, IsOpening, Names}
+use Rattle.io_manager.specs.Right.{pnp_state}
+use Rattle.host.proofs.Opening.{marks_are, started_first}
 use Rattle.host.proofs.host.Host.new.Goals as goal
 
 pub new-table-requires-clause-named : goal.new-table-requires-clause-named
@@ -28,3 +29,9 @@ new-table-requires-clause-parts g c =
 
 pub new-host_gate-requires : goal.new-host_gate-requires
 new-host_gate-requires g c = record { named = ap (λ (v : Names). v.gate) (c.opened.view_is ∙ c.requires.named) }
+
+pub new-kept-requires-clause-started : goal.new-kept-requires-clause-started
+new-kept-requires-clause-started g c =
+    ap (λ (v : TracedView). pnp_state v.stack.state) c.in_ok-book.ensures.book.0
+    ∙ ap (λ (v : ManagerView). pnp_state v.state) c.in_ok-traced.ensures.0
+    ∙ started_first c.opened.inside.stack.state c.opened.invariant.opens
