@@ -1,6 +1,9 @@
 //! The rounds of one client.
 
-ghost use Rattle.std.specs.Prelude.{◌≡◌, ◌≤◌, ◌+◌, ◌*◌, ◌<◌, ◌^◌};
+ghost use Rattle.std.specs.Prelude.{◌≡◌, ◌≤◌, ◌+◌, ◌*◌, ◌<◌, ◌^◌, [], ◌∷◌, IfOk, OnOk, false};
+ghost use Rattle.core.specs.List.{cons_option};
+ghost use Rattle.rounds.specs.Tallies.{HasCounted};
+ghost use Rattle.rounds.specs.inside.Counting.{Brings, CountsAll, counted};
 
 use crate::{Plan, Tally};
 use compose::Refusal as Why;
@@ -41,14 +44,15 @@ fn sector_of(alloc: Global, size: u32, byte: u8) -> Result<Bytes, AllocError> {
     Ok(Bytes::new(bytes))
 }
 
-/// Issues a call, waits for its answer, and returns the answer where it is a success.
+/// Issues a call, waits for its answer, and returns the bytes of the answer where it is a success.
 fn answer_to<M: Medium, N: HostNaming, R: Wait>(
     rt: &R,
     host: &Host<M, N>,
     client: &mut Client<N>,
     call: Call,
 ) -> Result<Option<Bytes>, AllocError>
-    ensures { client.new.client ≡ client.old.client }
+    ensures client { client.new.client ≡ client.old.client }
+    ensures brings { IfOk result (λ bytes. Brings client.old client.new (cons_option bytes [])) }
 {
     match client.issue(rt, host, call) {
         Ok(ticket) => {
@@ -66,6 +70,36 @@ fn answer_to<M: Medium, N: HostNaming, R: Wait>(
     }
 }
 
+/// Counts a success that brought these bytes, in a round that wrote this byte. A write's brings none.
+fn count(tally: &mut Tally, byte: u8, bytes: &Bytes)
+    requires { (tally.old.differing ≤ tally.old.answered) × (tally.old.answered + 1 < 2 ^ 64) }
+    ensures { tally.new ≡ counted byte (bytes.now ∷ []) tally.old }
+{
+    tally.answered += 1;
+    if !bytes.as_slice().iter().all(|b| *b == byte) {
+        tally.differing += 1;
+    }
+}
+
+/// Makes a call, and counts its success.
+fn call_and_count<M: Medium, N: HostNaming, R: Wait>(
+    shared: &Shared<M, N, R>,
+    client: &mut Client<N>,
+    call: Call,
+    byte: u8,
+    tally: &mut Tally,
+) -> Result<(), AllocError>
+    requires { (tally.old.differing ≤ tally.old.answered) × (tally.old.answered + 1 < 2 ^ 64) }
+    ensures client { client.new.client ≡ client.old.client }
+    ensures most { (tally.new.differing ≤ tally.new.answered) × (tally.new.answered ≤ tally.old.answered + 1) }
+    ensures counts { OnOk result (CountsAll byte client.old tally.old client.new tally.new) }
+{
+    if let Some(bytes) = answer_to(shared.rt, shared.host, client, call)? {
+        count(tally, byte, &bytes);
+    }
+    Ok(())
+}
+
 /// Writes the client's sector full of a byte, reads it and compares.
 fn round<M: Medium, N: HostNaming, R: Wait>(
     shared: &Shared<M, N, R>,
@@ -73,31 +107,24 @@ fn round<M: Medium, N: HostNaming, R: Wait>(
     byte: u8,
     tally: &mut Tally,
 ) -> Result<(), AllocError>
-    requires { tally.old.answered + 2 < 2 ^ 64 }
+    requires { (tally.old.differing ≤ tally.old.answered) × (tally.old.answered + 2 < 2 ^ 64) }
     ensures client { client.new.client ≡ client.old.client }
-    ensures most { tally.new.answered ≤ tally.old.answered + 2 }
+    ensures most { (tally.new.differing ≤ tally.new.answered) × (tally.new.answered ≤ tally.old.answered + 2) }
+    ensures counts { OnOk result (CountsAll byte client.old tally.old client.new tally.new) }
 {
-    let (rt, alloc, host) = (shared.rt, shared.alloc, shared.host);
     let size = shared.sector_size;
     let offset = (client.client() as u64).saturating_mul(u64::from(size));
-    let bytes = sector_of(alloc, size, byte)?;
+    let bytes = sector_of(shared.alloc, size, byte)?;
     let write = Call::Write {
         offset,
         bytes,
         through: false,
     };
-    if answer_to(rt, host, client, write)?.is_some() {
-        tally.answered += 1;
-    }
+    call_and_count(shared, client, write, byte, tally)?;
     // What a read that moves nothing would leave differs from what was written.
-    let buffer = sector_of(alloc, size, !byte)?;
-    if let Some(read) = answer_to(rt, host, client, Call::Read { offset, buffer })? {
-        tally.answered += 1;
-        if !read.as_slice().iter().all(|b| *b == byte) {
-            tally.differing = tally.differing.saturating_add(1);
-        }
-    }
-    Ok(())
+    let buffer = sector_of(shared.alloc, size, !byte)?;
+    let read = Call::Read { offset, buffer };
+    call_and_count(shared, client, read, byte, tally)
 }
 
 /// Does all rounds of a client.
@@ -105,8 +132,10 @@ pub(crate) fn serve_client<M: Medium, N: HostNaming, R: Wait>(
     shared: &Shared<M, N, R>,
     client: Client<N>,
 ) -> Served<N>
+    requires fresh { (client.client < 64) × (client.answered ≡ []) }
     ensures client { result.client.client ≡ client.client }
-    ensures most { result.tally.answered ≤ 2 * shared.now.plan.rounds }
+    ensures most { (result.tally.differing ≤ result.tally.answered) × (result.tally.answered ≤ 2 * shared.now.plan.rounds) }
+    ensures counted { result.has_wanted ≡ false → HasCounted shared.now.plan.rounds result.client result.tally }
 {
     let mut client = client;
     let mut tally = Tally {
@@ -115,7 +144,7 @@ pub(crate) fn serve_client<M: Medium, N: HostNaming, R: Wait>(
     };
     let first = client.client();
     for j in 0..shared.plan.rounds {
-        let byte = (first.wrapping_add(usize::from(j)) % 256) as u8;
+        let byte = ((first + usize::from(j)) % 256) as u8;
         if round(shared, &mut client, byte, &mut tally).is_err() {
             return Served {
                 client,

@@ -5,7 +5,8 @@
 //! # Promises
 //!
 //! `remove`: which receipts the keeper has then (`told`), and that the device goes (`removed`). `run`: no more succeed
-//! than two a round and client (`most`); the journal's entries give the sectors (`replays`); the trace is a faithful run
+//! than two a round and client (`most`); the tally is what the clients' answers in the trace brought, round by round
+//! (`tallied`); the journal's entries give the sectors (`replays`); the trace is a faithful run
 //! (`run`); a partition is missed only where there is none (`fault`).
 #![tactic(auto)]
 
@@ -21,6 +22,7 @@ ghost use Rattle.traced.specs.Sizes.{AreSizes, sizes_of};
 ghost use Rattle.host.specs.Closing.{IsFaithfulRun};
 ghost use Rattle.host.specs.Opening.{IsDiskFor};
 ghost use Rattle.rounds.specs.Faults.{IsRoundsFault};
+ghost use Rattle.rounds.specs.Tallies.{IsTallied};
 
 use crate::threads::{Blank, serve};
 pub use crate::threads::{Lanes, remove, start_lanes};
@@ -64,7 +66,7 @@ pub struct Disk<M: Medium> {
 pub struct Tally {
     /// How many calls were answered with success.
     pub answered: u64,
-    /// How many reads succeeded with other bytes than their client had written.
+    /// How many reads succeeded with other bytes than their client wrote in that round.
     pub differing: u64,
 }
 
@@ -110,6 +112,7 @@ pub fn run<M: Medium + Send, R: Threads + Wait + Sync>(
     requires depth { plan.depth ≡ over.stack.rules.depth }
     requires plan { (1 ≤ plan.clients) × (plan.clients ≤ 32) × (1 ≤ plan.depth) × (plan.depth ≤ 32) }
     ensures most { IfOk result (λ done. done.tally.answered ≤ 2 * (plan.clients * plan.rounds)) }
+    ensures tallied { IfOk result (λ done. IsTallied plan.clients plan.rounds done.trace.items done.tally) }
     ensures replays { IfOk result (λ done. Replays (M.view done.medium).sector_size (M.view over.medium).sectors (entries_in done.entries.items) (M.view done.medium).sectors) }
     ensures run { IfOk result (λ done. IsFaithfulRun over.stack.rules (M.view over.medium).sectors (labels_of done.trace.items) done.entries.items (M.view done.medium).sectors) }
     ensures fault { IfErr result (IsRoundsFault over.stack.rules) }

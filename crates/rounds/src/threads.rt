@@ -1,8 +1,8 @@
 //! The threads: lanes, a completion worker, and clients.
 
-ghost use Rattle.std.specs.Prelude.{◌≡◌, ◌≤◌, ◌<◌, ◌*◌, ℕ, suc, IfErr, IfOk, IfSome, IsTrue, MatchBool, get_or, length};
+ghost use Rattle.std.specs.Prelude.{◌≡◌, ◌≤◌, ◌<◌, ◌*◌, ℕ, [], suc, false, IfErr, IfOk, IfSome, IsTrue, MatchBool, get_or, length};
 ghost use Rattle.lanes.specs.Queue.{fresh_lane, issued, lanes_of, standing};
-ghost use Rattle.host.specs.Clients.{AreNumbered};
+ghost use Rattle.host.specs.Clients.{AreFresh, AreNumbered};
 ghost use Rattle.host.specs.Closing.{IsFaithfulRun};
 ghost use Rattle.host.specs.Opening.{IsDiskFor};
 ghost use Rattle.sector_journal.specs.Journal.{entries_in};
@@ -10,6 +10,7 @@ ghost use Rattle.srb.specs.Replaying.{Replays};
 ghost use Rattle.traced.specs.Entries.{labels_of};
 ghost use Rattle.host.specs.Keepers.{IsPulledOut, IsQueriedFirst};
 ghost use Rattle.pnp.specs.Laws.{is_going};
+ghost use Rattle.rounds.specs.Tallies.{AreCounted, HasCounted, IsTallied};
 ghost use Rattle.rounds.specs.declared.RoundsFault.TheVariants.{NoMemory};
 
 use crate::client::{Served, Shared, serve_client};
@@ -40,7 +41,9 @@ struct OfClient {
 }
 
 impl<N: HostNaming> Promise<Served<N>> for OfClient {
-    ghost kept_by = { λ p served. (served.client.client ≡ p.number) × (served.tally.answered ≤ 2 * p.rounds) };
+    ghost kept_by = { λ p served. (served.client.client ≡ p.number)
+        × (served.tally.differing ≤ served.tally.answered) × (served.tally.answered ≤ 2 * p.rounds)
+        × (served.has_wanted ≡ false → HasCounted p.rounds served.client served.tally) };
 }
 
 /// Takes the pass of the highest tag that is left.
@@ -126,7 +129,8 @@ fn start_clients<'s, E, M: Medium + Send, N: HostNaming + Send + Sync, R: Thread
     scope: &'s Scope<'s, E>,
     clients: Vec<Client<N>>,
 ) -> Result<Vec<PromisedHandle<Served<N>, OfClient>>, AllocError>
-    requires { AreNumbered shared.now.plan.clients clients.items }
+    requires fresh { AreFresh shared.now.plan.clients clients.items }
+    requires few { shared.now.plan.clients ≤ 64 }
     ensures all { IfOk result (λ handles. length handles.items ≡ shared.now.plan.clients) }
     ensures numbers { IfOk result (λ handles. (k : ℕ) (d : _) → k < shared.now.plan.clients → (get_or handles.items k d).promise.number ≡ k) }
     ensures rounds { IfOk result (λ handles. (k : ℕ) (d : _) → k < shared.now.plan.clients → (get_or handles.items k d).promise.rounds ≡ shared.now.plan.rounds) }
@@ -137,7 +141,10 @@ fn start_clients<'s, E, M: Medium + Send, N: HostNaming + Send + Sync, R: Thread
             number: client.client(),
             rounds: shared.plan.rounds,
         };
-        let Ok(handle) = scope.spawn_with(of, move || serve_client(shared, client)) else {
+        let Ok(handle) = scope.spawn_with(
+            of,
+            move || requires { (client.client < 64) × (client.answered ≡ []) } { serve_client(shared, client) },
+        ) else {
             return Err(AllocError);
         };
         handles.push(handle)?;
@@ -158,6 +165,7 @@ fn join_clients<N: HostNaming, R: Threads>(
     requires few { plan.clients ≤ 64 }
     ensures clients { IfOk result (λ r. AreNumbered plan.clients r.1.items) }
     ensures most { IfOk result (λ r. r.0.answered ≤ 2 * (plan.clients * plan.rounds)) }
+    ensures counted { IfOk result (λ r. AreCounted plan.clients plan.rounds r.1.items r.0) }
 {
     let mut clients = Vec::new(alloc);
     let mut tally = Tally {
@@ -168,7 +176,7 @@ fn join_clients<N: HostNaming, R: Threads>(
     for handle in handles {
         let served = handle.join(rt);
         tally.answered += served.tally.answered;
-        tally.differing = tally.differing.saturating_add(served.tally.differing);
+        tally.differing += served.tally.differing;
         has_wanted |= served.has_wanted;
         clients.push(served.client)?;
     }
@@ -206,10 +214,11 @@ fn serve_clients<'s, E, M: Medium + Send, N: HostNaming + Send + Sync, R: Thread
     clients: Vec<Client<N>>,
 ) -> Result<(Tally, Vec<Client<N>>), AllocError>
     requires passes { passes.items ≡ issued lanes.completions.now.id shared.now.plan.depth }
-    requires clients { AreNumbered shared.now.plan.clients clients.items }
+    requires clients { AreFresh shared.now.plan.clients clients.items }
     requires few { shared.now.plan.clients ≤ 64 }
     ensures clients { IfOk result (λ r. AreNumbered shared.now.plan.clients r.1.items) }
     ensures most { IfOk result (λ r. r.0.answered ≤ 2 * (shared.now.plan.clients * shared.now.plan.rounds)) }
+    ensures counted { IfOk result (λ r. AreCounted shared.now.plan.clients shared.now.plan.rounds r.1.items r.0) }
 {
     if !start_lanes(shared.rt, scope, lanes, passes, shared.plan.depth) {
         return Err(AllocError);
@@ -227,10 +236,11 @@ fn run_threads<M: Medium + Send, N: HostNaming + Send + Sync, R: Threads + Wait 
     clients: Vec<Client<N>>,
 ) -> (Keeper<N>, Result<(Tally, Vec<Client<N>>), AllocError>)
     requires passes { passes.items ≡ issued completions.now.id shared.now.plan.depth }
-    requires clients { AreNumbered shared.now.plan.clients clients.items }
+    requires clients { AreFresh shared.now.plan.clients clients.items }
     requires few { shared.now.plan.clients ≤ 64 }
     ensures clients { IfOk result.1 (λ r. AreNumbered shared.now.plan.clients r.1.items) }
     ensures most { IfOk result.1 (λ r. r.0.answered ≤ 2 * (shared.now.plan.clients * shared.now.plan.rounds)) }
+    ensures counted { IfOk result.1 (λ r. AreCounted shared.now.plan.clients shared.now.plan.rounds r.1.items r.0) }
 {
     let open = Open;
     thread::scope(
@@ -238,10 +248,11 @@ fn run_threads<M: Medium + Send, N: HostNaming + Send + Sync, R: Threads + Wait 
         shared.rt,
         |scope| -> (Keeper<N>, Result<(Tally, Vec<Client<N>>), AllocError>)
             requires passes { passes.items ≡ issued completions.now.id shared.now.plan.depth }
-            requires clients { AreNumbered shared.now.plan.clients clients.items }
+            requires clients { AreFresh shared.now.plan.clients clients.items }
             requires few { shared.now.plan.clients ≤ 64 }
             ensures clients { IfOk result.1 (λ r. AreNumbered shared.entry.now.plan.clients r.1.items) }
             ensures most { IfOk result.1 (λ r. r.0.answered ≤ 2 * (shared.entry.now.plan.clients * shared.entry.now.plan.rounds)) }
+            ensures counted { IfOk result.1 (λ r. AreCounted shared.entry.now.plan.clients shared.entry.now.plan.rounds r.1.items r.0) }
         {
             let mut keeper = keeper;
             let lanes = Lanes {
@@ -284,6 +295,7 @@ pub(crate) fn serve<M: Medium + Send, N: HostNaming + Send + Sync, R: Threads + 
     requires depth { plan.depth ≡ N.rules.depth }
     requires plan { (plan.clients ≤ 32) × (1 ≤ plan.depth) × (plan.depth ≤ 32) }
     ensures most { IfOk result (λ done. done.tally.answered ≤ 2 * (plan.clients * plan.rounds)) }
+    ensures tallied { IfOk result (λ done. IsTallied plan.clients plan.rounds done.trace.items done.tally) }
     ensures replays { IfOk result (λ done. Replays (M.view done.medium).sector_size N.opening (entries_in done.entries.items) (M.view done.medium).sectors) }
     ensures run { IfOk result (λ done. IsFaithfulRun N.rules N.opening (labels_of done.trace.items) done.entries.items (M.view done.medium).sectors) }
     ensures fault { IfErr result (λ fault. fault ≡ NoMemory) }

@@ -1,6 +1,6 @@
 use Rattle.std.proofs.Common.{◌≡◌, ◌≤◌, ◌+◌, ◌*◌, ℕ, arith, rules, below_more, length, subst}
 use Rattle.host.specs.Clients.{client_at}
-use Rattle.rounds.proofs.Counting.{counted}
+use Rattle.rounds.proofs.Counting.{counted_most}
 use Rattle.rounds.proofs.threads.join_clients.Goals as goal
 
 -- the client that is joined is the next one
@@ -17,6 +17,6 @@ loop-handle-preserved g c =
       (λ k d below. let h = was.1 (k + 1) d in grind rules),
       (λ k d below. let h = was.2 (k + 1) d in grind rules),
       (λ k below. below_more (λ i. (client_at all i).client ≡ i) done (λ i low. search rules) last k (omega arith)),
-      counted c.loop-handle.tally.answered c.join-served.result.tally.answered done c.args.plan.rounds (length all) was.4
+      counted_most c.loop-handle.tally.answered c.join-served.result.tally.answered done c.args.plan.rounds (length all) was.4
           (subst (λ (n : ℕ). c.join-served.result.tally.answered ≤ 2 * n) rounds kept.1) grown,
     )
