@@ -7,6 +7,7 @@ ghost use Rattle.traced.specs.Entries.{labels_of};
 ghost use Rattle.traced.specs.Sizes.{AreSizes, sizes_of};
 ghost use Rattle.host.specs.Closing.{act_count, is_act};
 ghost use Rattle.settings.specs.InRange.{AreInRange};
+ghost use Rattle.rounds.specs.Tallies.{IsTallied};
 ghost use Rattle.commands.specs.Clients.{HasRoom, IsClientsFault, IsOutputFault, IsRunOver, IsUntold, PrintsTally, is_whole, tally_line, verdict_on};
 ghost use Rattle.settings.specs.declared.ConfigFault.TheVariants.{OutOfRange};
 ghost use Rattle.commands.specs.declared.faults.Error.TheVariants.{Startup};
@@ -66,6 +67,7 @@ pub fn clients<C: Read + Drop, O: Write, R: Threads + Wait + Sync>(
     requires { (1 ≤ load.threads) × (load.threads ≤ 32) }
     ensures printed { IfOk result (λ o. PrintsTally load.threads load.rounds o.done.tally (O.contents out.old) (O.contents out.new)) }
     ensures verdict { IfOk result (λ o. o.verdict ≡ verdict_on load.threads load.rounds o.done.tally (is_whole (labels_of o.done.trace.items) o.done.entries.items)) }
+    ensures tallied { IfOk result (λ o. IsTallied load.threads load.rounds o.done.trace.items o.done.tally) }
     ensures run { IfOk result (λ o. IsRunOver (C.remaining config) (labels_of o.done.trace.items) o.done.entries.items (shown o.done.medium).sectors) }
     ensures fault { IfErr result (IsClientsFault (C.remaining config) load.threads) }
     ensures untold { IfErr result (IsUntold (O.contents out.old) (O.contents out.new)) }
