@@ -1,11 +1,12 @@
 -- How many calls have succeeded, and what they brought.
-use Rattle.std.proofs.Common.{◌≡◌, ◌≤◌, ◌<◌, ℕ, suc, ◌+◌, ◌*◌, ◌==◌, Bool, true, false, refl, sym, ◌∙◌, ap, arith, List, [], ◌∷◌, ◌++◌, Option, Some, None, length, if◌then◌else◌, append_assoc, append-nil, length-append}
-use Rattle.core.specs.List.{cons_option, list_all}
-use Rattle.host.specs.Clients.{ClientView}
+use Rattle.std.proofs.Common.{◌≡◌, ◌≤◌, ◌<◌, ℕ, zero, suc, below_more, nat_lt, subst, ◌+◌, ◌*◌, ◌==◌, Bool, true, false, refl, sym, ◌∙◌, ap, arith, List, [], ◌∷◌, ◌++◌, Option, Some, None, length, if◌then◌else◌, append_assoc, append-nil, length-append}
+use Rattle.std.proofs.lemmas.Bool.Decides.{nat_tests}
+use Rattle.std.specs.List.{cons_option, list_all}
+use Rattle.host.specs.Clients.{ClientView, client_at}
 use Rattle.host.specs.Closing.{total}
 use Rattle.host.specs.Receipts.{Receipt}
 use Rattle.rounds.specs.declared.Tally.{Tally}
-use Rattle.rounds.specs.Tallies.{HasCounted, byte_of, bytes_of_success, differing, differing_from, joined, successes}
+use Rattle.rounds.specs.Tallies.{AreCounted, HasCounted, byte_of, bytes_of_success, differing, differing_from, joined, successes}
 use Rattle.rounds.specs.inside.Counting.{Brings, CountsAll, counted}
 
 -- with one client more, of two calls a round
@@ -101,9 +102,49 @@ counts_round rounds old new before after same kept more = record {
 
 -- ALL CLIENTS
 
-pub total_same : (n : ℕ) (f g : ℕ → ℕ) → ((c : ℕ) → c < n → f c ≡ g c) → total n f ≡ total n g
-total_same 0 f g same = refl
+total_same : (n : ℕ) (f g : ℕ → ℕ) → ((c : ℕ) → c < n → f c ≡ g c) → total n f ≡ total n g
+total_same zero f g same = refl
 total_same (suc n) f g same =
     let rest : total n f ≡ total n g = total_same n f g (λ c below. same c (omega arith)) in
     let last : f n ≡ g n = same n (omega arith) in
     cc (rest, last)
+
+-- the tallies of the first clients, and behind them this one
+abbrev with_one : (ℕ → Tally) → Tally → ℕ → ℕ → Tally
+with_one tallies one done c = if nat_lt c done then tallies c else one
+
+earlier : (tallies : ℕ → Tally) (one : Tally) (done c : ℕ) → c < done → with_one tallies one done c ≡ tallies c
+earlier tallies one done c below = ap (λ b. if b then tallies c else one) (is_lt c done below)
+  where
+    is_lt : (a b : ℕ) → a < b → nat_lt a b ≡ true
+    is_lt a b h = grind (arith, nat_tests)
+
+last : (tallies : ℕ → Tally) (one : Tally) (done : ℕ) → with_one tallies one done done ≡ one
+last tallies one done = ap (λ b. if b then tallies done else one) (not_lt done)
+  where
+    not_lt : (a : ℕ) → nat_lt a a ≡ false
+    not_lt a = grind (arith, nat_tests)
+
+-- before the first client
+pub no_clients : (rounds : ℕ) (clients : List ClientView) → AreCounted 0 rounds clients (record { answered = 0; differing = 0 })
+no_clients rounds clients = record { tallies = (λ c. record { answered = 0; differing = 0 }); each = (λ c below. absurd (omega (arith, below))); answered = refl; differs = refl }
+
+-- one client more
+module _ (done rounds : ℕ) (old all : List ClientView) (t one sum : Tally)
+    (before : (i : ℕ) → i < done → client_at all i ≡ client_at old i) (more : HasCounted rounds (client_at all done) one)
+    (answered : sum.answered ≡ t.answered + one.answered) (differs : sum.differing ≡ t.differing + one.differing) (counted : AreCounted done rounds old t) where
+  pub one_more : AreCounted (suc done) rounds all sum
+  one_more =
+      let tallies : ℕ → Tally = with_one counted.tallies one done in
+      let rest-answered : total done (λ c. (tallies c).answered) ≡ total done (λ c. (counted.tallies c).answered) = total_same done _ _ (λ c below. ap (λ t. t.answered) (earlier counted.tallies one done c below)) in
+      let rest-differs : total done (λ c. (tallies c).differing) ≡ total done (λ c. (counted.tallies c).differing) = total_same done _ _ (λ c below. ap (λ t. t.differing) (earlier counted.tallies one done c below)) in
+      let last-answered : (tallies done).answered ≡ one.answered = ap (λ t. t.answered) (last counted.tallies one done) in
+      let last-differs : (tallies done).differing ≡ one.differing = ap (λ t. t.differing) (last counted.tallies one done) in
+      record {
+        tallies = tallies;
+        each = (λ c below. below_more (λ i. HasCounted rounds (client_at all i) (tallies i)) done
+            (λ i low. subst (λ v. HasCounted rounds v (tallies i)) (sym (before i low)) (subst (λ t. HasCounted rounds (client_at old i) t) (sym (earlier counted.tallies one done i low)) (counted.each i low)))
+            (subst (λ t. HasCounted rounds (client_at all done) t) (sym (last counted.tallies one done)) more) c (omega arith));
+        answered = answered ∙ cc (counted.answered, rest-answered, last-answered);
+        differs = differs ∙ cc (counted.differs, rest-differs, last-differs);
+      }

@@ -1,7 +1,7 @@
 //! The rounds of one client.
 
 ghost use Rattle.std.specs.Prelude.{◌≡◌, ◌≤◌, ◌+◌, ◌*◌, ◌<◌, ◌^◌, [], ◌∷◌, IfOk, OnOk, false};
-ghost use Rattle.core.specs.List.{cons_option};
+ghost use Rattle.std.specs.List.{cons_option};
 ghost use Rattle.rounds.specs.Tallies.{HasCounted};
 ghost use Rattle.rounds.specs.inside.Counting.{Brings, CountsAll, counted};
 
