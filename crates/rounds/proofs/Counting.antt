@@ -1,13 +1,14 @@
 -- How many calls have succeeded, and what they brought.
-use Rattle.std.proofs.Common.{◌≡◌, ◌≤◌, ◌<◌, ℕ, zero, suc, below_more, nat_lt, subst, ◌+◌, ◌*◌, ◌==◌, Bool, true, false, refl, sym, ◌∙◌, ap, arith, List, [], ◌∷◌, ◌++◌, Option, Some, None, length, if◌then◌else◌, append_assoc, append-nil, length-append}
+use Rattle.std.proofs.Common.{◌≡◌, ◌≤◌, ◌<◌, ℕ, zero, suc, below_more, nat_lt, subst, ◌+◌, ◌*◌, ◌==◌, Bool, true, false, refl, sym, ◌∙◌, ap, arith, List, [], ◌∷◌, ◌++◌, Option, Some, None, length, if◌then◌else◌, append_assoc, append-nil, length-append, Result, Ok, Err, OnOk, ◌||◌}
 use Rattle.std.proofs.lemmas.Bool.Decides.{nat_tests}
 use Rattle.std.specs.List.{cons_option, list_all}
-use Rattle.host.specs.Clients.{ClientView, client_at}
-use Rattle.host.specs.Closing.{total}
+use Rattle.traced.specs.declared.TraceEntry.{TraceEntry}
+use Rattle.host.specs.Clients.{ClientView, AreNumbered, client_at}
+use Rattle.host.specs.Closing.{AreBorneOut, total}
 use Rattle.host.specs.Receipts.{Receipt}
 use Rattle.rounds.specs.declared.Tally.{Tally}
-use Rattle.rounds.specs.Tallies.{AreCounted, HasCounted, byte_of, bytes_of_success, differing, differing_from, joined, successes}
-use Rattle.rounds.specs.inside.Counting.{Brings, CountsAll, counted}
+use Rattle.rounds.specs.Tallies.{AreCounted, HasCounted, IsTallied, byte_of, bytes_of_success, differing, differing_from, joined, successes}
+use Rattle.rounds.specs.inside.Counting.{CountsAll, counted}
 
 -- with one client more, of two calls a round
 pub counted_most : (answered one done rounds all : ℕ) → answered ≤ 2 * (done * rounds) → one ≤ 2 * rounds → all ≡ done + 1 → answered + one ≤ 2 * (all * rounds)
@@ -60,6 +61,14 @@ counts_few byte bytes t few = by (list_all (λ b. b == byte) bytes)
 tally_is : (a a' d d' : ℕ) → a ≡ a' → d ≡ d' → ◌≡◌ {A = Tally} (record { answered = a; differing = d }) (record { answered = a'; differing = d' })
 tally_is a a' d d' same equal = cc (same, equal)
 
+pub counted_one : (byte : ℕ) (bytes : List ℕ) (t : Tally) (all : Bool) → all ≡ list_all (λ b. b == byte) bytes
+    → ◌≡◌ {A = Tally} (record { answered = t.answered + 1; differing = if all then t.differing else t.differing + 1 }) (counted byte (bytes ∷ []) t)
+counted_one byte bytes t all is = tally_is _ _ _ _ refl (ap (λ a. if a then t.differing else t.differing + 1) is ∙ by (list_all (λ b. b == byte) bytes))
+  where
+    by : (a : Bool) → (if a then t.differing else t.differing + 1) ≡ t.differing + (if a then 0 else suc 0)
+    by true = omega arith
+    by false = omega arith
+
 -- a call after another
 pub counts_both : (byte : ℕ) (old mid new : ClientView) (before between after : Tally) → CountsAll byte old before mid between → CountsAll byte mid between new after → CountsAll byte old before new after
 counts_both byte old mid new before between after a b = record {
@@ -76,6 +85,10 @@ counts_both byte old mid new before between after a b = record {
   where
     sum : (n x y all : ℕ) → all ≡ x + y → n + x + y ≡ n + all
     sum n x y all is = omega arith
+
+pub on_ok : {T E : Type 0} {P Q : Type 0} (r : Result T E) → (P → Q) → OnOk r P → OnOk r Q
+on_ok (Ok x) f h = f h
+on_ok (Err x) f h = h
 
 -- before the first round
 pub none_counted : (client : ClientView) → client.answered ≡ [] → HasCounted 0 client (record { answered = 0; differing = 0 })
@@ -125,6 +138,14 @@ last tallies one done = ap (λ b. if b then tallies done else one) (not_lt done)
     not_lt : (a : ℕ) → nat_lt a a ≡ false
     not_lt a = grind (arith, nat_tests)
 
+pub none_of : (a b : Bool) → (a || b) ≡ false → (a ≡ false) × (b ≡ false)
+none_of false b e = (refl, e)
+none_of true b e = absurd (cc (e))
+
+pub tallied : (count rounds : ℕ) (trace : List TraceEntry) (clients : List ClientView) (tally : Tally) → AreNumbered count clients → AreCounted count rounds clients tally → AreBorneOut trace (length clients) clients → IsTallied count rounds trace tally
+tallied count rounds trace clients tally numbered counted stand =
+    record { clients = clients; numbered = numbered; counted = counted; stand = subst (λ n. AreBorneOut trace n clients) numbered.all stand }
+
 -- before the first client
 pub no_clients : (rounds : ℕ) (clients : List ClientView) → AreCounted 0 rounds clients (record { answered = 0; differing = 0 })
 no_clients rounds clients = record { tallies = (λ c. record { answered = 0; differing = 0 }); each = (λ c below. absurd (omega (arith, below))); answered = refl; differs = refl }
@@ -133,8 +154,8 @@ no_clients rounds clients = record { tallies = (λ c. record { answered = 0; dif
 module _ (done rounds : ℕ) (old all : List ClientView) (t one sum : Tally)
     (before : (i : ℕ) → i < done → client_at all i ≡ client_at old i) (more : HasCounted rounds (client_at all done) one)
     (answered : sum.answered ≡ t.answered + one.answered) (differs : sum.differing ≡ t.differing + one.differing) (counted : AreCounted done rounds old t) where
-  pub one_more : AreCounted (suc done) rounds all sum
-  one_more =
+  counted_too : AreCounted (suc done) rounds all sum
+  counted_too =
       let tallies : ℕ → Tally = with_one counted.tallies one done in
       let rest-answered : total done (λ c. (tallies c).answered) ≡ total done (λ c. (counted.tallies c).answered) = total_same done _ _ (λ c below. ap (λ t. t.answered) (earlier counted.tallies one done c below)) in
       let rest-differs : total done (λ c. (tallies c).differing) ≡ total done (λ c. (counted.tallies c).differing) = total_same done _ _ (λ c below. ap (λ t. t.differing) (earlier counted.tallies one done c below)) in
@@ -148,3 +169,6 @@ module _ (done rounds : ℕ) (old all : List ClientView) (t one sum : Tally)
         answered = answered ∙ cc (counted.answered, rest-answered, last-answered);
         differs = differs ∙ cc (counted.differs, rest-differs, last-differs);
       }
+
+  pub one_more : AreCounted (done + 1) rounds all sum
+  one_more = let same : suc done ≡ done + 1 = omega arith in subst (λ n. AreCounted n rounds all sum) same counted_too

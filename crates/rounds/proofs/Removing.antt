@@ -1,6 +1,5 @@
 -- Where the device is behind a query and a removal, by the PnP table.
-use Rattle.std.proofs.Common.{◌≡◌, Bool, true, false, refl, sym, ◌∙◌, ap, inl, inr}
-use Rattle.io_manager.specs.declared.Refusal.TheVariants.{InvalidDeviceRequest}
+use Rattle.std.proofs.Common.{◌≡◌, true, false, refl, ◌∙◌, ap, inl, inr}
 use Rattle.io_manager.specs.declared.Reply.{Reply}
 use Rattle.io_manager.specs.declared.Reply.TheVariants.{Ok as OkReply}
 use Rattle.pnp.specs.declared.State.{State}

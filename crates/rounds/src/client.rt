@@ -1,8 +1,8 @@
 //! The rounds of one client.
 
-ghost use Rattle.std.specs.Prelude.{◌≡◌, ◌≤◌, ◌+◌, ◌*◌, ◌<◌, ◌^◌, [], ◌∷◌, IfOk, OnOk, false};
-ghost use Rattle.std.specs.List.{cons_option};
-ghost use Rattle.rounds.specs.Tallies.{HasCounted};
+ghost use Rattle.std.specs.Prelude.{◌≡◌, ◌≤◌, ◌+◌, ◌*◌, ◌<◌, ◌^◌, ◌==◌, [], ◌∷◌, IfOk, OnOk, false};
+ghost use Rattle.std.specs.List.{cons_option, list_all};
+ghost use Rattle.rounds.specs.Tallies.{HasCounted, byte_of};
 ghost use Rattle.rounds.specs.inside.Counting.{Brings, CountsAll, counted};
 
 use crate::{Plan, Tally};
@@ -70,15 +70,23 @@ fn answer_to<M: Medium, N: HostNaming, R: Wait>(
     }
 }
 
+/// Whether all bytes are this one.
+fn are_all(bytes: &Bytes, byte: u8) -> bool
+    ensures { result ≡ list_all (λ b. b == byte) bytes.now }
+{
+    bytes.as_slice().iter().all(|b| *b == byte)
+}
+
 /// Counts a success that brought these bytes, in a round that wrote this byte. A write's brings none.
 fn count(tally: &mut Tally, byte: u8, bytes: &Bytes)
     requires { (tally.old.differing ≤ tally.old.answered) × (tally.old.answered + 1 < 2 ^ 64) }
     ensures { tally.new ≡ counted byte (bytes.now ∷ []) tally.old }
 {
     tally.answered += 1;
-    if !bytes.as_slice().iter().all(|b| *b == byte) {
-        tally.differing += 1;
+    if are_all(bytes, byte) {
+        return;
     }
+    tally.differing += 1;
 }
 
 /// Makes a call, and counts its success.
@@ -127,6 +135,14 @@ fn round<M: Medium, N: HostNaming, R: Wait>(
     call_and_count(shared, client, read, byte, tally)
 }
 
+/// The byte that a client writes in a round.
+fn byte_in(first: usize, round: u16) -> u8
+    requires { first < 64 }
+    ensures { result ≡ byte_of first round }
+{
+    ((first + usize::from(round)) % 256) as u8
+}
+
 /// Does all rounds of a client.
 pub(crate) fn serve_client<M: Medium, N: HostNaming, R: Wait>(
     shared: &Shared<M, N, R>,
@@ -144,14 +160,14 @@ pub(crate) fn serve_client<M: Medium, N: HostNaming, R: Wait>(
     };
     let first = client.client();
     for j in 0..shared.plan.rounds {
-        let byte = ((first + usize::from(j)) % 256) as u8;
-        if round(shared, &mut client, byte, &mut tally).is_err() {
+        let byte = byte_in(first, j);
+        let Ok(()) = round(shared, &mut client, byte, &mut tally) else {
             return Served {
                 client,
                 tally,
                 has_wanted: true,
             };
-        }
+        };
     }
     Served {
         client,

@@ -143,7 +143,9 @@ fn start_clients<'s, E, M: Medium + Send, N: HostNaming + Send + Sync, R: Thread
         };
         let Ok(handle) = scope.spawn_with(
             of,
-            move || requires { (client.client < 64) × (client.answered ≡ []) } { serve_client(shared, client) },
+            move ||
+                requires { (client.client < 64) × (client.answered ≡ []) }
+            { serve_client(shared, client) },
         ) else {
             return Err(AllocError);
         };
@@ -153,6 +155,7 @@ fn start_clients<'s, E, M: Medium + Send, N: HostNaming + Send + Sync, R: Thread
 }
 
 /// Waits for the clients to be done.
+#[tactic(auto, using(crate::proofs::Counting::no_clients))]
 fn join_clients<N: HostNaming, R: Threads>(
     rt: &R,
     alloc: Global,

@@ -1,5 +1,5 @@
 -- What one success, one call and one round add to a tally.
-use Rattle.std.specs.Prelude.{◌≡◌, ◌+◌, ℕ, List, [], ◌∷◌, ◌++◌, length}
+use Rattle.std.specs.Prelude.{◌≡◌, ◌+◌, ℕ, List, ◌++◌, length}
 use Rattle.host.specs.Clients.{ClientView}
 use Rattle.host.specs.Receipts.{Receipt}
 use Rattle.rounds.specs.declared.Tally.{Tally}
