@@ -6,6 +6,7 @@ use Rattle.adapter.specs.Calls.{HasNoneFresh as NoneFresh}
 use Rattle.machine.specs.declared.Label.TheVariants.{Device}
 use Rattle.io_manager.specs.declared.Reply.TheVariants.{Handle as HandleReply, Ok as OkReply, Request as Requested, Answered, Refused, Ignored}
 use Rattle.compose.specs.declared.Event.TheVariants.{Open, Close, Read as ReadEvent, Write as WriteEvent, Flush as FlushEvent, CancelIoEx, Mark, QueryRemove, CancelRemove, Remove, SurpriseRemove, Act as ActEvent, Finish, Reset}
+use Rattle.compose.specs.Armed.{IdleActsTellNothing}
 use Rattle.compose.proofs.Journaled.{acts_longer, acts_joined}
 use Rattle.compose.proofs.JournaledStep.{there_mapped, mapped_there, ActsAsBooked, FaultsAsBooked, booked_step, failed_step, tagged_step}
 use Rattle.compose.proofs.JournaledArmed.{step_apart}
@@ -81,7 +82,7 @@ module _ (trace : List Label) (entries : List Entry) (first mid new : ManagerVie
 
 -- THE LAWS
 
-distinct_at : {rules : Rules} {s : State} → IsReached rules s → AreDistinct s
+pub distinct_at : {rules : Rules} {s : State} → IsReached rules s → AreDistinct s
 distinct_at reached = AreDistinct-Run _ _ _ _ (AreDistinct-opening reached.arrays) reached.run
 
 pub steps_keep_entries : StepsKeepEntries
@@ -117,6 +118,18 @@ module _ (trace : List Label) (entries : List Entry) (old : ManagerView) (tag : 
   idle_reply (Requested id) told h by = absurd h
   idle_reply (Answered answer) told h by = absurd h
   idle_reply (Refused reason bytes) told h by = absurd h
+
+module _ (old : ManagerView) (tag : ℕ) (new : ManagerView) (fits : FitsTogether old) (none : NoneFresh old.adapter tag) where
+  silent_reply : (reply : Reply) (told : Told) → ActReplies old tag reply new told → IsRightBy false told old new → new.labels ≡ []
+  silent_reply OkReply told (tells, handles) by = absurd (fresh_use old tag tells.piece fits.read tells.fresh none)
+  silent_reply Ignored told (unmoved, nothing, handles) by = idle_labels false told old new by unmoved.nothing
+  silent_reply (HandleReply handle) told h by = absurd h
+  silent_reply (Requested id) told h by = absurd h
+  silent_reply (Answered answer) told h by = absurd h
+  silent_reply (Refused reason bytes) told h by = absurd h
+
+pub idle_acts_tell_nothing : IdleActsTellNothing
+idle_acts_tell_nothing old tag reply new fits none right = silent_reply old tag new fits none reply right.told right.replies right.by
 
 pub idle_acts_keep_entries : IdleActsKeepEntries
 idle_acts_keep_entries trace entries old tag reply new fits none right kept = idle_reply trace entries old tag new fits none kept reply right.told right.replies right.by

@@ -119,8 +119,8 @@ pub record ActsAsBooked (trace : List Label) (piece : ℕ) (entry : Entry) (repl
   pub labels : new.labels ≡ Device (Act piece entry.bytes) ∷ []
   pub is_of_act : IsOfAct trace piece entry.bytes entry
 
-module _ (trace : List Label) (first mid new : ManagerView) (tag piece : ℕ) (entry : Entry) (books : BooksPiece first tag piece (Ok entry) mid) (can : IsBookable first.adapter tag piece (Ok entry)) (order : IsInOrder mid.adapter)
-    (read : IsRead mid.rules mid.state mid.adapter) (distinct : AreDistinct mid.state) (tagged : AllTagged (IsStarted trace) first.adapter) (same_piece : entry.piece ≡ piece) (same_tag : entry.tag ≡ tag) where
+module _ (first mid new : ManagerView) (tag piece : ℕ) (entry : Entry) (books : BooksPiece first tag piece (Ok entry) mid) (can : IsBookable first.adapter tag piece (Ok entry)) (order : IsInOrder mid.adapter)
+    (read : IsRead mid.rules mid.state mid.adapter) (distinct : AreDistinct mid.state) where
   here : Stands mid.adapter tag piece (HasBytes entry)
   here = stands_booked first.adapter tag piece entry mid.adapter books.adapter can
 
@@ -134,14 +134,28 @@ module _ (trace : List Label) (first mid new : ManagerView) (tag piece : ℕ) (e
   by_label (Fault k) number is same act told own device answers ends none by = absurd act
   by_label (Return k class) number is same act told own device answers ends none by = absurd act
 
+  tells_reply : (reply : Reply) (told : Told) → ActReplies mid tag reply new told → IsRightBy false told mid new → new.labels ≡ Device (Act piece entry.bytes) ∷ []
+  tells_reply OkReply told (tells, handles) by =
+      by_label tells.label tells.piece.number (number_is mid tag piece (HasBytes entry) order read here tells.piece tells.fresh) tells.acts (tells.if_booked (booked_is first.adapter tag piece entry mid.adapter books.adapter can)) told
+      tells.no_own tells.device tells.ends_none.none_answered tells.ends_none.not_ended tells.reserves_none by
+  tells_reply Ignored told (unmoved, none, handles) by = let f = fresh_there mid tag piece (HasBytes entry) read here in absurd (none.none f.0 f.1)
+  tells_reply (HandleReply handle) told h by = absurd h
+  tells_reply (Requested id) told h by = absurd h
+  tells_reply (Answered answer) told h by = absurd h
+  tells_reply (Refused reason bytes) told h by = absurd h
+
+  pub booked_labels : (reply : Reply) → IsRight mid (ActEvent tag) reply new → new.labels ≡ Device (Act piece entry.bytes) ∷ []
+  booked_labels reply right = tells_reply reply right.told right.replies right.by
+
+module _ (trace : List Label) (first mid new : ManagerView) (tag piece : ℕ) (entry : Entry) (books : BooksPiece first tag piece (Ok entry) mid) (can : IsBookable first.adapter tag piece (Ok entry)) (order : IsInOrder mid.adapter)
+    (read : IsRead mid.rules mid.state mid.adapter) (distinct : AreDistinct mid.state) (tagged : AllTagged (IsStarted trace) first.adapter) (same_piece : entry.piece ≡ piece) (same_tag : entry.tag ≡ tag) where
   by_reply : (reply : Reply) (told : Told) → ActReplies mid tag reply new told → IsRightBy false told mid new → ActsAsBooked trace piece entry reply new
   by_reply OkReply told (tells, handles) by = record {
     replies = refl;
-    labels = by_label tells.label tells.piece.number (number_is mid tag piece (HasBytes entry) order read here tells.piece tells.fresh) tells.acts (tells.if_booked (booked_is first.adapter tag piece entry mid.adapter books.adapter can)) told
-        tells.no_own tells.device tells.ends_none.none_answered tells.ends_none.not_ended tells.reserves_none by;
+    labels = tells_reply first mid new tag piece entry books can order read distinct OkReply told (tells, handles) by;
     is_of_act = entry_of_act trace first.adapter tag piece entry entry.bytes tagged can same_piece same_tag refl;
   }
-  by_reply Ignored told (unmoved, none, handles) by = let f = fresh_there mid tag piece (HasBytes entry) read here in absurd (none.none f.0 f.1)
+  by_reply Ignored told (unmoved, none, handles) by = let f = fresh_there mid tag piece (HasBytes entry) read (here first mid new tag piece entry books can order read distinct) in absurd (none.none f.0 f.1)
   by_reply (HandleReply handle) told h by = absurd h
   by_reply (Requested id) told h by = absurd h
   by_reply (Answered answer) told h by = absurd h

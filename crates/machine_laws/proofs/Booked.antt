@@ -113,6 +113,11 @@ said_once rules s (label ∷ labels) s' (mid, step, rest) piece tag tag' block b
 said_once rules s (label ∷ labels) s' (mid, step, rest) piece tag tag' block block' (suc k, low, is) (suc k', low', is') =
     said_once rules mid labels s' rest piece tag tag' block block' (k, omega (arith, low), is) (k', omega (arith, low'), is')
 
+pub starts_once : StartsOnce
+starts_once rules s labels s' run piece tag other block same one two =
+    let e : said (Device (Start piece tag block)) ≡ said (Device (Start piece other same)) = said_once rules s labels s' run piece tag other block same one two in
+    (ap (λ (x : Said). x.tag) e, ap (λ (x : Said). x.block) e)
+
 -- EACH OPEN REQUEST HAS A PARTITION
 
 abbrev pub IsKnown : OpenRequest → Type 0

@@ -4,3 +4,4 @@ pub mod Serving
 pub mod Carried
 pub mod Filed
 pub mod OnDisk
+pub mod Lasting
