@@ -2,7 +2,7 @@
 use Rattle.std.proofs.Common.{◌≡◌, ◌<◌, ◌≤◌, inl, inr, ℕ, zero, suc, ◌+◌, ◌*◌, Bool, true, false, List, [], ◌∷◌, ◌++◌, Some, refl, sym, subst, ap, ◌∙◌, arith, map, length, take, drop, length-take, length-drop}
 use Rattle.std.specs.Prelude.{◌⊎◌, All, IsFalse, IsPermutation, IsTrue, get_or, remove, slice_range, if◌then◌else◌}
 use Rattle.std.specs.List.{concat}
-use Rattle.std.proofs.lemmas.List.{take-append-drop}
+use Rattle.std.proofs.lemmas.List.{get_or_default, take-append-drop}
 use Rattle.std.proofs.lemmas.List.Elements.{All-cons, All-nil}
 use Rattle.std.proofs.lemmas.List.Sorted.{Contains-permutation, IsPermutation-remove, IsPermutation-sym}
 use Rattle.sector.specs.Extents.{IsSector}
@@ -145,7 +145,7 @@ module _ (b : TableView) (v : AdapterView) (rooms : List Request) (k : PortKept 
     }
 
     runs : (moved : List (List ℕ)) → carries moved → concat moved ≡ u.srb.data → (acted : State) × Run rules (state_of b v) (as_label (Act u.piece u.srb.data) ∷ []) acted
-    runs moved c whole = (after moved, after moved, inl (refl, acts moved c whole), IsSame-refl (after moved))
+    runs moved c whole = (after moved, (after moved, inl (refl, acts moved c whole), IsSame-refl (after moved)))
 
     by_kind : (kind : Kind) → r.kind ≡ kind → (acted : State) × Run rules (state_of b v) (as_label (Act u.piece u.srb.data) ∷ []) acted
     by_kind Read is = runs parts (read_carries is) (joined (ap is_transfer is))
@@ -162,4 +162,4 @@ module _ (b : TableView) (v : AdapterView) (rooms : List Request) (k : PortKept 
 -- each piece on a tag
 pub all_may_act : (b : TableView) (v : AdapterView) (rooms : List Request) → PortKept b v rooms → All (MayAct (rules_of b.sizes) (state_of b v)) v.tags
 all_may_act b v rooms k i d low apart fresh =
-    may_act b v rooms k (get_or v.tags i d) (remove v.tags i) (IsPermutation-remove v.tags i (get_or v.tags i d) low refl) apart fresh
+    may_act b v rooms k (get_or v.tags i d) (remove v.tags i) (IsPermutation-remove v.tags i (get_or v.tags i d) low (get_or_default v.tags i d (get_or v.tags i d) low)) apart fresh
