@@ -1,11 +1,10 @@
 -- The table beside a run, built from the deeds of its pieces.
-use Rattle.std.proofs.Common.{◌≡◌, ◌<◌, ◌⊎◌, inl, inr, ℕ, ◌*◌, Bool, true, false, List, [], ◌∷◌, ◌++◌, Option, Some, None, Result, Ok, Err, refl, sym, ap, subst, ◌∙◌, arith, append_assoc, append-nil}
-use Rattle.std.specs.Prelude.{Contains, IsPermutation, if◌then◌else◌}
-use Rattle.std.proofs.lemmas.List.{append_cancel_right}
+use Rattle.std.proofs.Common.{◌≡◌, ◌<◌, inl, inr, ℕ, Bool, true, false, List, [], ◌∷◌, ◌++◌, Option, Some, None, Result, Ok, Err, refl, sym, ap, subst, ◌∙◌, arith}
+use Rattle.std.specs.Prelude.{Contains, if◌then◌else◌}
 use Rattle.std.proofs.lemmas.List.Sorted.{Contains-permutation, IsPermutation-sym}
 use Rattle.sector.specs.declared.Extent.{Extent}
 use Rattle.ntstatus.specs.declared.NtStatus.{NtStatus}
-use Rattle.srb.specs.declared.Class.TheVariants.{Good, Busy, Bad}
+use Rattle.srb.specs.declared.Class.TheVariants.{Bad}
 use Rattle.srb.specs.declared.Completion.{Completion}
 use Rattle.srb.specs.declared.DeviceLabel.{DeviceLabel}
 use Rattle.srb.specs.declared.DeviceLabel.TheVariants.{Start, Act, Fault, Return}
@@ -19,14 +18,14 @@ use Rattle.machine.specs.declared.Label.TheVariants.{Call as CallLabel, Device, 
 use Rattle.machine.specs.Calling.{Admits, refusal}
 use Rattle.machine.specs.Rules.{Rules}
 use Rattle.machine.specs.Sending.{Returns, Transfers, written}
-use Rattle.machine.specs.State.{OpenRequest, Piece, State, opening}
+use Rattle.machine.specs.State.{State}
 use Rattle.machine.specs.Step.{DeviceStep, FreeStep, OwingStep, Step}
 use Rattle.file_disk.specs.Calls.{Call}
-use Rattle.file_disk.specs.Transfers.{DiskView, Transfers as TransfersOf}
-use Rattle.loss.specs.Held.{Change, Held, Work, act_changes, changed_by, fault_changes, return_changes}
-use Rattle.loss.specs.Moved.{HandsOver, IsOut, Moves, Table, TableRun, work_of}
+use Rattle.file_disk.specs.Transfers.{DiskView}
+use Rattle.loss.specs.Held.{Held, Work, act_changes, changed_by, fault_changes, return_changes}
+use Rattle.loss.specs.Moved.{IsOut, Moves, Table, TableRun, work_of}
 use Rattle.file_sessions.specs.Stored.{Content, IsKept, held}
-use Rattle.file_sessions.specs.Deeds.{Deed, HasFailed, HasMoved, IsDeedOf}
+use Rattle.file_sessions.specs.Deeds.{Deed, HasFailed, HasMoved}
 use Rattle.file_sessions.specs.Laws.{IsOnDisk, deed_changes}
 use Rattle.file_sessions.specs.Within.{IsWithin}
 use Rattle.file_sessions.proofs.Within.{within_trans}

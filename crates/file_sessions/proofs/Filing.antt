@@ -1,21 +1,17 @@
 -- The calls of a piece, and what its act or its fault does to a sector.
-use Rattle.std.proofs.Common.{◌≡◌, ◌<◌, ◌⊎◌, inl, inr, ℕ, ◌+◌, ◌-◌, ◌*◌, drop, Bool, true, false, List, [], ◌∷◌, ◌++◌, Option, Some, None, Result, Ok, Err, length, refl, sym, ap, subst, ◌∙◌}
+use Rattle.std.proofs.Common.{◌≡◌, ◌<◌, ◌⊎◌, inl, inr, ℕ, ◌+◌, ◌*◌, drop, Bool, true, false, List, [], ◌∷◌, ◌++◌, Option, Some, None, Result, Ok, Err, length, refl, sym, subst}
 use Rattle.std.specs.Prelude.{if◌then◌else◌}
-use Rattle.sector.specs.declared.Extent.{Extent}
-use Rattle.srb.specs.declared.Kind.{Kind}
-use Rattle.srb.specs.declared.Kind.TheVariants.{Read, Write, Flush}
+use Rattle.srb.specs.declared.Kind.TheVariants.{Write}
 use Rattle.srb.specs.declared.Completion.{Completion}
 use Rattle.file_disk.specs.declared.storage.Failure.{Failure}
 use Rattle.file_disk.specs.declared.storage.Failure.TheVariants.{Failed}
-use Rattle.file_disk.specs.declared.file_disk.Task.{Task}
-use Rattle.file_disk.specs.declared.file_disk.Task.TheVariants.{Read as ReadTask, Write as WriteTask, Flush as FlushTask}
 use Rattle.file_disk.specs.Calls.{Call, ReadAt, WriteAt, Sync, Reads, StopsReading, StopsWriting, Writes}
-use Rattle.file_disk.specs.Transfers.{Does, LacksMemory, SyncsAfter, WritesBytes, WritesPlainly, WritesThrough}
-use Rattle.loss.specs.Held.{Puts, Secures, Tries, Syncs, Doubts, Held, Work, act_changes, changed, changed_by, fault_changes, has, surely, value_at}
+use Rattle.file_disk.specs.Transfers.{WritesBytes, WritesPlainly, WritesThrough}
+use Rattle.loss.specs.Held.{Secures, Doubts, Held, Work, act_changes, changed, changed_by, fault_changes, has, value_at}
 use Rattle.file_sessions.specs.Stored.{Content, IsKept, held, synced, under_way}
 use Rattle.file_sessions.specs.Within.{IsWithin}
-use Rattle.file_sessions.proofs.Within.{IsAway, IsThere, attempted, attempted_more, doubted_more, put_there, synced_doubted, synced_less, synced_put, there_or_away, undoubted, unattempted, within_is, within_refl, within_trans}
-use Rattle.file_sessions.proofs.Works.{act_flushes, act_reads, act_secures, act_writes, fault_flushes, fault_reads, fault_secures, fault_writes}
+use Rattle.file_sessions.proofs.Within.{IsAway, IsThere, attempted, doubted_more, put_there, synced_less, synced_put, there_or_away, undoubted, within_trans}
+use Rattle.file_sessions.proofs.Works.{act_secures, act_writes, fault_secures, fault_writes}
 use Rattle.file_sessions.proofs.Writing.{Wrote, as_put, as_tried, cut_off, stopped, wrote, wrote_all}
 
 -- READS
@@ -27,14 +23,14 @@ reads_nothing size i offset count first got before (ReadAt at asked (Err why) �
 reads_nothing size i offset count first got before (WriteAt at rest took ∷ calls) h = absurd h
 reads_nothing size i offset count first got before (Sync fault ∷ calls) h = absurd h
 
-stops_nothing : (size i offset count : ℕ) (first : List ℕ) (why : Failure) (before calls : List Call) → StopsReading offset count why calls → held size i first (calls ++ before) ≡ held size i first before
+pub stops_nothing : (size i offset count : ℕ) (first : List ℕ) (why : Failure) (before calls : List Call) → StopsReading offset count why calls → held size i first (calls ++ before) ≡ held size i first before
 stops_nothing size i offset count first why before [] h = absurd h
 stops_nothing size i offset count first why before (ReadAt at asked gave ∷ calls) h = reads_nothing size i offset count first h.0 before calls h.4
 stops_nothing size i offset count first why before (WriteAt at rest took ∷ calls) h = absurd h
 stops_nothing size i offset count first why before (Sync fault ∷ calls) h = absurd h
 
 -- a part of them, and one under way
-read_cut : (size i offset count : ℕ) (first got : List ℕ) (before later calls : List Call) (call : Call) → Reads offset count got (later ++ call ∷ calls)
+pub read_cut : (size i offset count : ℕ) (first got : List ℕ) (before later calls : List Call) (call : Call) → Reads offset count got (later ++ call ∷ calls)
     → held size i first (under_way call ∷ (calls ++ before)) ≡ held size i first before
 read_cut size i offset count first got before [] calls (ReadAt at asked (Ok gave)) h = reads_nothing size i offset count first h.0 before calls h.4
 read_cut size i offset count first got before [] calls (ReadAt at asked (Err why)) h = absurd h
@@ -45,7 +41,7 @@ read_cut size i offset count first got before (ReadAt at asked (Err why) ∷ lat
 read_cut size i offset count first got before (WriteAt at rest took ∷ later) calls call h = absurd h
 read_cut size i offset count first got before (Sync fault ∷ later) calls call h = absurd h
 
-stop_cut : (size i offset count : ℕ) (first : List ℕ) (why : Failure) (before later calls : List Call) (call : Call) → StopsReading offset count why (later ++ call ∷ calls)
+pub stop_cut : (size i offset count : ℕ) (first : List ℕ) (why : Failure) (before later calls : List Call) (call : Call) → StopsReading offset count why (later ++ call ∷ calls)
     → held size i first (under_way call ∷ (calls ++ before)) ≡ held size i first before
 stop_cut size i offset count first why before [] calls (ReadAt at asked gave) h = reads_nothing size i offset count first h.0 before calls h.4
 stop_cut size i offset count first why before [] calls (WriteAt at rest took) h = absurd h
@@ -167,12 +163,12 @@ module _ (size i : ℕ) (content : Content) (w : Work) (n : ℕ) (some : 0 < siz
           subst (λ (cs : List Call). IsWithin (at (cs ++ before)) (changed_by n (fault_changes size w i) (at before))) (sym h.2.after)
           (as_through (changed 0 Doubts (at (h.2.told ++ before))) past (doubted_more 0 n (at (h.2.told ++ before)) tried (some_of h.2.told (length w.bytes) kept'.1 h.2.writes)))
 
-      write_done : (through : Bool) (number : ℕ) (x : List ℕ) (calls : List Call) → w.through ≡ through → IsKept size content (calls ++ before) → WritesBytes {X = List ℕ} through offset w.bytes (Ok x) calls
+      pub write_done : (through : Bool) (number : ℕ) (x : List ℕ) (calls : List Call) → w.through ≡ through → IsKept size content (calls ++ before) → WritesBytes {X = List ℕ} through offset w.bytes (Ok x) calls
           → IsWithin (at (calls ++ before)) (changed_by n (act_changes size number w i) (at before))
       write_done false number x calls same kept h = plain_done number x calls same kept h
       write_done true number x calls same kept h = through_done number x calls same kept h
 
-      write_failed : (through : Bool) (completion : Completion) (calls : List Call) → w.through ≡ through → IsKept size content (calls ++ before) → WritesBytes {X = List ℕ} through offset w.bytes (Err completion) calls
+      pub write_failed : (through : Bool) (completion : Completion) (calls : List Call) → w.through ≡ through → IsKept size content (calls ++ before) → WritesBytes {X = List ℕ} through offset w.bytes (Err completion) calls
           → IsWithin (at (calls ++ before)) (changed_by n (fault_changes size w i) (at before))
       write_failed false completion calls same kept h = as_plain (at (calls ++ before)) same (stops calls h.0 kept h.2)
       write_failed true completion calls same kept h = through_failed completion calls same kept h
@@ -188,7 +184,7 @@ module _ (size i : ℕ) (content : Content) (w : Work) (n : ℕ) (some : 0 < siz
       plain_cut (Ok x) later calls call kept h = writes_cut later calls call (length w.bytes) kept h
       plain_cut (Err completion) later calls call kept h = stops_cut later calls call h.0 kept h.2
 
-      write_cut : (through : Bool) (result : Result (List ℕ) Completion) (later calls : List Call) (call : Call) → w.through ≡ through → IsKept size content (calls ++ before)
+      pub write_cut : (through : Bool) (result : Result (List ℕ) Completion) (later calls : List Call) (call : Call) → w.through ≡ through → IsKept size content (calls ++ before)
           → WritesBytes {X = List ℕ} through offset w.bytes result (later ++ call ∷ calls) → IsWithin (at (under_way call ∷ (calls ++ before))) (changed_by n (fault_changes size w i) (at before))
       write_cut false result later calls call same kept h = as_plain (at (under_way call ∷ (calls ++ before))) same (plain_cut result later calls call kept h)
       write_cut true result later calls call same kept h = as_through (at (under_way call ∷ (calls ++ before))) same (through_cut result later calls call kept h)

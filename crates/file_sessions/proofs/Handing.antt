@@ -1,17 +1,17 @@
 -- What the act of a piece hands over.
-use Rattle.std.proofs.Common.{◌≡◌, ◌<◌, ◌⊎◌, inl, inr, ℕ, ◌*◌, List, [], ◌∷◌, ◌++◌, Some, Result, Ok, Err, length, refl, sym, ap, subst, ◌∙◌}
+use Rattle.std.proofs.Common.{◌≡◌, ◌⊎◌, inl, inr, ℕ, ◌*◌, List, [], ◌++◌, Result, Ok, Err, sym, ap, subst, ◌∙◌}
 use Rattle.sector.specs.declared.Extent.{Extent}
 use Rattle.srb.specs.declared.Entry.{Entry}
 use Rattle.srb.specs.declared.Completion.{Completion}
 use Rattle.srb.specs.declared.Kind.{Kind}
-use Rattle.srb.specs.declared.Kind.TheVariants.{Read, Write, Flush}
+use Rattle.srb.specs.declared.Kind.TheVariants.{Read}
 use Rattle.machine.specs.Rules.{Rules}
 use Rattle.machine.specs.State.{State}
 use Rattle.file_disk.specs.declared.file_disk.Task.{Task}
 use Rattle.file_disk.specs.declared.file_disk.Task.TheVariants.{Read as ReadTask, Write as WriteTask, Flush as FlushTask}
 use Rattle.file_disk.specs.Calls.{Call}
 use Rattle.file_disk.specs.Transfers.{CarriesOut, DiskView, Does, LacksMemory, Transfers, entry_of}
-use Rattle.loss.specs.Held.{Held, Work}
+use Rattle.loss.specs.Held.{Work}
 use Rattle.loss.specs.Moved.{HandsOver, Table, work_of}
 use Rattle.file_sessions.specs.Stored.{Content, IsKept, held}
 use Rattle.file_sessions.specs.Deeds.{Deed}
@@ -21,7 +21,7 @@ use Rattle.file_sessions.proofs.Asked.{Matches}
 use Rattle.file_sessions.proofs.Leaving.{did_these, matches_work}
 use Rattle.file_sessions.proofs.Reading.{reads_are_shown}
 
-bytes_in : Result Entry Completion → List ℕ
+abbrev bytes_in : Result Entry Completion → List ℕ
 bytes_in (Ok entry) = entry.bytes
 bytes_in (Err completion) = []
 

@@ -4,27 +4,24 @@ use Rattle.std.proofs.lemmas.List.{append_cancel_right}
 use Rattle.sector.specs.declared.Extent.{Extent}
 use Rattle.cdb.specs.Facts.{bytes_of}
 use Rattle.cdb.proofs.Once.{means_once}
-use Rattle.srb.specs.declared.Srb.{Srb}
 use Rattle.srb.specs.declared.Entry.{Entry}
 use Rattle.srb.specs.declared.Completion.{Completion}
 use Rattle.srb.specs.declared.Kind.{Kind}
 use Rattle.srb.specs.declared.Kind.TheVariants.{Read, Write, Flush}
-use Rattle.machine.specs.declared.ClientRequest.{ClientRequest}
 use Rattle.machine.specs.Rules.{Rules}
-use Rattle.machine.specs.Sending.{command_for}
-use Rattle.machine.specs.State.{OpenRequest, Piece, State}
+use Rattle.machine.specs.State.{State}
 use Rattle.file_disk.specs.declared.storage.Failure.{Failure}
 use Rattle.file_disk.specs.declared.file_disk.Task.{Task}
 use Rattle.file_disk.specs.declared.file_disk.Task.TheVariants.{Read as ReadTask, Write as WriteTask, Flush as FlushTask}
-use Rattle.file_disk.specs.Calls.{Call, Sync, Since}
-use Rattle.file_disk.specs.Transfers.{AsksNothing, CarriesOut, DiskView, Does, FailsByTable, LacksMemory, Transfers, WritesBytes, entry_of}
-use Rattle.loss.specs.Held.{Doubts, Held, Syncs, Work, act_changes, changed, changed_by, fault_changes}
+use Rattle.file_disk.specs.Calls.{Call, Sync}
+use Rattle.file_disk.specs.Transfers.{CarriesOut, DiskView, Does, LacksMemory, Transfers, WritesBytes, entry_of}
+use Rattle.loss.specs.Held.{Doubts, Held, Work, act_changes, changed, changed_by, fault_changes}
 use Rattle.loss.specs.Moved.{work_of}
 use Rattle.file_sessions.specs.Stored.{Content, IsKept, held, synced, under_way}
-use Rattle.file_sessions.specs.Deeds.{Deed, IsDeedOf}
+use Rattle.file_sessions.specs.Deeds.{Deed}
 use Rattle.file_sessions.specs.Laws.{IsOnDisk, PiecesAtWorkLeaveNoMore, PiecesLeaveNoMore, deed_changes}
 use Rattle.file_sessions.specs.Within.{IsWithin}
-use Rattle.file_sessions.proofs.Within.{attempted, doubted_more, synced_doubted, synced_more, unattempted, undoubted, within_is, within_refl, within_trans}
+use Rattle.file_sessions.proofs.Within.{attempted, doubted_more, synced_more, unattempted, undoubted, within_is, within_refl, within_trans}
 use Rattle.file_sessions.proofs.Works.{act_flushes, act_reads, fault_flushes, fault_reads, fault_secures, fault_writes}
 use Rattle.file_sessions.proofs.More.{faults_more, writes_more}
 use Rattle.file_sessions.proofs.Filing.{read_cut, reads_nothing, stop_cut, stops_nothing, write_cut, write_done, write_failed}

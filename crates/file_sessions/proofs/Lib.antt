@@ -8,8 +8,9 @@ mod Leaving
 mod Reading
 mod Handing
 mod Building
-pub mod Joining
+mod Joining
 mod Walking
 mod Moments
 mod Series
+mod Surviving
 mod Refuting

@@ -1,5 +1,5 @@
 -- The calls of a session up to any moment.
-use Rattle.std.proofs.Common.{◌≡◌, ◌<◌, ◌⊎◌, inl, inr, ℕ, ◌+◌, false, List, [], ◌∷◌, ◌++◌, length, refl, sym, ap, subst, ◌∙◌, arith, append_assoc, append-nil, length-append}
+use Rattle.std.proofs.Common.{◌≡◌, ◌<◌, ◌⊎◌, inl, inr, ℕ, List, [], ◌∷◌, ◌++◌, length, refl, sym, ap, subst, ◌∙◌, arith, append_assoc, append-nil, length-append}
 use Rattle.std.proofs.lemmas.List.{append_cancel_right}
 use Rattle.machine.specs.declared.Label.{Label}
 use Rattle.machine.specs.Rules.{Rules}
@@ -13,8 +13,8 @@ use Rattle.loss.specs.Moved.{Table, TableRun, held_on}
 use Rattle.loss.specs.Sessions.{Ended, LineStep, Lost, MayBeLeft, MayRemain, Moment, worked_on}
 use Rattle.file_sessions.specs.Stored.{Content, IsKept, Remains, Survives, held, under_way}
 use Rattle.file_sessions.specs.Deeds.{Deed, DeedRun, Files}
-use Rattle.file_sessions.specs.Sessions.{IsSession, beginning}
-use Rattle.file_sessions.specs.Laws.{IsFiled, MomentsAreSessions, RunsAreSessions}
+use Rattle.file_sessions.specs.Sessions.{beginning}
+use Rattle.file_sessions.specs.Laws.{MomentsAreSessions, RunsAreSessions}
 use Rattle.file_sessions.specs.Within.{IsWithin}
 use Rattle.file_sessions.proofs.Within.{within_refl}
 use Rattle.file_sessions.proofs.Building.{IsBuilt, IsCovering, kept_behind, run_same}
@@ -147,6 +147,47 @@ module _ (rules : Rules) (content : Content) (some : 0 < rules.sector_size) (bas
       let b : length earlier ≡ length (k ++ calls) = ap (λ (cs : List Call). length cs) is in
       omega (arith, a, b, length-append later (call ∷ earlier), length-append k calls)
 
+  -- the call is behind what was called so far
+  abbrev GoesOn : State → List Label → List Deed → DiskView → Type 0
+  GoesOn mid labels deeds new =
+      (t : Table) (view : DiskView) (calls k : List Call) → Files view deeds new → view.sector_size ≡ bytes → view.calls ≡ calls ++ base → earlier ≡ k ++ calls → IsCovering rules content some calls t → IsCut mid t labels
+
+  module _ (s : State) (t : Table) (label : Label) (labels : List Label) (mid : State) (deeds : List Deed) (old new : DiskView) (calls k all : List Call) (step : Step rules s label mid) (size_is : old.sector_size ≡ bytes)
+      (was : old.calls ≡ calls ++ base) (is : new.calls ≡ all ++ base) (parts : all ≡ later ++ call ∷ earlier) (suffix : earlier ≡ k ++ calls) (kept : IsKept bytes content earlier) (covering : IsCovering rules content some calls t)
+      (more : GoesOn mid labels deeds new) where
+    goes_on : (calls' k' : List Call) (view : DiskView) (one : IsBuilt rules content some s label t calls') → Files view deeds new → view.sector_size ≡ bytes → view.calls ≡ calls' ++ base → earlier ≡ k' ++ calls' → IsCut s t (label ∷ labels)
+    goes_on calls' k' view one files size_is' was' suffix' = behind s t label labels mid calls' one step (more one.table view calls' k' files size_is' was' suffix' one.covering)
+
+    passed : (d : HasDeed rules content some base s label deeds old new calls) (k' : List Call) → k ≡ k' ++ d.newest → IsCut s t (label ∷ labels)
+    passed d k' e =
+        let suffix' : earlier ≡ k' ++ (d.newest ++ calls) = suffix ∙ ap (λ (cs : List Call). cs ++ calls) e ∙ append_assoc k' d.newest calls in
+        let kept' : IsKept bytes content (d.newest ++ calls) = kept_behind bytes content k' (d.newest ++ calls) (subst (λ (cs : List Call). IsKept bytes content cs) suffix' kept) in
+        goes_on (d.newest ++ calls) k' d.mid (d.builds t covering kept') d.files d.same_size d.calls_are suffix'
+
+    by_rest : (d : HasDeed rules content some base s label deeds old new calls) (front x : List Call) → later ++ call ∷ [] ≡ front ++ x → d.newest ≡ x ++ k → IsCut s t (label ∷ labels)
+    by_rest d front [] e newest = passed d [] (sym newest)
+    by_rest d front (y ∷ x) e newest =
+        let f = last_of front y x later call e in
+        here s t label labels deeds old new calls k f.0 d suffix (newest ∙ ap (λ (cs : List Call). cs ++ k) f.1 ∙ append_assoc f.0 (call ∷ []) k) kept covering
+
+    by_parts : (d : HasDeed rules content some base s label deeds old new calls) (front : List Call) → Parts front d.newest (later ++ call ∷ []) k → IsCut s t (label ∷ labels)
+    by_parts d front (inl h) = passed d h.0 h.2
+    by_parts d front (inr h) = by_rest d front h.0 h.1 h.2
+
+    apart : (d : HasDeed rules content some base s label deeds old new calls) (front : List Call) → all ≡ front ++ (d.newest ++ calls) → front ++ d.newest ≡ (later ++ call ∷ []) ++ k
+    apart d front e =
+        append_cancel_right (front ++ d.newest) ((later ++ call ∷ []) ++ k) calls
+        (append_assoc front d.newest calls ∙ sym e ∙ parts ∙ ap (λ (cs : List Call). later ++ call ∷ cs) suffix ∙ sym (append_assoc later (call ∷ []) (k ++ calls)) ∙ sym (append_assoc (later ++ call ∷ []) k calls))
+
+    with_deed : (d : HasDeed rules content some base s label deeds old new calls) → IsCut s t (label ∷ labels)
+    with_deed d =
+        let front = all_behind d.mid deeds new base (d.newest ++ calls) all d.files d.calls_are is in
+        by_parts d front.0 (apart_at front.0 d.newest (later ++ call ∷ []) k (apart d front.0 front.1))
+
+    by_label : HasDeed rules content some base s label deeds old new calls ⊎ HasNone rules content some base s label deeds old new calls → IsCut s t (label ∷ labels)
+    by_label (inl d) = with_deed d
+    by_label (inr d) = goes_on calls k old (d.builds t covering) d.files size_is was suffix
+
   cut_at : (s : State) (t : Table) (labels : List Label) (s' : State) (deeds : List Deed) (run : DeedRun rules s labels s' deeds) (old new : DiskView) (calls k all : List Call) → Files old deeds new
       → old.sector_size ≡ bytes → old.calls ≡ calls ++ base → new.calls ≡ all ++ base → all ≡ later ++ call ∷ earlier → earlier ≡ k ++ calls → IsKept bytes content earlier → IsCovering rules content some calls t → IsCut s t labels
   cut_at s t [] s' deeds run old new calls k all files size_is was is parts suffix kept covering =
@@ -154,41 +195,9 @@ module _ (rules : Rules) (content : Content) (some : 0 < rules.sector_size) (bas
       let same : all ≡ calls = append_cancel_right all calls base (sym is ∙ ap (λ (d : DiskView). d.calls) none ∙ was) in
       absurd (not_all calls k (sym parts ∙ same) suffix)
   cut_at s t (label ∷ labels) s' deeds run old new calls k all files size_is was is parts suffix kept covering =
-      by_label (label_has rules content some base s label run.0 deeds run.1 old new calls run.2 run.3 files size_is was)
-    where
-      goes_on : (calls' k' : List Call) (mid : DiskView) (one : IsBuilt rules content some s label t calls') → Files mid run.1 new → mid.sector_size ≡ bytes → mid.calls ≡ calls' ++ base → earlier ≡ k' ++ calls' → IsCut s t (label ∷ labels)
-      goes_on calls' k' mid one files' size_is' was' suffix' =
-          behind s t label labels run.0 calls' one run.2 (cut_at run.0 one.table labels s' run.1 run.4 mid new calls' k' all files' size_is' was' is parts suffix' kept one.covering)
-
-      passed : (d : HasDeed rules content some base s label run.1 old new calls) (k' : List Call) → k ≡ k' ++ d.newest → IsCut s t (label ∷ labels)
-      passed d k' e =
-          let suffix' : earlier ≡ k' ++ (d.newest ++ calls) = suffix ∙ ap (λ (cs : List Call). cs ++ calls) e ∙ append_assoc k' d.newest calls in
-          let kept' : IsKept bytes content (d.newest ++ calls) = kept_behind bytes content k' (d.newest ++ calls) (subst (λ (cs : List Call). IsKept bytes content cs) suffix' kept) in
-          goes_on (d.newest ++ calls) k' d.mid (d.builds t covering kept') d.files d.same_size d.calls_are suffix'
-
-      by_rest : (d : HasDeed rules content some base s label run.1 old new calls) (more x : List Call) → later ++ call ∷ [] ≡ more ++ x → d.newest ≡ x ++ k → IsCut s t (label ∷ labels)
-      by_rest d more [] e newest = passed d [] (sym newest)
-      by_rest d more (y ∷ x) e newest =
-          let f = last_of more y x later call e in
-          here s t label labels run.1 old new calls k f.0 d suffix (newest ∙ ap (λ (cs : List Call). cs ++ k) f.1 ∙ append_assoc f.0 (call ∷ []) k) kept covering
-
-      by_parts : (d : HasDeed rules content some base s label run.1 old new calls) (more : List Call) → Parts more d.newest (later ++ call ∷ []) k → IsCut s t (label ∷ labels)
-      by_parts d more (inl h) = passed d h.0 h.2
-      by_parts d more (inr h) = by_rest d more h.0 h.1 h.2
-
-      apart : (d : HasDeed rules content some base s label run.1 old new calls) (more : List Call) → all ≡ more ++ (d.newest ++ calls) → more ++ d.newest ≡ (later ++ call ∷ []) ++ k
-      apart d more e =
-          append_cancel_right (more ++ d.newest) ((later ++ call ∷ []) ++ k) calls
-          (append_assoc more d.newest calls ∙ sym e ∙ parts ∙ ap (λ (cs : List Call). later ++ call ∷ cs) suffix ∙ sym (append_assoc later (call ∷ []) (k ++ calls)) ∙ sym (append_assoc (later ++ call ∷ []) k calls))
-
-      with_deed : (d : HasDeed rules content some base s label run.1 old new calls) → IsCut s t (label ∷ labels)
-      with_deed d =
-          let more = all_behind d.mid run.1 new base (d.newest ++ calls) all d.files d.calls_are is in
-          by_parts d more.0 (apart_at more.0 d.newest (later ++ call ∷ []) k (apart d more.0 more.1))
-
-      by_label : HasDeed rules content some base s label run.1 old new calls ⊎ HasNone rules content some base s label run.1 old new calls → IsCut s t (label ∷ labels)
-      by_label (inl d) = with_deed d
-      by_label (inr d) = goes_on calls k old (d.builds t covering) d.files size_is was suffix
+      by_label s t label labels run.0 run.1 old new calls k all run.2 size_is was is parts suffix kept covering
+      (λ t' view calls' k' files' size_is' was' suffix' covering'. cut_at run.0 t' labels s' run.1 run.4 view new calls' k' all files' size_is' was' is parts suffix' kept covering')
+      (label_has rules content some base s label run.0 deeds run.1 old new calls run.2 run.3 files size_is was)
 
 pub moments_are_sessions : MomentsAreSessions
 moments_are_sessions rules arrays before calls labels s' later earlier call filed parts kept = (

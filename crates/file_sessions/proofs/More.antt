@@ -5,7 +5,7 @@ use Rattle.srb.specs.declared.Kind.{Kind}
 use Rattle.srb.specs.declared.Kind.TheVariants.{Read, Write, Flush}
 use Rattle.loss.specs.Held.{Puts, Secures, Doubts, Held, Work, act_changes, changed, changed_by, fault_changes, has, surely, value_at}
 use Rattle.file_sessions.specs.Within.{IsWithin}
-use Rattle.file_sessions.proofs.Within.{attempted, attempted_more, by_place, doubted_more, put_more, put_there, within_refl}
+use Rattle.file_sessions.proofs.Within.{attempted, attempted_more, by_place, doubted_more, put_more, within_refl}
 use Rattle.file_sessions.proofs.Works.{act_secures, act_writes, fault_flushes, fault_reads, fault_secures, fault_writes}
 
 module _ (size n : ℕ) (w : Work) (i : ℕ) (a b : Held) (p : IsWithin a b) where

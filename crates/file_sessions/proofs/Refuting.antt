@@ -1,5 +1,5 @@
 -- What a file never holds, by hand.
-use Rattle.std.proofs.Common.{◌≡◌, ◌<◌, inl, inr, ℕ, List, [], ◌∷◌, Ok, arith}
+use Rattle.std.proofs.Common.{◌≡◌, inl, inr, ℕ, List, [], ◌∷◌, Ok, arith}
 use Rattle.file_disk.specs.Calls.{ReadAt, WriteAt}
 use Rattle.loss.specs.Held.{IsOneOf, left}
 use Rattle.file_sessions.specs.Stored.{KeepsTo, Survives}

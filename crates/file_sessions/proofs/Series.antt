@@ -1,5 +1,5 @@
--- Sessions one behind the other, and what is certain behind one.
-use Rattle.std.proofs.Common.{◌≡◌, ◌<◌, inl, inr, ℕ, Bool, true, false, List, [], ◌∷◌, ◌++◌, Some, None, Result, Ok, Err, length, map, refl, sym, ap, subst, ◌∙◌}
+-- Sessions one behind the other.
+use Rattle.std.proofs.Common.{◌≡◌, inl, inr, ℕ, Bool, true, false, List, [], ◌∷◌, ◌++◌, length, map, sym, ap, subst, ◌∙◌, arith}
 use Rattle.std.specs.Prelude.{if◌then◌else◌, ◌-◌, ◌/◌}
 use Rattle.std.proofs.lemmas.List.Sorted.{Contains-permutation, IsPermutation-sym}
 use Rattle.machine.specs.declared.Label.{Label}
@@ -7,14 +7,15 @@ use Rattle.machine.specs.Rules.{Rules}
 use Rattle.machine.specs.State.{IsSame, OpenRequest, Piece, State, opening}
 use Rattle.machine.proofs.Same.{IsSame-refl}
 use Rattle.file_disk.specs.Calls.{Call, ReadAt, WriteAt, Sync}
-use Rattle.loss.specs.Held.{Doubts, Held, IsOneOf, Puts, Tries, changed, changed_by, fault_changes, has, left, sector_in, surely}
+use Rattle.loss.specs.Held.{Held, IsOneOf, Puts, Tries, changed, changed_by, fault_changes, has, left, sector_in}
 use Rattle.loss.specs.Moved.{IsSameTable, Table, TableRun, held_on, work_of}
-use Rattle.loss.specs.Laws.{AtWork, CertainIsLeft, Is, LeavesOnly}
-use Rattle.loss.specs.Sessions.{Ended, IsAtWork, Line, LineStep, Lost, MayBeLeft, MayRemain, Moment, Sessions, Told, worked_on}
-use Rattle.file_sessions.specs.Stored.{Content, Survives, after_call, held, sectors_from, under_way}
-use Rattle.file_sessions.specs.Sessions.{AreSessions, IsSession, Outlives, Part, beginning, line_of, lines_of}
-use Rattle.file_sessions.specs.Laws.{CertainSurvives, NoneUnderWay, SeriesAreSessions}
-use Rattle.file_sessions.proofs.Within.{doubt_leaves, put_leaves, tried_leaves}
+use Rattle.loss.specs.Sessions.{IsAtWork, Line, LineStep, MayBeLeft, MayRemain, Moment, Sessions, Told, worked_on}
+use Rattle.file_sessions.specs.Stored.{Content, after_call, held, sectors_from, under_way}
+use Rattle.file_sessions.specs.Sessions.{IsSession, Outlives, beginning, line_of, lines_of}
+use Rattle.file_sessions.specs.Laws.{NoneUnderWay, SeriesAreSessions}
+use Rattle.std.proofs.Math.Nat.{zero-div}
+use Rattle.file_sessions.specs.Within.{IsWithin}
+use Rattle.file_sessions.proofs.Within.{there_or_away, undoubted, untried, within_refl}
 
 -- THE LINE AT AN END
 
@@ -69,38 +70,23 @@ series_are_sessions rules arrays before (part ∷ parts) after h =
 
 -- A CALL UNDER WAY
 
-module _ (size i : ℕ) (x : List ℕ) (h : Held) where
-  either_leaves : (b : Bool) (v : List ℕ) → IsOneOf x (left h) → IsOneOf x (left (if b then changed 0 (Puts v) h else changed 0 (Tries v) h))
-  either_leaves true v p = put_leaves x v 0 h p
-  either_leaves false v p = tried_leaves x v 0 h p
+module _ (size i : ℕ) (h : Held) where
+  -- a write that took nothing has put nothing there
+  none_taken : (first : ℕ) → has (record { first = first; count = 0 / size }) i ≡ false
+  none_taken first = elim (there_or_away first (0 / size) i) [
+    | inl there ↦ absurd (omega (arith, zero-div size, there.1, there.2))
+    | inr away ↦ away.0
+  ]
 
-  told_leaves : (b c : Bool) (v : List ℕ) → IsOneOf x (left h) → IsOneOf x (left (if b then (if c then changed 0 (Puts v) h else changed 0 (Tries v) h) else h))
-  told_leaves true c v p = either_leaves c v p
-  told_leaves false c v p = p
+  told_more : (b c : Bool) (v : List ℕ) → c ≡ false → IsWithin h (if b then (if c then changed 0 (Puts v) h else changed 0 (Tries v) h) else h)
+  told_more true true v e = absurd (cc (e))
+  told_more true false v e = untried v 0 h
+  told_more false c v e = within_refl h
 
-  call_leaves : (call : Call) → IsOneOf x (left h) → IsOneOf x (left (after_call size i (under_way call) h))
-  call_leaves (ReadAt at count gave) p = p
-  call_leaves (WriteAt at bytes took) p = told_leaves (has (sectors_from size at (length bytes)) i) (has (sectors_from size at 0) i) (sector_in size (i - at / size) bytes) p
-  call_leaves (Sync fault) p = doubt_leaves x 0 h p
+  call_more : (call : Call) → IsWithin h (after_call size i (under_way call) h)
+  call_more (ReadAt at count gave) = within_refl h
+  call_more (WriteAt at bytes took) = told_more (has (sectors_from size at (length bytes)) i) (has (sectors_from size at 0) i) (sector_in size (i - at / size) bytes) (none_taken (at / size))
+  call_more (Sync fault) = undoubted 0 h
 
 pub none_under_way : NoneUnderWay
-none_under_way size sectors before calls call after survives i low = call_leaves size i (after i) (held size i (before i) calls) call (survives i low)
-
--- WHAT IS CERTAIN
-
-pub certain_survives : CertainIsLeft → CertainSurvives
-certain_survives certain rules arrays before calls labels end i value after session low leaves work survives =
-    let line : LineStep rules end Lost (beginning arrays after) = session.lost after survives in
-    let same : held_on after i ≡ held_on line.disk i = line.table i in
-    let chosen : line.disk i ≡ value = certain rules i value end.machine end.table (line.disk i) leaves work (line.chosen i low) in
-    first_is (after i) (line.disk i) same ∙ chosen
-  where
-    first_of : Held → List ℕ
-    first_of h = first_in h.now
-      where
-        first_in : List (List ℕ) → List ℕ
-        first_in [] = []
-        first_in (v ∷ vs) = v
-
-    first_is : (a b : List ℕ) → surely a ≡ surely b → a ≡ b
-    first_is a b e = ap first_of e
+none_under_way size i first calls call = call_more size i (held size i first calls) call

@@ -1,5 +1,5 @@
 -- A run, its deeds and its calls, label by label.
-use Rattle.std.proofs.Common.{◌≡◌, ◌<◌, ◌⊎◌, inl, inr, ℕ, Bool, false, List, [], ◌∷◌, ◌++◌, Result, Ok, Err, refl, sym, ap, subst, ◌∙◌, append_assoc}
+use Rattle.std.proofs.Common.{◌≡◌, ◌<◌, ◌⊎◌, inl, inr, ℕ, List, [], ◌∷◌, ◌++◌, Result, refl, sym, ap, subst, ◌∙◌, append_assoc}
 use Rattle.std.proofs.lemmas.List.{append_cancel_right}
 use Rattle.srb.specs.declared.Class.TheVariants.{Good, Busy, Bad}
 use Rattle.srb.specs.declared.Entry.{Entry}
@@ -13,9 +13,9 @@ use Rattle.machine.specs.State.{State}
 use Rattle.machine.specs.Step.{Step}
 use Rattle.file_disk.specs.Calls.{Call}
 use Rattle.file_disk.specs.Transfers.{DiskView, Transfers}
-use Rattle.loss.specs.Moved.{Moves, Table, TableRun}
+use Rattle.loss.specs.Moved.{Table, TableRun}
 use Rattle.file_sessions.specs.Stored.{Content, IsKept}
-use Rattle.file_sessions.specs.Deeds.{Deed, DeedRun, Files, HasFailed, HasMoved, IsDeedOf, TakesDeed}
+use Rattle.file_sessions.specs.Deeds.{Deed, DeedRun, Files, IsDeedOf, TakesDeed}
 use Rattle.file_sessions.specs.Laws.{IsOnDisk}
 use Rattle.file_sessions.proofs.Building.{IsBuilt, IsCovering, back_bad, built_act, built_fault, kept_behind, stays}
 
@@ -148,6 +148,25 @@ module _ (rules : Rules) (content : Content) (some : 0 < rules.sector_size) (bas
     pub run : TableRun rules s t labels s' table
     pub covering : IsCovering rules content some all table
 
+  -- what stands behind a label stands behind those that follow
+  abbrev pub GoesOn : State → List Label → State → List Deed → DiskView → List Call → Type 0
+  GoesOn mid labels s' deeds new all = (t : Table) (view : DiskView) (calls : List Call) → Files view deeds new → view.sector_size ≡ size → view.calls ≡ calls ++ base → IsCovering rules content some calls t → IsBuiltAll mid t labels s' all
+
+  joined : (s : State) (t : Table) (label : Label) (labels : List Label) (mid s' : State) (calls all : List Call) → Step rules s label mid → (one : IsBuilt rules content some s label t calls) → IsBuiltAll mid one.table labels s' all
+      → IsBuiltAll s t (label ∷ labels) s' all
+  joined s t label labels mid s' calls all step one more = record { table = more.table; run = (mid, one.table, step, one.moves, more.run); covering = more.covering }
+
+  one_more : (s : State) (t : Table) (label : Label) (labels : List Label) (mid s' : State) (deeds : List Deed) (old new : DiskView) (calls all : List Call) → Step rules s label mid → old.sector_size ≡ size → old.calls ≡ calls ++ base
+      → new.calls ≡ all ++ base → IsKept size content all → IsCovering rules content some calls t → GoesOn mid labels s' deeds new all → HasDeed s label deeds old new calls ⊎ HasNone s label deeds old new calls → IsBuiltAll s t (label ∷ labels) s' all
+  one_more s t label labels mid s' deeds old new calls all step size_is was is kept covering goes_on (inl d) =
+      let behind = all_behind d.mid deeds new base (d.newest ++ calls) all d.files d.calls_are is in
+      let kept' : IsKept size content (d.newest ++ calls) = kept_behind size content behind.0 (d.newest ++ calls) (subst (λ (cs : List Call). IsKept size content cs) behind.1 kept) in
+      let one : IsBuilt rules content some s label t (d.newest ++ calls) = d.builds t covering kept' in
+      joined s t label labels mid s' (d.newest ++ calls) all step one (goes_on one.table d.mid (d.newest ++ calls) d.files d.same_size d.calls_are one.covering)
+  one_more s t label labels mid s' deeds old new calls all step size_is was is kept covering goes_on (inr d) =
+      let one : IsBuilt rules content some s label t calls = d.builds t covering in
+      joined s t label labels mid s' calls all step one (goes_on one.table old calls d.files size_is was one.covering)
+
   pub built_all : (s : State) (t : Table) (labels : List Label) (s' : State) (deeds : List Deed) (run : DeedRun rules s labels s' deeds) (old new : DiskView) (calls all : List Call)
       → Files old deeds new → old.sector_size ≡ size → old.calls ≡ calls ++ base → new.calls ≡ all ++ base → IsKept size content all → IsCovering rules content some calls t → IsBuiltAll s t labels s' all
   built_all s t [] s' deeds run old new calls all files size_is was is kept covering =
@@ -155,16 +174,6 @@ module _ (rules : Rules) (content : Content) (some : 0 < rules.sector_size) (bas
       let same : calls ≡ all = append_cancel_right calls all base (sym was ∙ sym (ap (λ (d : DiskView). d.calls) none) ∙ is) in
       record { table = t; run = (run.0, λ i. refl); covering = subst (λ (cs : List Call). IsCovering rules content some cs t) same covering }
   built_all s t (label ∷ labels) s' deeds run old new calls all files size_is was is kept covering =
-      by_label (label_has s label run.0 deeds run.1 old new calls run.2 run.3 files size_is was)
-    where
-      goes_on : (calls' : List Call) (mid : DiskView) (one : IsBuilt rules content some s label t calls') → Files mid run.1 new → mid.sector_size ≡ size → mid.calls ≡ calls' ++ base → IsBuiltAll s t (label ∷ labels) s' all
-      goes_on calls' mid one files' size_is' was' =
-          let more : IsBuiltAll run.0 one.table labels s' all = built_all run.0 one.table labels s' run.1 run.4 mid new calls' all files' size_is' was' is kept one.covering in
-          record { table = more.table; run = (run.0, one.table, run.2, one.moves, more.run); covering = more.covering }
-
-      by_label : HasDeed s label run.1 old new calls ⊎ HasNone s label run.1 old new calls → IsBuiltAll s t (label ∷ labels) s' all
-      by_label (inl d) =
-          let behind = all_behind d.mid run.1 new base (d.newest ++ calls) all d.files d.calls_are is in
-          let kept' : IsKept size content (d.newest ++ calls) = kept_behind size content behind.0 (d.newest ++ calls) (subst (λ (cs : List Call). IsKept size content cs) behind.1 kept) in
-          goes_on (d.newest ++ calls) d.mid (d.builds t covering kept') d.files d.same_size d.calls_are
-      by_label (inr d) = goes_on calls old (d.builds t covering) d.files size_is was
+      one_more s t label labels run.0 s' run.1 old new calls all run.2 size_is was is kept covering
+      (λ t' view calls' files' size_is' was' covering'. built_all run.0 t' labels s' run.1 run.4 view new calls' all files' size_is' was' is kept covering')
+      (label_has s label run.0 deeds run.1 old new calls run.2 run.3 files size_is was)

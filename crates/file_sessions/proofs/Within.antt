@@ -1,10 +1,8 @@
 -- What holds no more than another.
-use Rattle.std.proofs.Common.{◌≡◌, ◌<◌, ◌≤◌, ◌⊎◌, inl, inr, ℕ, suc, ◌+◌, Bool, true, false, List, [], ◌∷◌, ◌++◌, map, refl, sym, subst, arith}
+use Rattle.std.proofs.Common.{◌≡◌, ◌<◌, ◌≤◌, ◌⊎◌, inl, inr, ℕ, suc, ◌+◌, Bool, true, false, List, [], ◌∷◌, ◌++◌, map, refl, subst, arith}
 use Rattle.std.specs.Prelude.{if◌then◌else◌}
 use Rattle.std.proofs.lemmas.Bool.Decides.{leb_tells}
-use Rattle.srb.specs.declared.Kind.{Kind}
-use Rattle.srb.specs.declared.Kind.TheVariants.{Read, Write, Flush}
-use Rattle.loss.specs.Held.{Change, Puts, Secures, Tries, Syncs, Doubts, Held, IsOneOf, OlderOf, Work, act_changes, changed, changed_by, fault_changes, has, left, overwritten, surely, value_at, value_of}
+use Rattle.loss.specs.Held.{Puts, Tries, Syncs, Doubts, Held, IsOneOf, OlderOf, Work, changed, has, left, overwritten, surely, value_at, value_of}
 use Rattle.file_sessions.specs.Stored.{synced}
 use Rattle.file_sessions.specs.Within.{IsWithin}
 

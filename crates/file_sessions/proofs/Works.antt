@@ -1,5 +1,5 @@
 -- What the act and the fault of a piece do to a sector, by its kind.
-use Rattle.std.proofs.Common.{◌≡◌, inl, inr, ℕ, Bool, true, false, List, [], ◌∷◌, ◌++◌, refl, sym, ap, subst, ◌∙◌}
+use Rattle.std.proofs.Common.{◌≡◌, ℕ, Bool, true, false, List, [], ◌∷◌, ◌++◌, refl}
 use Rattle.std.specs.Prelude.{if◌then◌else◌}
 use Rattle.srb.specs.declared.Kind.TheVariants.{Read, Write, Flush}
 use Rattle.loss.specs.Held.{Change, Puts, Secures, Tries, Syncs, Doubts, Held, Work, act_changes, changed, changed_by, fault_changes, has, value_at}

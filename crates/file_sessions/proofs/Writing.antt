@@ -1,14 +1,13 @@
 -- The calls of a write, sector by sector.
-use Rattle.std.proofs.Common.{◌≡◌, ◌<◌, ◌≤◌, ◌⊎◌, inl, inr, ℕ, ◌+◌, ◌-◌, ◌*◌, ◌/◌, ◌%◌, Bool, true, false, List, [], ◌∷◌, ◌++◌, Result, Ok, Err, length, take, drop, refl, sym, ap, subst, ◌∙◌, arith, length-drop}
+use Rattle.std.proofs.Common.{◌≡◌, ◌<◌, ◌≤◌, ◌⊎◌, inl, inr, ℕ, ◌+◌, ◌-◌, ◌*◌, ◌/◌, ◌%◌, List, [], ◌∷◌, ◌++◌, Ok, Err, length, take, drop, refl, sym, ap, subst, ◌∙◌, arith, length-drop}
 use Rattle.std.specs.Prelude.{if◌then◌else◌}
 use Rattle.std.proofs.Math.Nat.{mul-div_cancel, mul-sub, div-add-mod'}
 use Rattle.std.proofs.lemmas.List.{drop-drop}
-use Rattle.sector.specs.declared.Extent.{Extent}
 use Rattle.file_disk.specs.declared.storage.Failure.{Failure}
 use Rattle.file_disk.specs.declared.storage.Failure.TheVariants.{Failed}
 use Rattle.file_disk.specs.Calls.{Call, ReadAt, WriteAt, Sync, StopsWriting, Writes}
-use Rattle.loss.specs.Held.{Held, Puts, Tries, IsOneOf, changed, has, sector_in}
-use Rattle.file_sessions.specs.Stored.{Content, IsKept, held, taken, told}
+use Rattle.loss.specs.Held.{Held, Puts, Tries, changed, has, sector_in}
+use Rattle.file_sessions.specs.Stored.{Content, IsKept, held, told}
 use Rattle.file_sessions.specs.Within.{IsWithin}
 use Rattle.file_sessions.proofs.Within.{IsAway, IsThere, put_behind, put_tried, there_or_away, tried_behind, untried, within_is}
 

@@ -1,17 +1,19 @@
 -- What the calls of pieces leave in a file, and which sessions they make.
-use Rattle.std.specs.Prelude.{◌≡◌, ◌<◌, ℕ, false, List, ◌∷◌, ◌++◌, Result, Ok, Err}
+use Rattle.std.specs.Prelude.{◌≡◌, ◌<◌, ℕ, true, false, List, ◌∷◌, ◌++◌, Result, Ok, Err}
 use Rattle.srb.specs.declared.Entry.{Entry}
+use Rattle.srb.specs.declared.Kind.TheVariants.{Write, Flush}
 use Rattle.srb.specs.declared.Completion.{Completion}
+use Rattle.machine.specs.declared.ClientRequest.{ClientRequest}
 use Rattle.machine.specs.declared.Label.{Label}
-use Rattle.machine.specs.Rules.{Rules}
+use Rattle.machine.specs.Rules.{Rules, place_count}
 use Rattle.machine.specs.State.{State, opening}
 use Rattle.file_disk.specs.Calls.{Call}
 use Rattle.file_disk.specs.Transfers.{DiskView, Transfers}
 use Rattle.loss.specs.Held.{Change, Work, act_changes, changed_by, fault_changes}
-use Rattle.loss.specs.Moved.{Table, work_of}
-use Rattle.loss.specs.Laws.{AtWork, Is, LeavesOnly}
-use Rattle.loss.specs.Sessions.{Moment, Sessions}
-use Rattle.file_sessions.specs.Stored.{Content, IsKept, Survives, held, under_way}
+use Rattle.loss.specs.Moved.{Table, TableRun, work_of}
+use Rattle.loss.specs.Laws.{AtWork, Brings, BringsSurely, Changes, Is, LeavesOnly, Meanwhile, Succeeds, Throughout, sector_of, value_for}
+use Rattle.loss.specs.Sessions.{MayBeLeft, MayRemain, Moment, Sessions}
+use Rattle.file_sessions.specs.Stored.{Content, IsKept, Remains, Survives, held, under_way}
 use Rattle.file_sessions.specs.Within.{IsWithin}
 use Rattle.file_sessions.specs.Deeds.{Deed, DeedRun, Files, IsDeedOf}
 use Rattle.file_sessions.specs.Sessions.{AreSessions, IsSession, Part, beginning, lines_of}
@@ -68,17 +70,54 @@ MomentsAreSessions = (rules : Rules) (arrays : List (List (List ℕ))) (before :
     → IsFiled rules arrays labels s' calls → calls ≡ later ++ call ∷ earlier → IsKept rules.sector_size before earlier
     → (first : List Label) × (rest : List Label) × (end : Moment) × (labels ≡ first ++ rest) × IsSession rules arrays before (under_way call ∷ earlier) first end
 
--- what survives where no call is under way may survive where one is
+-- what a sector may hold where no call is under way it may hold where one is
 abbrev pub NoneUnderWay : Type 0
-NoneUnderWay = (size sectors : ℕ) (before : Content) (calls : List Call) (call : Call) (after : Content) → Survives size sectors before calls after → Survives size sectors before (under_way call ∷ calls) after
+NoneUnderWay = (size i : ℕ) (first : List ℕ) (calls : List Call) (call : Call) → IsWithin (held size i first calls) (held size i first (under_way call ∷ calls))
 
 -- sessions one behind the other are a trace of the machine with losses and ends
 abbrev pub SeriesAreSessions : Type 0
 SeriesAreSessions = (rules : Rules) (arrays : List (List (List ℕ))) (before : Content) (parts : List Part) (after : Content)
     → AreSessions rules arrays before parts after → Sessions rules (beginning arrays before) (lines_of parts) (beginning arrays after)
 
+-- WHAT SURVIVES
+
+-- what a loss leaves of the file is what it may leave of the machine's sectors, and so is what the end of the process leaves
+abbrev pub SurvivorsAreLeft : Type 0
+SurvivorsAreLeft = (rules : Rules) (arrays : List (List (List ℕ))) (before : Content) (calls : List Call) (labels : List Label) (end : Moment) (i : ℕ) (after : Content)
+    → IsSession rules arrays before calls labels end → i < rules.disk_sectors → Survives rules.sector_size rules.disk_sectors before calls after → MayBeLeft rules end.machine end.table i (after i)
+
+abbrev pub RemainsAreLeft : Type 0
+RemainsAreLeft = (rules : Rules) (arrays : List (List (List ℕ))) (before : Content) (calls : List Call) (labels : List Label) (end : Moment) (i : ℕ) (after : Content)
+    → IsSession rules arrays before calls labels end → i < rules.disk_sectors → Remains rules.sector_size rules.disk_sectors before calls after → MayRemain rules end.machine end.table i (after i)
+
 -- what is certain of a sector is what it holds behind a loss
 abbrev pub CertainSurvives : Type 0
 CertainSurvives = (rules : Rules) (arrays : List (List (List ℕ))) (before : Content) (calls : List Call) (labels : List Label) (end : Moment) (i : ℕ) (value : List ℕ) (after : Content)
     → IsSession rules arrays before calls labels end → i < rules.disk_sectors → LeavesOnly (Is value) (end.table i) → AtWork rules i (Is value) end.machine
     → Survives rules.sector_size rules.disk_sectors before calls after → after i ≡ value
+
+-- a write past volatile caches that was answered SUCCESS: then nothing else was brought to its sector up to the session's end
+abbrev pub ThroughSurvives : Type 0
+ThroughSurvives = (rules : Rules) (number : ℕ) (q : ClientRequest) (place : ℕ) (s0 : State) (t0 : Table) (s1 : State) (t1 : Table) (write : Succeeds rules number q s0 t0 s1 t1)
+    (labels : List Label) (end : Moment) (later : TableRun rules s1 t1 labels end.machine end.table) (arrays : List (List (List ℕ))) (before : Content) (calls : List Call) (all : List Label) (after : Content)
+    → q.kind ≡ Write → q.through ≡ true → place < place_count rules q
+    → Meanwhile (Brings (Is (value_for rules q place))) rules number q (sector_of rules q place) s0 t0 s1 t1 write
+    → Throughout (Changes rules (sector_of rules q place) (Brings (Is (value_for rules q place)))) rules s1 t1 labels end.machine end.table later
+    → AtWork rules (sector_of rules q place) (Is (value_for rules q place)) end.machine
+    → IsSession rules arrays before calls all end → sector_of rules q place < rules.disk_sectors → Survives rules.sector_size rules.disk_sectors before calls after
+    → after (sector_of rules q place) ≡ value_for rules q place
+
+-- a write that was answered SUCCESS, then a flush that was called and answered SUCCESS, with no failed sync between
+abbrev pub SuccessSurvives : Type 0
+SuccessSurvives = (rules : Rules) (number : ℕ) (q : ClientRequest) (place : ℕ) (s0 : State) (t0 : Table) (s1 : State) (t1 : Table) (write : Succeeds rules number q s0 t0 s1 t1)
+    (labels : List Label) (s2 : State) (t2 : Table) (between : TableRun rules s1 t1 labels s2 t2)
+    (flush : ℕ) (f : ClientRequest) (s3 : State) (t3 : Table) (flushed : Succeeds rules flush f s2 t2 s3 t3)
+    (labels' : List Label) (end : Moment) (later : TableRun rules s3 t3 labels' end.machine end.table) (arrays : List (List (List ℕ))) (before : Content) (calls : List Call) (all : List Label) (after : Content)
+    → q.kind ≡ Write → place < place_count rules q → f.kind ≡ Flush
+    → Meanwhile (BringsSurely (Is (value_for rules q place))) rules number q (sector_of rules q place) s0 t0 s1 t1 write
+    → Throughout (Changes rules (sector_of rules q place) (BringsSurely (Is (value_for rules q place)))) rules s1 t1 labels s2 t2 between
+    → Meanwhile (BringsSurely (Is (value_for rules q place))) rules flush f (sector_of rules q place) s2 t2 s3 t3 flushed
+    → Throughout (Changes rules (sector_of rules q place) (Brings (Is (value_for rules q place)))) rules s3 t3 labels' end.machine end.table later
+    → AtWork rules (sector_of rules q place) (Is (value_for rules q place)) end.machine
+    → IsSession rules arrays before calls all end → sector_of rules q place < rules.disk_sectors → Survives rules.sector_size rules.disk_sectors before calls after
+    → after (sector_of rules q place) ≡ value_for rules q place

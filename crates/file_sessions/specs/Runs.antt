@@ -1,5 +1,5 @@
 -- How a run and its deeds are put together.
-use Rattle.std.specs.Prelude.{◌≡◌, ℕ, List, [], ◌∷◌, ◌++◌, All}
+use Rattle.std.specs.Prelude.{ℕ, List, [], ◌∷◌, ◌++◌, All}
 use Rattle.srb.specs.declared.DeviceLabel.TheVariants.{Act, Fault}
 use Rattle.machine.specs.declared.Label.{Label}
 use Rattle.machine.specs.declared.Label.TheVariants.{Device}

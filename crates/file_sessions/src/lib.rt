@@ -6,12 +6,14 @@
 //!
 //! # Promises
 //!
-//! A run whose acts and faults are pieces that a file carried out is a session (`RunsAreSessions`): whatever a loss
-//! leaves of the file is what `loss` says that it may leave. So it is at any moment, also within a call
-//! (`MomentsAreSessions`), and sessions one behind the other are one trace (`SeriesAreSessions`). What is certain of a
-//! sector is what it holds behind a loss (`CertainSurvives`).
+//! A run whose acts and faults are pieces that a file carried out is a session (`RunsAreSessions`): what a loss leaves
+//! of the file is what it may leave by `loss` (`SurvivorsAreLeft`). So it is at any moment, also within a call
+//! (`MomentsAreSessions`), and sessions one behind the other are one trace (`SeriesAreSessions`). A write that was
+//! answered SUCCESS is in the file behind a loss if it was write-through (`ThroughSurvives`), or once a flush that was
+//! called behind its answer was answered SUCCESS, with no failed sync between (`SuccessSurvives`), until its sector is
+//! written again.
 //!
-//! That a file keeps to `Stored` is a premise.
+//! That a file keeps to `Stored` is a premise; that a program makes such a run isn't said here.
 #![tactic(auto)]
 
 ghost use Rattle.file_sessions.specs.Laws.{
@@ -20,8 +22,12 @@ ghost use Rattle.file_sessions.specs.Laws.{
   NoneUnderWay,
   PiecesAtWorkLeaveNoMore,
   PiecesLeaveNoMore,
+  RemainsAreLeft,
   RunsAreSessions,
   SeriesAreSessions,
+  SuccessSurvives,
+  SurvivorsAreLeft,
+  ThroughSurvives,
 };
 ghost use Rattle.file_sessions.specs.Runs.{ActsWithOne, DeedRunsJoin, FaultsWithOne, RunsWithNone};
 ghost use Rattle.file_sessions.specs.Worked.{AreHeldByHand, AreLeftByHand};
@@ -53,11 +59,23 @@ pub fn series_are_sessions()
     ensures { SeriesAreSessions }
 {}
 
-/// What is certain of a sector is what it holds behind a loss.
-pub fn certain_survives()
-    ensures { CertainSurvives }
+/// What a loss of power leaves of a file is what it may leave of the machine's sectors, and so is what the end of the
+/// process leaves.
+pub fn survivors_are_left()
+    ensures lost { SurvivorsAreLeft }
+    ensures ended { RemainsAreLeft }
+{}
+
+/// What is certain of a sector is what it holds behind a loss: so is a write that went past volatile caches and was
+/// answered SUCCESS, or one before a flush that was called behind its answer and answered SUCCESS, with no failed sync
+/// between.
+pub fn success_survives()
+    ensures certain { CertainSurvives }
+    ensures through { ThroughSurvives }
+    ensures flushed { SuccessSurvives }
 {
     loss::certain_is_left();
+    loss::success_is_left();
 }
 
 /// What a file holds behind some calls, worked out by hand.
