@@ -96,5 +96,5 @@ pub armed_ask_for_pieces : ActsWereAsked → StartsOnce → ArmedAskForPieces
 armed_ask_for_pieces asked once arrays trace entries view tag piece srb whole run kept fits apart armed = asks_for_piece asked once arrays trace entries view tag piece srb run kept whole fits apart armed
 
 pub booked_acts_tell : BookedActsTell
-booked_acts_tell old booked new tag piece (Ok entry) reply can books order fits reached right = booked_labels old booked new tag piece entry books can order fits.read (distinct_at reached) reply right
-booked_acts_tell old booked new tag piece (Err completion) reply can books order fits reached right = (failed_step old booked new tag piece completion books can order fits.read (distinct_at reached) reply right).labels
+booked_acts_tell old booked new tag piece (Ok entry) reply can books order fits reached right = booked_labels old booked new tag piece entry books can order fits (distinct_at reached) reply right
+booked_acts_tell old booked new tag piece (Err completion) reply can books order fits reached right = (failed_step old booked new tag piece completion books can order fits (distinct_at reached) reply right).labels

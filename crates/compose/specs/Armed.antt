@@ -21,7 +21,7 @@ use Rattle.io_manager.specs.declared.Reply.{Reply}
 use Rattle.io_manager.specs.Shown.{ManagerView}
 use Rattle.io_manager.specs.Right.{BooksPiece, FitsTogether}
 use Rattle.compose.specs.declared.Event.TheVariants.{Act as ActEvent}
-use Rattle.compose.specs.Journaled.{IsJournaled}
+use Rattle.compose.specs.Journaled.{AreOnTags, IsJournaled}
 use Rattle.compose.specs.Right.{IsRight}
 
 -- the SRB is that of a piece which has done nothing yet: it asks for the piece's places, and a write sends the bytes of its request
@@ -52,11 +52,11 @@ label_booked piece (Err completion) = Device (Fault piece)
 abbrev pub BookedActsTell : Type 0
 BookedActsTell = (old booked new : ManagerView) (tag piece : ℕ) (what : Result Entry Completion) (reply : Reply)
     → IsBookable old.adapter tag piece what → BooksPiece old tag piece what booked
-    → IsInOrder booked.adapter → FitsTogether booked → IsReached booked.rules booked.state
+    → IsInOrder booked.adapter → AreOnTags booked → IsReached booked.rules booked.state
     → IsRight booked (ActEvent tag) reply new
     → new.labels ≡ label_booked piece what ∷ []
 
 -- an act on a tag where nothing can act tells nothing
 abbrev pub IdleActsTellNothing : Type 0
 IdleActsTellNothing = (old : ManagerView) (tag : ℕ) (reply : Reply) (new : ManagerView)
-    → FitsTogether old → HasNoneFresh old.adapter tag → IsRight old (ActEvent tag) reply new → new.labels ≡ []
+    → AreOnTags old → HasNoneFresh old.adapter tag → IsRight old (ActEvent tag) reply new → new.labels ≡ []

@@ -317,7 +317,7 @@ module _ (idle : IdleActsKeepEntries) (adds : BookedActsAddEntries) (may : Armed
 
     did_one : (arrays : List (List (List ℕ))) (trace : List Label) (deeds : List Deed) → IsTold arrays trace deeds old → DeedRun old.rules old.state new.labels new.state (deed ∷ [])
     did_one arrays trace deeds told =
-        let one : new.labels ≡ label_booked has.piece has.what ∷ [] = tells old booked new tag has.piece has.what reply (bookable arrays trace deeds told) has.books order fits reached right in
+        let one : new.labels ≡ label_booked has.piece has.what ∷ [] = tells old booked new tag has.piece has.what reply (bookable arrays trace deeds told) has.books order fits.read.pieces reached right in
         subst (λ (ls : List Label). DeedRun old.rules old.state ls new.state (deed ∷ [])) (sym one)
         (did_by has.what refl (deed_is arrays trace deeds told) (subst (λ (ls : List Label). Run old.rules old.state ls new.state) one step_of))
 
@@ -329,7 +329,7 @@ module _ (idle : IdleActsKeepEntries) (adds : BookedActsAddEntries) (may : Armed
       did = did_on old new (deed ∷ []) new_rules (did_one arrays trace deeds told) arrays trace deeds told.did;
       journaled =
           subst (λ (es : List Entry). IsJournaled (trace ++ new.labels) es new) (one_entry (entries_of deeds) has.what ∙ sym (entries_append deeds (deed ∷ [])))
-          (adds trace (entries_of deeds) old booked new tag has.piece has.what reply (bookable arrays trace deeds told) (of_tags tag has.piece has.what has.of_piece) has.books order fits reached right told.journaled);
+          (adds trace (entries_of deeds) old booked new tag has.piece has.what reply (bookable arrays trace deeds told) (of_tags tag has.piece has.what has.of_piece) has.books order fits.read.pieces reached right told.journaled);
     })
 
     booked_goes : Goes (over old before) (over (record new { labels = [] }) after)
@@ -366,10 +366,10 @@ module _ (idle : IdleActsKeepEntries) (adds : BookedActsAddEntries) (may : Armed
       apart = apart_on old new idle_new told.apart;
       whole = whole_on old new arrays idle_new told.whole;
       run = run_on old new idle_new idle_step arrays trace told.run;
-      did = did_on old new [] idle_new (runs_with_none old.rules old.state new.labels new.state (subst (λ (ls : List Label). All HasNoDeed ls) (sym (silent booked tag reply new fits still_none right)) (All-nil HasNoDeed)) idle_step) arrays trace deeds told.did;
+      did = did_on old new [] idle_new (runs_with_none old.rules old.state new.labels new.state (subst (λ (ls : List Label). All HasNoDeed ls) (sym (silent booked tag reply new fits.read.pieces still_none right)) (All-nil HasNoDeed)) idle_step) arrays trace deeds told.did;
       journaled =
           subst (λ (ds : List Deed). IsJournaled (trace ++ new.labels) (entries_of ds) new) (sym (append-nil deeds))
-          (idle trace (entries_of deeds) booked tag reply new fits still_none right (subst (λ (v : ManagerView). IsJournaled trace (entries_of deeds) v) (sym none.same_stack) told.journaled));
+          (idle trace (entries_of deeds) booked tag reply new fits.read.pieces still_none right (subst (λ (v : ManagerView). IsJournaled trace (entries_of deeds) v) (sym none.same_stack) told.journaled));
     })
 
     idle_goes : Goes (over old before) (over (record new { labels = [] }) after)
