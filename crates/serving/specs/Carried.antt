@@ -102,14 +102,6 @@ pub record Goes (old new : CarriedView) : Type 0 where
   pub untaken : IsPermutation (map as_answer new.stack.answers) (answers_of labels ++ map as_answer old.stack.answers)
   pub stands : StandsIn old.stack old.disk → StandsIn new.stack new.disk
 
--- whatever happened between, the stack went on with these labels, whose acts and faults are these deeds, and so did the storage
-pub record Lasts (old new : CarriedView) : Type 0 where
-  pub labels : List Label
-  pub deeds : List Deed
-  pub same_rules : new.stack.rules ≡ old.stack.rules
-  pub told : TellsOn old.stack labels deeds new.stack
-  pub files : Files old.disk deeds new.disk
-
 -- REQUESTS
 
 -- one call stands first, and it is the only one; nor is there a cancel, or a label that pauses or removes the device

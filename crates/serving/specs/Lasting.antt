@@ -8,9 +8,9 @@ use Rattle.loss.specs.Sessions.{Moment}
 use Rattle.file_sessions.specs.Sessions.{IsSession}
 use Rattle.file_sessions.specs.Stored.{Content, IsKept, under_way}
 use Rattle.serving.specs.declared.faults.Error.{Error}
-use Rattle.serving.specs.Carried.{CarriedView, Deed, Files, TellsOn}
 use Rattle.serving.specs.Filed.{FiledView}
 use Rattle.serving.specs.OnDisk.{IsFileSession, IsOpened}
+use Rattle.serving.specs.Telling.{of_session}
 
 -- a session of a client over a partition that was opened; the storage got these calls meanwhile
 pub record ServesFile (c : Config) (p : ℕ) (opened : List Call) (old : FiledView) (input out : Option (List ℕ)) (fault : Option Error) (new : FiledView) (after : Option (List ℕ)) (calls : List Call) : Type 0 where
@@ -18,15 +18,21 @@ pub record ServesFile (c : Config) (p : ℕ) (opened : List Call) (old : FiledVi
   pub session : IsFileSession old input out fault new after
   pub calls_are : new.carried.disk.calls ≡ calls ++ old.carried.disk.calls
 
--- where the file keeps what it should, whatever a loss leaves of it is what the machine's loss may leave, behind what was told
+-- what was told: when the partition was opened, and of each request
+abbrev pub told_in : (c : Config) (p : ℕ) (opened : List Call) (old : FiledView) (input out : Option (List ℕ)) (fault : Option Error) (new : FiledView) (after : Option (List ℕ)) (calls : List Call)
+    → ServesFile c p opened old input out fault new after calls → List Label
+told_in c p opened old input out fault new after calls h = h.opens.trace ++ of_session old.sizes old input out h.session.end new after h.session.session
+
+-- where the file keeps what it should, whatever a loss leaves of it is what the machine's loss may leave behind what was told
 abbrev pub ServedAreSessions : Type 0
 ServedAreSessions = (c : Config) (p : ℕ) (opened : List Call) (old : FiledView) (input out : Option (List ℕ)) (fault : Option Error) (new : FiledView) (after : Option (List ℕ)) (calls : List Call) (before : Content)
     → (h : ServesFile c p opened old input out fault new after calls) → 0 < c.sector_size → IsKept c.sector_size before calls
-    → (labels : List Label) × (end : Moment) × IsSession (rules_over false false c) h.opens.arrays before calls labels end
+    → (end : Moment) × IsSession (rules_over false false c) h.opens.arrays before calls (told_in c p opened old input out fault new after calls h) end
 
--- so it is at any moment, with the next call under way
+-- so it is at any moment, with the next call under way, behind what was told by then
 abbrev pub ServedMomentsAreSessions : Type 0
 ServedMomentsAreSessions = (c : Config) (p : ℕ) (opened : List Call) (old : FiledView) (input out : Option (List ℕ)) (fault : Option Error) (new : FiledView) (after : Option (List ℕ)) (calls later earlier : List Call) (call : Call)
     (before : Content)
     → (h : ServesFile c p opened old input out fault new after calls) → 0 < c.sector_size → calls ≡ later ++ call ∷ earlier → IsKept c.sector_size before earlier
-    → (labels : List Label) × (end : Moment) × IsSession (rules_over false false c) h.opens.arrays before (under_way call ∷ earlier) labels end
+    → (first : List Label) × (rest : List Label) × (end : Moment) × (told_in c p opened old input out fault new after calls h ≡ first ++ rest)
+    × IsSession (rules_over false false c) h.opens.arrays before (under_way call ∷ earlier) first end

@@ -28,7 +28,7 @@ use Rattle.serving.specs.declared.faults.Difference.TheVariants.{BadTable, Count
 use Rattle.serving.specs.declared.faults.Error.{Error}
 use Rattle.serving.specs.declared.faults.Error.TheVariants.{Startup, NoPartition, Disk, NoMemory}
 use Rattle.serving.specs.declared.faults.DiskFault.TheVariants.{NotCreated, Unreadable, OtherTable, HasFaults}
-use Rattle.serving.specs.Carried.{IsTold, Lasts, StandsIn}
+use Rattle.serving.specs.Carried.{IsTold, StandsIn}
 use Rattle.serving.specs.Filed.{CarriesBy, FiledView}
 use Rattle.serving.specs.Serving.{fault_of_end}
 
@@ -175,4 +175,3 @@ pub record IsFileSession (old : FiledView) (input out : Option (List ℕ)) (told
   pub end : End
   pub told_is : told ≡ fault_of_end end
   pub session : IsSessionOver CarriesBy old.sizes old input out end new after
-  pub lasts : Lasts old.carried new.carried

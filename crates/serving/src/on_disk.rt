@@ -373,7 +373,6 @@ pub fn served_are_sessions()
 /// # Errors
 ///
 /// How the session ended, where the client did not leave by the protocol.
-#[tactic(auto, using(crate::proofs::Lasting::session_lasts))]
 pub fn serve_file<S: Storage + Drop, R: Ahead, W: Write>(
     alloc: Global,
     filed: &mut Filed<S>,
