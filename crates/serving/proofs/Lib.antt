@@ -4,7 +4,7 @@ mod Opening
 mod Spelled
 mod Flags
 mod Sessions
-mod Served
+mod AsSessions
 pub mod Lasting
 pub mod Steady
 pub mod Undone

@@ -1,4 +1,4 @@
-use Rattle.serving.proofs.Served.{moments, sessions}
+use Rattle.serving.proofs.AsSessions.{moments, sessions}
 use Rattle.serving.proofs.on_disk.served_are_sessions.Goals as goal
 
 pub returns : goal.returns
