@@ -12,7 +12,7 @@ module _ (c : Config) (table : List ℕ) (stack : ManagerView) (started : IsStar
   first_arrays = map (sectors_in started.disk.sectors) started.first.partitions
 
   -- they have the sectors of their partitions
-  whole_at_first : RunsKeepLengths → OpeningsAreReached → IsReached stack.rules stack.state → AreWhole stack.rules first_arrays
+  pub whole_at_first : RunsKeepLengths → OpeningsAreReached → IsReached stack.rules stack.state → AreWhole stack.rules first_arrays
   whole_at_first keeps opens reached p =
       let opened : IsReached stack.rules (opening reached.arrays) = opens stack.rules reached.arrays reached.whole in
       let same : length (array_at stack.state.arrays p) ≡ length (array_at reached.arrays p) = (keeps stack.rules (opening reached.arrays) reached.labels stack.state opened reached.run).sectors p in

@@ -1,5 +1,6 @@
 -- The labels that a stack over a file told in a client's session, request by request.
-use Rattle.std.specs.Prelude.{ℕ, Bool, List, [], ◌∷◌, ◌++◌, ◌⊎◌, inl, inr, length, replicate, Option, Some, None, Result, Ok, Err, MatchResult, ◌≡◌, ◌+◌}
+use Rattle.std.specs.Prelude.{ℕ, Bool, List, [], ◌∷◌, ◌++◌, ◌⊎◌, length, replicate, Option, Some, None, Result, Ok, Err, MatchResult, ◌≡◌, ◌+◌}
+use mathlib.Core.Logic.{inl, inr}
 use Rattle.machine.specs.declared.Label.{Label}
 use Rattle.compose.specs.declared.Event.{Event}
 use Rattle.nbd.specs.declared.End.{End}
