@@ -45,7 +45,7 @@ module _ (armed : ArmedMayBeBooked) (adds : BookedActsAddEntries) (idle : IdleAc
         let bookable : IsBookable old.stack.adapter tag piece (Err completion) =
         armed kept.arrays trace (entries_in taken) old.stack tag piece srb (Err completion) run kept.journaled kept.apart is_armed bad in
         let next : IsJournaled (trace ++ stepped.labels) (entries_in taken) stepped =
-        adds trace (entries_in taken) old.stack held.stack stepped tag piece (Err completion) reply bookable tt holds.books order fits reached carried.right kept.journaled in
+        adds trace (entries_in taken) old.stack held.stack stepped tag piece (Err completion) reply bookable tt holds.books order fits.read.pieces reached carried.right kept.journaled in
         let same : labels_of held.entries ≡ trace = ap (λ (v : TracedView). labels_of v.entries) holds.same in
         kept_new taken kept (subst (λ (ls : List Label). IsJournaled (ls ++ stepped.labels) (entries_in taken) stepped) (sym same) next)
         (apart_still old.stack.adapter held.stack.adapter tag piece (Err completion) holds.books.adapter kept.apart)
@@ -56,7 +56,7 @@ module _ (armed : ArmedMayBeBooked) (adds : BookedActsAddEntries) (idle : IdleAc
     idle_kept taken kept =
         let was : IsJournaled (labels_of held.entries) (entries_in taken) held.stack = subst (λ (v : TracedView). IsJournaled (labels_of v.entries) (entries_in taken) v.stack) (sym same) kept.journaled in
         let still_none : HasNoneFresh held.stack.adapter tag = subst (λ (v : TracedView). HasNoneFresh v.stack.adapter tag) (sym same) none in
-        kept_new taken kept (idle (labels_of held.entries) (entries_in taken) held.stack tag reply stepped fits still_none carried.right was)
+        kept_new taken kept (idle (labels_of held.entries) (entries_in taken) held.stack tag reply stepped fits.read.pieces still_none carried.right was)
         (subst (λ (v : TracedView). IsFalse v.stack.adapter.faithful) (sym same) kept.apart)
         (subst (λ (v : TracedView). AreOnTags v.stack.adapter tags) (sym same) kept.on_tags)
 

@@ -49,7 +49,7 @@ module _ (armed : ArmedMayBeBooked) (adds : BookedActsAddEntries) (apart : Steps
 
   as_booked : ActsAsBooked trace entered.entry.piece entered.entry reply stepped
   as_booked =
-      booked_step trace old.stack held.stack stepped entered.entry.tag entered.entry.piece entered.entry holds.books bookable order fits'.read
+      booked_step trace old.stack held.stack stepped entered.entry.tag entered.entry.piece entered.entry holds.books bookable order fits'.read.pieces
       (AreDistinct-Run _ _ _ _ (AreDistinct-opening reached.arrays) reached.run) kept.journaled.started refl refl reply carried.right
 
   same_trace : labels_of held.entries ≡ trace
@@ -65,7 +65,7 @@ module _ (armed : ArmedMayBeBooked) (adds : BookedActsAddEntries) (apart : Steps
 
   journaled : IsJournaled (trace ++ stepped.labels) (entries_in taken ++ entered.entry ∷ []) stepped
   journaled =
-      adds trace (entries_in taken) old.stack held.stack stepped entered.entry.tag entered.entry.piece (Ok entered.entry) reply bookable (refl, refl) holds.books order fits' reached carried.right kept.journaled
+      adds trace (entries_in taken) old.stack held.stack stepped entered.entry.tag entered.entry.piece (Ok entered.entry) reply bookable (refl, refl) holds.books order fits'.read.pieces reached carried.right kept.journaled
 
   journaled_taken : IsJournaled (labels_of new.entries) (entries_in taken') (record stepped { labels = [] })
   journaled_taken = subst (λ (es : List Entry). IsJournaled (labels_of new.entries) es (record stepped { labels = [] })) (sym more)

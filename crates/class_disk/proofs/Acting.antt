@@ -8,7 +8,7 @@ use Rattle.class_disk.specs.inside.Joint.{Part, Below, Here, Known, known_of, Di
 use Rattle.class_disk.proofs.Rooms.{out_same}
 use Rattle.class_disk.proofs.CoupledRun.{Ran, run_coupled, Contains-map}
 use Rattle.class_disk.proofs.Showing.{shown_is}
-use Rattle.class_disk.proofs.Orderly.{on_tags, orderly_above, All-from_map}
+use Rattle.class_disk.proofs.Orderly.{on_tags, orderly_above, may_act_above, All-from_map}
 use Rattle.class_disk.proofs.PortRules.{port_rules}
 use Rattle.std.proofs.lemmas.List.{nil_from_length}
 
@@ -347,6 +347,7 @@ module _ (v : DeviceView) (books : TableView) (h : IsInHand v books) where
         same_depth = ordered.read.same_depth;
         arrays = subst (λ sectors. (view_of v books).state.arrays ≡ map (sectors_in sectors) v.rules.partitions) (sym same_sectors) h.orderly.read.arrays;
         pieces = subst (λ uses. IsPermutation (map piece_on_tag (view_of v books).state.pieces) uses) (sym same_uses) h.orderly.read.pieces;
+        may_act = may_act_above (with_adapter adapter) h.port h.sound h.coupled.j h.coupled.same h.coupled.keeps (view_of v books).state (shows v books h) adapter.tags ordered.read.may_act;
       };
       distinct = h.orderly.distinct;
       places = h.orderly.places;

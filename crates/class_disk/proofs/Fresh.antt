@@ -1,5 +1,9 @@
 -- A class driver of which nothing was asked yet.
-use Rattle.std.proofs.Common.{◌≡◌, ◌<◌, ◌+◌, inl, inr, ℕ, false, List, [], ◌∷◌, Some, refl, sym, subst, ap, ◌∙◌, arith}
+use Rattle.std.proofs.Common.{◌≡◌, ◌<◌, ◌+◌, inl, inr, ℕ, false, List, [], ◌∷◌, Some, map, refl, sym, subst, ap, ◌∙◌, arith}
+use Rattle.std.specs.Prelude.{All}
+use Rattle.std.proofs.lemmas.List.Sorted.{length_permutation}
+use Rattle.adapter.specs.View.{TagInUse}
+use Rattle.device.specs.View.{MayAct, use_on_tag}
 use Rattle.class_disk.proofs.Common.{All-nil, IsPermutation-refl, Extent, Rules, sectors_of, State, opening, AreCounted-opening, HaveEarned-opening, AreDistinct-opening, AreOnePiece-opening, ArePlaced-opening, IsSame-refl, HasPlaces, DeviceView, Packet, IsOffRooms, IsOrderly, WaitsForTag, IsTopmost, IsPermutation, AwaitsRestartIfEnded, Sizes, class_rules, IsPort, joint_of, TableView, empty_books, IsFreshPort}
 use Rattle.machine.specs.Settled.{IsHeld as IsPausedThere, WaitsIfCancelled, Waits, IsAllSent, IsHeldBack, HasMore, IsAtWork}
 use Rattle.device.specs.inside.Out.{IsGood, tickets_of}
@@ -22,6 +26,11 @@ fresh_is v state packets submitted =
 whole_disk : (rules : Rules) (partitions : List Extent) → partitions ≡ record { first = 0; count = rules.disk_sectors } ∷ []
     → sectors_of (record rules { partitions = partitions }) (Some 0) ≡ rules.disk_sectors
 whole_disk rules partitions is = ap (λ (ps : List Extent). sectors_of (record rules { partitions = ps }) (Some 0)) is
+
+-- nothing is on a tag
+none_out : (tags : List TagInUse) → IsPermutation [] (map use_on_tag tags) → tags ≡ []
+none_out [] h = refl
+none_out (u ∷ tags) h = let n = length_permutation _ _ h in absurd (omega (arith, n))
 
 hand_fresh : (v : DeviceView) (sizes : Sizes) → v.rooms ≡ [] → IsPort v.rules → IsOrderly (fresh v)
     → sizes.sector_size ≡ v.rules.sector_size → sizes.max_transfer ≡ v.rules.longest → sizes.disk_sectors ≡ sectors_of v.rules (Some 0) → sizes.keeps_bytes ≡ v.rules.keeps_bytes
@@ -110,6 +119,7 @@ hand_fresh v sizes none port orderly size longest sectors keeping =
           same_depth = orderly.read.same_depth;
           arrays = orderly.read.arrays;
           pieces = orderly.read.pieces;
+          may_act = subst (λ (tags : List TagInUse). All (MayAct rules s) tags) (sym (none_out v.adapter.tags orderly.read.pieces)) (All-nil (MayAct rules s));
         };
         distinct = AreDistinct-opening v.state.arrays;
         places = All-nil HasPlaces;

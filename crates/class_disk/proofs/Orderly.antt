@@ -2,7 +2,12 @@
 use Rattle.std.proofs.Common.{◌≡◌, ◌<◌, ◌≤◌, inl, inr, ℕ, not, Bool, true, false, List, [], ◌∷◌, refl, sym, ◌∙◌, ap, subst, arith, map, length, get_or}
 use Rattle.std.specs.Prelude.{IsPermutation, All, Contains, IsTrue, IsFalse, Option, eqb, is_some}
 use Rattle.class_disk.proofs.Common.{IsDistinct, list_all, IsPermutation-sym, IsPermutation-trans, IsPermutation-map, All-permutation, length_permutation, All-nil, All-cons, All-head, All-tail, All-weaker, All-map, All-contains, Contains-get_or, Rules, Mark, Untouched, Out, Done, Failed, Back, OpenRequest, State, IsSame, AreDistinct, HasPlaces, HavePlaces, request_number, is_started, is_untouched, HasEnded, Settled, HasGone, IsAllSent, IsWithin, started_count, AwaitsRestartIfEnded, IsSame-sym, AreDistinct-same, below_rules, IsSound, Keeps, noted_busy, IsOverMark, IsOverNote, IsOver, class_rules, IsPort}
-use Rattle.device.specs.View.{DeviceView, Packet, Reserved, packet_number, packet_spot, piece_on_tag, use_on_tag, IsOffRooms, WaitsForTag, IsOrderly}
+use Rattle.adapter.specs.View.{TagInUse}
+use Rattle.srb.specs.declared.DeviceLabel.TheVariants.{Act}
+use Rattle.machine.specs.Step.{Run, as_label}
+use Rattle.machine.proofs.Same.{IsSame-refl, Run-same}
+use Rattle.device.specs.View.{DeviceView, Packet, Reserved, packet_number, packet_spot, piece_on_tag, use_on_tag, IsOffRooms, WaitsForTag, IsOrderly, MayAct}
+use Rattle.class_disk.proofs.CoupledRun.{Ran, run_coupled}
 use Rattle.class_disk.specs.inside.Joint.{Part, Below, Here, Sent, Kept, note_of, known_of, Divided, Joint, parts_busy, pieces_below, pieces_above, shown, below, above}
 use Rattle.class_disk.proofs.Resting.{HasEndedHere, AreEndedHere, gone, all_sent, same_count}
 use Rattle.class_disk.proofs.PortRules.{port_rules}
@@ -16,6 +21,20 @@ All-from_map P f (x ∷ xs) h = All-cons (λ x. P (f x)) x xs (All-head P (f x) 
 
 pub on_tags : (es : List Divided) → map piece_on_tag (pieces_above es) ≡ map piece_on_tag (pieces_below es)
 on_tags = of_pieces piece_on_tag (λ owner first p. refl)
+
+-- WHAT MAY ACT BELOW MAY ACT HERE
+
+pub may_act_above : (v : DeviceView) → IsPort v.rules → IsSound v.state → (j : Joint) → IsSame (below j) v.state → Keeps (class_rules v.rules) j → (t : State) → IsSame (above j) t
+    → (tags : List TagInUse) → All (MayAct v.rules v.state) tags → All (MayAct (class_rules v.rules) t) tags
+may_act_above v port sound j same k t to tags all = All-weaker (MayAct v.rules v.state) (MayAct (class_rules v.rules) t) one tags all
+  where
+    one : (u : TagInUse) → MayAct v.rules v.state u → MayAct (class_rules v.rules) t u
+    one u may apart fresh =
+        let b : (acted : State) × Run v.rules v.state (as_label (Act u.piece u.srb.data) ∷ []) acted = may apart fresh in
+        let run : Run (below_rules (class_rules v.rules)) v.state (as_label (Act u.piece u.srb.data) ∷ []) b.0 =
+        subst (λ r. Run r v.state (as_label (Act u.piece u.srb.data) ∷ []) b.0) (port_rules port) b.1 in
+        let ran : Ran (class_rules v.rules) j (Act u.piece u.srb.data ∷ []) b.0 = run_coupled (class_rules v.rules) refl (Act u.piece u.srb.data ∷ []) j v.state b.0 same sound k run in
+        (above ran.next, Run-same (class_rules v.rules) (as_label (Act u.piece u.srb.data) ∷ []) (above j) t (above ran.next) (above ran.next) to (IsSame-refl _) ran.run)
 
 -- WHAT IS HERE HAS ENDED
 
@@ -114,6 +133,7 @@ module _ (v : DeviceView) (port : IsPort v.rules) (ordered : IsOrderly v) (sound
           arrays = sym to.arrays ∙ same.arrays ∙ ordered.read.arrays;
           pieces = IsPermutation-trans _ _ _ (IsPermutation-map piece_on_tag _ _ (IsPermutation-sym _ _ to.pieces))
               (subst (λ zs. IsPermutation zs (map use_on_tag v.adapter.tags)) (sym (on_tags j.divided)) (IsPermutation-trans _ _ _ (IsPermutation-map piece_on_tag _ _ same.pieces) ordered.read.pieces));
+          may_act = may_act_above v port sound j same k t to v.adapter.tags ordered.read.may_act;
         };
         distinct = AreDistinct-same t (above j) (IsSame-sym _ _ to) distinct;
         places = All-permutation HasPlaces _ _ to.requests places;

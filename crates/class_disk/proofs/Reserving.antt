@@ -179,6 +179,7 @@ module _ (v : DeviceView) (below : List (Option Reserved)) (places_below : ℕ) 
         same_depth = h.orderly.read.same_depth;
         arrays = h.orderly.read.arrays;
         pieces = h.orderly.read.pieces;
+        may_act = h.orderly.read.may_act;
       };
       distinct = h.orderly.distinct;
       places = h.orderly.places;

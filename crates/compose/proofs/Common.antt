@@ -7,7 +7,7 @@ pub use Rattle.adapter.specs.Calls.{HasNoneFresh}
 pub use Rattle.adapter.specs.View.{AdapterView, IsInOrder, IsOn, MovesByAll, MovesOn, ReservesMore, TagInUse}
 pub use Rattle.cdb.specs.declared.Cdb.{Cdb}
 pub use Rattle.cdb.specs.declared.Cdb.TheVariants.{Read10, Read16, ReadCapacity10, ReadCapacity16, Sync10, Sync16, Write10, Write16}
-pub use Rattle.compose.specs.Journaled.{ArmedMayBeBooked, BookedActsAddEntries, IdleActsKeepEntries, IsJournaled, IsNoAct, IsStarted, IsStartedUse, StepsKeepEntries, StepsStayApart}
+pub use Rattle.compose.specs.Journaled.{AreOnTags, ArmedMayBeBooked, BookedActsAddEntries, IdleActsKeepEntries, IsJournaled, IsNoAct, IsStarted, IsStartedUse, StepsKeepEntries, StepsStayApart}
 pub use Rattle.compose.specs.Opening.{AreInRange, IsFirstView, IsSpent, IsStartFault, start_fault_of}
 pub use Rattle.compose.specs.Right.{IsRight}
 pub use Rattle.compose.specs.Runs.{Carries, CarriesAll, IsLawful, IsOfRun, RunsAreQuietOnceRemoved, RunsObeyLaws, StopsAfter, labels_shown}

@@ -1,6 +1,6 @@
 -- An entry that is booked is that of the next step of its tag, and every step keeps the starts of what is out in the trace.
 use Rattle.std.proofs.Common.{◌≡◌, ◌≢◌, ℕ, zero, suc, Bool, true, false, IsTrue, IsFalse, List, [], ◌∷◌, ◌++◌, map, Option, None, Ok, Err, Result, IsPermutation, refl, sym, ap, subst, ◌∙◌, arith, length-append, if◌then◌else◌}
-use Rattle.compose.proofs.Common.{Need, All, Contains, eqb, IsDistinct, Decides-eqb, get_or_append_left, All-weaker, All-contains_itself, IsPermutation-sym, IsPermutation-map, Contains-permutation, IsDistinct-IsPermutation, Entry, Completion, DeviceLabel, Fresh, TagInUse, AdapterView, IsInOrder, IsOn, MovesByAll, Books, IsBookable, with_booked, booked_on, with_booking, on_tag_once, is_there, booked_is, AllTagged, StartsSo, all_moved_so, reset_so, Label, Piece, State, AreDistinct, piece_number, as_label, flips, first_unique, IsOfAct, OnTag, IsRead, piece_on_tag, use_on_tag, IsFreshOn, IsAct, IsActOrFault, Reply, ManagerView, Told, labels_of, end_labels, as_answer, BooksPiece, ActReplies, ReservesFor, AdapterMoves, IsRightBy, MovesWith, reserves_more, IsRight, IsStarted}
+use Rattle.compose.proofs.Common.{Need, All, Contains, eqb, IsDistinct, Decides-eqb, get_or_append_left, All-weaker, All-contains_itself, IsPermutation-sym, IsPermutation-map, Contains-permutation, IsDistinct-IsPermutation, Entry, Completion, DeviceLabel, Fresh, TagInUse, AdapterView, IsInOrder, IsOn, MovesByAll, Books, IsBookable, with_booked, booked_on, with_booking, on_tag_once, is_there, booked_is, AllTagged, StartsSo, all_moved_so, reset_so, Label, Piece, State, AreDistinct, piece_number, as_label, flips, first_unique, IsOfAct, OnTag, AreOnTags, piece_on_tag, use_on_tag, IsFreshOn, IsAct, IsActOrFault, Reply, ManagerView, Told, labels_of, end_labels, as_answer, BooksPiece, ActReplies, ReservesFor, AdapterMoves, IsRightBy, MovesWith, reserves_more, IsRight, IsStarted}
 use Rattle.srb.specs.declared.DeviceLabel.TheVariants.{Start, Act, Fault, Return}
 use Rattle.machine.specs.declared.Label.TheVariants.{Device}
 use Rattle.io_manager.specs.declared.Reply.TheVariants.{Handle as HandleReply, Ok as OkReply, Request as Requested, Answered, Refused, Ignored}
@@ -84,17 +84,17 @@ stands_failed : (v : AdapterView) (tag piece : ℕ) (completion : Completion) (v
 stands_failed v tag piece completion v' h can = stands v tag piece (Err completion) v' HasNoBytes h can (λ u. refl) (λ u. (refl, refl, refl))
 
 -- so the machine has a fresh piece there
-fresh_there : (mid : ManagerView) (tag piece : ℕ) (Holds : TagInUse → Type 0) → IsRead mid.rules mid.state mid.adapter → Stands mid.adapter tag piece Holds → (p : Piece) × IsFreshOn mid.state tag p
-fresh_there mid tag piece Holds read here =
+fresh_there : (mid : ManagerView) (tag piece : ℕ) (Holds : TagInUse → Type 0) → AreOnTags mid → Stands mid.adapter tag piece Holds → (p : Piece) × IsFreshOn mid.state tag p
+fresh_there mid tag piece Holds on_tags here =
     let there : Contains (map piece_on_tag mid.state.pieces) (use_on_tag here.use') =
-    Contains-permutation _ _ _ (IsPermutation-sym _ _ read.pieces) (there_mapped use_on_tag mid.adapter.tags here.use' (is_there mid.adapter tag here.use' here.others here.is_on)) in
+    Contains-permutation _ _ _ (IsPermutation-sym _ _ on_tags) (there_mapped use_on_tag mid.adapter.tags here.use' (is_there mid.adapter tag here.use' here.others here.is_on)) in
     let found = mapped_there piece_on_tag mid.state.pieces (use_on_tag here.use') there in
     (found.0, record { is_out = found.1; is_tag = ap (λ (x : OnTag). x.tag) found.2 ∙ here.is_on.has_tag; is_fresh = ap (λ (x : OnTag). x.fate) found.2 ∙ here.is_fresh })
 
 -- and a fresh piece of the tag is that one
-number_is : (mid : ManagerView) (tag piece : ℕ) (Holds : TagInUse → Type 0) → IsInOrder mid.adapter → IsRead mid.rules mid.state mid.adapter → Stands mid.adapter tag piece Holds → (p : Piece) → IsFreshOn mid.state tag p → p.number ≡ piece
-number_is mid tag piece Holds order read here p fresh =
-    let there : Contains (map use_on_tag mid.adapter.tags) (piece_on_tag p) = Contains-permutation _ _ _ read.pieces (there_mapped piece_on_tag mid.state.pieces p fresh.is_out) in
+number_is : (mid : ManagerView) (tag piece : ℕ) (Holds : TagInUse → Type 0) → IsInOrder mid.adapter → AreOnTags mid → Stands mid.adapter tag piece Holds → (p : Piece) → IsFreshOn mid.state tag p → p.number ≡ piece
+number_is mid tag piece Holds order on_tags here p fresh =
+    let there : Contains (map use_on_tag mid.adapter.tags) (piece_on_tag p) = Contains-permutation _ _ _ on_tags (there_mapped piece_on_tag mid.state.pieces p fresh.is_out) in
     let found = mapped_there use_on_tag mid.adapter.tags (piece_on_tag p) there in
     let same_tag : found.0.tag ≡ here.use'.tag = ap (λ (x : OnTag). x.tag) found.2 ∙ fresh.is_tag ∙ sym here.is_on.has_tag in
     let same : found.0 ≡ here.use' = on_tag_once mid.adapter.tags order.tags_differ found.0 here.use' found.1 (is_there mid.adapter tag here.use' here.others here.is_on) same_tag in
@@ -119,8 +119,8 @@ pub record ActsAsBooked (trace : List Label) (piece : ℕ) (entry : Entry) (repl
   pub labels : new.labels ≡ Device (Act piece entry.bytes) ∷ []
   pub is_of_act : IsOfAct trace piece entry.bytes entry
 
-module _ (trace : List Label) (first mid new : ManagerView) (tag piece : ℕ) (entry : Entry) (books : BooksPiece first tag piece (Ok entry) mid) (can : IsBookable first.adapter tag piece (Ok entry)) (order : IsInOrder mid.adapter)
-    (read : IsRead mid.rules mid.state mid.adapter) (distinct : AreDistinct mid.state) (tagged : AllTagged (IsStarted trace) first.adapter) (same_piece : entry.piece ≡ piece) (same_tag : entry.tag ≡ tag) where
+module _ (first mid new : ManagerView) (tag piece : ℕ) (entry : Entry) (books : BooksPiece first tag piece (Ok entry) mid) (can : IsBookable first.adapter tag piece (Ok entry)) (order : IsInOrder mid.adapter)
+    (on_tags : AreOnTags mid) (distinct : AreDistinct mid.state) where
   here : Stands mid.adapter tag piece (HasBytes entry)
   here = stands_booked first.adapter tag piece entry mid.adapter books.adapter can
 
@@ -128,20 +128,34 @@ module _ (trace : List Label) (first mid new : ManagerView) (tag piece : ℕ) (e
   by_label (Act n bytes) number is same act told own device answers ends none by =
       let n_is : n ≡ piece = same ∙ is in
       let moves : MovesByAll mid.adapter (Act piece bytes ∷ []) by.adapter.moved = acts_alone mid.adapter told.reserves told.device n piece bytes new.adapter by.adapter none device n_is in
-      let b : bytes ≡ entry.bytes = bytes_are mid.adapter tag piece entry bytes by.adapter.moved (distinct_uses mid.state mid.adapter.tags distinct read.pieces) here can.not_first moves in
+      let b : bytes ≡ entry.bytes = bytes_are mid.adapter tag piece entry bytes by.adapter.moved (distinct_uses mid.state mid.adapter.tags distinct on_tags) here can.not_first moves in
       by.in_order ∙ rw (own, device, answers, ends) (rw (n_is, b) refl)
   by_label (Start k t block) number is same act told own device answers ends none by = absurd act
   by_label (Fault k) number is same act told own device answers ends none by = absurd act
   by_label (Return k class) number is same act told own device answers ends none by = absurd act
 
+  tells_reply : (reply : Reply) (told : Told) → ActReplies mid tag reply new told → IsRightBy false told mid new → new.labels ≡ Device (Act piece entry.bytes) ∷ []
+  tells_reply OkReply told (tells, handles) by =
+      by_label tells.label tells.piece.number (number_is mid tag piece (HasBytes entry) order on_tags here tells.piece tells.fresh) tells.acts (tells.if_booked (booked_is first.adapter tag piece entry mid.adapter books.adapter can)) told
+      tells.no_own tells.device tells.ends_none.none_answered tells.ends_none.not_ended tells.reserves_none by
+  tells_reply Ignored told (unmoved, none, handles) by = let f = fresh_there mid tag piece (HasBytes entry) on_tags here in absurd (none.none f.0 f.1)
+  tells_reply (HandleReply handle) told h by = absurd h
+  tells_reply (Requested id) told h by = absurd h
+  tells_reply (Answered answer) told h by = absurd h
+  tells_reply (Refused reason bytes) told h by = absurd h
+
+  pub booked_labels : (reply : Reply) → IsRight mid (ActEvent tag) reply new → new.labels ≡ Device (Act piece entry.bytes) ∷ []
+  booked_labels reply right = tells_reply reply right.told right.replies right.by
+
+module _ (trace : List Label) (first mid new : ManagerView) (tag piece : ℕ) (entry : Entry) (books : BooksPiece first tag piece (Ok entry) mid) (can : IsBookable first.adapter tag piece (Ok entry)) (order : IsInOrder mid.adapter)
+    (on_tags : AreOnTags mid) (distinct : AreDistinct mid.state) (tagged : AllTagged (IsStarted trace) first.adapter) (same_piece : entry.piece ≡ piece) (same_tag : entry.tag ≡ tag) where
   by_reply : (reply : Reply) (told : Told) → ActReplies mid tag reply new told → IsRightBy false told mid new → ActsAsBooked trace piece entry reply new
   by_reply OkReply told (tells, handles) by = record {
     replies = refl;
-    labels = by_label tells.label tells.piece.number (number_is mid tag piece (HasBytes entry) order read here tells.piece tells.fresh) tells.acts (tells.if_booked (booked_is first.adapter tag piece entry mid.adapter books.adapter can)) told
-        tells.no_own tells.device tells.ends_none.none_answered tells.ends_none.not_ended tells.reserves_none by;
+    labels = tells_reply first mid new tag piece entry books can order on_tags distinct OkReply told (tells, handles) by;
     is_of_act = entry_of_act trace first.adapter tag piece entry entry.bytes tagged can same_piece same_tag refl;
   }
-  by_reply Ignored told (unmoved, none, handles) by = let f = fresh_there mid tag piece (HasBytes entry) read here in absurd (none.none f.0 f.1)
+  by_reply Ignored told (unmoved, none, handles) by = let f = fresh_there mid tag piece (HasBytes entry) on_tags (here first mid new tag piece entry books can order on_tags distinct) in absurd (none.none f.0 f.1)
   by_reply (HandleReply handle) told h by = absurd h
   by_reply (Requested id) told h by = absurd h
   by_reply (Answered answer) told h by = absurd h
@@ -164,7 +178,7 @@ pub record FaultsAsBooked (piece : ℕ) (reply : Reply) (new : ManagerView) : Ty
   pub labels : new.labels ≡ Device (Fault piece) ∷ []
 
 module _ (first mid new : ManagerView) (tag piece : ℕ) (completion : Completion) (books : BooksPiece first tag piece (Err completion) mid) (can : IsBookable first.adapter tag piece (Err completion)) (order : IsInOrder mid.adapter)
-    (read : IsRead mid.rules mid.state mid.adapter) (distinct : AreDistinct mid.state) where
+    (on_tags : AreOnTags mid) (distinct : AreDistinct mid.state) where
   fails_here : Stands mid.adapter tag piece HasNoBytes
   fails_here = stands_failed first.adapter tag piece completion mid.adapter books.adapter can
 
@@ -172,7 +186,7 @@ module _ (first mid new : ManagerView) (tag piece : ℕ) (completion : Completio
   fault_label (Act n bytes) number is same told own device answers ends none by =
       let n_is : n ≡ piece = same ∙ is in
       let moves : MovesByAll mid.adapter (Act piece bytes ∷ []) by.adapter.moved = acts_alone mid.adapter told.reserves told.device n piece bytes new.adapter by.adapter none device n_is in
-      absurd (acts_not mid.adapter tag piece bytes by.adapter.moved (distinct_uses mid.state mid.adapter.tags distinct read.pieces) fails_here can.not_first moves)
+      absurd (acts_not mid.adapter tag piece bytes by.adapter.moved (distinct_uses mid.state mid.adapter.tags distinct on_tags) fails_here can.not_first moves)
   fault_label (Fault n) number is same told own device answers ends none by =
       let n_is : n ≡ piece = same ∙ is in
       by.in_order ∙ rw (own, device, answers, ends) (rw n_is refl)
@@ -182,10 +196,10 @@ module _ (first mid new : ManagerView) (tag piece : ℕ) (completion : Completio
   fault_reply : (reply : Reply) (told : Told) → ActReplies mid tag reply new told → IsRightBy false told mid new → FaultsAsBooked piece reply new
   fault_reply OkReply told (tells, handles) by = record {
     replies = refl;
-    labels = fault_label tells.label tells.piece.number (number_is mid tag piece HasNoBytes order read fails_here tells.piece tells.fresh) tells.acts told
+    labels = fault_label tells.label tells.piece.number (number_is mid tag piece HasNoBytes order on_tags fails_here tells.piece tells.fresh) tells.acts told
         tells.no_own tells.device tells.ends_none.none_answered tells.ends_none.not_ended tells.reserves_none by;
   }
-  fault_reply Ignored told (unmoved, none, handles) by = let f = fresh_there mid tag piece HasNoBytes read fails_here in absurd (none.none f.0 f.1)
+  fault_reply Ignored told (unmoved, none, handles) by = let f = fresh_there mid tag piece HasNoBytes on_tags fails_here in absurd (none.none f.0 f.1)
   fault_reply (HandleReply handle) told h by = absurd h
   fault_reply (Requested id) told h by = absurd h
   fault_reply (Answered answer) told h by = absurd h

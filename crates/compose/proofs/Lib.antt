@@ -10,6 +10,7 @@ pub mod JournaledStep
 pub mod JournaledOthers
 pub mod JournaledKept
 pub mod JournaledArmed
+pub mod Armed
 pub mod KeepsLabels
 pub mod Memory
 mod Common

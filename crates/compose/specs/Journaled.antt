@@ -1,5 +1,5 @@
 -- The trace of a stack whose sectors stand elsewhere, and the entries of what its acts did there.
-use Rattle.std.specs.Prelude.{◌≡◌, ℕ, List, [], ◌∷◌, ◌++◌, All, Contains, Result, Ok, Err, IsFalse, length}
+use Rattle.std.specs.Prelude.{◌≡◌, ℕ, List, [], ◌∷◌, ◌++◌, All, Contains, IsPermutation, Result, Ok, Err, IsFalse, length, map}
 use Rattle.srb.specs.declared.Srb.{Srb}
 use Rattle.srb.specs.declared.Entry.{Entry}
 use Rattle.srb.specs.declared.Completion.{Completion}
@@ -13,9 +13,10 @@ use Rattle.machine.specs.State.{opening}
 use Rattle.machine.specs.Step.{Run}
 use Rattle.machine_laws.specs.Booked.{AreOfActs}
 use Rattle.machine_laws.specs.Reached.{IsReached}
+use Rattle.device.specs.View.{piece_on_tag, use_on_tag}
 use Rattle.io_manager.specs.declared.Reply.{Reply}
 use Rattle.io_manager.specs.Shown.{ManagerView}
-use Rattle.io_manager.specs.Right.{BooksPiece, FitsTogether}
+use Rattle.io_manager.specs.Right.{BooksPiece}
 use Rattle.compose.specs.declared.Event.{Event}
 use Rattle.compose.specs.declared.Event.TheVariants.{Open, Close, Read, Write, Flush, CancelIoEx, Mark, QueryRemove}
 use Rattle.compose.specs.declared.Event.TheVariants.{CancelRemove, Remove, SurpriseRemove, Act, Finish, Reset}
@@ -69,11 +70,15 @@ StepsKeepEntries = (trace : List Label) (entries : List Entry) (old : ManagerVie
     → IsNoAct event → IsRight old event reply new → IsJournaled trace entries old
     → IsJournaled (trace ++ new.labels) entries new
 
+-- the pieces out are those on the adapter's tags
+abbrev pub AreOnTags : ManagerView → Type 0
+AreOnTags v = IsPermutation (map piece_on_tag v.state.pieces) (map use_on_tag v.adapter.tags)
+
 -- an act on a tag where nothing can act adds no entry
 abbrev pub IdleActsKeepEntries : Type 0
 IdleActsKeepEntries = (trace : List Label) (entries : List Entry) (old : ManagerView) (tag : ℕ) (reply : Reply)
     (new : ManagerView)
-    → FitsTogether old → HasNoneFresh old.adapter tag → IsRight old (Act tag) reply new
+    → AreOnTags old → HasNoneFresh old.adapter tag → IsRight old (Act tag) reply new
     → IsJournaled trace entries old → IsJournaled (trace ++ new.labels) entries new
 
 -- what was booked is of this piece, on this tag
@@ -91,7 +96,7 @@ abbrev pub BookedActsAddEntries : Type 0
 BookedActsAddEntries = (trace : List Label) (entries : List Entry) (old booked new : ManagerView) (tag piece : ℕ)
     (what : Result Entry Completion) (reply : Reply)
     → IsBookable old.adapter tag piece what → IsOfPiece tag piece what → BooksPiece old tag piece what booked
-    → IsInOrder booked.adapter → FitsTogether booked → IsReached booked.rules booked.state
+    → IsInOrder booked.adapter → AreOnTags booked → IsReached booked.rules booked.state
     → IsRight booked (Act tag) reply new
     → IsJournaled trace entries old → IsJournaled (trace ++ new.labels) (with_entry entries what) new
 

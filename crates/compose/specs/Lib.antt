@@ -1,4 +1,5 @@
 pub mod Journaled
+pub mod Armed
 pub mod Opening
 pub mod Right
 pub mod Runs

@@ -1,5 +1,6 @@
 //! Laws of every right step, whichever event it was. A call of one of these functions gives its law to the caller.
 
+ghost use Rattle.compose.specs.Armed.{ArmedAskForPieces, BookedActsTell, IdleActsTellNothing};
 ghost use Rattle.compose.specs.Journaled.{ArmedMayBeBooked, BookedActsAddEntries, IdleActsKeepEntries};
 ghost use Rattle.compose.specs.Journaled.{StepsKeepEntries, StepsStayApart};
 ghost use Rattle.compose.specs.StepLaws.{StepsCallOnce, StepsKeepRules, StepsLeaveAnswers, StepsOpenAsTold, StepsTakeNoMemory};
@@ -55,4 +56,20 @@ pub fn armed_may_be_booked()
 /// Where an adapter's sectors stand elsewhere, they do so after each step.
 pub fn steps_stay_apart()
     ensures { StepsStayApart }
+{}
+
+/// Where acts move no arrays, what is armed on a tag is a piece of the machine: its SRB asks for the piece's places, and
+/// that of a write sends the bytes of its request, also where it will fail.
+pub fn armed_ask_for_pieces()
+    ensures { ArmedAskForPieces }
+{
+    machine_laws::acts_were_asked();
+    machine_laws::numbers_are_used_once();
+}
+
+/// The act of a piece tells one label: an act with the bytes of the entry that was booked, or a fault where a failure
+/// was. On a tag where nothing can act it tells none.
+pub fn booked_acts_tell()
+    ensures booked { BookedActsTell }
+    ensures idle { IdleActsTellNothing }
 {}

@@ -13,7 +13,8 @@
 //! answer waits, or the reply says it (`steps_leave_answers`). What opens is what `admits` told (`steps_open_as_told`). `first_answer` shows the next
 //! answer (`IsNextAnswer`), and `refuse` is the step of a refused call without its buffer (`Refuses`). Over a journal:
 //! `armed_may_be_booked`, `booked_acts_add_entries`, `steps_keep_entries`, `idle_acts_keep_entries`,
-//! `steps_stay_apart`. Not promised: an order between requests that overlap.
+//! `steps_stay_apart`, `booked_acts_tell`; what is armed asks for its piece's places, with the bytes of its request
+//! (`armed_ask_for_pieces`). Not promised: an order between requests that overlap.
 #![tactic(auto)]
 
 mod events;
@@ -25,9 +26,9 @@ use adapter::Adapter;
 use device::Label;
 pub use io_manager::{Answer, Asked, Handle, Id, OpenHandle, Refusal, Reply};
 pub use laws::{
-    armed_may_be_booked, booked_acts_add_entries, idle_acts_keep_entries, steps_call_once,
-    steps_keep_entries, steps_keep_rules, steps_leave_answers, steps_open_as_told,
-    steps_stay_apart, steps_take_no_memory,
+    armed_ask_for_pieces, armed_may_be_booked, booked_acts_add_entries, booked_acts_tell,
+    idle_acts_keep_entries, steps_call_once, steps_keep_entries, steps_keep_rules,
+    steps_leave_answers, steps_open_as_told, steps_stay_apart, steps_take_no_memory,
 };
 pub use mbr::MbrFault;
 use ntstatus::NtStatus;

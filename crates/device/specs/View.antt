@@ -1,5 +1,5 @@
 -- What a layer shows of itself.
-use Rattle.std.specs.Prelude.{◌≡◌, ◌<◌, ◌≤◌, ◌⊎◌, ℕ, ◌+◌, ◌-◌, ◌*◌, eqb, Bool, true, false, List, [], Option, Some, None, map, length, count_by, IsNone, IsTrue, IsFalse, All, Any, IsPermutation, slice_get, slice_index_or, if◌then◌else◌}
+use Rattle.std.specs.Prelude.{◌≡◌, ◌<◌, ◌≤◌, ◌⊎◌, ℕ, ◌+◌, ◌-◌, ◌*◌, eqb, Bool, true, false, List, [], ◌∷◌, Option, Some, None, map, length, count_by, IsNone, IsTrue, IsFalse, All, Any, IsPermutation, slice_get, slice_index_or, if◌then◌else◌}
 use Rattle.std.specs.List.{IsDistinct}
 use Rattle.sector.specs.declared.Extent.{Extent}
 use Rattle.sector.specs.Extents.{IsIn, sectors_in}
@@ -7,7 +7,8 @@ use Rattle.cdb.specs.declared.Cdb.{Cdb}
 use Rattle.cdb.specs.Meaning.{IsPlain, Means}
 use Rattle.srb.specs.declared.Srb.{Srb}
 use Rattle.srb.specs.declared.SrbFunction.TheVariants.{ExecuteScsi}
-use Rattle.srb.specs.Fate.{Fate}
+use Rattle.srb.specs.declared.DeviceLabel.TheVariants.{Act}
+use Rattle.srb.specs.Fate.{Fate, Fresh}
 use Rattle.adapter.specs.View.{AdapterView, TagInUse, IsInOrder}
 use Rattle.irp.specs.declared.CancelRoutine.{CancelRoutine}
 use Rattle.irp.specs.declared.MajorFunction.{MajorFunction}
@@ -24,6 +25,7 @@ use Rattle.machine.specs.declared.Request.{Request}
 use Rattle.machine.specs.Rules.{Rules, home, is_transfer, sectors_of, as_client}
 use Rattle.machine.specs.State.{OpenRequest, Piece, State}
 use Rattle.machine.specs.Sending.{command_for, is_started}
+use Rattle.machine.specs.Step.{Run, as_label}
 use Rattle.machine.specs.Settled.{IsAllSent, IsFull, IsWithin, started_count}
 use Rattle.machine.specs.Holding.{is_lower}
 use Rattle.machine.specs.Numbers.{AreDistinct, HavePlaces, request_number}
@@ -212,6 +214,12 @@ piece_on_tag piece = record { number = piece.number; tag = piece.tag; fate = pie
 abbrev pub use_on_tag : TagInUse → OnTag
 use_on_tag in_use = record { number = in_use.piece; tag = in_use.tag; fate = in_use.fate }
 
+-- where acts move no arrays, a piece that has done nothing yet may act with the bytes that its SRB has: those of a write are its
+-- request's
+abbrev pub MayAct : Rules → State → TagInUse → Type 0
+MayAct rules s in_use =
+    IsFalse rules.faithful → in_use.fate ≡ Fresh → (acted : State) × Run rules s (as_label (Act in_use.piece in_use.srb.data) ∷ []) acted
+
 -- the arrays are the adapter's sectors in the partitions, and the pieces out are those on its tags
 pub record IsRead (rules : Rules) (s : State) (adapter : AdapterView) : Type 0 where
   pub same_size : rules.sector_size ≡ adapter.sector_size
@@ -219,6 +227,7 @@ pub record IsRead (rules : Rules) (s : State) (adapter : AdapterView) : Type 0 w
   pub same_depth : rules.depth ≡ adapter.depth
   pub arrays : s.arrays ≡ map (sectors_in adapter.sectors) rules.partitions
   pub pieces : IsPermutation (map piece_on_tag s.pieces) (map use_on_tag adapter.tags)
+  pub may_act : All (MayAct rules s) adapter.tags
 
 -- a request that is neither cancelled nor started is late, or behind a window of open ones
 abbrev pub WaitsForTag : Rules → State → OpenRequest → Type 0

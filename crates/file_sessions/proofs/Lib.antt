@@ -8,7 +8,7 @@ mod Leaving
 mod Reading
 mod Handing
 mod Building
-mod Joining
+pub mod Joining
 mod Walking
 mod Moments
 mod Series

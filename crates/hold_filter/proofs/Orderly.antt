@@ -2,6 +2,11 @@
 use Rattle.hold_filter.proofs.Common.{◌≡◌, ◌<◌, ◌≤◌, ◌⊎◌, inl, inr, ℕ, ◌+◌, Bool, true, false, List, [], ◌∷◌, ◌++◌, IsDistinct, nat_tests, map-append, count_by-le-length, sum_by-cons, sum_by-append, All-append, All-map, All-weaker, All-head, All-tail, Contains-get_or, IsPermutation-append_left, OpenRequest, is_started, is_lower, IsAllSent, IsFull, started_count, HasPlaces, request_number, with_window, IsAbove, DeviceView, Packet, packet_number, packet_spot, IsOffRooms, IsOrderly, WaitsForTag, Held, TableView, packet_in, here, open_here, are_late, requests_here, state_of, view_of, packets_of, packet_below, packet_here, without, FilterKept, IsCancelled, IsAsked, spot_in}
 use Rattle.std.proofs.Common.{Some, refl, sym, subst, ap, ◌∙◌, arith, map, length, cond, get_or, eqb}
 use Rattle.std.specs.Prelude.{All, IsTrue, IsFalse, IsPermutation, count_by, ◌||◌}
+use Rattle.hold_filter.proofs.Common.{AllMayPass-above, Run-framed, State, frame_of, framed}
+use Rattle.srb.specs.declared.DeviceLabel.TheVariants.{Act}
+use Rattle.adapter.specs.View.{TagInUse}
+use Rattle.machine.specs.Step.{Run, as_label}
+use Rattle.device.specs.View.{MayAct}
 use Rattle.hold_filter.proofs.Here.{not_started, has_places, true_false}
 use Rattle.hold_filter.proofs.Rooms.{IsOn, IsOff, without_on, still_none, all_apart}
 use Rattle.hold_filter.proofs.Spots.{off_all}
@@ -135,6 +140,17 @@ module _ (stack_size : ℕ) (v : DeviceView) (b : TableView) (k : FilterKept sta
       lower_all o.number v.state.requests above in
       omega arith
 
+  -- what may act below may act here
+  act_shown : (u : TagInUse) → MayAct v.rules v.state u
+      → MayAct (with_window (Some b.window) v.rules) (state_of v b) u
+  act_shown u may apart fresh =
+      let below : (acted : State) × Run v.rules v.state (as_label (Act u.piece u.srb.data) ∷ []) acted =
+      may apart fresh in (
+        framed (frame_of v.rules b) below.0,
+        Run-framed (frame_of v.rules b) (Some b.window) v.rules v.state (Act u.piece u.srb.data ∷ []) below.0
+            (AllMayPass-above b.window (frame_of v.rules b) v.state k.holds) below.1,
+      )
+
   module _ (released : IsFalse b.paused → IsFalse b.removing → (b.held ≡ []) ⊎ (b.window ≤ length v.state.requests))
     where
       held_waits : length v.state.pieces < v.rules.depth → IsFalse v.state.removing
@@ -169,6 +185,9 @@ module _ (stack_size : ℕ) (v : DeviceView) (b : TableView) (k : FilterKept sta
           same_depth = k.ordered.read.same_depth;
           arrays = k.ordered.read.arrays;
           pieces = k.ordered.read.pieces;
+          may_act = All-weaker (MayAct v.rules v.state)
+              (MayAct (with_window (Some b.window) v.rules) (state_of v b)) act_shown v.adapter.tags
+              k.ordered.read.may_act;
         };
         distinct = k.distinct;
         places = All-append HasPlaces v.state.requests (requests_here v.rules b) k.ordered.places places_here;

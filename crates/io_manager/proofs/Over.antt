@@ -2,6 +2,8 @@
 use Rattle.std.proofs.Common.{◌≡◌, inl, inr, ℕ, Bool, List, [], ◌∷◌, Option, refl, subst, map}
 use Rattle.io_manager.proofs.Common.{All-weaker, NtStatus, Extent, IsPlain, Means, DeviceLabel, Start, Act, Fault, Return, AdapterView, Kind, Read, Write, Flush, ClientRequest, Rules, Transfers, command_for, Answers, AnswersWith, Cause, HasEnded, HasCause, Cancels, Settled, IsAllSent, HasGone, DeviceStep, Run, as_label, IsRead, as_answer, as_cancel, shown_state}
 use Rattle.machine.specs.State.{Mark, Untouched, Out, Done, Failed, Back, OpenRequest, State, IsSame}
+use Rattle.adapter.specs.View.{TagInUse}
+use Rattle.device.specs.View.{MayAct}
 use Rattle.io_manager.specs.declared.Answer.{Answer}
 
 -- two states that are the same are shown the same
@@ -182,4 +184,16 @@ module _ (most : Option ℕ) (below : Rules) where
   }
 
   pub read_over : (next : ℕ) (removed : Bool) (s : State) (adapter : AdapterView) → IsRead below s adapter → IsRead over (shown_state next removed s) adapter
-  read_over next removed s adapter h = record { same_size = h.same_size; same_sectors = h.same_sectors; same_depth = h.same_depth; arrays = h.arrays; pieces = h.pieces }
+  read_over next removed s adapter h = record {
+    same_size = h.same_size;
+    same_sectors = h.same_sectors;
+    same_depth = h.same_depth;
+    arrays = h.arrays;
+    pieces = h.pieces;
+    may_act = All-weaker (MayAct below s) (MayAct over (shown_state next removed s)) act_over adapter.tags h.may_act;
+  }
+    where
+      act_over : (u : TagInUse) → MayAct below s u → MayAct over (shown_state next removed s) u
+      act_over u may apart fresh =
+          let b : (acted : State) × Run below s (as_label (Act u.piece u.srb.data) ∷ []) acted = may apart fresh in
+          (shown_state next removed b.0, labels_over next removed (Act u.piece u.srb.data ∷ []) s b.0 b.1)

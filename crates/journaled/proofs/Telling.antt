@@ -103,7 +103,7 @@ module _ (idle : IdleActsKeepEntries) (adds : BookedActsAddEntries) (may : Armed
           run = on.run;
           journaled =
               subst (λ (es : List Entry). IsJournaled (trace ++ new.labels) es new) (sym it.entries)
-              (adds trace (entries_of before) old booked new tag has.piece has.what reply it.bookable it.of_piece has.books order fits reached right told.journaled);
+              (adds trace (entries_of before) old booked new tag has.piece has.what reply it.bookable it.of_piece has.books order fits.read.pieces reached right told.journaled);
         }
 
   module _ (none : HasNoneToBook old before tag booked after) where
@@ -120,7 +120,7 @@ module _ (idle : IdleActsKeepEntries) (adds : BookedActsAddEntries) (may : Armed
           run = on.run;
           journaled =
               subst (λ (es : List Entry). IsJournaled (trace ++ new.labels) es new) (sym (ap entries_of none.same_journal))
-              (idle trace (entries_of before) booked tag reply new fits still_none right was);
+              (idle trace (entries_of before) booked tag reply new fits.read.pieces still_none right was);
         }
 
   pub act_told : BooksArmed old before tag booked after → TellsOn (over old before) (over new after)

@@ -1,6 +1,7 @@
 -- Entries that are of the acts of a trace by its labels are so by its run.
 use Rattle.std.proofs.Common.{◌≡◌, ◌≢◌, ◌<◌, ◌≤◌, inl, inr, ℕ, zero, suc, ◌+◌, Bool, true, false, IsTrue, List, [], ◌∷◌, Option, Some, None, refl, sym, ◌∙◌, ap, subst, arith, get_or, if◌then◌else◌}
 use Rattle.machine_laws.proofs.Common.{IsPermutation, All, Contains, is_none, unwrap_or, IsPermutation-sym, All-permutation, All-nil, All-head, All-tail, All-cons, All-weaker, All-contains, All-contains_itself, NtStatus, InvalidHandle, none_first, Extent, Read10, Write10, Sync10, Read16, Write16, Sync16, Means, means_once, Entry, Kind, Read, Write, Flush, Start, Act, Fault, Return, Fate, Acted, Faulted, ClientRequest, Label, Call, Device, Answer, Cancel, Pause, Resume, Remove, Surprise, Removed, Rules, is_transfer, first_sector, home, Mark, Done, OpenRequest, Piece, State, opening, refusal, Admits, Starts, Acts, new_piece, with_fate, command_for, request_number, AreDistinct, IsGiven, Step, Run, distinct_first, IsEntryOf, StepTakes, AreActsOf, IsTransfer, IsAskedBy, IsOfAct, TakesEntry, AreOfActs, EntriesAreOfRuns}
+use Rattle.machine_laws.specs.NumberLaws.{StartsOnce}
 use Rattle.machine_laws.proofs.Opened.{brings_step}
 use Rattle.machine_laws.proofs.Serving.{IsRightMark, IsRightFate, IsMine, PieceFits, Serves, Serves-Step}
 use Rattle.machine_laws.proofs.Sound.{Anything, IsSound, IsSound-Step, IsSound-opening, act_anyhow}
@@ -112,6 +113,11 @@ said_once rules s (label ∷ labels) s' (mid, step, rest) piece tag tag' block b
     absurd (never_behind mid.next_piece piece tag block labels (starts_from rules mid labels s' rest) (above_next rules s label mid piece tag' block' is' step) (k, omega (arith, low), is))
 said_once rules s (label ∷ labels) s' (mid, step, rest) piece tag tag' block block' (suc k, low, is) (suc k', low', is') =
     said_once rules mid labels s' rest piece tag tag' block block' (k, omega (arith, low), is) (k', omega (arith, low'), is')
+
+pub starts_once : StartsOnce
+starts_once rules s labels s' run piece tag other block same one two =
+    let e : said (Device (Start piece tag block)) ≡ said (Device (Start piece other same)) = said_once rules s labels s' run piece tag other block same one two in
+    (ap (λ (x : Said). x.tag) e, ap (λ (x : Said). x.block) e)
 
 -- EACH OPEN REQUEST HAS A PARTITION
 

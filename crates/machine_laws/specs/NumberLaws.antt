@@ -3,7 +3,8 @@ use Rattle.std.specs.Prelude.{◌≡◌, ◌≢◌, ℕ, ◌+◌, List, [], ◌�
 use Rattle.ntstatus.specs.declared.NtStatus.{NtStatus}
 use Rattle.machine.specs.declared.ClientRequest.{ClientRequest}
 use Rattle.machine.specs.declared.Label.{Label}
-use Rattle.machine.specs.declared.Label.TheVariants.{Call, Answer}
+use Rattle.srb.specs.declared.DeviceLabel.TheVariants.{Start}
+use Rattle.machine.specs.declared.Label.TheVariants.{Call, Device, Answer}
 use Rattle.machine.specs.Rules.{Rules}
 use Rattle.machine.specs.State.{Owed, State}
 use Rattle.machine.specs.Numbers.{AreDistinct, request_number}
@@ -30,6 +31,11 @@ CallsOnce = (rules : Rules) (s : State) (before : List Label) (r : ℕ) (q : Cli
 abbrev pub AnswersOnce : Type 0
 AnswersOnce = (rules : Rules) (s : State) → AreDistinct s → IsNone s.owed → (before : List Label) (r : ℕ) (status : NtStatus) (informed : ℕ) (bytes : List ℕ) (after : List Label) (s' : State)
     → Run rules s (before ++ Answer r status informed bytes ∷ after) s' → All (IsNoAnswerOf r) after
+
+-- no piece starts twice: two starts of one piece say the same
+abbrev pub StartsOnce : Type 0
+StartsOnce = (rules : Rules) (s : State) (labels : List Label) (s' : State) → Run rules s labels s' → (piece tag other : ℕ) (block same : List ℕ)
+    → Contains labels (Device (Start piece tag block)) → Contains labels (Device (Start piece other same)) → (tag ≡ other) × (block ≡ same)
 
 -- NUMBERS RISE
 

@@ -35,6 +35,7 @@ ghost use Rattle.machine_laws.specs.NumberLaws.{
   CallsCount,
   CallsOnce,
   CallsRise,
+  StartsOnce,
 };
 ghost use Rattle.machine_laws.specs.Reached.{OpeningsAreReached, RunsGoOn, RunsSplit};
 ghost use Rattle.machine_laws.specs.SoloLaws.{
@@ -113,10 +114,11 @@ pub fn removed_is_last()
 {}
 
 /// In every run each number is given to one call; from a state where nothing is owed and the open requests have numbers
-/// of their own, no call is answered twice.
+/// of their own, no call is answered twice. No piece starts twice.
 pub fn numbers_are_used_once()
     ensures calls { CallsOnce }
     ensures answers { AnswersOnce }
+    ensures starts { StartsOnce }
 {}
 
 /// In every run each call takes the next number, and no other label takes one.

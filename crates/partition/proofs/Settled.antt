@@ -2,7 +2,11 @@
 use Rattle.partition.proofs.Common.{◌≡◌, ◌<◌, inl, inr, ℕ, ◌+◌, ◌-◌, cond, List, [], ◌∷◌, refl, sym, ◌∙◌, ap, subst, arith, map, length, take, drop, eqb, IsDistinct, take-length, sum_by-cons, IsPermutation-sym, IsDistinct-IsPermutation, All-map, All-weaker, Extent, AdapterView, Rules, Mark, Untouched, Out, Done, Failed, Back, OpenRequest, State, is_started, array_at, Settled, IsHeld, HasGone, WaitsIfCancelled, Waits, IsAllSent, IsHeldBack, HasMore, IsAtWork, IsFull, is_lower, AreDistinct, IsGiven, HasPlaces, request_number, sectors_in, flips, DeviceView, Packet, IsRead, IsSending, WaitsForTag, IsOrderly, IsOffRooms, packet_number, packet_spot, rules_over, as_called, on_partitions, packet_above, view_of, IsWholeDisk, IsOnDisk}
 use Rattle.std.specs.Prelude.{◌⊎◌, All, IsPermutation, count_by}
 use Rattle.partition.proofs.Noted.{maps_are}
-use Rattle.partition.proofs.Steps.{Stands}
+use Rattle.srb.specs.declared.DeviceLabel.TheVariants.{Act}
+use Rattle.adapter.specs.View.{TagInUse}
+use Rattle.machine.specs.Step.{Run, as_label}
+use Rattle.device.specs.View.{MayAct}
+use Rattle.partition.proofs.Steps.{Run-over, Stands}
 
 -- all of a list
 whole_list : {X : Type 0} (xs : List X) → take (0 + length xs - 0) (drop 0 xs) ≡ xs
@@ -117,14 +121,20 @@ module _ (below : Rules) (table : List Extent) (packets : List Packet) where
   }
 
   -- the partitions' sectors are read from the adapter's as the disk's are
-  IsRead-over : (s : State) (adapter : AdapterView) → IsWholeDisk below → IsRead below s adapter → IsRead over (up s) adapter
-  IsRead-over s adapter whole h = record {
+  IsRead-over : (s : State) (adapter : AdapterView) → IsWholeDisk below → Stands below table packets s → IsRead below s adapter → IsRead over (up s) adapter
+  IsRead-over s adapter whole k h = record {
     same_size = h.same_size;
     same_sectors = h.same_sectors;
     same_depth = h.same_depth;
     arrays = ap (λ arrays. map (sectors_in (array_at arrays 0)) table) (disk_is below s adapter whole h);
     pieces = h.pieces;
+    may_act = All-weaker (MayAct below s) (MayAct over (up s)) act_over adapter.tags h.may_act;
   }
+    where
+      act_over : (u : TagInUse) → MayAct below s u → MayAct over (up s) u
+      act_over u may apart fresh =
+          let b : (acted : State) × Run below s (as_label (Act u.piece u.srb.data) ∷ []) acted = may apart fresh in
+          (up b.0, (Run-over below table packets (Act u.piece u.srb.data ∷ []) s b.0 k b.1).0)
 
   numbers_are : (requests : List OpenRequest) → map request_number (map as_up requests) ≡ map request_number requests
   numbers_are requests = maps_are as_up request_number request_number (λ o. refl) requests
@@ -141,7 +151,7 @@ module _ (below : Rules) (table : List Extent) (packets : List Packet) where
 pub IsOrderly-over : (table : List Extent) (v : DeviceView) → IsOnDisk table v → IsOrderly v → IsOrderly (view_of table v)
 IsOrderly-over table v k o = record {
   adapter = o.adapter;
-  read = IsRead-over v.rules table v.packets v.state v.adapter k.whole o.read;
+  read = IsRead-over v.rules table v.packets v.state v.adapter k.whole (stands table v k o) o.read;
   distinct = AreDistinct-over v.rules table v.packets v.state o.distinct;
   places = each v.rules table v.packets HasPlaces HasPlaces (λ o some. some) v.state.requests o.places;
   packets =

@@ -23,3 +23,4 @@ mod Places
 mod Spoiling
 mod Sound
 mod Seeing
+mod MayAct

@@ -30,6 +30,7 @@ use Rattle.port.proofs.Tags.{all_in_use}
 use Rattle.port.proofs.Sizing.{places_some}
 use Rattle.port.proofs.Opening.{untouched_all, started_by, ended_started, true_false}
 use Rattle.port.proofs.Starting.{kept_sector_some}
+use Rattle.port.proofs.MayAct.{all_may_act}
 
 -- a fact of each open request, by where its packet is
 pub all_three : (b : TableView) (v : AdapterView) (P : OpenRequest → Type 0) → All (λ h. P (waiting_open (rules_of b.sizes) h)) b.waiting → All (λ u. P (open_on (rules_of b.sizes) b.started u)) v.tags
@@ -134,6 +135,7 @@ in_hand b v rooms k busy = record {
       same_depth = k.sizes.depth;
       arrays = refl;
       pieces = subst (λ xs. IsPermutation (map piece_on_tag (map (piece_on (rules_of b.sizes) b.started) v.tags)) xs) (maps_are (piece_on (rules_of b.sizes) b.started) piece_on_tag use_on_tag (λ u. refl) v.tags) (IsPermutation-refl _);
+      may_act = all_may_act b v rooms k;
     };
     distinct = k.distinct;
     places = have_places b v rooms k;

@@ -6,7 +6,7 @@ use Rattle.srb.specs.declared.Kind.{Kind}
 use Rattle.srb.specs.declared.Kind.TheVariants.{Read, Write, Flush}
 use Rattle.machine.specs.declared.Request.{Request}
 use Rattle.machine.specs.Rules.{Rules, is_transfer, as_client, place_count}
-use Rattle.machine.specs.Sending.{command_for, write_command}
+use Rattle.machine.specs.Sending.{command_for, read_command, write_command}
 use Rattle.srb.specs.declared.Srb.{Srb}
 use Rattle.device.specs.View.{AsksFor, IsBounded, whole_command, transfer_length}
 use Rattle.device.proofs.Bounded.{by_kind, sectors_are}
@@ -46,6 +46,14 @@ same_command rules r bytes Flush e = refl
 
 pub whole_write : (sizes : Sizes) (r : Request) → 0 < sizes.sector_size → IsBounded (rules_of sizes) r → r.kind ≡ Write → whole_command (rules_of sizes) r ≡ write_command r.extent.first r.extent.count r.through
 whole_write sizes r some b is =
+    let v = volume_zero sizes r b in
+    let count : (r.extent.count * sizes.sector_size) / sizes.sector_size ≡ r.extent.count = sectors_are _ _ some in
+    let first : (r.extent.first * sizes.sector_size) / sizes.sector_size ≡ r.extent.first = sectors_are _ _ some in
+    let z : 0 + (r.extent.first + 0) ≡ r.extent.first = omega arith in
+    rw (is, v, count, first, z) refl
+
+pub whole_read : (sizes : Sizes) (r : Request) → 0 < sizes.sector_size → IsBounded (rules_of sizes) r → r.kind ≡ Read → whole_command (rules_of sizes) r ≡ read_command r.extent.first r.extent.count r.through
+whole_read sizes r some b is =
     let v = volume_zero sizes r b in
     let count : (r.extent.count * sizes.sector_size) / sizes.sector_size ≡ r.extent.count = sectors_are _ _ some in
     let first : (r.extent.first * sizes.sector_size) / sizes.sector_size ≡ r.extent.first = sectors_are _ _ some in

@@ -1,13 +1,29 @@
 -- A stack over a storage before its first event.
 use Rattle.serving.proofs.Common.{◌≡◌, ℕ, false, List, [], Result, Ok, length, map, refl, sym, ap, subst, ◌∙◌, All, All-nil, sectors_in, AdapterView, TagInUse, Extent, Rules, State, IsSame, opening, IsSame-refl, MbrFault, told_by, Config, extents_of, ManagerView, IsStartedUse, first_rules, limits_of, rules_over, DiskView, IsTold, StandsIn, quiet, IsStartedOver}
+use Rattle.std.specs.Prelude.{◌≤◌, Some, IsFalse}
+use Rattle.machine.specs.Rules.{sectors_of}
+use Rattle.machine.specs.Sending.{array_at}
+use Rattle.machine_laws.specs.Reached.{AreWhole, IsReached, OpeningsAreReached}
+use Rattle.machine_laws.specs.WriteLaws.{RunsKeepLengths}
 
 module _ (c : Config) (table : List ℕ) (stack : ManagerView) (started : IsStartedOver c table stack) where
   -- the arrays that its run starts from
   abbrev pub first_arrays : List (List (List ℕ))
   first_arrays = map (sectors_in started.disk.sectors) started.first.partitions
 
-  pub told_at_first : IsTold first_arrays [] [] (quiet stack)
-  told_at_first = record {
+  -- they have the sectors of their partitions
+  pub whole_at_first : RunsKeepLengths → OpeningsAreReached → IsReached stack.rules stack.state → AreWhole stack.rules first_arrays
+  whole_at_first keeps opens reached p =
+      let opened : IsReached stack.rules (opening reached.arrays) = opens stack.rules reached.arrays reached.whole in
+      let same : length (array_at stack.state.arrays p) ≡ length (array_at reached.arrays p) = (keeps stack.rules (opening reached.arrays) reached.labels stack.state opened reached.run).sectors p in
+      let first : stack.state.arrays ≡ first_arrays = ap (λ (s : State). s.arrays) started.first.state in
+      subst (λ (n : ℕ). sectors_of stack.rules (Some p) ≤ n) (sym same ∙ ap (λ (arrays : List (List (List ℕ))). length (array_at arrays p)) first) (reached.whole p)
+
+  pub told_at_first : IsFalse stack.rules.faithful → AreWhole stack.rules first_arrays → IsTold first_arrays [] [] (quiet stack)
+  told_at_first apart whole = record {
+    apart = apart;
+    whole = whole;
+    did = (subst (λ (s : State). IsSame (opening first_arrays) s) (sym started.first.state) (IsSame-refl (opening first_arrays)), refl);
     run = subst (λ (s : State). IsSame (opening first_arrays) s) (sym started.first.state) (IsSame-refl (opening first_arrays));
     journaled = record {
       of_acts = refl;

@@ -5,6 +5,12 @@ use Rattle.io_manager.specs.declared.Reply.TheVariants.{Handle as HandleReply, O
 use Rattle.io_manager.specs.Right.{ActReplies, BooksPiece, FinishReplies, FitsTogether, HasNoneFresh as HasNoneFreshIn, IsOfAnother, IsRight as IsRightCall, IsRightBy, TakesAnswerOf, Told, TransferReplies, as_answer, end_labels, labels_of, tells_nothing}
 use Rattle.srb.specs.declared.Kind.TheVariants.{Read as ReadKind, Write as WriteKind, Flush as FlushKind}
 use Rattle.compose.specs.Journaled.{ArmedMayBeBooked, BookedActsAddEntries, IdleActsKeepEntries, StepsKeepEntries, StepsStayApart, IsJournaled, IsNoAct, IsOfPiece as IsOfTags, with_entry}
+use Rattle.machine_laws.specs.Reached.{AreWhole}
+use Rattle.compose.specs.Armed.{ArmedAskForPieces, AsksForPiece, BookedActsTell, IdleActsTellNothing, label_booked}
+use Rattle.file_sessions.specs.Deeds.{DeedRun, HasFailed, HasMoved, IsDeedOf}
+use Rattle.file_sessions.proofs.Joining.{acts_with_one, deed_runs_join, faults_with_one, runs_with_none}
+use Rattle.file_sessions.specs.Runs.{HasNoDeed}
+use Rattle.serving.proofs.Undone.{Undoes, no_deeds, transfer_undoes}
 use Rattle.serving.proofs.Called.{IsCalled, called}
 use Rattle.serving.proofs.Steady.{IsNoAnswerTo, act_steady, asked_steady, called_unanswered, finish_steady}
 
@@ -35,7 +41,7 @@ restand v disk s = record { apart = s.apart; sector_size = s.sector_size; sector
 
 -- PIECES
 
-files_append : (a b c : DiskView) (xs ys : List Deed) → Files a xs b → Files b ys c → Files a (xs ++ ys) c
+pub files_append : (a b c : DiskView) (xs ys : List Deed) → Files a xs b → Files b ys c → Files a (xs ++ ys) c
 files_append a b c [] ys h k = subst (λ (d : DiskView). Files d ys c) h k
 files_append a b c (x ∷ xs) ys h k = (h.0, h.1, files_append h.0 b c xs ys h.2 k)
 
@@ -53,20 +59,20 @@ of_tags tag piece (Err completion) h = tt
 
 -- WHAT IS TOLD
 
-tells_nothing_more : (v : ManagerView) → TellsOn v [] [] v
+pub tells_nothing_more : (v : ManagerView) → TellsOn v [] [] v
 tells_nothing_more v arrays trace before told =
-    subst (λ (ls : List Label). IsTold arrays ls (before ++ []) v) (sym (append-nil trace)) (subst (λ (es : List Entry). IsTold arrays trace es v) (sym (append-nil before)) told)
+    subst (λ (ls : List Label). IsTold arrays ls (before ++ []) v) (sym (append-nil trace)) (subst (λ (ds : List Deed). IsTold arrays trace ds v) (sym (append-nil before)) told)
 
-pub tells_more : (old mid new : ManagerView) (ls ls' : List Label) (es es' : List Entry) → TellsOn old ls es mid → TellsOn mid ls' es' new → TellsOn old (ls ++ ls') (es ++ es') new
+pub tells_more : (old mid new : ManagerView) (ls ls' : List Label) (es es' : List Deed) → TellsOn old ls es mid → TellsOn mid ls' es' new → TellsOn old (ls ++ ls') (es ++ es') new
 tells_more old mid new ls ls' es es' one two arrays trace before told =
     subst (λ (x : List Label). IsTold arrays x (before ++ (es ++ es')) new) (append_assoc trace ls ls')
-    (subst (λ (x : List Entry). IsTold arrays ((trace ++ ls) ++ ls') x new) (append_assoc before es es') (two arrays (trace ++ ls) (before ++ es) (one arrays trace before told)))
+    (subst (λ (x : List Deed). IsTold arrays ((trace ++ ls) ++ ls') x new) (append_assoc before es es') (two arrays (trace ++ ls) (before ++ es) (one arrays trace before told)))
 
 -- labels that were taken say nothing
-relabelled : (old new : ManagerView) (ls : List Label) (es : List Entry) → TellsOn old ls es new → TellsOn old ls es (record new { labels = [] })
+relabelled : (old new : ManagerView) (ls : List Label) (es : List Deed) → TellsOn old ls es new → TellsOn old ls es (record new { labels = [] })
 relabelled old new ls es h arrays trace before told =
     let it : IsTold arrays (trace ++ ls) (before ++ es) new = h arrays trace before told in
-    record { run = it.run; journaled = record { of_acts = it.journaled.of_acts; started = it.journaled.started } }
+    record { apart = it.apart; whole = it.whole; run = it.run; did = it.did; journaled = record { of_acts = it.journaled.of_acts; started = it.journaled.started } }
 
 -- STEPS IN A ROW
 
@@ -101,8 +107,7 @@ Goes-trans old mid new a b = record {
       Run-append old.stack.rules old.stack.state a.labels mid.stack.state b.labels new.stack.state a.run
       (subst (λ (rules : Rules). Run rules mid.stack.state b.labels new.stack.state) a.same_rules b.run);
   told =
-      subst (λ (es : List Entry). TellsOn old.stack (a.labels ++ b.labels) es new.stack) (sym (entries_append a.deeds b.deeds))
-      (tells_more old.stack mid.stack new.stack a.labels b.labels (entries_of a.deeds) (entries_of b.deeds) a.told b.told);
+      tells_more old.stack mid.stack new.stack a.labels b.labels a.deeds b.deeds a.told b.told;
   files = files_append old.disk mid.disk new.disk a.deeds b.deeds a.files b.files;
   untaken =
       let e : answers_of (a.labels ++ b.labels) ≡ answers_of a.labels ++ answers_of b.labels = answers-append a.labels b.labels in
@@ -119,6 +124,18 @@ Goes-trans old mid new a b = record {
 run_of : (old booked new : ManagerView) (reset : Bool) (t : Told) → booked.rules ≡ old.rules → booked.state ≡ old.state → IsRightBy reset t booked new → Run old.rules old.state new.labels new.state
 run_of old booked new reset t rules state by =
     subst (λ (s : State). Run old.rules s new.labels new.state) state (subst (λ (r : Rules). Run r booked.state new.labels new.state) rules by.run)
+
+did_on : (old new : ManagerView) (ds : List Deed) → new.rules ≡ old.rules → DeedRun old.rules old.state new.labels new.state ds
+    → (arrays : List (List (List ℕ))) (trace : List Label) (before : List Deed) → DeedRun old.rules (opening arrays) trace old.state before → DeedRun new.rules (opening arrays) (trace ++ new.labels) new.state (before ++ ds)
+did_on old new ds same step arrays trace before did =
+    subst (λ (r : Rules). DeedRun r (opening arrays) (trace ++ new.labels) new.state (before ++ ds)) (sym same)
+    (deed_runs_join old.rules (opening arrays) trace old.state before new.labels new.state ds did step)
+
+apart_on : (old new : ManagerView) → new.rules ≡ old.rules → IsFalse old.rules.faithful → IsFalse new.rules.faithful
+apart_on old new same apart = subst (λ (r : Rules). IsFalse r.faithful) (sym same) apart
+
+whole_on : (old new : ManagerView) (arrays : List (List (List ℕ))) → new.rules ≡ old.rules → AreWhole old.rules arrays → AreWhole new.rules arrays
+whole_on old new arrays same whole = subst (λ (r : Rules). AreWhole r arrays) (sym same) whole
 
 run_on : (old new : ManagerView) → new.rules ≡ old.rules → Run old.rules old.state new.labels new.state
     → (arrays : List (List (List ℕ))) (trace : List Label) → Run old.rules (opening arrays) trace old.state → Run new.rules (opening arrays) (trace ++ new.labels) new.state
@@ -198,10 +215,13 @@ module _ (keep : StepsKeepEntries) (apart : StepsStayApart) (old new : ManagerVi
   step : Run old.rules old.state new.labels new.state
   step = run_of old old new by.reset by.told refl refl by.by
 
-  pub others_told : TellsOn old new.labels [] (record new { labels = [] })
-  others_told = relabelled old new new.labels [] (λ arrays trace before told. record {
+  pub others_told : Undoes event → TellsOn old new.labels [] (record new { labels = [] })
+  others_told undoes = relabelled old new new.labels [] (λ arrays trace before told. record {
+    apart = apart_on old new by.by.same_rules told.apart;
+    whole = whole_on old new arrays by.by.same_rules told.whole;
     run = run_on old new by.by.same_rules step arrays trace told.run;
-    journaled = subst (λ (es : List Entry). IsJournaled (trace ++ new.labels) es new) (sym (append-nil before)) (keep trace before old event reply new other right told.journaled);
+    did = did_on old new [] by.by.same_rules (runs_with_none old.rules old.state new.labels new.state (no_deeds old event reply new undoes right) step) arrays trace before told.did;
+    journaled = subst (λ (ds : List Deed). IsJournaled (trace ++ new.labels) (entries_of ds) new) (sym (append-nil before)) (keep trace (entries_of before) old event reply new other right told.journaled);
   })
 
   pub others_stand : (disk : DiskView) → StandsIn old disk → StandsIn (record new { labels = [] }) disk
@@ -211,9 +231,9 @@ module _ (keep : StepsKeepEntries) (apart : StepsStayApart) (old new : ManagerVi
     sectors = s.sectors ∙ ap (λ (r : Rules). r.disk_sectors) (sym by.by.same_rules);
   }
 
-  pub others_go : (disk : DiskView) → All IsQuiet new.labels → new.handles ≡ old.handles → new.state.paused ≡ old.state.paused → IsPermutation (map as_answer new.answers) (answers_of new.labels ++ map as_answer old.answers)
+  pub others_go : (disk : DiskView) → Undoes event → All IsQuiet new.labels → new.handles ≡ old.handles → new.state.paused ≡ old.state.paused → IsPermutation (map as_answer new.answers) (answers_of new.labels ++ map as_answer old.answers)
       → Goes (over old disk) (over (record new { labels = [] }) disk)
-  others_go disk all_quiet handles paused untaken = record {
+  others_go disk undoes all_quiet handles paused untaken = record {
     labels = new.labels;
     all_quiet = all_quiet;
     deeds = [];
@@ -221,14 +241,14 @@ module _ (keep : StepsKeepEntries) (apart : StepsStayApart) (old new : ManagerVi
     same_handles = handles;
     same_paused = paused;
     run = step;
-    told = others_told;
+    told = others_told undoes;
     files = refl;
     untaken = untaken;
     stands = others_stand disk;
   }
 
 pub finish_goes : StepsKeepEntries → StepsStayApart → (old new : ManagerView) (disk : DiskView) (tag : ℕ) (reply : Reply) → IsRight old (Finish tag) reply new → Goes (over old disk) (over (record new { labels = [] }) disk)
-finish_goes keep apart old new disk tag reply right = others_go keep apart old new (Finish tag) reply tt right disk (finish_quiet old new tag reply right) (finish_handles old new tag reply right) (finish_steady old new tag reply right) (finish_untaken old new tag reply right)
+finish_goes keep apart old new disk tag reply right = others_go keep apart old new (Finish tag) reply tt right disk tt (finish_quiet old new tag reply right) (finish_handles old new tag reply right) (finish_steady old new tag reply right) (finish_untaken old new tag reply right)
 
 -- AN ACT
 
@@ -239,7 +259,7 @@ booked_apart old new tag piece what books apart = subst (λ (v : AdapterView). I
     by_choice true = apart
     by_choice false = apart
 
-module _ (idle : IdleActsKeepEntries) (adds : BookedActsAddEntries) (may : ArmedMayBeBooked) (apart : StepsStayApart)
+module _ (idle : IdleActsKeepEntries) (adds : BookedActsAddEntries) (may : ArmedMayBeBooked) (tells : BookedActsTell) (silent : IdleActsTellNothing) (asks : ArmedAskForPieces) (apart : StepsStayApart)
     (old booked new : ManagerView) (before after : DiskView) (tag : ℕ) (reply : Reply) (stands : StandsIn old before) (fits_old : FitsTogether old)
     (order : IsInOrder booked.adapter) (fits : FitsTogether booked) (reached : IsReached booked.rules booked.state) (right : IsRight booked (Act tag) reply new) where
   size_is : before.sector_size ≡ old.adapter.sector_size
@@ -270,18 +290,46 @@ module _ (idle : IdleActsKeepEntries) (adds : BookedActsAddEntries) (may : Armed
     suits_it : Suits old.adapter.sector_size (length old.adapter.sectors) has.srb has.what
     suits_it = subst (λ (n : ℕ). Suits n (length old.adapter.sectors) has.srb has.what) size_is (subst (λ (n : ℕ). Suits before.sector_size n has.srb has.what) count_is has.suits)
 
-    bookable : (arrays : List (List (List ℕ))) (trace : List Label) (entries : List Entry) → IsTold arrays trace entries old → IsBookable old.adapter tag has.piece has.what
-    bookable arrays trace entries told = may arrays trace entries old tag has.piece has.srb has.what told.run told.journaled stands.apart has.armed suits_it
+    bookable : (arrays : List (List (List ℕ))) (trace : List Label) (deeds : List Deed) → IsTold arrays trace deeds old → IsBookable old.adapter tag has.piece has.what
+    bookable arrays trace deeds told = may arrays trace (entries_of deeds) old tag has.piece has.srb has.what told.run told.journaled stands.apart has.armed suits_it
 
     abbrev deed : Deed
     deed = record { tag = tag; piece = has.piece; srb = has.srb; what = has.what }
 
-    booked_told : TellsOn old new.labels (entries_of (deed ∷ [])) (record new { labels = [] })
-    booked_told = relabelled old new new.labels (entries_of (deed ∷ [])) (λ arrays trace entries told. record {
+    -- the deed is of the piece that was armed
+    deed_is : (arrays : List (List (List ℕ))) (trace : List Label) (deeds : List Deed) → IsTold arrays trace deeds old → IsDeedOf old.rules old.state has.piece deed
+    deed_is arrays trace deeds told =
+        let of : AsksForPiece old.rules old.state has.piece has.srb = asks arrays trace (entries_of deeds) old tag has.piece has.srb told.whole told.run told.journaled fits_old told.apart has.armed in
+        record {
+          piece = of.piece;
+          owner = of.owner;
+          is_number = of.is_number;
+          at_work = record { out = record { is_number = refl; is_out = of.is_out; is_open = of.is_open; is_owner = of.is_owner }; fresh = of.is_fresh };
+          asks = of.asks;
+          sends = of.sends;
+        }
+
+    -- its one label has it
+    did_by : (what : Result Entry Completion) → has.what ≡ what → IsDeedOf old.rules old.state has.piece deed → Run old.rules old.state (label_booked has.piece what ∷ []) new.state
+        → DeedRun old.rules old.state (label_booked has.piece what ∷ []) new.state (deed ∷ [])
+    did_by (Ok entry) is of run = acts_with_one old.rules old.state has.piece entry.bytes new.state deed run of (subst (λ (x : Result Entry Completion). HasMoved entry.bytes x) (sym is) refl)
+    did_by (Err completion) is of run = faults_with_one old.rules old.state has.piece new.state deed run of (subst (λ (x : Result Entry Completion). HasFailed x) (sym is) tt)
+
+    did_one : (arrays : List (List (List ℕ))) (trace : List Label) (deeds : List Deed) → IsTold arrays trace deeds old → DeedRun old.rules old.state new.labels new.state (deed ∷ [])
+    did_one arrays trace deeds told =
+        let one : new.labels ≡ label_booked has.piece has.what ∷ [] = tells old booked new tag has.piece has.what reply (bookable arrays trace deeds told) has.books order fits.read.pieces reached right in
+        subst (λ (ls : List Label). DeedRun old.rules old.state ls new.state (deed ∷ [])) (sym one)
+        (did_by has.what refl (deed_is arrays trace deeds told) (subst (λ (ls : List Label). Run old.rules old.state ls new.state) one step_of))
+
+    booked_told : TellsOn old new.labels (deed ∷ []) (record new { labels = [] })
+    booked_told = relabelled old new new.labels (deed ∷ []) (λ arrays trace deeds told. record {
+      apart = apart_on old new new_rules told.apart;
+      whole = whole_on old new arrays new_rules told.whole;
       run = run_on old new new_rules step_of arrays trace told.run;
+      did = did_on old new (deed ∷ []) new_rules (did_one arrays trace deeds told) arrays trace deeds told.did;
       journaled =
-          subst (λ (es : List Entry). IsJournaled (trace ++ new.labels) es new) (one_entry entries has.what)
-          (adds trace entries old booked new tag has.piece has.what reply (bookable arrays trace entries told) (of_tags tag has.piece has.what has.of_piece) has.books order fits reached right told.journaled);
+          subst (λ (es : List Entry). IsJournaled (trace ++ new.labels) es new) (one_entry (entries_of deeds) has.what ∙ sym (entries_append deeds (deed ∷ [])))
+          (adds trace (entries_of deeds) old booked new tag has.piece has.what reply (bookable arrays trace deeds told) (of_tags tag has.piece has.what has.of_piece) has.books order fits.read.pieces reached right told.journaled);
     })
 
     booked_goes : Goes (over old before) (over (record new { labels = [] }) after)
@@ -314,11 +362,14 @@ module _ (idle : IdleActsKeepEntries) (adds : BookedActsAddEntries) (may : Armed
     still_none = subst (λ (v : ManagerView). HasNoneFresh v.adapter tag) (sym none.same_stack) none.none
 
     idle_told : TellsOn old new.labels [] (record new { labels = [] })
-    idle_told = relabelled old new new.labels [] (λ arrays trace entries told. record {
+    idle_told = relabelled old new new.labels [] (λ arrays trace deeds told. record {
+      apart = apart_on old new idle_new told.apart;
+      whole = whole_on old new arrays idle_new told.whole;
       run = run_on old new idle_new idle_step arrays trace told.run;
+      did = did_on old new [] idle_new (runs_with_none old.rules old.state new.labels new.state (subst (λ (ls : List Label). All HasNoDeed ls) (sym (silent booked tag reply new fits.read.pieces still_none right)) (All-nil HasNoDeed)) idle_step) arrays trace deeds told.did;
       journaled =
-          subst (λ (es : List Entry). IsJournaled (trace ++ new.labels) es new) (sym (append-nil entries))
-          (idle trace entries booked tag reply new fits still_none right (subst (λ (v : ManagerView). IsJournaled trace entries v) (sym none.same_stack) told.journaled));
+          subst (λ (ds : List Deed). IsJournaled (trace ++ new.labels) (entries_of ds) new) (sym (append-nil deeds))
+          (idle trace (entries_of deeds) booked tag reply new fits.read.pieces still_none right (subst (λ (v : ManagerView). IsJournaled trace (entries_of deeds) v) (sym none.same_stack) told.journaled));
     })
 
     idle_goes : Goes (over old before) (over (record new { labels = [] }) after)
@@ -345,10 +396,10 @@ module _ (idle : IdleActsKeepEntries) (adds : BookedActsAddEntries) (may : Armed
 -- A REQUEST
 
 -- answers that wait say nothing of what was told
-reanswered : (old new : ManagerView) (before after : List Answer) (ls : List Label) (es : List Entry) → TellsOn (record old { answers = before }) ls es new → TellsOn old ls es (record new { answers = after })
+reanswered : (old new : ManagerView) (before after : List Answer) (ls : List Label) (es : List Deed) → TellsOn (record old { answers = before }) ls es new → TellsOn old ls es (record new { answers = after })
 reanswered old new before after ls es h arrays trace was told =
-    let it : IsTold arrays (trace ++ ls) (was ++ es) new = h arrays trace was (record { run = told.run; journaled = record { of_acts = told.journaled.of_acts; started = told.journaled.started } }) in
-    record { run = it.run; journaled = record { of_acts = it.journaled.of_acts; started = it.journaled.started } }
+    let it : IsTold arrays (trace ++ ls) (was ++ es) new = h arrays trace was (record { apart = told.apart; whole = told.whole; run = told.run; did = told.did; journaled = record { of_acts = told.journaled.of_acts; started = told.journaled.started } }) in
+    record { apart = it.apart; whole = it.whole; run = it.run; did = it.did; journaled = record { of_acts = it.journaled.of_acts; started = it.journaled.started } }
 
 head_there : {X : Type 0} (x : X) (xs : List X) → Contains (x ∷ xs) x
 head_there x xs = All-head (Contains (x ∷ xs)) x xs (All-contains_itself (x ∷ xs))
@@ -490,7 +541,7 @@ ends_now keep apart first now disk event reply result transfer right answered = 
   deeds = [];
   same_rules = (led (cleared first) event reply now right).by.same_rules;
   same_handles = asked_handles (cleared first) now event reply transfer right;
-  told = reanswered first (taken now) [] now.answers now.labels [] (others_told keep apart (cleared first) now event reply (no_act event transfer) right);
+  told = reanswered first (taken now) [] now.answers now.labels [] (others_told keep apart (cleared first) now event reply (no_act event transfer) right (transfer_undoes event transfer));
   files = refl;
   answered = answered;
 }
@@ -542,10 +593,10 @@ none_mapped number answers h = All-map (IsNoAnswerTo number) as_answer answers (
 -- one that went, and whose pieces are back
 module _ (keep : StepsKeepEntries) (apart : StepsStayApart) (first now : ManagerView) (disk : DiskView) (last : CarriedView) (event : Event) (id : Id) (transfer : IsTransferEvent event)
     (right : IsRight (cleared first) event (Requested id) now) (drained : Goes (over (taken now) disk) last) where
-  told_all : TellsOn (cleared first) (now.labels ++ drained.labels) (entries_of drained.deeds) last.stack
+  told_all : TellsOn (cleared first) (now.labels ++ drained.labels) drained.deeds last.stack
   told_all =
-      tells_more (cleared first) (taken now) last.stack now.labels drained.labels [] (entries_of drained.deeds)
-      (others_told keep apart (cleared first) now event (Requested id) (no_act event transfer) right) drained.told
+      tells_more (cleared first) (taken now) last.stack now.labels drained.labels [] drained.deeds
+      (others_told keep apart (cleared first) now event (Requested id) (no_act event transfer) right (transfer_undoes event transfer)) drained.told
 
   rules_all : last.stack.rules ≡ first.rules
   rules_all = drained.same_rules ∙ (led (cleared first) event (Requested id) now right).by.same_rules
@@ -619,8 +670,8 @@ module _ (keep : StepsKeepEntries) (apart : StepsStayApart) (first now : Manager
     same_rules = ap (λ (v : ManagerView). v.rules) takes.3 ∙ rules_all;
     same_handles = ap (λ (v : ManagerView). v.handles) takes.3 ∙ handles_all;
     told =
-        subst (λ (v : ManagerView). TellsOn first (now.labels ++ drained.labels) (entries_of drained.deeds) v) (sym takes.3)
-        (reanswered first last.stack [] (remove last.stack.answers takes.0) (now.labels ++ drained.labels) (entries_of drained.deeds) told_all);
+        subst (λ (v : ManagerView). TellsOn first (now.labels ++ drained.labels) drained.deeds v) (sym takes.3)
+        (reanswered first last.stack [] (remove last.stack.answers takes.0) (now.labels ++ drained.labels) drained.deeds told_all);
     files = drained.files;
     answered = is_answered answer (got_there last.stack.answers takes.0 answer takes.1) takes.2;
   }

@@ -4,7 +4,10 @@ mod Opening
 mod Spelled
 mod Flags
 mod Sessions
+mod AsSessions
+pub mod Lasting
 pub mod Steady
+pub mod Undone
 pub mod Carrying
 pub mod Putting
 pub mod Beginning

@@ -20,7 +20,9 @@ use Rattle.compose.specs.declared.Event.{Event}
 use Rattle.compose.specs.Journaled.{IsJournaled}
 use Rattle.compose.specs.Right.{IsRight}
 use Rattle.volume.specs.Working.{Asks, IsQuiet, answers_of}
+use Rattle.machine_laws.specs.Reached.{AreWhole}
 use Rattle.file_disk.specs.Transfers.{DiskView, IsOfPiece, Transfers}
+pub use Rattle.file_sessions.specs.Deeds.{Deed, DeedRun, Files}
 
 pub record CarriedView : Type 0 where
   pub stack : ManagerView
@@ -40,18 +42,6 @@ pub record StandsIn (stack : ManagerView) (disk : DiskView) : Type 0 where
   pub sectors : disk.sectors ≡ stack.rules.disk_sectors
 
 -- PIECES
-
--- a piece that could act, and what came of it in the storage
-pub record Deed : Type 0 where
-  pub tag : ℕ
-  pub piece : ℕ
-  pub srb : Srb
-  pub what : Result Entry Completion
-
--- the calls to the storage are just those of these pieces, one after the other
-abbrev pub Files : DiskView → List Deed → DiskView → Type 0
-Files old [] new = new ≡ old
-Files old (deed ∷ deeds) new = (mid : DiskView) × Transfers old deed.tag deed.piece deed.srb deed.what mid × Files mid deeds new
 
 abbrev pub entry_in : Result Entry Completion → List Entry
 entry_in (Ok entry) = entry ∷ []
@@ -84,15 +74,18 @@ BooksArmed old before tag new after = HasBooked old before tag new after ⊎ Has
 
 -- WHAT IS TOLD
 
--- these labels are a run of the machine that moves no sectors, and these entries are what their acts did
-pub record IsTold (arrays : List (List (List ℕ))) (trace : List Label) (entries : List Entry) (v : ManagerView) : Type 0 where
+-- from whole arrays these labels are a run of the machine that moves no sectors, whose acts and faults are these deeds
+pub record IsTold (arrays : List (List (List ℕ))) (trace : List Label) (deeds : List Deed) (v : ManagerView) : Type 0 where
+  pub apart : IsFalse v.rules.faithful
+  pub whole : AreWhole v.rules arrays
   pub run : Run v.rules (opening arrays) trace v.state
-  pub journaled : IsJournaled trace entries v
+  pub did : DeedRun v.rules (opening arrays) trace v.state deeds
+  pub journaled : IsJournaled trace (entries_of deeds) v
 
--- whatever was told goes on with these labels, whose acts did these entries
-abbrev pub TellsOn : ManagerView → List Label → List Entry → ManagerView → Type 0
-TellsOn old labels entries new =
-    (arrays : List (List (List ℕ))) (trace : List Label) (before : List Entry) → IsTold arrays trace before old → IsTold arrays (trace ++ labels) (before ++ entries) new
+-- whatever was told goes on with these labels, whose acts and faults are these deeds
+abbrev pub TellsOn : ManagerView → List Label → List Deed → ManagerView → Type 0
+TellsOn old labels deeds new =
+    (arrays : List (List (List ℕ))) (trace : List Label) (before : List Deed) → IsTold arrays trace before old → IsTold arrays (trace ++ labels) (before ++ deeds) new
 
 -- the stack moved by these labels, and the storage by what their acts and failures were; answers wait to be taken
 pub record Goes (old new : CarriedView) : Type 0 where
@@ -104,7 +97,7 @@ pub record Goes (old new : CarriedView) : Type 0 where
   pub same_handles : new.stack.handles ≡ old.stack.handles
   pub same_paused : new.stack.state.paused ≡ old.stack.state.paused
   pub run : Run old.stack.rules old.stack.state labels new.stack.state
-  pub told : TellsOn old.stack labels (entries_of deeds) new.stack
+  pub told : TellsOn old.stack labels deeds new.stack
   pub files : Files old.disk deeds new.disk
   pub untaken : IsPermutation (map as_answer new.stack.answers) (answers_of labels ++ map as_answer old.stack.answers)
   pub stands : StandsIn old.stack old.disk → StandsIn new.stack new.disk
@@ -143,6 +136,6 @@ pub record Requests (old : CarriedView) (event : Event) (result : Result Answer 
   pub deeds : List Deed
   pub same_rules : new.stack.rules ≡ old.stack.rules
   pub same_handles : new.stack.handles ≡ old.stack.handles
-  pub told : TellsOn old.stack labels (entries_of deeds) new.stack
+  pub told : TellsOn old.stack labels deeds new.stack
   pub files : Files old.disk deeds new.disk
   pub answered : MatchResult result (λ answer. IsAnsweredBy old event answer labels) (λ reason. IsRefusedAtOnce old event reason labels deeds)

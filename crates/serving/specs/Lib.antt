@@ -4,3 +4,5 @@ pub mod Serving
 pub mod Carried
 pub mod Filed
 pub mod OnDisk
+pub mod Telling
+pub mod Lasting

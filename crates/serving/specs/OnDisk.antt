@@ -28,7 +28,7 @@ use Rattle.serving.specs.declared.faults.Difference.TheVariants.{BadTable, Count
 use Rattle.serving.specs.declared.faults.Error.{Error}
 use Rattle.serving.specs.declared.faults.Error.TheVariants.{Startup, NoPartition, Disk, NoMemory}
 use Rattle.serving.specs.declared.faults.DiskFault.TheVariants.{NotCreated, Unreadable, OtherTable, HasFaults}
-use Rattle.serving.specs.Carried.{IsTold}
+use Rattle.serving.specs.Carried.{IsTold, StandsIn}
 use Rattle.serving.specs.Filed.{CarriesBy, FiledView}
 use Rattle.serving.specs.Serving.{fault_of_end}
 
@@ -142,6 +142,8 @@ pub record IsOpened (c : Config) (p : ℕ) (calls : List Call) (filed : FiledVie
   pub begins : IsTold arrays trace [] filed.carried.stack
   -- nor was anything called
   pub none_called : trace ≡ []
+  -- the storage is as large as the stack's disk
+  pub stands : StandsIn filed.carried.stack filed.carried.disk
 
 -- the settings have no faults, and have this partition
 abbrev pub AreServable : Config → ℕ → Type 0

@@ -9,8 +9,10 @@
 //! (`HasOneCall`); the file got just the calls of its pieces (`IsFileSession`); a write is ENOSPC where the storage
 //! had no room for the newest that it refused (`status_error`). `put_table`: the table written and synced, or the last
 //! call failed, or none was made (`synced`, `IsPutFault`). `check_apart` refuses an image that is known to be CONFIG
-//! or the output. `command`: paths, partition and `--create` as found (`IsFoundIn`). All for readers and writers that
-//! tell their bytes.
+//! or the output. A session over a file that keeps to `Stored` is one of the table of `loss`, behind what was told of
+//! each request and at any moment of it (`served_are_sessions`): what a loss of power leaves is what that table lets it
+//! leave. `command`: paths, partition and `--create` as found (`IsFoundIn`). All for readers and writers that tell their
+//! bytes.
 #![tactic(auto)]
 
 mod faults;
@@ -24,7 +26,7 @@ mod words;
 
 pub use faults::{Difference, DiskFault, Error};
 pub use filed::Filed;
-pub use on_disk::{disk_bytes, open_file, put_table, read_only, serve_file};
+pub use on_disk::{disk_bytes, open_file, put_table, read_only, serve_file, served_are_sessions};
 pub use same_file::{Inode, check_apart};
 pub use serving::serve_disk;
 pub use words::asked::Asked;

@@ -5,6 +5,7 @@ ghost use Rattle.machine.specs.Sending.{HasOtherTag};
 ghost use Rattle.machine_laws.specs.NumberLaws.{CallsAreAnswered};
 ghost use Rattle.io_manager.specs.declared.Reply.TheVariants.{Ok as Done};
 ghost use Rattle.io_manager.specs.Right.{HasNoneFresh};
+ghost use Rattle.compose.specs.Armed.{ArmedAskForPieces, BookedActsTell, IdleActsTellNothing};
 ghost use Rattle.compose.specs.Journaled.{ArmedMayBeBooked, BookedActsAddEntries, IdleActsKeepEntries, StepsKeepEntries, StepsStayApart};
 ghost use Rattle.compose.specs.StepLaws.{IsTransferEvent};
 ghost use Rattle.volume.specs.Working.{fresh_count, tags_out, work};
@@ -23,12 +24,17 @@ pub(crate) fn laws_of_entries()
     ensures idle { IdleActsKeepEntries }
     ensures booked { BookedActsAddEntries }
     ensures armed { ArmedMayBeBooked }
+    ensures tells { BookedActsTell }
+    ensures silent { IdleActsTellNothing }
+    ensures asks { ArmedAskForPieces }
     ensures apart { StepsStayApart }
 {
     compose::steps_keep_entries();
     compose::idle_acts_keep_entries();
     compose::booked_acts_add_entries();
     compose::armed_may_be_booked();
+    compose::booked_acts_tell();
+    compose::armed_ask_for_pieces();
     compose::steps_stay_apart();
 }
 

@@ -12,7 +12,10 @@ ghost use Rattle.volume.specs.Opening.{IsOn};
 ghost use Rattle.volume.specs.Shown.{extent_at};
 ghost use Rattle.file_disk.specs.Calls.{ReadsAll, Since};
 ghost use Rattle.file_disk.specs.Transfers.{DiskView, SyncsAfter};
+ghost use Rattle.machine_laws.specs.Reached.{OpeningsAreReached};
+ghost use Rattle.machine_laws.specs.WriteLaws.{RunsKeepLengths};
 ghost use Rattle.serving.specs.Carried.{StandsIn, TellsOn, quiet};
+ghost use Rattle.serving.specs.Lasting.{ServedAreSessions, ServedMomentsAreSessions};
 ghost use Rattle.serving.specs.OnDisk.{Differs, DiffersFrom, HasNoFaults, IsFileSession, IsOpenFault, IsOpened, IsPutFault};
 ghost use Rattle.serving.specs.OnDisk.{IsNotStarted, IsStartedOver, IsTableFault, StopsPutting};
 ghost use Rattle.serving.specs.declared.faults.Error.TheVariants.{NoMemory, NoPartition};
@@ -221,6 +224,8 @@ pub fn open_file<S: Storage + Drop>(
     let sizes = sizes_of(&config, partition)?;
     let first = checked_table(alloc, &mut storage, &config)?;
     let mut stack = started(alloc, &config, first)?;
+    laws_of_arrays();
+    stack.shows_whole();
     let handle = opened(&mut stack, alloc, partition)?;
     let disk = FileDisk::new(
         alloc,
@@ -343,6 +348,24 @@ fn handle_in(reply: Reply) -> Result<Handle, Error>
         // A new stack has handles and numbers enough.
         _ => Err(Error::NoMemory),
     }
+}
+
+/// Says that arrays which are whole at first stay so. It does nothing; its contract is for callers.
+fn laws_of_arrays()
+    ensures keeps { RunsKeepLengths }
+    ensures opens { OpeningsAreReached }
+{
+    machine_laws::keeps_lengths();
+    machine_laws::goes_on();
+}
+
+/// Says what a session over a file leaves there: behind a loss of power, what the machine's loss leaves behind what was
+/// told; also at any moment of it. It does nothing; its contract is for callers.
+pub fn served_are_sessions()
+    ensures sessions { ServedAreSessions }
+    ensures moments { ServedMomentsAreSessions }
+{
+    file_sessions::runs_are_sessions();
 }
 
 /// Serves a client over a partition of a disk in a file.

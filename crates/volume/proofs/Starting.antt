@@ -1,5 +1,7 @@
 -- A stack before its first event is ready.
 use Rattle.volume.proofs.Common.{◌≡◌, ◌≤◌, inl, inr, ℕ, ◌+◌, true, false, List, [], Option, Some, refl, sym, ◌∙◌, ap, subst, arith, length, map, length-take, length-drop, All, IsPermutation, IsTrue, count_by, is_some, nat_le, slice_range, cases_lt, nat_tests, IsPermutation-refl, Extent, IsSector, sectors_in, AdapterView, IsInOrder, TagInUse, IsPartition, Rules, sectors_of, State, opening, array_at, IsSame-refl, AreWhole, IsReached, IsRead, piece_on_tag, use_on_tag, ManagerView, are_used_up, handle_limit, OpenHandle, Settings, IsFirstView, first_rules, content_of, extent_at, handle_count, parted_at, Refusal, InvalidHandle, InvalidParameter, DeletePending, DeviceBusy, InsufficientResources, InvalidDeviceRequest, NotFound, IsOpenRefusal, IsRefusedOf, LacksHandle, AreUsable, IsIdle, IsReady}
+use Rattle.std.proofs.lemmas.List.Elements.{All-nil}
+use Rattle.device.specs.View.{MayAct}
 use Rattle.volume.proofs.Disk.{array_is, extent_past, sectors_of-extent}
 
 module _ (disk : AdapterView) (settings : Settings) (order : IsInOrder disk) (faithful : IsTrue disk.faithful) (v : ManagerView) (first : IsFirstView disk settings v) where
@@ -52,6 +54,7 @@ module _ (disk : AdapterView) (settings : Settings) (order : IsInOrder disk) (fa
     same_depth = sym first.same_disk.depth;
     arrays = ap (λ sectors. map (sectors_in sectors) first.partitions) (sym first.same_disk.sectors);
     pieces = subst (λ (tags : List TagInUse). IsPermutation (map piece_on_tag (opening arrays).pieces) (map use_on_tag tags)) (sym first.same_disk.idle.no_tags) (IsPermutation-refl _);
+    may_act = subst (λ (tags : List TagInUse). All (MayAct rules (opening arrays)) tags) (sym first.same_disk.idle.no_tags) (All-nil (MayAct rules (opening arrays)));
   }
 
   pub ready_at_start : IsReady v

@@ -9,7 +9,7 @@ step_untraced-reply-requires g c = record { taken = booked_labels _ _ _ _ _ c.bo
 pub returns-clause-goes : goal.returns-clause-goes
 returns-clause-goes g c =
     subst (λ (v : ManagerView). Goes (over (quiet c.args.stack.now) c.args.disk.now) (over v c.book_armed.new.disk)) (sym (quiet_after _ _ _ _ c.step_untraced-reply.ensures.untraced))
-    (act_goes c.laws_of_entries.ensures.idle c.laws_of_entries.ensures.booked c.laws_of_entries.ensures.armed c.laws_of_entries.ensures.apart (quiet c.args.stack.now) (quiet c.book_armed.new.stack) _ _ _ _ _
+    (act_goes c.laws_of_entries.ensures.idle c.laws_of_entries.ensures.booked c.laws_of_entries.ensures.armed c.laws_of_entries.ensures.tells c.laws_of_entries.ensures.silent c.laws_of_entries.ensures.asks c.laws_of_entries.ensures.apart (quiet c.args.stack.now) (quiet c.book_armed.new.stack) _ _ _ _ _
     c.requires.stands (quiet_fits c.args.stack.now c.shows_whole.ensures.whole) c.shows_whole-2.ensures.in_order (quiet_fits c.book_armed.new.stack c.shows_whole-2.ensures.whole) c.shows_whole-2.ensures.reached
     c.step_untraced-reply.ensures.untraced.right c.book_armed.ensures)
 

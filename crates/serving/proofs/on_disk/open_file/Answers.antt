@@ -1,7 +1,8 @@
 use Rattle.serving.proofs.Common.{◌≡◌, ◌⊎◌, ℕ, List, [], Err, refl, rules, sym, ap, subst, ◌∙◌, State, DiskView}
 use Rattle.file_disk.specs.Calls.{Call, ReadsAll, Since}
 use Rattle.serving.proofs.Failing.{fault_of_handle, fault_of_start, fault_of_table, no_partition}
-use Rattle.serving.proofs.Beginning.{first_arrays, rules_at_first, stands_at_first, told_at_first}
+use Rattle.machine.specs.Rules.{Rules}
+use Rattle.serving.proofs.Beginning.{first_arrays, rules_at_first, stands_at_first, told_at_first, whole_at_first}
 use Rattle.serving.proofs.on_disk.open_file.Goals as goal
 
 pub invariant_of-result : goal.invariant_of-result
@@ -38,8 +39,14 @@ returns-clause-opened g c = record {
   trace = [];
   begins =
       c.in_ok-handle.ensures.told (first_arrays c.args.config c.in_ok-first.first.items c.in_ok-stack.stack c.in_ok-stack.ensures.started) [] []
-      (told_at_first c.args.config c.in_ok-first.first.items c.in_ok-stack.stack c.in_ok-stack.ensures.started);
+      (told_at_first c.args.config c.in_ok-first.first.items c.in_ok-stack.stack c.in_ok-stack.ensures.started
+      (ap (λ (r : Rules). r.faithful) (rules_at_first c.args.config c.in_ok-first.first.items c.in_ok-stack.stack c.in_ok-stack.ensures.started c.in_ok-first.ensures.told))
+      (whole_at_first c.args.config c.in_ok-first.first.items c.in_ok-stack.stack c.in_ok-stack.ensures.started c.laws_of_arrays.ensures.keeps c.laws_of_arrays.ensures.opens c.shows_whole.ensures.reached));
   none_called = refl;
+  stands =
+      c.in_ok-handle.ensures.stands c.new-disk.result
+      (stands_at_first c.args.config c.in_ok-first.first.items c.in_ok-stack.stack c.in_ok-stack.ensures.started c.new-disk.result (ap (λ (d : DiskView). d.sector_size) c.new-disk.ensures)
+      (ap (λ (d : DiskView). d.sectors) c.new-disk.ensures));
 }
 
 -- WHERE IT FAILS

@@ -21,7 +21,7 @@ returns-clause-told c =
     subst (λ (v : ManagerView). TellsOn (quiet c.args.stack.now) [] [] v) (sym (quiet_after _ _ _ _ c.step_untraced-reply.ensures.untraced))
     (subst (λ (ls : List Label). TellsOn (quiet c.args.stack.now) ls [] (record c.step_untraced-reply.ensures.untraced.stepped { labels = [] })) silent
     (others_told c.laws_of_entries.ensures.kept c.laws_of_entries.ensures.apart (quiet c.args.stack.now) c.step_untraced-reply.ensures.untraced.stepped (Open c.args.partition) c.step_untraced-reply.result tt
-    c.step_untraced-reply.ensures.untraced.right))
+    c.step_untraced-reply.ensures.untraced.right tt))
 
 pub returns-clause-same_paused : goal.returns-clause-same_paused
 returns-clause-same_paused c =
