@@ -1,6 +1,6 @@
 //! What can have happened to a disk of two sectors, and what can't.
 
-use crate::{Happening, Verdict, judge};
+use disk_judge::{Happening, Verdict, judge};
 use sector_judge::Event;
 use std::test::Fail;
 

@@ -1,6 +1,6 @@
 //! Events that can have happened, and events that can't.
 
-use crate::{Event, Verdict, judge};
+use sector_judge::{Event, Verdict, judge};
 use std::test::Fail;
 
 // Piece 5 starts behind the first of these writes, piece 6 behind the second.

@@ -2,8 +2,8 @@
 
 ghost use Rattle.std.specs.Prelude.{◌≤◌, length};
 
-use crate::{ReplayFault, replay};
 use disk::VecDisk;
+use journal_replay::{ReplayFault, replay};
 use sector::{Bytes, Extent};
 use sector_journal::Entered;
 use srb::{Entry, Kind};
