@@ -1,10 +1,10 @@
 # Runs the tests by unproved builds, several crates at once. With --built: the cases of the programs, by those built.
 . "$top/launcher/session_cases.sh"
 
-# The crates with tests, and the programs, whose cases are tests too: those that stand on most come first, since they take
-# longest.
+# The crates with tests, and the programs and the C library, whose cases are tests too: those that stand on most come
+# first, since they take longest.
 test_crates() {
-    printf '%s\n' stackrun stackjudge nbd_disk
+    printf '%s\n' stackrun stackjudge nbd_disk saddlemug
     awk '!/^#/ { print NF, $1 }' "$top/crates.txt" | sort -rn | tr -d : | while read -r _ name; do
         ! grep -rqF '#[test]' "$top/crates/$name/src" || echo "$name"
     done
@@ -25,11 +25,30 @@ count() {
 
 # Runs the tests of a crate.
 try_tests() {
-    local passed failed
+    local ended=0
     (cd "$top/crates/$1" && try_alone --test) > "$scratch/$1.out" 2> "$scratch/$1.said" < /dev/null || true
+    tail -n 1 "$scratch/$1.said" | grep -q '^run=ended status=0 ' || ended=1
+    count_tests "$1" "$ended"
+}
+
+# Makes each call of the C library, unproved, from C.
+try_calls() {
+    local ended=0 kit library
+    kit=$(dirname "$(readlink -f "$(command -v rt)")")/..
+    {
+        library=$("$top/launcher/unproved" saddlemug) &&
+            "${CC:-cc}" -O1 -Wall -Wextra -I"$top/crates/saddlemug" "$top/clients/bench/calls.c" "$library" \
+                "$kit/c/liblibc_c.a" -o "$scratch/calls" && timeout "$RT_SECONDS" "$scratch/calls"
+    } > "$scratch/$1.out" 2> "$scratch/$1.said" < /dev/null || ended=1
+    count_tests "$1" "$ended"
+}
+
+# Counts the tests of a crate by what they printed. Where they didn't end well, one at least failed.
+count_tests() {
+    local passed failed
     passed=$(grep -c '^test .* \.\.\. ok$' "$scratch/$1.out" || true)
     failed=$(grep -c '^test .* \.\.\. FAILED$' "$scratch/$1.out" || true)
-    if [ "$failed" = 0 ] && ! tail -n 1 "$scratch/$1.said" | grep -q '^run=ended status=0 '; then failed=1; fi
+    if [ "$failed" = 0 ] && [ "$2" != 0 ]; then failed=1; fi
     if [ "$failed" != 0 ]; then
         echo "FAILED: $1:"
         grep -v ' \.\.\. ok$' "$scratch/$1.out" || true
@@ -50,6 +69,7 @@ test_crate() {
             be_program nbd_disk
             try_cases run_server_cases make_lasting_session
         ) ;;
+        saddlemug) try_calls "$1" ;;
         *) try_tests "$1" ;;
     esac
     : > "$scratch/$1.ended"

@@ -1,5 +1,5 @@
-/* Each call of the library on small cases, with what it has to answer: `make` builds it, and `clients/check` runs it. Its
- * status is 0 where all was so. */
+/* Each call of the library on small cases, with what it has to answer: `make` builds it; `clients/check` and `stackrun test`
+ * run it. Its status is 0 where all was so. */
 #include <stdio.h>
 #include <string.h>
 
@@ -422,24 +422,38 @@ looks_at_its_pointers(void)
 	saddlemug_close(NULL);
 }
 
+#define CASE(name) {#name, name}
+
+static const struct {
+	const char *name;
+	void (*run)(void);
+} CASES[] = {
+	CASE(writes_and_reads),
+	CASE(refuses_what_it_cannot_open),
+	CASE(steps_a_stack),
+	CASE(tells_names),
+	CASE(tells_what_is_wrong_with_settings),
+	CASE(opens_a_disk_by_numbers),
+	CASE(refuses_numbers_out_of_range),
+	CASE(books_what_was_moved),
+	CASE(refuses_what_is_not_of_the_piece),
+	CASE(tells_failures),
+	CASE(refuses_what_is_no_disk),
+	CASE(a_disk_in_memory_moves_by_itself),
+	CASE(tells_lines),
+	CASE(judges_as_it_goes),
+	CASE(looks_at_its_pointers),
+};
+
 int
 main(void)
 {
-	writes_and_reads();
-	refuses_what_it_cannot_open();
-	steps_a_stack();
-	tells_names();
-	tells_what_is_wrong_with_settings();
-	opens_a_disk_by_numbers();
-	refuses_numbers_out_of_range();
-	books_what_was_moved();
-	refuses_what_is_not_of_the_piece();
-	tells_failures();
-	refuses_what_is_no_disk();
-	a_disk_in_memory_moves_by_itself();
-	tells_lines();
-	judges_as_it_goes();
-	looks_at_its_pointers();
-	printf("calls: %d wrong\n", wrong);
-	return wrong != 0;
+	int all = 0;
+	for (size_t i = 0; i < sizeof CASES / sizeof *CASES; i++) {
+		wrong = 0;
+		CASES[i].run();
+		printf("test calls::%s ... %s\n", CASES[i].name, wrong == 0 ? "ok" : "FAILED");
+		all += wrong;
+	}
+	return all != 0;
 }

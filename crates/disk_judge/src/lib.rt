@@ -10,8 +10,6 @@
 #![tactic(auto)]
 
 mod sectors;
-#[cfg(test)]
-mod tests;
 
 ghost use Rattle.std.specs.Prelude.{◌≡◌, replicate, IfOk, MatchOption};
 ghost use Rattle.sector_judge.specs.Known.{nothing_known};

@@ -28,8 +28,6 @@ mod sectors;
 mod service;
 mod starting;
 mod table;
-#[cfg(test)]
-mod tests;
 mod touched;
 mod values;
 

@@ -6,9 +6,6 @@
 //! Nothing: tests call it.
 #![tactic(auto)]
 
-#[cfg(test)]
-mod tests;
-
 use disk::{BadSector, Medium, NoMemory};
 use sector::Extent;
 use sector_journal::Entered;

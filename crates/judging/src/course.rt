@@ -29,7 +29,7 @@ use trace_reader::{Reader, Recorded};
 use trace_tags::Tags;
 
 /// What the lines of a trace come to, as far as it was read.
-#[derive(Debug, Drop)]
+#[derive(Drop)]
 pub(crate) enum Course {
     /// They are a run.
     Legal(Trial),
@@ -38,7 +38,7 @@ pub(crate) enum Course {
 }
 
 /// Lines that are a run.
-#[derive(Debug, Drop)]
+#[derive(Drop)]
 pub(crate) struct Trial {
     /// The judge that has taken them.
     pub judge: Judge,
@@ -53,7 +53,7 @@ pub(crate) struct Trial {
 }
 
 /// The first line that is refused.
-#[derive(Debug, Clone, Copy)]
+#[derive(Clone, Copy)]
 pub(crate) struct Stop {
     /// Its number, from 1.
     pub line: u64,
@@ -61,7 +61,7 @@ pub(crate) struct Stop {
 }
 
 /// How many labels there are, and how many of them are calls and starts of pieces.
-#[derive(Debug, Clone, Copy)]
+#[derive(Clone, Copy)]
 pub(crate) struct Tally {
     pub labels: u64,
     pub calls: u64,

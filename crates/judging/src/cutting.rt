@@ -20,7 +20,7 @@ use std::alloc::{AllocError, Global};
 use std::io::{Read, Write};
 
 /// A text that breaks the rule that is sought, and its line that does.
-#[derive(Debug, Drop)]
+#[derive(Drop)]
 pub(crate) struct Remnant {
     pub text: Vec<u8>,
     pub stop: Stop,

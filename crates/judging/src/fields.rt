@@ -3,7 +3,7 @@
 use std::alloc::{AllocError, Global};
 
 /// Fields of a refusal, as they are written.
-#[derive(Debug, Drop)]
+#[derive(Drop)]
 pub(crate) struct Fields {
     alloc: Global,
     json: bool,

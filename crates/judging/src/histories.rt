@@ -35,7 +35,7 @@ pub struct Terms {
 }
 
 /// Where it is told what a history is, and how far it was read.
-#[derive(Debug, Drop)]
+#[derive(Drop)]
 pub struct Listeners<O, W> {
     pub out: O,
     pub progress: Progress<W>,

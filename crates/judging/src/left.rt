@@ -5,7 +5,7 @@ use machine::Label;
 use std::alloc::{AllocError, Global};
 
 /// A call that has no answer yet.
-#[derive(Debug, Clone, Copy)]
+#[derive(Clone, Copy)]
 struct Call {
     /// The number of its request.
     number: u64,
@@ -14,7 +14,7 @@ struct Call {
 }
 
 /// The calls of a trace that have no answer before the newest label.
-#[derive(Debug, Drop)]
+#[derive(Drop)]
 pub(crate) struct Calls {
     calls: Vec<Call>,
     /// The request of the newest answer. Its call is forgotten with the next label: the answer may be refused.

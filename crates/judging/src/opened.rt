@@ -19,7 +19,7 @@ use std::alloc::{AllocError, Global};
 use std::io::Read;
 
 /// What a trace is judged by.
-#[derive(Debug, Drop)]
+#[derive(Drop)]
 pub struct Standard {
     /// The settings of a machine.
     pub config: Config,

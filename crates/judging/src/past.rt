@@ -13,7 +13,7 @@ use trace_reader::Recorded;
 use trace_reader::known::{Known, Sent};
 
 /// Where a call asks for bytes.
-#[derive(Debug, Clone, Copy)]
+#[derive(Clone, Copy)]
 pub(crate) struct Range {
     pub partition: Option<u8>,
     /// In bytes, as the length.
@@ -32,7 +32,7 @@ impl Range {
 }
 
 /// What is known of the lines before the newest label.
-#[derive(Debug, Drop)]
+#[derive(Drop)]
 pub(crate) struct Past {
     pub calls: Calls,
     /// Where the newest call asks for bytes.
@@ -49,7 +49,7 @@ pub(crate) struct Past {
 }
 
 /// A block that a piece read.
-#[derive(Debug, Clone, Copy)]
+#[derive(Clone, Copy)]
 struct Read {
     owner: u64,
     piece: u128,

@@ -3,7 +3,7 @@
 use std::io::Write;
 
 /// Where it is told how far a check came, on a line of its own after each `every` labels that are a run, or of a history were read.
-#[derive(Debug, Drop)]
+#[derive(Drop)]
 pub struct Progress<W> {
     /// The writer of these lines. What it doesn't take is left out.
     pub out: W,

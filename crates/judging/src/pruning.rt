@@ -18,7 +18,7 @@ use std::collections::BTreeMap;
 const MOST: u64 = 1000;
 
 /// A label's line, by its words.
-#[derive(Debug, Clone, Copy)]
+#[derive(Clone, Copy)]
 pub(crate) struct Item<'a> {
     pub line: &'a str,
     pub verb: &'a str,
@@ -38,7 +38,7 @@ pub(crate) struct Item<'a> {
 }
 
 /// What is dropped at once.
-#[derive(Debug, Clone, Copy)]
+#[derive(Clone, Copy)]
 enum Unit {
     Request,
     Piece,
@@ -46,7 +46,7 @@ enum Unit {
 }
 
 /// The labels of a trace up to one that is refused.
-#[derive(Debug, Drop)]
+#[derive(Drop)]
 pub(crate) struct Pruning<'a> {
     items: Vec<Item<'a>>,
     /// How many times more the trace may be judged.
@@ -160,7 +160,7 @@ pub(crate) fn tag_of(item: &Item<'_>) -> u128 {
 }
 
 /// The tags of the pieces that are out.
-#[derive(Debug, Drop)]
+#[derive(Drop)]
 pub(crate) struct OnTags {
     /// Each with its piece.
     out: Vec<(u128, u128)>,

@@ -5,7 +5,7 @@ use std::alloc::{AllocError, Global};
 use std::collections::BTreeMap;
 
 /// The numbers that requests are given, or pieces, from 1.
-#[derive(Debug, Drop)]
+#[derive(Drop)]
 struct Numbers {
     given: BTreeMap<u128, u128>,
     count: u128,
@@ -42,7 +42,7 @@ impl Numbers {
 }
 
 /// The numbers of requests and pieces, and the tags, of the labels that are left.
-#[derive(Debug, Drop)]
+#[derive(Drop)]
 pub(crate) struct Renumbering {
     alloc: Global,
     /// Whether tags stay as they are told.

@@ -22,7 +22,7 @@ const BUFFER: usize = 65_536;
 const MOST_HELD: usize = 8;
 
 /// The lines of a trace that tell something.
-#[derive(Debug, Drop)]
+#[derive(Drop)]
 struct Recorded {
     lines: Vec<Line>,
     /// Their numbers, from 1.

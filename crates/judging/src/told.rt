@@ -16,7 +16,7 @@ use std::alloc::Global;
 use trace_reader::Recorded;
 
 /// What a line tells.
-#[derive(Debug, Drop)]
+#[derive(Drop)]
 pub(crate) enum Told {
     /// A label, and whose piece starts where it says so.
     Line(Recorded),

@@ -12,8 +12,6 @@
 mod covering;
 mod keeping;
 mod states;
-#[cfg(test)]
-mod tests;
 
 ghost use Rattle.std.specs.Prelude.{IfOk};
 ghost use Rattle.register_judge.specs.Verdicts.{IsRight};

@@ -12,7 +12,7 @@ use sector::Extent;
 use srb::{Kind, Srb};
 
 /// What a command block asks to move.
-#[derive(Debug, Clone, Copy)]
+#[derive(Clone, Copy)]
 pub(crate) struct Asked {
     pub(crate) kind: Kind,
     /// The sectors of the disk.
@@ -23,7 +23,7 @@ pub(crate) struct Asked {
 
 /// What C is told of what a command block asks for.
 #[repr(C)]
-#[derive(Debug, Clone, Copy)]
+#[derive(Clone, Copy)]
 pub struct StackAsked {
     /// The kind: 0 read, 1 write, 2 flush; 3 where the block asks for none of these.
     pub kind: u32,

@@ -13,7 +13,7 @@ use srb::{Class, Completion, Kind, Srb};
 
 /// How a piece failed.
 #[repr(C)]
-#[derive(Debug, Clone, Copy, Default)]
+#[derive(Clone, Copy, Default)]
 pub struct StackCompletion {
     /// The SRB status (WDK: SRB_STATUS).
     pub srb_status: u8,
@@ -29,7 +29,7 @@ pub struct StackCompletion {
 
 /// What became of a piece.
 #[repr(C)]
-#[derive(Debug, Clone, Copy)]
+#[derive(Clone, Copy)]
 pub struct StackBooking {
     /// The low and the high 64 bits of the piece's number.
     pub piece_low: u64,
@@ -43,7 +43,7 @@ pub struct StackBooking {
 }
 
 /// The sizes of a disk.
-#[derive(Debug, Clone, Copy)]
+#[derive(Clone, Copy)]
 pub(crate) struct DiskOf {
     /// The bytes of a sector, 512 or 4096.
     pub(crate) sector_size: u64,

@@ -15,14 +15,14 @@ use std::alloc::Global;
 
 /// A handle or an open request: its number, and its slot in the stack's table.
 #[repr(C)]
-#[derive(Debug, Clone, Copy, Drop)]
+#[derive(Clone, Copy, Drop)]
 pub struct StackId {
     pub number: u64,
     pub slot: u32,
 }
 
 /// The kind of an event. C tells it by its place in this list, from 0.
-#[derive(Debug, Clone, Copy, PartialEq, Eq)]
+#[derive(Clone, Copy)]
 pub(crate) enum EventKind {
     Open,
     Close,
@@ -67,7 +67,7 @@ impl EventKind {
 
 /// An event. A field that its kind doesn't ask for is not read.
 #[repr(C)]
-#[derive(Debug, Clone, Copy)]
+#[derive(Clone, Copy)]
 pub struct StackEvent {
     /// The number of its [`EventKind`].
     pub kind: u32,
@@ -90,7 +90,7 @@ pub struct StackEvent {
 
 /// The reply to an event.
 #[repr(C)]
-#[derive(Debug, Clone, Copy)]
+#[derive(Clone, Copy)]
 pub struct StackReply {
     /// The kind of the reply, by its place in [`Reply`], from 0.
     pub kind: u32,

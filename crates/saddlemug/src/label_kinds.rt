@@ -15,7 +15,7 @@ use srb::{Class, CommandBlock, DeviceLabel};
 use std::alloc::{AllocError, Global};
 
 /// The kind of a label. C tells it by its place in this list, from 0.
-#[derive(Debug, Clone, Copy, PartialEq, Eq)]
+#[derive(Clone, Copy)]
 pub(crate) enum LabelKind {
     Called,
     Started,

@@ -11,7 +11,7 @@ use srb::{Class, Completion, DeviceLabel};
 
 /// A label. A field that its kind doesn't tell is 0.
 #[repr(C)]
-#[derive(Debug, Clone, Copy, Default)]
+#[derive(Clone, Copy, Default)]
 pub struct StackLabel {
     /// The kind: 0 to 11 for a call, a start, an act, a fault, a return, an answer, a cancel, a pause, a resume, a
     /// remove, a surprise, and the end of a removal.
@@ -47,7 +47,7 @@ pub struct StackLabel {
 
 /// An answer.
 #[repr(C)]
-#[derive(Debug, Clone, Copy, Default)]
+#[derive(Clone, Copy)]
 pub struct StackAnswer {
     /// The number of the request.
     pub number: u64,

@@ -30,8 +30,6 @@ mod events;
 mod faults;
 mod instance;
 mod judge_calls;
-#[cfg(test)]
-mod judge_tests;
 mod judged;
 mod label_kinds;
 mod labels;
@@ -43,13 +41,9 @@ mod opening;
 mod opening_over;
 mod over;
 mod over_calls;
-#[cfg(test)]
-mod over_tests;
 mod places;
 mod raw_box;
 mod stack_calls;
 mod status;
 mod stepping;
-#[cfg(test)]
-mod tests;
 mod volume_calls;

@@ -17,7 +17,7 @@ use volume::Volume;
 
 /// A partition of a disk in memory.
 #[repr(C)]
-#[derive(Debug, Clone, Copy)]
+#[derive(Clone, Copy)]
 pub struct MemoryPartition {
     /// Its first sector.
     pub first: u32,
@@ -29,7 +29,7 @@ pub struct MemoryPartition {
 
 /// A disk in memory, its adapter and its stack.
 #[repr(C)]
-#[derive(Debug, Clone, Copy)]
+#[derive(Clone, Copy)]
 pub struct MemoryDisk {
     /// The number of sectors, 1 to 2^40.
     pub sectors: u64,

@@ -17,7 +17,7 @@ use std::alloc::{AllocError, Global};
 
 /// A disk that C keeps.
 #[repr(C)]
-#[derive(Debug, Clone, Copy)]
+#[derive(Clone, Copy)]
 pub struct StackDisk {
     /// The number of sectors, 1 to 2^40.
     pub sectors: u64,

@@ -16,7 +16,7 @@ use std::alloc::Global;
 
 /// The sizes of a partition.
 #[repr(C)]
-#[derive(Debug, Clone, Copy)]
+#[derive(Clone, Copy)]
 pub struct DiskSizes {
     /// The bytes of a sector, 512 or 4096.
     pub sector_size: u64,

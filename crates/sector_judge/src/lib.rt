@@ -12,8 +12,6 @@
 
 mod candidates;
 mod known;
-#[cfg(test)]
-mod tests;
 
 ghost use Rattle.std.specs.Prelude.{IfOk};
 ghost use Rattle.sector_judge.specs.Known.{JudgesExactly};

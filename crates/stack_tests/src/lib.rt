@@ -1,5 +1,5 @@
 //! Tests of the whole stack, over a disk in memory and over a journal: calls that no program makes, pieces that fail,
-//! and refused memory. What a script shows stands in `examples/rows`.
+//! refused memory, and entries that replay or don't. What a script shows stands in `examples/rows`.
 //!
 //! # Promises
 //!
@@ -16,3 +16,5 @@ mod expect;
 mod journals;
 #[cfg(test)]
 mod playing;
+#[cfg(test)]
+mod replays;

@@ -1,6 +1,6 @@
 //! Histories that are legal, and histories that are not.
 
-use crate::{History, Misfit, Place, Service, Verdict};
+use history_judge::{History, Misfit, Place, Service, Verdict};
 use machine::{ClientRequest, Kind, Label};
 use ntstatus::NtStatus;
 use sector::{Bytes, Extent};

@@ -1,7 +1,7 @@
 //! Sights that have a schedule, and sights that have none.
 
-use crate::{Verdict, judge};
 use register::Sight;
+use register_judge::{Verdict, judge};
 use std::test::Fail;
 
 /// What is seen of a register that has 7 at the start, and the verdict.
