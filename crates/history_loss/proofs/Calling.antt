@@ -21,7 +21,7 @@ use Rattle.loss.specs.Sessions.{Told}
 use Rattle.history_loss.specs.Schedules.{Event, Seen, above, next_number, IsIdle, IsNoAnswer, IsNoEffect, IsNoFailure, IsOpen}
 use Rattle.history_loss.proofs.Mirroring.{Ending, IsMarkFor, IsMirrored, IsFateOf, IsFollowed, IsFilled, IsBelow, Mirrors, Mirrors-same, newest, below_more, below_no_answer, below_no_effect, below_no_failure, requests_seen, pieces_seen, none_owed}
 
-above_same : (n m : ℕ) → m ≡ n → above n m ≡ n + 1
+pub above_same : (n m : ℕ) → m ≡ n → above n m ≡ n + 1
 above_same n m e = by_order (leb_tells m n)
   where
     by_order : ((nat_le m n ≡ true) × (m ≤ n)) ⊎ ((nat_le m n ≡ false) × (n < m)) → above n m ≡ n + 1

@@ -161,7 +161,7 @@ self_older h [] keeps = tt
 self_older h (o ∷ os) keeps = (inr (keeps o.behind o.value (inl (refl, omega arith))), self_older h os (λ c v p. keeps c v (inr p)))
 
 -- what was overwritten was so before the next call
-abbrev Dated : List Event → Held → Type 0
+abbrev pub Dated : List Event → Held → Type 0
 Dated past h = AllOlder (λ o. o.behind ≤ next_number past) h.older
 
 below_self : (past : List Event) (h : Held) → Dated past h → Below (next_number past) h h
@@ -380,7 +380,7 @@ module _ (rules : Rules) (i : ℕ) where
     below = below_self past h dated;
   }
 
-  dated_then : (past : List Event) (h : Held) (e : Event) (mid : Held) → Dated past h → Takes rules i past h e mid → Dated (so_far e past) mid
+  pub dated_then : (past : List Event) (h : Held) (e : Event) (mid : Held) → Dated past h → Takes rules i past h e mid → Dated (so_far e past) mid
   dated_then past h e mid dated t = (took past past h h (self_wider past h dated) e mid t).wider.below.before
 
 -- ONE LINE IS MOVED
