@@ -1,0 +1,13 @@
+pub mod Mirroring
+pub mod Sending
+pub mod Calling
+pub mod Answering
+pub mod Holding
+pub mod Places
+pub mod Leading
+pub mod Failing
+pub mod Acting
+pub mod Losing
+pub mod Scheduling
+pub mod Widening
+pub mod Working

@@ -1,0 +1,5 @@
+pub mod Histories
+pub mod Schedules
+pub mod Laws
+pub mod Widening
+pub mod Worked

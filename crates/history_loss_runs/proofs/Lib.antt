@@ -1,0 +1,11 @@
+pub mod Tags
+pub mod Having
+pub mod Steps
+pub mod Tracking
+pub mod Advancing
+pub mod Catching
+pub mod Sharing
+pub mod Failures
+pub mod Calls
+pub mod Answering
+pub mod Explaining
