@@ -23,10 +23,10 @@ use Rattle.file_sessions.proofs.Walking.{HasDeed, HasNone, IsBuiltAll, all_behin
 
 -- LISTS TAKEN APART
 
-abbrev Parts : {X : Type 0} → List X → List X → List X → List X → Type 0
+abbrev pub Parts : {X : Type 0} → List X → List X → List X → List X → Type 0
 Parts {X} xs ys zs ws = ((k : List X) × (xs ≡ zs ++ k) × (ws ≡ k ++ ys)) ⊎ ((k : List X) × (zs ≡ xs ++ k) × (ys ≡ k ++ ws))
 
-apart_at : {X : Type 0} (xs ys zs ws : List X) → xs ++ ys ≡ zs ++ ws → Parts xs ys zs ws
+pub apart_at : {X : Type 0} (xs ys zs ws : List X) → xs ++ ys ≡ zs ++ ws → Parts xs ys zs ws
 apart_at [] ys zs ws e = inr (zs, refl, e)
 apart_at (x ∷ xs) ys [] ws e = inl (x ∷ xs, refl, sym e)
 apart_at {X} (x ∷ xs) ys (z ∷ zs) ws e =

@@ -5,3 +5,4 @@ pub mod Runs
 pub mod Sessions
 pub mod Laws
 pub mod Worked
+pub mod OneByOne

@@ -29,6 +29,7 @@ ghost use Rattle.file_sessions.specs.Laws.{
   SurvivorsAreLeft,
   ThroughSurvives,
 };
+ghost use Rattle.file_sessions.specs.OneByOne.{FlushedSurvives, SecuredSurvives};
 ghost use Rattle.file_sessions.specs.Runs.{ActsWithOne, DeedRunsJoin, FaultsWithOne, RunsWithNone};
 ghost use Rattle.file_sessions.specs.Worked.{AreHeldByHand, AreLeftByHand};
 
@@ -76,6 +77,16 @@ pub fn success_survives()
 {
     loss::certain_is_left();
     loss::success_is_left();
+}
+
+/// Of requests that are served one at a time: a write that was answered SUCCESS is in the file behind a loss once a flush
+/// that was called behind its answer was answered SUCCESS, and at once where it went past volatile caches; until its
+/// sector is written again.
+pub fn answers_survive()
+    ensures flushed { FlushedSurvives }
+    ensures secured { SecuredSurvives }
+{
+    success_survives();
 }
 
 /// What a file holds behind some calls, worked out by hand.

@@ -15,6 +15,7 @@ ghost use Rattle.file_disk.specs.Transfers.{DiskView, SyncsAfter};
 ghost use Rattle.machine_laws.specs.Reached.{OpeningsAreReached};
 ghost use Rattle.machine_laws.specs.WriteLaws.{RunsKeepLengths};
 ghost use Rattle.serving.specs.Carried.{StandsIn, TellsOn, quiet};
+ghost use Rattle.serving.specs.Keeping.{FlushedIsKept, SecuredIsKept};
 ghost use Rattle.serving.specs.Lasting.{ServedAreSessions, ServedMomentsAreSessions};
 ghost use Rattle.serving.specs.OnDisk.{Differs, DiffersFrom, HasNoFaults, IsFileSession, IsOpenFault, IsOpened, IsPutFault};
 ghost use Rattle.serving.specs.OnDisk.{IsNotStarted, IsStartedOver, IsTableFault, StopsPutting};
@@ -366,6 +367,17 @@ pub fn served_are_sessions()
     ensures moments { ServedMomentsAreSessions }
 {
     file_sessions::runs_are_sessions();
+}
+
+/// Says what a client keeps, by what it was told: a write that was told as done is in the file behind a loss of power
+/// once a flush that came behind it was told as done, and at once where it went past volatile caches; until its sector is
+/// written again. It does nothing; its contract is for callers.
+pub fn done_is_kept()
+    ensures flushed { FlushedIsKept }
+    ensures secured { SecuredIsKept }
+{
+    served_are_sessions();
+    file_sessions::answers_survive();
 }
 
 /// Serves a client over a partition of a disk in a file.
