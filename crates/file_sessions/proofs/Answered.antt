@@ -14,14 +14,14 @@ use Rattle.machine.specs.State.{State, opening}
 use Rattle.machine_laws.specs.Reached.{AreWhole}
 use Rattle.machine_laws.proofs.Chunks.{range_chunk}
 use Rattle.file_disk.specs.Calls.{Call}
-use Rattle.loss.specs.Held.{has, sector_in, value_at}
+use Rattle.loss.specs.Held.{sector_in, surely}
 use Rattle.loss.specs.Moved.{IsReachedWith, Table, TableRun, held_on, work_of}
-use Rattle.loss.specs.Laws.{AtWork, Brings, BringsSurely, Changes, Is, Throughout, sector_of, value_for}
+use Rattle.loss.specs.Laws.{AtWork, Brings, BringsSurely, CertainStays, Changes, Is, LeavesOnly, Throughout, sector_of, value_for}
 use Rattle.loss.specs.Sessions.{Moment}
 use Rattle.file_sessions.specs.Stored.{Content, Survives}
 use Rattle.file_sessions.specs.Sessions.{IsSession}
-use Rattle.file_sessions.specs.Laws.{SuccessSurvives, ThroughSurvives}
-use Rattle.file_sessions.specs.OneByOne.{FlushedSurvives, IsAway, IsFlushed, IsOfOne, IsRound, IsWritten, Round, SecuredSurvives, Stands, SyncsWell, labels_of, labels_of_all}
+use Rattle.file_sessions.specs.Laws.{CertainSurvives, SuccessSurvives, ThroughSurvives}
+use Rattle.file_sessions.specs.OneByOne.{FlushedSurvives, IsAway, IsFlushed, IsOfOne, IsRound, IsWritten, Round, SecuredSurvives, Stands, SyncsWell, UntouchedSurvives, labels_of, labels_of_all}
 use Rattle.file_sessions.proofs.Alike.{table_append}
 use Rattle.file_sessions.proofs.Kept.{Base, Brought, Found, all_brought, all_sure, base_of, calm_all, calm_on, found, never_in}
 use Rattle.file_sessions.proofs.Rounds.{Fits, IsCalm, Split, as_run, calm_opening, nothing_along, split, throughout}
@@ -175,3 +175,15 @@ secured_survives law rules arrays before after calls end first w later told rest
 pub flushed_survives : SuccessSurvives → FlushedSurvives
 flushed_survives law rules arrays before after calls end first w between f later told rest place session whole rounds round betweens flush laters is written flushed away well away_later survives =
     flushed_so rules arrays before first w place whole rounds round written calls end after later told rest laters is away_later survives law between f betweens flush flushed away well session
+
+-- what stood there first is certain
+first_leaves : (value : List ℕ) → LeavesOnly (Is value) (surely value)
+first_leaves value other (inl same) = same
+first_leaves value other (inr never) = absurd never
+
+pub untouched_survives : CertainStays → CertainSurvives → UntouchedSurvives
+untouched_survives stays law rules arrays before after calls end served told rest i session whole rounds is away on_disk survives =
+    let b : Brought rules i (Is (before i)) (opening arrays) (held_on before) told end.machine end.table session.run =
+    all_brought rules i (Is (before i)) (opening arrays) (held_on before) served told rest end.machine end.table (calm_opening rules arrays whole) rounds away is session.run in
+    law rules arrays before calls told end i (before i) after session on_disk
+    (stays rules i (before i) (opening arrays) (held_on before) told end.machine end.table session.run (first_leaves (before i)) b.along) b.at_work survives

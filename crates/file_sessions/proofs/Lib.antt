@@ -20,3 +20,4 @@ mod Rounds
 mod Alike
 mod Kept
 mod Answered
+mod Later

@@ -6,3 +6,4 @@ pub mod Sessions
 pub mod Laws
 pub mod Worked
 pub mod OneByOne
+pub mod Behind

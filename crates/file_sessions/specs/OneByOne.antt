@@ -102,3 +102,11 @@ SecuredSurvives = (rules : Rules) (arrays : List (List (List ℕ))) (before afte
     → All (IsAway rules (sector_of rules w.request place)) later
     → Survives rules.sector_size rules.disk_sectors before calls after
     → Stands rules w place after
+
+-- a sector that no request writes is as it was, whatever a loss left
+abbrev pub UntouchedSurvives : Type 0
+UntouchedSurvives = (rules : Rules) (arrays : List (List (List ℕ))) (before after : Content) (calls : List Call) (end : Moment) (served : List Round) (told rest : List Label) (i : ℕ)
+    → IsSession rules arrays before calls told end → AreWhole rules arrays → All IsRound served → labels_of_all served ≡ told ++ rest
+    → All (IsAway rules i) served → i < rules.disk_sectors
+    → Survives rules.sector_size rules.disk_sectors before calls after
+    → after i ≡ before i

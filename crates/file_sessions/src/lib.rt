@@ -16,6 +16,7 @@
 //! That a file keeps to `Stored` is a premise; that a program makes such a run isn't said here.
 #![tactic(auto)]
 
+ghost use Rattle.file_sessions.specs.Behind.{LaterMomentsAreSessions};
 ghost use Rattle.file_sessions.specs.Laws.{
   CertainSurvives,
   MomentsAreSessions,
@@ -29,7 +30,7 @@ ghost use Rattle.file_sessions.specs.Laws.{
   SurvivorsAreLeft,
   ThroughSurvives,
 };
-ghost use Rattle.file_sessions.specs.OneByOne.{FlushedSurvives, SecuredSurvives};
+ghost use Rattle.file_sessions.specs.OneByOne.{FlushedSurvives, SecuredSurvives, UntouchedSurvives};
 ghost use Rattle.file_sessions.specs.Runs.{ActsWithOne, DeedRunsJoin, FaultsWithOne, RunsWithNone};
 ghost use Rattle.file_sessions.specs.Worked.{AreHeldByHand, AreLeftByHand};
 
@@ -43,6 +44,7 @@ pub fn pieces_leave_no_more()
 pub fn runs_are_sessions()
     ensures runs { RunsAreSessions }
     ensures moments { MomentsAreSessions }
+    ensures later_moments { LaterMomentsAreSessions }
     ensures none_under_way { NoneUnderWay }
 {}
 
@@ -81,12 +83,14 @@ pub fn success_survives()
 
 /// Of requests that are served one at a time: a write that was answered SUCCESS is in the file behind a loss once a flush
 /// that was called behind its answer was answered SUCCESS, and at once where it went past volatile caches; until its
-/// sector is written again.
+/// sector is written again. A sector that no request writes is as it was.
 pub fn answers_survive()
     ensures flushed { FlushedSurvives }
     ensures secured { SecuredSurvives }
+    ensures untouched { UntouchedSurvives }
 {
     success_survives();
+    loss::certain_is_left();
 }
 
 /// What a file holds behind some calls, worked out by hand.

@@ -1,5 +1,5 @@
 -- A write that a client was told as done, and what was told behind it: its bytes are kept.
-use Rattle.serving.proofs.Common.{◌≡◌, ◌<◌, ◌≤◌, inl, inr, ℕ, Bool, true, false, List, [], ◌∷◌, ◌++◌, Option, Some, None, Result, Ok, Err, refl, sym, ap, subst, ◌∙◌, arith, append-nil, append_assoc, length, All, MatchResult, ClientRequest, Rules, Extent, Label, Read, Write, Flush, FiledView, without_bytes, call_on, slice_get, Success, extents_of, End, Sizes, rules_over}
+use Rattle.serving.proofs.Common.{◌≡◌, ◌<◌, ◌≤◌, inl, inr, ℕ, Bool, true, false, List, [], ◌∷◌, ◌++◌, Option, Some, None, Result, Ok, Err, refl, sym, ap, subst, ◌∙◌, arith, append-nil, append_assoc, length, All, All-nil, MatchResult, ClientRequest, Rules, Extent, Label, Read, Write, Flush, FiledView, without_bytes, call_on, slice_get, Success, extents_of, End, Sizes, rules_over}
 use Rattle.std.specs.Prelude.{◌⊎◌, ◌+◌, ◌/◌}
 use Rattle.std.proofs.Math.Nat.{zero-div}
 use Rattle.std.proofs.lemmas.Option.{slice_get-get_or}
@@ -20,26 +20,27 @@ use Rattle.nbd.specs.Over.{CarriesOver, IsSessionOver, RunOver}
 use Rattle.nbd.specs.Replies.{Outcome, error_number, failure}
 use Rattle.nbd.specs.Requests.{command_in, payload_count, payload_of}
 use Rattle.nbd.specs.Session.{Exchange}
-use Rattle.file_sessions.specs.OneByOne.{FlushedSurvives, IsAway, IsFlushed, IsRound, IsWritten, Round, SecuredSurvives, Stands, SyncsWell, labels_of, labels_of_all}
+use Rattle.file_sessions.specs.OneByOne.{FlushedSurvives, IsAway, IsFlushed, IsRound, IsWritten, Round, SecuredSurvives, Stands, SyncsWell, UntouchedSurvives, labels_of, labels_of_all}
 use Rattle.file_sessions.specs.Sessions.{IsSession}
 use Rattle.file_sessions.specs.Stored.{Content, IsKept, Survives}
 use Rattle.serving.specs.declared.faults.Error.{Error}
 use Rattle.serving.specs.Filed.{CarriesBy}
 use Rattle.serving.specs.Lasting.{ServedAreSessions, ServesFile, told_in}
+use Rattle.serving.specs.OnDisk.{IsOpened}
 use Rattle.serving.specs.Telling.{of_found, of_run, of_session}
-use Rattle.serving.specs.Keeping.{FlushedIsKept, HasSynced, IsElsewhere, IsFlush, IsToldDone, IsWrite, SecuredIsKept, command_of, exchanges_of, sector_on, served_in}
+use Rattle.serving.specs.Keeping.{FlushedIsKept, HasSynced, IsElsewhere, IsFlush, IsToldDone, IsWrite, SecuredIsKept, UntouchedIsKept, command_of, exchanges_of, sector_on, served_in}
 use Rattle.serving.proofs.Asking.{AskedFor, IsCallOf, IsOne, IsOneOrNone, asked_for}
 use Rattle.serving.proofs.Rounds.{AreRounds, IsHeld, IsPut, IsSteady, done_plain, error_some, held_on, none_failed, payload_is, places_of, put_by, run_rounds, sector_at, steady_of}
 
 -- RUNS IN PARTS
 
-record Parted (sizes : Sizes) (old : FiledView) (front ys : List Exchange) (new : FiledView) (h : RunOver CarriesBy sizes old (front ++ ys) new) : Type 0 where
-  mid : FiledView
-  first : RunOver CarriesBy sizes old front mid
-  rest : RunOver CarriesBy sizes mid ys new
-  labels : of_run sizes old (front ++ ys) new h ≡ of_run sizes old front mid first ++ of_run sizes mid ys new rest
+pub record Parted (sizes : Sizes) (old : FiledView) (front ys : List Exchange) (new : FiledView) (h : RunOver CarriesBy sizes old (front ++ ys) new) : Type 0 where
+  pub mid : FiledView
+  pub first : RunOver CarriesBy sizes old front mid
+  pub rest : RunOver CarriesBy sizes mid ys new
+  pub labels : of_run sizes old (front ++ ys) new h ≡ of_run sizes old front mid first ++ of_run sizes mid ys new rest
 
-parted : (sizes : Sizes) (old : FiledView) (front ys : List Exchange) (new : FiledView) (h : RunOver CarriesBy sizes old (front ++ ys) new) → Parted sizes old front ys new h
+pub parted : (sizes : Sizes) (old : FiledView) (front ys : List Exchange) (new : FiledView) (h : RunOver CarriesBy sizes old (front ++ ys) new) → Parted sizes old front ys new h
 parted sizes old [] ys new h = record { mid = old; first = refl; rest = h; labels = refl }
 parted sizes old (x ∷ xs) ys new h =
     let r = parted sizes h.0 xs ys new h.2 in
@@ -54,23 +55,23 @@ parted sizes old (x ∷ xs) ys new h =
 -- ONE WRITE, AND ONE FLUSH
 
 -- what was told of a request that was told as done
-record IsDoneRound (old new : FiledView) (q : ClientRequest) (labels : List Label) : Type 0 where
-  round : Round
-  labels_are : labels ≡ labels_of round
-  is_round : IsRound round
-  called : IsCallOf q round
-  succeeds : round.status ≡ Success
-  same_rules : new.carried.stack.rules ≡ old.carried.stack.rules
-  same_handles : new.carried.stack.handles ≡ old.carried.stack.handles
-  same_handle : new.handle ≡ old.handle
+pub record IsDoneRound (old new : FiledView) (q : ClientRequest) (labels : List Label) : Type 0 where
+  pub round : Round
+  pub labels_are : labels ≡ labels_of round
+  pub is_round : IsRound round
+  pub called : IsCallOf q round
+  pub succeeds : round.status ≡ Success
+  pub same_rules : new.carried.stack.rules ≡ old.carried.stack.rules
+  pub same_handles : new.carried.stack.handles ≡ old.carried.stack.handles
+  pub same_handle : new.handle ≡ old.handle
 
-abbrev Found : Sizes → Exchange → Result Command ReplyError → FiledView → FiledView → Type 0
+abbrev pub Found : Sizes → Exchange → Result Command ReplyError → FiledView → FiledView → Type 0
 Found sizes x found old new = MatchResult found (λ command. CarriesOver CarriesBy sizes command x.payload old x.outcome new) (λ e. (x.outcome ≡ failure e) × (new ≡ old))
 
 not_failed : (x : Exchange) (e : ReplyError) → x.outcome ≡ failure e → IsToldDone x → ⊥
 not_failed x e is done = error_some e (sym (ap (λ (o : Outcome). o.error) is) ∙ done)
 
-wrote : (sizes : Sizes) (x : Exchange) (found : Result Command ReplyError) (old new : FiledView) (offset count : ℕ) (through : Bool) → found ≡ Ok (WriteCommand offset count through) → IsToldDone x → (h : Found sizes x found old new)
+pub wrote : (sizes : Sizes) (x : Exchange) (found : Result Command ReplyError) (old new : FiledView) (offset count : ℕ) (through : Bool) → found ≡ Ok (WriteCommand offset count through) → IsToldDone x → (h : Found sizes x found old new)
     → IsDoneRound old new (call_on old.carried.stack old.handle WriteKind offset x.payload through) (of_found sizes found x.payload old x.outcome new h)
 wrote sizes x (Ok (WriteCommand o n t)) old new offset count through e done (inl h) =
     let failed : h.0 ≡ None = done_plain x.outcome h.0 h.2 done in
@@ -108,7 +109,7 @@ wrote sizes x (Ok FlushCommand) old new offset count through e done h = absurd (
 wrote sizes x (Ok (WriteZeroes o n t)) old new offset count through e done h = absurd (cc (e))
 wrote sizes x (Err error) old new offset count through e done h = absurd (cc (e))
 
-flushed : (sizes : Sizes) (x : Exchange) (found : Result Command ReplyError) (old new : FiledView) → found ≡ Ok FlushCommand → IsToldDone x → (h : Found sizes x found old new)
+pub flushed : (sizes : Sizes) (x : Exchange) (found : Result Command ReplyError) (old new : FiledView) → found ≡ Ok FlushCommand → IsToldDone x → (h : Found sizes x found old new)
     → IsDoneRound old new (call_on old.carried.stack old.handle FlushKind 0 [] false) (of_found sizes found x.payload old x.outcome new h)
 flushed sizes x (Ok FlushCommand) old new e done (inl h) =
     let failed : h.0 ≡ None = done_plain x.outcome h.0 h.2 done in
@@ -135,9 +136,61 @@ flushed sizes x (Ok (WriteCommand o n t)) old new e done h = absurd (cc (e))
 flushed sizes x (Ok (WriteZeroes o n t)) old new e done h = absurd (cc (e))
 flushed sizes x (Err error) old new e done h = absurd (cc (e))
 
-flush_kind : (q : ClientRequest) (r : Round) → IsCallOf q r → r.request.kind ≡ q.kind
+pub flush_kind : (q : ClientRequest) (r : Round) → IsCallOf q r → r.request.kind ≡ q.kind
 flush_kind q r (inl is) = ap (λ (x : ClientRequest). x.kind) is
 flush_kind q r (inr is) = ap (λ (x : ClientRequest). x.kind) is
+
+-- the write's round
+module _ (c : Settings) (p : ℕ) (known : slice_get (extents_of c) p ≡ Some (extent_at (extents_of c) p)) (some : 0 < c.sector_size) (sizes : Sizes) (block : sizes.block ≡ c.sector_size) (w : Exchange) (place k : ℕ) (is_write : IsWrite sizes w place k) (on_disk : sector_on c p k < c.sectors)
+    (v : FiledView) (held_v : IsHeld (rules_over false false c) p (extent_at (extents_of c) p) known some v) (r : Round) (called : IsCallOf (call_on v.carried.stack v.handle WriteKind is_write.offset w.payload is_write.through) r) (succeeds : r.status ≡ Success)
+    (long : length w.payload ≡ payload_count w.request) where
+  abbrev pub put_rules : Rules
+  put_rules = rules_over false false c
+
+  abbrev pub put_extent : Extent
+  put_extent = extent_at (extents_of c) p
+
+  pub put : IsPut put_rules p put_extent known some v is_write.offset (length w.payload) is_write.through r
+  put = put_by put_rules p put_extent known some v is_write.offset w.payload is_write.through r held_v called
+
+  count_is : length w.payload ≡ is_write.count
+  count_is = long ∙ payload_is sizes.block sizes.bytes w.request (WriteCommand is_write.offset is_write.count is_write.through) is_write.command
+
+  inside : place < length w.payload / c.sector_size
+  inside = subst (λ (n : ℕ). place < n / c.sector_size) (sym count_is) (subst (λ (n : ℕ). place < is_write.count / n) block is_write.inside)
+
+  at : sector_of put_rules r.request place ≡ sector_on c p k
+  at =
+      sector_at put_rules p put_extent known some v is_write.offset (length w.payload) is_write.through r place put
+      ∙ ap (λ (n : ℕ). put_extent.first + n) (sym (is_write.sector ∙ ap (λ (n : ℕ). is_write.offset / n + place) block))
+
+  pub written : IsWritten put_rules r place
+  written = record {
+    is_write = put.kind;
+    succeeds = succeeds;
+    inside = subst (λ (n : ℕ). place < n) (sym (places_of put_rules p put_extent known some r (length w.payload) put.kind put.long_is)) inside;
+    on_disk = subst (λ (n : ℕ). n < c.sectors) (sym at) on_disk;
+  }
+
+  -- its call brought the bytes
+  brought : (called : IsCallOf (call_on v.carried.stack v.handle WriteKind is_write.offset w.payload is_write.through) r) → length r.request.bytes ≡ r.request.length → r.request.bytes ≡ w.payload
+  brought (inl is) all = ap (λ (q : ClientRequest). q.bytes) is
+  brought (inr is) all =
+      let none : length r.request.bytes ≡ 0 = ap (λ (q : ClientRequest). length q.bytes) is in
+      let zero' : length w.payload ≡ 0 = sym put.long_is ∙ sym all ∙ none in
+      let low : place < 0 / c.sector_size = subst (λ (n : ℕ). place < n / c.sector_size) zero' inside in
+      absurd (let e : 0 / c.sector_size ≡ 0 = zero-div c.sector_size in omega (arith, low, e))
+
+  pub there : (left : Content) → Stands put_rules r place left → left (sector_on c p k) ≡ sector_in c.sector_size place w.payload
+  there left s =
+      subst (λ (n : ℕ). left n ≡ value_for put_rules r.request place) at s.bytes
+      ∙ ap (λ (bytes : List ℕ). sector_in c.sector_size place bytes) (brought called s.all)
+
+  pub away_there : (rs : List Round) → All (IsAway put_rules (sector_on c p k)) rs → All (IsAway put_rules (sector_of put_rules r.request place)) rs
+  away_there rs away = subst (λ (n : ℕ). All (IsAway put_rules n) rs) (sym at) away
+
+pub known_of : (c : Settings) (p : ℕ) (opened : List Call) (old : FiledView) → IsOpened c p opened old → slice_get (extents_of c) p ≡ Some (extent_at (extents_of c) p)
+known_of c p opened old opens = slice_get-get_or (extents_of c) p (record { first = 0; count = 0 }) (subst (λ (r : Rules). p < length r.partitions) opens.rules opens.on.known)
 
 -- THE LAWS
 
@@ -150,7 +203,7 @@ module _ (c : Settings) (p : ℕ) (opened : List Call) (old : FiledView) (input 
   extent = extent_at (extents_of c) p
 
   known : slice_get (extents_of c) p ≡ Some extent
-  known = slice_get-get_or (extents_of c) p (record { first = 0; count = 0 }) (subst (λ (r : Rules). p < length r.partitions) h.opens.rules h.opens.on.known)
+  known = known_of c p opened old h.opens
 
   abbrev Held : FiledView → Type 0
   Held v = IsHeld rules p extent known some v
@@ -187,49 +240,20 @@ module _ (c : Settings) (p : ℕ) (opened : List Call) (old : FiledView) (input 
         told = sym told ∙ ap (λ (ls : List Label). ls ++ of_run old.sizes old talks.exchanges new talks.run) h.opens.none_called ∙ both.1;
       }
 
+  untouched : UntouchedSurvives → (k : ℕ) → All (IsElsewhere old.sizes k) (served_in c p opened old input out fault new after calls h) → sector_on c p k < c.sectors → left (sector_on c p k) ≡ before (sector_on c p k)
+  untouched law k away on_disk = by_session h.session.session refl away
+    where
+      by_session : (session : IsSessionOver CarriesBy old.sizes old input out h.session.end new after) → h.opens.trace ++ of_session old.sizes old input out h.session.end new after session ≡ told_in c p opened old input out fault new after calls h
+          → All (IsElsewhere old.sizes k) (exchanges_of old.sizes old input out h.session.end new after session) → left (sector_on c p k) ≡ before (sector_on c p k)
+      by_session (inl early) told away =
+          let s = session_of [] (sym told ∙ ap (λ (ls : List Label). ls ++ []) h.opens.none_called) in
+          law rules h.opens.arrays before left calls s.0 [] [] [] (sector_on c p k) s.1 whole (All-nil IsRound) refl (All-nil (IsAway rules (sector_on c p k))) on_disk survives
+      by_session (inr talks) told away =
+          let rs = run_rounds rules p extent known some old.sizes h.opens.block old talks.exchanges new talks.run held in
+          let s = session_of (labels_of_all rs.rounds) (sym told ∙ ap (λ (ls : List Label). ls ++ of_run old.sizes old talks.exchanges new talks.run) h.opens.none_called ∙ rs.labels_are) in
+          law rules h.opens.arrays before left calls s.0 rs.rounds (labels_of_all rs.rounds) [] (sector_on c p k) s.1 whole rs.are (sym (append-nil (labels_of_all rs.rounds))) (rs.away k away) on_disk survives
+
   module _ (w : Exchange) (place k : ℕ) (is_write : IsWrite old.sizes w place k) (on_disk : sector_on c p k < c.sectors) where
-    -- the write's round
-    module _ (v v' : FiledView) (held_v : Held v) (r : Round) (called : IsCallOf (call_on v.carried.stack v.handle WriteKind is_write.offset w.payload is_write.through) r) (succeeds : r.status ≡ Success)
-        (long : length w.payload ≡ payload_count w.request) where
-      put : IsPut rules p extent known some v is_write.offset (length w.payload) is_write.through r
-      put = put_by rules p extent known some v is_write.offset w.payload is_write.through r held_v called
-
-      count_is : length w.payload ≡ is_write.count
-      count_is = long ∙ payload_is old.sizes.block old.sizes.bytes w.request (WriteCommand is_write.offset is_write.count is_write.through) is_write.command
-
-      inside : place < length w.payload / c.sector_size
-      inside = subst (λ (n : ℕ). place < n / c.sector_size) (sym count_is) (subst (λ (n : ℕ). place < is_write.count / n) h.opens.block is_write.inside)
-
-      at : sector_of rules r.request place ≡ sector_on c p k
-      at =
-          sector_at rules p extent known some v is_write.offset (length w.payload) is_write.through r place put
-          ∙ ap (λ (n : ℕ). extent.first + n) (sym (is_write.sector ∙ ap (λ (n : ℕ). is_write.offset / n + place) h.opens.block))
-
-      written : IsWritten rules r place
-      written = record {
-        is_write = put.kind;
-        succeeds = succeeds;
-        inside = subst (λ (n : ℕ). place < n) (sym (places_of rules p extent known some r (length w.payload) put.kind put.long_is)) inside;
-        on_disk = subst (λ (n : ℕ). n < c.sectors) (sym at) on_disk;
-      }
-
-      -- its call brought the bytes
-      brought : (called : IsCallOf (call_on v.carried.stack v.handle WriteKind is_write.offset w.payload is_write.through) r) → length r.request.bytes ≡ r.request.length → r.request.bytes ≡ w.payload
-      brought (inl is) all = ap (λ (q : ClientRequest). q.bytes) is
-      brought (inr is) all =
-          let none : length r.request.bytes ≡ 0 = ap (λ (q : ClientRequest). length q.bytes) is in
-          let zero' : length w.payload ≡ 0 = sym put.long_is ∙ sym all ∙ none in
-          let low : place < 0 / c.sector_size = subst (λ (n : ℕ). place < n / c.sector_size) zero' inside in
-          absurd (let e : 0 / c.sector_size ≡ 0 = zero-div c.sector_size in omega (arith, low, e))
-
-      there : Stands rules r place left → left (sector_on c p k) ≡ sector_in c.sector_size place w.payload
-      there s =
-          subst (λ (n : ℕ). left n ≡ value_for rules r.request place) at s.bytes
-          ∙ ap (λ (bytes : List ℕ). sector_in c.sector_size place bytes) (brought called s.all)
-
-      away_there : (rs : List Round) → All (IsAway rules (sector_on c p k)) rs → All (IsAway rules (sector_of rules r.request place)) rs
-      away_there rs away = subst (λ (n : ℕ). All (IsAway rules n) rs) (sym at) away
-
     secured : SecuredSurvives → (first later : List Exchange) → served_in c p opened old input out fault new after calls h ≡ first ++ w ∷ later → is_write.through ≡ true → All (IsElsewhere old.sizes k) later
         → left (sector_on c p k) ≡ sector_in c.sector_size place w.payload
     secured law first later is through away =
@@ -243,10 +267,10 @@ module _ (c : Settings) (p : ℕ) (opened : List Call) (old : FiledView) (input 
         let ls = run_rounds rules p extent known some old.sizes h.opens.block a.rest.0 later new a.rest.2 held_d in
         let told : told_in c p opened old input out fault new after calls h ≡ labels_of_all fs.rounds ++ (labels_of d.round ++ labels_of_all ls.rounds) = r.told ∙ a.labels ∙ rw (fs.labels_are, d.labels_are, ls.labels_are) refl in
         let s = session_of (labels_of_all fs.rounds ++ (labels_of d.round ++ labels_of_all ls.rounds)) told in
-        there a.mid a.rest.0 held_a d.round d.called d.succeeds a.rest.1.long
+        there c p known some old.sizes h.opens.block w place k is_write on_disk a.mid held_a d.round d.called d.succeeds a.rest.1.long left
         (law rules h.opens.arrays before left calls s.0 fs.rounds d.round ls.rounds (labels_of_all ls.rounds) [] place s.1 whole fs.are d.is_round ls.are (sym (append-nil (labels_of_all ls.rounds)))
-        (written a.mid a.rest.0 held_a d.round d.called d.succeeds a.rest.1.long) ((put a.mid a.rest.0 held_a d.round d.called d.succeeds a.rest.1.long).through_is ∙ through)
-        (away_there a.mid a.rest.0 held_a d.round d.called d.succeeds a.rest.1.long ls.rounds (ls.away k away)) survives)
+        (written c p known some old.sizes h.opens.block w place k is_write on_disk a.mid held_a d.round d.called d.succeeds a.rest.1.long) ((put c p known some old.sizes h.opens.block w place k is_write on_disk a.mid held_a d.round d.called d.succeeds a.rest.1.long).through_is ∙ through)
+        (away_there c p known some old.sizes h.opens.block w place k is_write on_disk a.mid held_a d.round d.called d.succeeds a.rest.1.long ls.rounds (ls.away k away)) survives)
 
     flush_kept : FlushedSurvives → (first between : List Exchange) (f : Exchange) (later : List Exchange) → served_in c p opened old input out fault new after calls h ≡ first ++ w ∷ (between ++ f ∷ later) → IsFlush old.sizes f
         → All (IsElsewhere old.sizes k) between → All (HasSynced old.sizes) between → All (IsElsewhere old.sizes k) later → left (sector_on c p k) ≡ sector_in c.sector_size place w.payload
@@ -269,10 +293,10 @@ module _ (c : Settings) (p : ℕ) (opened : List Call) (old : FiledView) (input 
         r.told ∙ a.labels ∙ ap (λ (x : List Label). of_run old.sizes old first a.mid a.first ++ (of_found old.sizes (command_in old.sizes.block old.sizes.bytes w.request) w.payload a.mid w.outcome a.rest.0 a.rest.1.serves ++ x)) b.labels
         ∙ rw (fs.labels_are, d.labels_are, bs.labels_are, e.labels_are, ls.labels_are) refl in
         let s = session_of (labels_of_all fs.rounds ++ (labels_of d.round ++ (labels_of_all bs.rounds ++ (labels_of e.round ++ labels_of_all ls.rounds)))) told in
-        there a.mid a.rest.0 held_a d.round d.called d.succeeds a.rest.1.long
+        there c p known some old.sizes h.opens.block w place k is_write on_disk a.mid held_a d.round d.called d.succeeds a.rest.1.long left
         (law rules h.opens.arrays before left calls s.0 fs.rounds d.round bs.rounds e.round ls.rounds (labels_of_all ls.rounds) [] place s.1 whole fs.are d.is_round bs.are e.is_round ls.are (sym (append-nil (labels_of_all ls.rounds)))
-        (written a.mid a.rest.0 held_a d.round d.called d.succeeds a.rest.1.long) (record { is_flush = flush_kind _ e.round e.called; succeeds = e.succeeds })
-        (away_there a.mid a.rest.0 held_a d.round d.called d.succeeds a.rest.1.long bs.rounds (bs.away k away)) (bs.well well) (away_there a.mid a.rest.0 held_a d.round d.called d.succeeds a.rest.1.long ls.rounds (ls.away k away_later)) survives)
+        (written c p known some old.sizes h.opens.block w place k is_write on_disk a.mid held_a d.round d.called d.succeeds a.rest.1.long) (record { is_flush = flush_kind _ e.round e.called; succeeds = e.succeeds })
+        (away_there c p known some old.sizes h.opens.block w place k is_write on_disk a.mid held_a d.round d.called d.succeeds a.rest.1.long bs.rounds (bs.away k away)) (bs.well well) (away_there c p known some old.sizes h.opens.block w place k is_write on_disk a.mid held_a d.round d.called d.succeeds a.rest.1.long ls.rounds (ls.away k away_later)) survives)
 
 pub flushed_is_kept : ServedAreSessions → FlushedSurvives → FlushedIsKept
 flushed_is_kept sessions law c p opened old input out fault new after calls before left first w between f later place k h some kept is is_write is_flush away well away_later on_disk survives =
@@ -281,3 +305,7 @@ flushed_is_kept sessions law c p opened old input out fault new after calls befo
 pub secured_is_kept : ServedAreSessions → SecuredSurvives → SecuredIsKept
 secured_is_kept sessions law c p opened old input out fault new after calls before left first w later place k h some kept is is_write through away on_disk survives =
     secured c p opened old input out fault new after calls before left h some kept survives sessions w place k is_write on_disk law first later is through away
+
+pub untouched_is_kept : ServedAreSessions → UntouchedSurvives → UntouchedIsKept
+untouched_is_kept sessions law c p opened old input out fault new after calls before left k h some kept away on_disk survives =
+    untouched c p opened old input out fault new after calls before left h some kept survives sessions law k away on_disk

@@ -18,3 +18,4 @@ mod Common
 mod Asking
 mod Rounds
 mod Keeping
+mod Meanwhile

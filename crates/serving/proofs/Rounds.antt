@@ -184,7 +184,7 @@ module _ (rules : Rules) (p : ℕ) (extent : Extent) (known : slice_get rules.pa
     steady = record { same_rules = refl; same_handles = refl; same_handle = refl };
   })
 
-  all_labels : (xs ys : List Round) → labels_of_all (xs ++ ys) ≡ labels_of_all xs ++ labels_of_all ys
+  pub all_labels : (xs ys : List Round) → labels_of_all (xs ++ ys) ≡ labels_of_all xs ++ labels_of_all ys
   all_labels [] ys = refl
   all_labels (x ∷ xs) ys = ap (λ (ls : List Label). labels_of x ++ ls) (all_labels xs ys) ∙ sym (append_assoc (labels_of x) (labels_of_all xs) (labels_of_all ys))
 

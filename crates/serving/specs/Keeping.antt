@@ -12,13 +12,14 @@ use Rattle.nbd.specs.declared.arrays.Sizes.{Sizes}
 use Rattle.nbd.specs.declared.requests.Command.{Command}
 use Rattle.nbd.specs.declared.requests.Command.TheVariants.{Read, Write, Flush, WriteZeroes}
 use Rattle.nbd.specs.declared.requests.ReplyError.{ReplyError}
-use Rattle.nbd.specs.Over.{IsSessionOver}
+use Rattle.nbd.specs.Over.{IsSessionOver, RunOver}
 use Rattle.nbd.specs.Requests.{command_in}
 use Rattle.nbd.specs.Session.{Exchange}
-use Rattle.file_sessions.specs.Stored.{Content, IsKept, Survives}
+use Rattle.file_sessions.specs.Stored.{Content, IsKept, Survives, under_way}
 use Rattle.serving.specs.declared.faults.Error.{Error}
 use Rattle.serving.specs.Filed.{CarriesBy, FiledView}
 use Rattle.serving.specs.Lasting.{ServesFile}
+use Rattle.serving.specs.OnDisk.{IsOpened}
 
 -- EXCHANGES
 
@@ -109,3 +110,50 @@ SecuredIsKept = (c : Config) (p : ℕ) (opened : List Call) (old : FiledView) (i
     → All (IsElsewhere old.sizes k) later
     → sector_on c p k < c.sectors → Survives c.sector_size c.sectors before calls left
     → left (sector_on c p k) ≡ sector_in c.sector_size place w.payload
+
+-- a sector that no request writes is as it was: so what one session leaves the next ones keep
+abbrev pub UntouchedIsKept : Type 0
+UntouchedIsKept = (c : Config) (p : ℕ) (opened : List Call) (old : FiledView) (input out : Option (List ℕ)) (fault : Option Error) (new : FiledView) (after : Option (List ℕ)) (calls : List Call) (before left : Content) (k : ℕ)
+    → (h : ServesFile c p opened old input out fault new after calls) → 0 < c.sector_size → IsKept c.sector_size before calls
+    → All (IsElsewhere old.sizes k) (served_in c p opened old input out fault new after calls h)
+    → sector_on c p k < c.sectors → Survives c.sector_size c.sectors before calls left
+    → left (sector_on c p k) ≡ before (sector_on c p k)
+
+-- AT A MOMENT
+
+-- a client was told of some requests. At a moment behind that, while later ones are served, the file had got these calls since, and one was
+-- under way
+pub record IsMoment (c : Config) (p : ℕ) (opened : List Call) (old : FiledView) (front later : List Exchange) (new : FiledView) (told since : List Call) (call : Call) : Type 0 where
+  pub opens : IsOpened c p opened old
+  pub seen : FiledView
+  pub told_of : RunOver CarriesBy old.sizes old front seen
+  pub onwards : RunOver CarriesBy old.sizes seen later new
+  pub told_are : seen.carried.disk.calls ≡ told ++ old.carried.disk.calls
+  pub rest : List Call
+  pub calls_are : new.carried.disk.calls ≡ (rest ++ call ∷ (since ++ told)) ++ old.carried.disk.calls
+
+-- what was told by then is kept at that moment too
+abbrev pub FlushedIsKeptMeanwhile : Type 0
+FlushedIsKeptMeanwhile = (c : Config) (p : ℕ) (opened : List Call) (old new : FiledView) (told since : List Call) (call : Call) (before left : Content)
+    (first : List Exchange) (w : Exchange) (between : List Exchange) (f : Exchange) (behind later : List Exchange) (place k : ℕ)
+    → IsMoment c p opened old (first ++ w ∷ (between ++ f ∷ behind)) later new told since call → 0 < c.sector_size → IsKept c.sector_size before (since ++ told)
+    → IsWrite old.sizes w place k → IsFlush old.sizes f
+    → All (IsElsewhere old.sizes k) between → All (HasSynced old.sizes) between → All (IsElsewhere old.sizes k) behind → All (IsElsewhere old.sizes k) later
+    → sector_on c p k < c.sectors → Survives c.sector_size c.sectors before (under_way call ∷ (since ++ told)) left
+    → left (sector_on c p k) ≡ sector_in c.sector_size place w.payload
+
+abbrev pub SecuredIsKeptMeanwhile : Type 0
+SecuredIsKeptMeanwhile = (c : Config) (p : ℕ) (opened : List Call) (old new : FiledView) (told since : List Call) (call : Call) (before left : Content)
+    (first : List Exchange) (w : Exchange) (behind later : List Exchange) (place k : ℕ)
+    → IsMoment c p opened old (first ++ w ∷ behind) later new told since call → 0 < c.sector_size → IsKept c.sector_size before (since ++ told)
+    → (is_write : IsWrite old.sizes w place k) → is_write.through ≡ true
+    → All (IsElsewhere old.sizes k) behind → All (IsElsewhere old.sizes k) later
+    → sector_on c p k < c.sectors → Survives c.sector_size c.sectors before (under_way call ∷ (since ++ told)) left
+    → left (sector_on c p k) ≡ sector_in c.sector_size place w.payload
+
+abbrev pub UntouchedIsKeptMeanwhile : Type 0
+UntouchedIsKeptMeanwhile = (c : Config) (p : ℕ) (opened : List Call) (old new : FiledView) (told since : List Call) (call : Call) (before left : Content) (front later : List Exchange) (k : ℕ)
+    → IsMoment c p opened old front later new told since call → 0 < c.sector_size → IsKept c.sector_size before (since ++ told)
+    → All (IsElsewhere old.sizes k) front → All (IsElsewhere old.sizes k) later
+    → sector_on c p k < c.sectors → Survives c.sector_size c.sectors before (under_way call ∷ (since ++ told)) left
+    → left (sector_on c p k) ≡ before (sector_on c p k)

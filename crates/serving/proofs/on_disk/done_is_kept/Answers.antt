@@ -1,8 +1,13 @@
-use Rattle.serving.proofs.Keeping.{flushed_is_kept, secured_is_kept}
+use Rattle.serving.proofs.Keeping.{flushed_is_kept, secured_is_kept, untouched_is_kept}
+use Rattle.serving.proofs.Meanwhile.{flushed_meanwhile, secured_meanwhile, untouched_meanwhile}
 use Rattle.serving.proofs.on_disk.done_is_kept.Goals as goal
 
 pub returns : goal.returns
 returns c = record {
   flushed = flushed_is_kept c.served_are_sessions.ensures.sessions c.answers_survive.ensures.flushed;
   secured = secured_is_kept c.served_are_sessions.ensures.sessions c.answers_survive.ensures.secured;
+  untouched = untouched_is_kept c.served_are_sessions.ensures.sessions c.answers_survive.ensures.untouched;
+  flushed_meanwhile = flushed_meanwhile c.runs_are_sessions.ensures.later_moments c.answers_survive.ensures.flushed;
+  secured_meanwhile = secured_meanwhile c.runs_are_sessions.ensures.later_moments c.answers_survive.ensures.secured;
+  untouched_meanwhile = untouched_meanwhile c.runs_are_sessions.ensures.later_moments c.answers_survive.ensures.untouched;
 }
