@@ -11,7 +11,8 @@
 //! (`MomentsAreSessions`), and sessions one behind the other are one trace (`SeriesAreSessions`). A write that was
 //! answered SUCCESS is in the file behind a loss if it was write-through (`ThroughSurvives`), or once a flush that was
 //! called behind its answer was answered SUCCESS, with no failed sync between (`SuccessSurvives`), until its sector is
-//! written again.
+//! written again. Where requests are served one at a time their answers alone say so, at any moment behind them
+//! (`answers_survive`, `LaterMomentsAreSessions`), and a sector that none writes is as it was (`UntouchedSurvives`).
 //!
 //! That a file keeps to `Stored` is a premise; that a program makes such a run isn't said here.
 #![tactic(auto)]

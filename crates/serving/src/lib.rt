@@ -11,8 +11,10 @@
 //! call failed, or none was made (`synced`, `IsPutFault`). `check_apart` refuses an image that is known to be CONFIG
 //! or the output. A session over a file that keeps to `Stored` is one of the table of `loss`, behind what was told of
 //! each request and at any moment of it (`served_are_sessions`): what a loss of power leaves is what that table lets it
-//! leave. `command`: paths, partition and `--create` as found (`IsFoundIn`). All for readers and writers that tell their
-//! bytes.
+//! leave. So a write that a client was told as done stays, at any later moment, until a request writes its sector: if it
+//! was write-through, or once a flush that came behind it was told as done, with no failed sync between
+//! (`done_is_kept`); and each session keeps what the one before it left (`UntouchedIsKept`). `command`: paths, partition
+//! and `--create` as found (`IsFoundIn`). All for readers and writers that tell their bytes.
 #![tactic(auto)]
 
 mod faults;
