@@ -1,5 +1,5 @@
 -- The laws of requests that are served one at a time.
-use Rattle.std.proofs.Common.{◌≡◌, ◌<◌, ◌≤◌, inl, inr, ℕ, ◌+◌, ◌-◌, Bool, true, false, List, [], ◌∷◌, ◌++◌, Option, Some, None, refl, sym, ap, subst, ◌∙◌, arith, length, append_assoc}
+use Rattle.std.proofs.Common.{◌≡◌, ◌<◌, ◌≤◌, inl, inr, ℕ, ◌+◌, ◌-◌, Bool, true, false, List, [], ◌∷◌, ◌++◌, Option, Some, None, refl, sym, ap, subst, ◌∙◌, arith, length, append_assoc, map}
 use Rattle.std.specs.Prelude.{All, slice_get}
 use Rattle.ntstatus.specs.declared.NtStatus.TheVariants.{Success}
 use Rattle.sector.specs.declared.Extent.{Extent}
@@ -14,18 +14,19 @@ use Rattle.machine.specs.State.{State, opening}
 use Rattle.machine_laws.specs.Reached.{AreWhole}
 use Rattle.machine_laws.proofs.Chunks.{range_chunk}
 use Rattle.file_disk.specs.Calls.{Call}
-use Rattle.loss.specs.Held.{sector_in, surely}
+use Rattle.loss.specs.Held.{sector_in, surely, value_of}
 use Rattle.loss.specs.Moved.{IsReachedWith, Table, TableRun, held_on, work_of}
-use Rattle.loss.specs.Laws.{AtWork, Brings, BringsSurely, CertainStays, Changes, Is, LeavesOnly, Throughout, sector_of, value_for}
+use Rattle.loss.specs.Laws.{AtWork, Brings, BringsSurely, CertainStays, Changes, Is, LeavesOnly, Throughout, sector_of, value_for, GivesOnly, SuccessIsRead}
 use Rattle.loss.specs.Sessions.{Moment}
-use Rattle.file_sessions.specs.Stored.{Content, Survives}
+use Rattle.file_sessions.specs.Stored.{Content, Survives, Remains, held}
 use Rattle.file_sessions.specs.Sessions.{IsSession}
-use Rattle.file_sessions.specs.Laws.{CertainSurvives, SuccessSurvives, ThroughSurvives}
-use Rattle.file_sessions.specs.OneByOne.{FlushedSurvives, IsAway, IsFlushed, IsOfOne, IsRound, IsWritten, Round, SecuredSurvives, Stands, SyncsWell, UntouchedSurvives, labels_of, labels_of_all}
+use Rattle.file_sessions.specs.Laws.{CertainSurvives, SuccessSurvives, ThroughSurvives, RemainsAreLeft}
+use Rattle.file_sessions.specs.OneByOne.{FlushedSurvives, IsAway, IsFlushed, IsOfOne, IsRound, IsWritten, Round, SecuredSurvives, Stands, SyncsWell, UntouchedSurvives, labels_of, labels_of_all, AnsweredRemains, IsPlain, RemainsSurvive}
 use Rattle.file_sessions.proofs.Alike.{table_append}
-use Rattle.file_sessions.proofs.Kept.{Base, Brought, Found, all_brought, all_sure, base_of, calm_all, calm_on, found, never_in}
+use Rattle.file_sessions.proofs.Kept.{Base, Brought, Found, all_brought, all_sure, base_of, calm_all, calm_on, found, never_in, BroughtSurely, all_plain}
+use Rattle.file_sessions.proofs.Remaining.{gives_along, move_gives, remains_such}
 use Rattle.file_sessions.proofs.Rounds.{Fits, IsCalm, Split, as_run, calm_opening, nothing_along, split, throughout}
-use Rattle.file_sessions.proofs.Within.{there_or_away}
+use Rattle.file_sessions.proofs.Within.{there_or_away, in_first}
 
 -- A REQUEST'S OWN VALUE
 
@@ -187,3 +188,60 @@ untouched_survives stays law rules arrays before after calls end served told res
     all_brought rules i (Is (before i)) (opening arrays) (held_on before) served told rest end.machine end.table (calm_opening rules arrays whole) rounds away is session.run in
     law rules arrays before calls told end i (before i) after session on_disk
     (stays rules i (before i) (opening arrays) (held_on before) told end.machine end.table session.run (first_leaves (before i)) b.along) b.at_work survives
+
+-- WHERE THE PROCESS ENDED
+
+pub remains_survive : RemainsSurvive
+remains_survive size sectors before after calls remains i low = in_first (after i) (held size i (before i) calls).now (map value_of (held size i (before i) calls).older) (remains i low)
+
+module _ (rules : Rules) (arrays : List (List (List ℕ))) (before : Content) (first : List Round) (w : Round) (place : ℕ) (whole : AreWhole rules arrays) (rounds : All IsRound first) (round : IsRound w) (written : IsWritten rules w place) (calls : List Call) (end : Moment) (after : Content)
+    (behind later : List Round) (told rest : List Label) (behinds : All IsRound behind) (laters : All IsRound later) (is : labels_of_all later ≡ told ++ rest) (away : All (IsAway rules (sector_of rules w.request place)) behind) (well : All SyncsWell behind)
+    (away_later : All (IsAway rules (sector_of rules w.request place)) later) (plain : All IsPlain later) (remains : Remains rules.sector_size rules.disk_sectors before calls after)
+    (session : IsSession rules arrays before calls (labels_of_all first ++ (labels_of w ++ (labels_of_all behind ++ told))) end) (reads : SuccessIsRead) (law : RemainsAreLeft) where
+  abbrev at : ℕ
+  at = sector_of rules w.request place
+
+  abbrev Its : List ℕ → Type 0
+  Its = Is (value_for rules w.request place)
+
+  abbrev Front : Type 0
+  Front = Split rules (opening arrays) (held_on before) (labels_of_all first) (labels_of w ++ (labels_of_all behind ++ told)) end.machine end.table
+
+  -- over those that were answered, and up to a moment of the others
+  module _ (p : Front) (f : Found rules p.mid p.between w (labels_of_all behind ++ told) end.machine end.table)
+      (run : TableRun rules f.onward.0 f.onward.1 ((f.post ++ labels_of_all behind) ++ told) end.machine end.table) where
+    abbrev part : Split rules f.onward.0 f.onward.1 (f.post ++ labels_of_all behind) told end.machine end.table
+    part = split rules f.onward.0 f.onward.1 (f.post ++ labels_of_all behind) told end.machine end.table run
+
+    there_then : GivesOnly Its (f.onward.1 at)
+    there_then =
+        move_gives rules at Its f.ended (Answer w.number Success w.informed w.bytes) f.at f.onward.1 f.onward.3 tt
+        (reads rules w.number w.request place p.mid p.between f.ended f.at f.succeeds written.is_write written.inside (f.surely at Its (own_fits rules w.request place)))
+
+    later_on : BroughtSurely rules at Its part.mid part.between told end.machine end.table part.rest
+    later_on =
+        all_plain rules at Its part.mid part.between later told rest end.machine end.table (over_calm rules at Its f.onward.0 f.onward.1 f.post f.calm f.of_post behind part.mid part.between behinds part.first) laters away_later plain is part.rest
+
+    there_now : GivesOnly Its (end.table at)
+    there_now =
+        gives_along rules at Its part.mid part.between told end.machine end.table part.rest later_on.along
+        (gives_along rules at Its f.onward.0 f.onward.1 (f.post ++ labels_of_all behind) part.mid part.between part.first (over rules at Its f.onward.0 f.onward.1 f.post f.calm f.of_post behind part.mid part.between behinds away well part.first) there_then)
+
+    stands_then : Stands rules w place after
+    stands_then = record {
+      bytes = remains_such rules at Its end.machine end.table (after at) there_now later_on.at_work (law rules arrays before calls (labels_of_all first ++ (labels_of w ++ (labels_of_all behind ++ told))) end at after session written.on_disk remains);
+      all = f.succeeds.opens.carries ∙ ap (λ (kind : Kind). bytes_carried kind w.request.length) written.is_write;
+    }
+
+  remaining : Stands rules w place after
+  remaining = by_parts (split rules (opening arrays) (held_on before) (labels_of_all first) (labels_of w ++ (labels_of_all behind ++ told)) end.machine end.table session.run)
+    where
+      by_parts : Front → Stands rules w place after
+      by_parts p = by_write (write_of rules arrays before first w place whole rounds round written (labels_of_all behind ++ told) end.machine end.table p)
+        where
+          by_write : Found rules p.mid p.between w (labels_of_all behind ++ told) end.machine end.table → Stands rules w place after
+          by_write f = stands_then p f (subst (λ (ls : List Label). TableRun rules f.onward.0 f.onward.1 ls end.machine end.table) (sym (append_assoc f.post (labels_of_all behind) told)) f.onward.4)
+
+pub answered_remains : SuccessIsRead → RemainsAreLeft → AnsweredRemains
+answered_remains reads law rules arrays before after calls end first w behind later told rest place session whole rounds round behinds laters is written away well away_later plain remains =
+    remaining rules arrays before first w place whole rounds round written calls end after behind later told rest behinds laters is away well away_later plain remains session reads law

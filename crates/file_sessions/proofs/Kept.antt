@@ -33,11 +33,12 @@ use Rattle.loss.specs.Held.{Change, Work, fault_changes, has, value_at}
 use Rattle.loss.specs.Moved.{IsReachedWith, Table, TableRun, held_on, work_of}
 use Rattle.loss.specs.Laws.{AtWork, Brings, BringsSurely, Changes, Each, Is, Meanwhile, Succeeds, Throughout, sector_of, value_for}
 use Rattle.loss.specs.Sessions.{IsAtWork, Moment}
-use Rattle.file_sessions.specs.OneByOne.{IsAway, IsOfOne, IsRound, Round, SyncsWell, labels_of, labels_of_all, syncs}
+use Rattle.file_sessions.specs.OneByOne.{IsAway, IsOfOne, IsPlain, IsRound, Round, SyncsWell, labels_of, labels_of_all, syncs}
 use Rattle.file_sessions.proofs.Alike.{table_append, table_same}
 use Rattle.file_sessions.proofs.Alone.{AllOf, all_along, all_step}
 use Rattle.file_sessions.proofs.Moments.{apart_at}
-use Rattle.file_sessions.proofs.Rounds.{Fits, IsCalm, Mine, Never, Split, as_run, brings_along, brought_at_work, called_alone, calm_opening, calm_requests, calm_round, no_calls, no_length, none_of, nothing_along, parted, plain_along, refused_never, split, sure_along, throughout}
+use Rattle.file_sessions.proofs.Remaining.{SurelyAtWork}
+use Rattle.file_sessions.proofs.Rounds.{Fits, IsCalm, Mine, Never, Split, as_run, brings_along, brought_at_work, called_alone, calm_opening, calm_requests, calm_round, no_calls, no_length, none_of, nothing_along, parted, plain_along, plain_at_work, refused_never, split, sure_along, throughout}
 use Rattle.file_sessions.proofs.Within.{there_or_away}
 
 -- LISTS
@@ -370,4 +371,64 @@ module _ (rules : Rules) (i : ℕ) (Such : List ℕ → Type 0) where
             subst (So s t s' t') (sym h.1)
             (behind_round s t r h.0 s' t' k (All-head IsRound r rs rounds) (All-head (IsAway rules i) r rs away)
             (λ mid between calm. all_brought mid between rs h.0 rest s' t' calm (All-tail IsRound r rs rounds) (All-tail (IsAway rules i) r rs away) h.2)) run
+      ]
+
+  -- OF PLAIN REQUESTS
+
+  pub record BroughtSurely (s : State) (t : Table) (labels : List Label) (s' : State) (t' : Table) (run : TableRun rules s t labels s' t') : Type 0 where
+    pub along : Throughout (Changes rules i (BringsSurely Such)) rules s t labels s' t' run
+    pub at_work : SurelyAtWork rules i Such s'
+
+  abbrev SoSurely : State → Table → State → Table → List Label → Type 0
+  SoSurely s t s' t' ls = (run : TableRun rules s t ls s' t') → BroughtSurely s t ls s' t' run
+
+  none_surely : (s : State) → AllOf Never s → SurelyAtWork rules i Such s
+  none_surely s never piece owner h = absurd (All-contains (λ (o : OpenRequest). Never o.number o.request) s.requests owner never h.out.is_open)
+
+  no_sync : (q : ClientRequest) (b : Bool) → syncs q ≡ b → (IsTrue (syncs q) → ⊥) → syncs q ≡ false
+  no_sync q false e plain = e
+  no_sync q true e plain = absurd (plain e)
+
+  plain_at_once : (s : State) (t : Table) (s' : State) (t' : Table) → IsCalm rules s → (run : TableRun rules s t [] s' t') → BroughtSurely s t [] s' t' run
+  plain_at_once s t s' t' k run = record {
+    along = tt;
+    at_work = none_surely s' (All-permutation (λ (o : OpenRequest). Never o.number o.request) s.requests s'.requests run.0.requests (never_in rules s k));
+  }
+
+  in_plain : (s : State) (t : Table) (r : Round) (told rest : List Label) (s' : State) (t' : Table) → IsCalm rules s → IsRound r → IsAway rules i r → IsPlain r → r.behind ≡ told ++ rest → (run : TableRun rules s t (Call r.number r.request ∷ told) s' t')
+      → BroughtSurely s t (Call r.number r.request ∷ told) s' t' run
+  in_plain s t r told rest s' t' k round away plain is run =
+      let of : All IsOfOne told = all_front IsOfOne told rest (subst (λ (ls : List Label). All IsOfOne ls) is round.alone) in
+      let sound : IsSound rules run.0 = IsSound-Step rules s (Call r.number r.request) run.0 k.sound run.2 in
+      let mine : AllOf (Mine r.number r.request) run.0 = called_alone rules s r.number r.request run.0 k run.2 in
+      let go : Run rules run.0 told s' = as_run rules run.0 run.1 told s' t' run.4 in
+      let none : syncs r.request ≡ false = no_sync r.request (syncs r.request) refl plain in
+      record {
+        along = (tt, plain_along rules r.number r.request i Such (away_fits rules i Such r away) none run.0 run.1 told s' t' run.4 of sound mine);
+        at_work =
+            plain_at_work rules r.number r.request i Such (away_fits rules i Such r away) none s' (IsSound-Run rules run.0 told s' sound go) (all_along (Mine r.number r.request) rules run.0 told s' of go mine);
+      }
+
+  behind_plain : (s : State) (t : Table) (r : Round) (more : List Label) (s' : State) (t' : Table) → IsCalm rules s → IsRound r → IsAway rules i r → IsPlain r → ((mid : State) (between : Table) → IsCalm rules mid → SoSurely mid between s' t' more)
+      → SoSurely s t s' t' (labels_of r ++ more)
+  behind_plain s t r more s' t' k round away plain onwards run =
+      let p = split rules s t (labels_of r) more s' t' run in
+      let first : BroughtSurely s t (labels_of r) p.mid p.between p.first = in_plain s t r r.behind [] p.mid p.between k round away plain (sym (append-nil r.behind)) p.first in
+      let behind : BroughtSurely p.mid p.between more s' t' p.rest = onwards p.mid p.between (calm_round rules s r p.mid k round (as_run rules s t (labels_of r) p.mid p.between p.first)) p.rest in
+      record { along = throughout (Changes rules i (BringsSurely Such)) rules s t (labels_of r) more s' t' run first.along behind.along; at_work = behind.at_work }
+
+  pub all_plain : (s : State) (t : Table) (rs : List Round) (told rest : List Label) (s' : State) (t' : Table) → IsCalm rules s → All IsRound rs → All (IsAway rules i) rs → All IsPlain rs → labels_of_all rs ≡ told ++ rest → (run : TableRun rules s t told s' t')
+      → BroughtSurely s t told s' t' run
+  all_plain s t rs [] rest s' t' k rounds away plain is run = plain_at_once s t s' t' k run
+  all_plain s t [] (x ∷ told) rest s' t' k rounds away plain is run = absurd (cc (is))
+  all_plain s t (r ∷ rs) (x ∷ told) rest s' t' k rounds away plain is run =
+      elim (apart_at (labels_of r) (labels_of_all rs) (x ∷ told) rest is) [
+        | inl h ↦
+            let first : Call r.number r.request ≡ x = cc (h.1) in
+            let same : r.behind ≡ told ++ h.0 = cc (h.1) in
+            subst (λ (l : Label). SoSurely s t s' t' (l ∷ told)) first (λ go. in_plain s t r told h.0 s' t' k (All-head IsRound r rs rounds) (All-head (IsAway rules i) r rs away) (All-head IsPlain r rs plain) same go) run
+        | inr h ↦
+            subst (SoSurely s t s' t') (sym h.1)
+            (behind_plain s t r h.0 s' t' k (All-head IsRound r rs rounds) (All-head (IsAway rules i) r rs away) (All-head IsPlain r rs plain)
+            (λ mid between calm. all_plain mid between rs h.0 rest s' t' calm (All-tail IsRound r rs rounds) (All-tail (IsAway rules i) r rs away) (All-tail IsPlain r rs plain) h.2)) run
       ]

@@ -21,3 +21,4 @@ mod Alike
 mod Kept
 mod Answered
 mod Later
+mod Remaining

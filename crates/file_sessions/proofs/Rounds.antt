@@ -33,6 +33,7 @@ use Rattle.loss.specs.Moved.{IsOut, IsSameTable, Moves, Table, TableRun, work_of
 use Rattle.loss.specs.Laws.{AtWork, Brings, BringsSurely, Changes, Each, Throughout, sector_of}
 use Rattle.file_sessions.specs.OneByOne.{IsAway, IsOfOne, IsRound, Round, SyncsWell, labels_of, labels_of_all, syncs}
 use Rattle.file_sessions.proofs.Alone.{AllOf, all_along, all_step}
+use Rattle.file_sessions.proofs.Remaining.{SurelyAtWork}
 use Rattle.file_sessions.proofs.Spoiling.{fault_sticks, first_or_other, never_stuck, return_sticks}
 use Rattle.file_sessions.proofs.Within.{there_or_away}
 
@@ -354,6 +355,9 @@ module _ (rules : Rules) (n : ℕ) (q : ClientRequest) (i : ℕ) (Such : List �
     plain_label none s label sound mine,
     plain_along none run.0 run.1 labels s' t' run.4 (All-tail IsOfOne label labels of) (IsSound-Step rules s label run.0 sound run.2) (all_step (Mine n q) rules s label run.0 (All-head IsOfOne label labels of) run.2 mine),
   )
+
+  pub plain_at_work : syncs q ≡ false → (s : State) → IsSound rules s → AllOf (Mine n q) s → SurelyAtWork rules i Such s
+  plain_at_work none s sound mine = λ piece owner h. sure_fault none s piece owner (its s piece.number piece owner sound mine h.out)
 
   -- nor where it succeeds in the end: then none of its pieces failed
   module _ (ended : State) (bytes : List ℕ) (after : State) (answers : Answers rules ended n Success bytes after) where

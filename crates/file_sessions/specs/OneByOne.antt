@@ -12,7 +12,7 @@ use Rattle.file_disk.specs.Calls.{Call}
 use Rattle.loss.specs.Laws.{sector_of, value_for}
 use Rattle.loss.specs.Sessions.{Moment}
 use Rattle.file_sessions.specs.Sessions.{IsSession}
-use Rattle.file_sessions.specs.Stored.{Content, Survives}
+use Rattle.file_sessions.specs.Stored.{Content, Remains, Survives}
 
 -- ONE REQUEST BEHIND THE OTHER
 
@@ -62,6 +62,10 @@ syncs q = elim (q.kind) [
 abbrev pub SyncsWell : Round → Type 0
 SyncsWell r = IsTrue (syncs r.request) → r.status ≡ Success
 
+-- it makes nothing certain
+abbrev pub IsPlain : Round → Type 0
+IsPlain r = IsTrue (syncs r.request) → ⊥
+
 -- a write that was answered SUCCESS, and a place of it
 pub record IsWritten (rules : Rules) (w : Round) (place : ℕ) : Type 0 where
   pub is_write : w.request.kind ≡ Write
@@ -110,3 +114,19 @@ UntouchedSurvives = (rules : Rules) (arrays : List (List (List ℕ))) (before af
     → All (IsAway rules i) served → i < rules.disk_sectors
     → Survives rules.sector_size rules.disk_sectors before calls after
     → after i ≡ before i
+
+-- a write that was answered SUCCESS outlives its process, where no sync failed since and none is under way
+abbrev pub AnsweredRemains : Type 0
+AnsweredRemains = (rules : Rules) (arrays : List (List (List ℕ))) (before after : Content) (calls : List Call) (end : Moment)
+    (first : List Round) (w : Round) (behind later : List Round) (told rest : List Label) (place : ℕ)
+    → IsSession rules arrays before calls (labels_of_all first ++ (labels_of w ++ (labels_of_all behind ++ told))) end
+    → AreWhole rules arrays → All IsRound first → IsRound w → All IsRound behind → All IsRound later → labels_of_all later ≡ told ++ rest
+    → IsWritten rules w place
+    → All (IsAway rules (sector_of rules w.request place)) behind → All SyncsWell behind
+    → All (IsAway rules (sector_of rules w.request place)) later → All IsPlain later
+    → Remains rules.sector_size rules.disk_sectors before calls after
+    → Stands rules w place after
+
+-- what may be left where a process ended may be left where power was lost
+abbrev pub RemainsSurvive : Type 0
+RemainsSurvive = (size sectors : ℕ) (before after : Content) (calls : List Call) → Remains size sectors before calls after → Survives size sectors before calls after

@@ -20,15 +20,15 @@ use Rattle.nbd.specs.Over.{CarriesOver, IsSessionOver, RunOver}
 use Rattle.nbd.specs.Replies.{Outcome, error_number, failure}
 use Rattle.nbd.specs.Requests.{command_in, payload_count, payload_of}
 use Rattle.nbd.specs.Session.{Exchange}
-use Rattle.file_sessions.specs.OneByOne.{FlushedSurvives, IsAway, IsFlushed, IsRound, IsWritten, Round, SecuredSurvives, Stands, SyncsWell, UntouchedSurvives, labels_of, labels_of_all}
+use Rattle.file_sessions.specs.OneByOne.{FlushedSurvives, IsAway, IsFlushed, IsRound, IsWritten, Round, SecuredSurvives, Stands, SyncsWell, UntouchedSurvives, labels_of, labels_of_all, AnsweredRemains, IsPlain, RemainsSurvive}
 use Rattle.file_sessions.specs.Sessions.{IsSession}
-use Rattle.file_sessions.specs.Stored.{Content, IsKept, Survives}
+use Rattle.file_sessions.specs.Stored.{Content, IsKept, Survives, Remains}
 use Rattle.serving.specs.declared.faults.Error.{Error}
 use Rattle.serving.specs.Filed.{CarriesBy}
 use Rattle.serving.specs.Lasting.{ServedAreSessions, ServesFile, told_in}
 use Rattle.serving.specs.OnDisk.{IsOpened}
 use Rattle.serving.specs.Telling.{of_found, of_run, of_session}
-use Rattle.serving.specs.Keeping.{FlushedIsKept, HasSynced, IsElsewhere, IsFlush, IsToldDone, IsWrite, SecuredIsKept, UntouchedIsKept, command_of, exchanges_of, sector_on, served_in}
+use Rattle.serving.specs.Keeping.{FlushedIsKept, HasSynced, IsElsewhere, IsFlush, IsToldDone, IsWrite, SecuredIsKept, UntouchedIsKept, command_of, exchanges_of, sector_on, served_in, AnsweredIsKept, StaysOverSessions}
 use Rattle.serving.proofs.Asking.{AskedFor, IsCallOf, IsOne, IsOneOrNone, asked_for}
 use Rattle.serving.proofs.Rounds.{AreRounds, IsHeld, IsPut, IsSteady, done_plain, error_some, held_on, none_failed, payload_is, places_of, put_by, run_rounds, sector_at, steady_of}
 
@@ -249,7 +249,7 @@ module _ (c : Settings) (p : ℕ) (opened : List Call) (old : FiledView) (input 
           let s = session_of [] (sym told ∙ ap (λ (ls : List Label). ls ++ []) h.opens.none_called) in
           law rules h.opens.arrays before left calls s.0 [] [] [] (sector_on c p k) s.1 whole (All-nil IsRound) refl (All-nil (IsAway rules (sector_on c p k))) on_disk survives
       by_session (inr talks) told away =
-          let rs = run_rounds rules p extent known some old.sizes h.opens.block old talks.exchanges new talks.run held in
+          let rs = run_rounds rules p extent known some true old.sizes h.opens.block old talks.exchanges new talks.run held in
           let s = session_of (labels_of_all rs.rounds) (sym told ∙ ap (λ (ls : List Label). ls ++ of_run old.sizes old talks.exchanges new talks.run) h.opens.none_called ∙ rs.labels_are) in
           law rules h.opens.arrays before left calls s.0 rs.rounds (labels_of_all rs.rounds) [] (sector_on c p k) s.1 whole rs.are (sym (append-nil (labels_of_all rs.rounds))) (rs.away k away) on_disk survives
 
@@ -259,12 +259,12 @@ module _ (c : Settings) (p : ℕ) (opened : List Call) (old : FiledView) (input 
     secured law first later is through away =
         let r : Ran (first ++ w ∷ later) = ran h.session.session refl first w later is in
         let a : Parted old.sizes old first (w ∷ later) new r.run = parted old.sizes old first (w ∷ later) new r.run in
-        let fs = run_rounds rules p extent known some old.sizes h.opens.block old first a.mid a.first held in
+        let fs = run_rounds rules p extent known some true old.sizes h.opens.block old first a.mid a.first held in
         let held_a : Held a.mid = held_on rules p extent known some old a.mid fs.steady held in
         let d : IsDoneRound a.mid a.rest.0 (call_on a.mid.carried.stack a.mid.handle WriteKind is_write.offset w.payload is_write.through) (of_found old.sizes (command_in old.sizes.block old.sizes.bytes w.request) w.payload a.mid w.outcome a.rest.0 a.rest.1.serves) =
         wrote old.sizes w (command_in old.sizes.block old.sizes.bytes w.request) a.mid a.rest.0 is_write.offset is_write.count is_write.through is_write.command is_write.done a.rest.1.serves in
         let held_d : Held a.rest.0 = held_on rules p extent known some a.mid a.rest.0 (record { same_rules = d.same_rules; same_handles = d.same_handles; same_handle = d.same_handle }) held_a in
-        let ls = run_rounds rules p extent known some old.sizes h.opens.block a.rest.0 later new a.rest.2 held_d in
+        let ls = run_rounds rules p extent known some true old.sizes h.opens.block a.rest.0 later new a.rest.2 held_d in
         let told : told_in c p opened old input out fault new after calls h ≡ labels_of_all fs.rounds ++ (labels_of d.round ++ labels_of_all ls.rounds) = r.told ∙ a.labels ∙ rw (fs.labels_are, d.labels_are, ls.labels_are) refl in
         let s = session_of (labels_of_all fs.rounds ++ (labels_of d.round ++ labels_of_all ls.rounds)) told in
         there c p known some old.sizes h.opens.block w place k is_write on_disk a.mid held_a d.round d.called d.succeeds a.rest.1.long left
@@ -272,23 +272,42 @@ module _ (c : Settings) (p : ℕ) (opened : List Call) (old : FiledView) (input 
         (written c p known some old.sizes h.opens.block w place k is_write on_disk a.mid held_a d.round d.called d.succeeds a.rest.1.long) ((put c p known some old.sizes h.opens.block w place k is_write on_disk a.mid held_a d.round d.called d.succeeds a.rest.1.long).through_is ∙ through)
         (away_there c p known some old.sizes h.opens.block w place k is_write on_disk a.mid held_a d.round d.called d.succeeds a.rest.1.long ls.rounds (ls.away k away)) survives)
 
+    remaining : AnsweredRemains → (first later : List Exchange) → served_in c p opened old input out fault new after calls h ≡ first ++ w ∷ later → All (IsElsewhere old.sizes k) later → All (HasSynced old.sizes) later → Remains c.sector_size c.sectors before calls left
+        → left (sector_on c p k) ≡ sector_in c.sector_size place w.payload
+    remaining law first later is away well remains =
+        let r : Ran (first ++ w ∷ later) = ran h.session.session refl first w later is in
+        let a : Parted old.sizes old first (w ∷ later) new r.run = parted old.sizes old first (w ∷ later) new r.run in
+        let fs = run_rounds rules p extent known some true old.sizes h.opens.block old first a.mid a.first held in
+        let held_a : Held a.mid = held_on rules p extent known some old a.mid fs.steady held in
+        let d : IsDoneRound a.mid a.rest.0 (call_on a.mid.carried.stack a.mid.handle WriteKind is_write.offset w.payload is_write.through) (of_found old.sizes (command_in old.sizes.block old.sizes.bytes w.request) w.payload a.mid w.outcome a.rest.0 a.rest.1.serves) =
+        wrote old.sizes w (command_in old.sizes.block old.sizes.bytes w.request) a.mid a.rest.0 is_write.offset is_write.count is_write.through is_write.command is_write.done a.rest.1.serves in
+        let held_d : Held a.rest.0 = held_on rules p extent known some a.mid a.rest.0 (record { same_rules = d.same_rules; same_handles = d.same_handles; same_handle = d.same_handle }) held_a in
+        let ls = run_rounds rules p extent known some true old.sizes h.opens.block a.rest.0 later new a.rest.2 held_d in
+        let all : List Label = labels_of_all fs.rounds ++ (labels_of d.round ++ (labels_of_all ls.rounds ++ [])) in
+        let told : told_in c p opened old input out fault new after calls h ≡ all = r.told ∙ a.labels ∙ rw (fs.labels_are, d.labels_are, ls.labels_are) (ap (λ (x : List Label). labels_of_all fs.rounds ++ (labels_of d.round ++ x)) (sym (append-nil (labels_of_all ls.rounds)))) in
+        let s = session_of all told in
+        there c p known some old.sizes h.opens.block w place k is_write on_disk a.mid held_a d.round d.called d.succeeds a.rest.1.long left
+        (law rules h.opens.arrays before left calls s.0 fs.rounds d.round ls.rounds [] [] [] place s.1 whole fs.are d.is_round ls.are (All-nil IsRound) refl
+        (written c p known some old.sizes h.opens.block w place k is_write on_disk a.mid held_a d.round d.called d.succeeds a.rest.1.long)
+        (away_there c p known some old.sizes h.opens.block w place k is_write on_disk a.mid held_a d.round d.called d.succeeds a.rest.1.long ls.rounds (ls.away k away)) (ls.well well) (All-nil (IsAway rules _)) (All-nil IsPlain) remains)
+
     flush_kept : FlushedSurvives → (first between : List Exchange) (f : Exchange) (later : List Exchange) → served_in c p opened old input out fault new after calls h ≡ first ++ w ∷ (between ++ f ∷ later) → IsFlush old.sizes f
         → All (IsElsewhere old.sizes k) between → All (HasSynced old.sizes) between → All (IsElsewhere old.sizes k) later → left (sector_on c p k) ≡ sector_in c.sector_size place w.payload
     flush_kept law first between f later is is_flush away well away_later =
         let r : Ran (first ++ w ∷ (between ++ f ∷ later)) = ran h.session.session refl first w (between ++ f ∷ later) is in
         let a : Parted old.sizes old first (w ∷ (between ++ f ∷ later)) new r.run = parted old.sizes old first (w ∷ (between ++ f ∷ later)) new r.run in
-        let fs = run_rounds rules p extent known some old.sizes h.opens.block old first a.mid a.first held in
+        let fs = run_rounds rules p extent known some true old.sizes h.opens.block old first a.mid a.first held in
         let held_a : Held a.mid = held_on rules p extent known some old a.mid fs.steady held in
         let d : IsDoneRound a.mid a.rest.0 (call_on a.mid.carried.stack a.mid.handle WriteKind is_write.offset w.payload is_write.through) (of_found old.sizes (command_in old.sizes.block old.sizes.bytes w.request) w.payload a.mid w.outcome a.rest.0 a.rest.1.serves) =
         wrote old.sizes w (command_in old.sizes.block old.sizes.bytes w.request) a.mid a.rest.0 is_write.offset is_write.count is_write.through is_write.command is_write.done a.rest.1.serves in
         let held_d : Held a.rest.0 = held_on rules p extent known some a.mid a.rest.0 (record { same_rules = d.same_rules; same_handles = d.same_handles; same_handle = d.same_handle }) held_a in
         let b : Parted old.sizes a.rest.0 between (f ∷ later) new a.rest.2 = parted old.sizes a.rest.0 between (f ∷ later) new a.rest.2 in
-        let bs = run_rounds rules p extent known some old.sizes h.opens.block a.rest.0 between b.mid b.first held_d in
+        let bs = run_rounds rules p extent known some true old.sizes h.opens.block a.rest.0 between b.mid b.first held_d in
         let held_b : Held b.mid = held_on rules p extent known some a.rest.0 b.mid bs.steady held_d in
         let e : IsDoneRound b.mid b.rest.0 (call_on b.mid.carried.stack b.mid.handle FlushKind 0 [] false) (of_found old.sizes (command_in old.sizes.block old.sizes.bytes f.request) f.payload b.mid f.outcome b.rest.0 b.rest.1.serves) =
         flushed old.sizes f (command_in old.sizes.block old.sizes.bytes f.request) b.mid b.rest.0 is_flush.command is_flush.done b.rest.1.serves in
         let held_e : Held b.rest.0 = held_on rules p extent known some b.mid b.rest.0 (record { same_rules = e.same_rules; same_handles = e.same_handles; same_handle = e.same_handle }) held_b in
-        let ls = run_rounds rules p extent known some old.sizes h.opens.block b.rest.0 later new b.rest.2 held_e in
+        let ls = run_rounds rules p extent known some true old.sizes h.opens.block b.rest.0 later new b.rest.2 held_e in
         let told : told_in c p opened old input out fault new after calls h ≡ labels_of_all fs.rounds ++ (labels_of d.round ++ (labels_of_all bs.rounds ++ (labels_of e.round ++ labels_of_all ls.rounds))) =
         r.told ∙ a.labels ∙ ap (λ (x : List Label). of_run old.sizes old first a.mid a.first ++ (of_found old.sizes (command_in old.sizes.block old.sizes.bytes w.request) w.payload a.mid w.outcome a.rest.0 a.rest.1.serves ++ x)) b.labels
         ∙ rw (fs.labels_are, d.labels_are, bs.labels_are, e.labels_are, ls.labels_are) refl in
@@ -309,3 +328,20 @@ secured_is_kept sessions law c p opened old input out fault new after calls befo
 pub untouched_is_kept : ServedAreSessions → UntouchedSurvives → UntouchedIsKept
 untouched_is_kept sessions law c p opened old input out fault new after calls before left k h some kept away on_disk survives =
     untouched c p opened old input out fault new after calls before left h some kept survives sessions law k away on_disk
+
+pub answered_is_kept : ServedAreSessions → RemainsSurvive → AnsweredRemains → AnsweredIsKept
+answered_is_kept sessions less law c p opened old input out fault new after calls before left first w later place k h some kept is is_write away well on_disk remains =
+    remaining c p opened old input out fault new after calls before left h some kept (less c.sector_size c.sectors before left calls remains) sessions w place k is_write on_disk law first later is away well remains
+
+-- SESSIONS IN A ROW
+
+survived : RemainsSurvive → (c : Settings) (before left : Content) (calls : List Call) → Survives c.sector_size c.sectors before calls left ⊎ Remains c.sector_size c.sectors before calls left → Survives c.sector_size c.sectors before calls left
+survived less c before left calls (inl lost) = lost
+survived less c before left calls (inr ended) = less c.sector_size c.sectors before left calls ended
+
+pub stays_over_sessions : RemainsSurvive → UntouchedIsKept → StaysOverSessions
+stays_over_sessions less law c i before left [] some on_disk h = ap (λ (content : Content). content i) h
+stays_over_sessions less law c i before left (mid ∷ mids) some on_disk (one, more) =
+    stays_over_sessions less law c i mid left mids some on_disk more
+    ∙ subst (λ (n : ℕ). mid n ≡ before n) one.is_sector
+    (law c one.p one.opened one.old one.input one.out one.fault one.new one.after one.calls before mid one.k one.serves some one.kept one.elsewhere (subst (λ (n : ℕ). n < c.sectors) (sym one.is_sector) on_disk) (survived less c before mid one.calls one.ends))

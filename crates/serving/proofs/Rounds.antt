@@ -1,5 +1,5 @@
 -- Exchanges of a session, as rounds.
-use Rattle.serving.proofs.Common.{◌≡◌, ◌≢◌, ◌<◌, ◌≤◌, inl, inr, ℕ, Bool, true, false, List, [], ◌∷◌, ◌++◌, Option, Some, None, Result, Ok, Err, map, refl, sym, ap, subst, ◌∙◌, arith, append-nil, append_assoc, length, replicate, nat_tests, All, All-nil, All-cons, All-append, All-head, All-tail, MatchResult, ManagerView, ClientRequest, Handle, Rules, Extent, Label, Event, Read, Write, Flush, IsAsked, IsDone, FiledView, Writes, without_bytes, call_on, partition_of, result_err, slice_get, Success}
+use Rattle.serving.proofs.Common.{◌≡◌, ◌≢◌, ◌<◌, ◌≤◌, inl, inr, ℕ, Bool, true, false, List, [], ◌∷◌, ◌++◌, Option, Some, None, Result, Ok, Err, map, refl, sym, ap, subst, ◌∙◌, arith, append-nil, append_assoc, length, replicate, nat_tests, All, All-nil, All-cons, All-append, All-head, All-tail, MatchResult, ManagerView, ClientRequest, Handle, Rules, Extent, Label, Event, Read, Write, Flush, IsAsked, IsDone, FiledView, Writes, without_bytes, call_on, partition_of, result_err, slice_get, NtStatus, Success}
 use Rattle.std.specs.Prelude.{◌⊎◌, ◌+◌, ◌-◌, ◌*◌, ◌/◌, ◌==◌, if◌then◌else◌, IsTrue}
 use Rattle.std.proofs.lemmas.Bool.{eqb-true}
 use Rattle.std.proofs.lemmas.List.{length-replicate}
@@ -21,10 +21,10 @@ use Rattle.nbd.specs.declared.constants.TheConstants.{LONGEST}
 use Rattle.nbd.specs.declared.requests.Request.{Request}
 use Rattle.nbd.specs.Requests.{command_in, extent_fault, flags_fault, is_through, payload_count, payload_of, unless}
 use Rattle.nbd.specs.Session.{Exchange}
-use Rattle.file_sessions.specs.OneByOne.{IsAway, IsRound, Round, SyncsWell, labels_of, labels_of_all, syncs as must_sync}
+use Rattle.file_sessions.specs.OneByOne.{IsAway, IsRound, Round, labels_of, labels_of_all, syncs as must_sync}
 use Rattle.serving.specs.Filed.{CarriesBy, Clears, ClearsBy, Flushes, Gets, HasCleared, LacksMemory, Reads, StopsClearing, plain_outcome, read_outcome, total}
 use Rattle.serving.specs.Telling.{of_clears, of_cleared, of_command, of_found, of_read, of_run, of_stop}
-use Rattle.serving.specs.Keeping.{HasSynced, IsElsewhere, IsToldDone, command_of, sectors_in, syncs, writes}
+use Rattle.serving.specs.Keeping.{IsElsewhere, IsToldDone, command_of, sectors_in, syncs, writes}
 use Rattle.serving.proofs.Asking.{AskedFor, IsCallOf, IsOne, IsOneOrNone, asked_for}
 
 -- OUTCOMES
@@ -44,6 +44,39 @@ done_plain o (Some e) is done = absurd (error_some e (sym (ap (λ (x : Outcome).
 pub none_failed : (done : Result (List ℕ) ReplyError) → result_err done ≡ None → (bytes : List ℕ) × (done ≡ Ok bytes)
 none_failed (Ok bytes) e = (bytes, refl)
 none_failed (Err error) e = absurd (cc (e))
+
+-- what is asked of a sync: that it succeeded, or that there is none
+abbrev pub Fails : Bool → Option ReplyError → Type 0
+Fails true failed = failed ≡ None
+Fails false failed = ⊥
+
+abbrev pub Ends : Bool → NtStatus → Type 0
+Ends true status = status ≡ Success
+Ends false status = ⊥
+
+abbrev pub Errs : Bool → ℕ → Type 0
+Errs true error = error ≡ 0
+Errs false error = ⊥
+
+-- such a round
+abbrev pub SyncsSo : Bool → Round → Type 0
+SyncsSo strict r = IsTrue (must_sync r.request) → Ends strict r.status
+
+-- no sync of the exchange failed, or it has none
+abbrev pub Keeps : Bool → Sizes → Exchange → Type 0
+Keeps strict sizes x = (command : Command) → command_of sizes x ≡ Ok command → syncs command ≡ true → Errs strict x.outcome.error
+
+ends_if : (strict : Bool) (failed : Option ReplyError) (done : Result (List ℕ) ReplyError) (status : NtStatus) → failed ≡ result_err done → ((bytes : List ℕ) → done ≡ Ok bytes → status ≡ Success) → Fails strict failed → Ends strict status
+ends_if true failed done status is good fails = let k = none_failed done (sym is ∙ fails) in good k.0 k.1
+ends_if false failed done status is good fails = absurd fails
+
+fails_if : (strict : Bool) (o : Outcome) (failed : Option ReplyError) → o ≡ plain_outcome failed → Errs strict o.error → Fails strict failed
+fails_if true o failed is errs = done_plain o failed is errs
+fails_if false o failed is errs = absurd errs
+
+fails_none : (strict : Bool) (failed : Option ReplyError) → Fails strict failed → Fails strict None
+fails_none true failed h = refl
+fails_none false failed h = absurd h
 
 -- NUMBERS
 
@@ -165,202 +198,203 @@ module _ (rules : Rules) (p : ℕ) (extent : Extent) (known : slice_get rules.pa
   pub held_on : (old new : FiledView) → IsSteady old new → IsHeld old → IsHeld new
   held_on old new h held = record { rules_are = h.same_rules ∙ held.rules_are; on = rw (h.same_handles, h.same_handle) held.on }
 
-  -- these labels are rounds; what `Away` says of a sector keeps them away from it, and with `Synced` their syncs succeeded
-  pub record AreRounds (old new : FiledView) (labels : List Label) (Away : ℕ → Type 0) (Synced : Type 0) : Type 0 where
-    pub rounds : List Round
-    pub labels_are : labels ≡ labels_of_all rounds
-    pub are : All IsRound rounds
-    pub away : (k : ℕ) → Away k → All (IsAway rules (extent.first + k)) rounds
-    pub well : Synced → All SyncsWell rounds
-    pub steady : IsSteady old new
-
-  none_told : (old new : FiledView) (Away : ℕ → Type 0) (Synced : Type 0) → new ≡ old → AreRounds old new [] Away Synced
-  none_told old new Away Synced same = subst (λ (v : FiledView). AreRounds old v [] Away Synced) (sym same) (record {
-    rounds = [];
-    labels_are = refl;
-    are = All-nil IsRound;
-    away = λ k out. All-nil (IsAway rules (extent.first + k));
-    well = λ synced. All-nil SyncsWell;
-    steady = record { same_rules = refl; same_handles = refl; same_handle = refl };
-  })
-
   pub all_labels : (xs ys : List Round) → labels_of_all (xs ++ ys) ≡ labels_of_all xs ++ labels_of_all ys
   all_labels [] ys = refl
   all_labels (x ∷ xs) ys = ap (λ (ls : List Label). labels_of x ++ ls) (all_labels xs ys) ∙ sym (append_assoc (labels_of x) (labels_of_all xs) (labels_of_all ys))
 
-  told_then : (old mid new : FiledView) (ls ls' : List Label) (Away Away' : ℕ → Type 0) (Synced Synced' : Type 0) → AreRounds old mid ls Away Synced → AreRounds mid new ls' Away' Synced' → AreRounds old new (ls ++ ls') (λ k. Away k × Away' k) (Synced × Synced')
-  told_then old mid new ls ls' Away Away' Synced Synced' a b = record {
-    rounds = a.rounds ++ b.rounds;
-    labels_are = rw (a.labels_are, b.labels_are) (sym (all_labels a.rounds b.rounds));
-    are = All-append IsRound a.rounds b.rounds a.are b.are;
-    away = λ k out. All-append (IsAway rules (extent.first + k)) a.rounds b.rounds (a.away k out.0) (b.away k out.1);
-    well = λ synced. All-append SyncsWell a.rounds b.rounds (a.well synced.0) (b.well synced.1);
-    steady = record {
-      same_rules = b.steady.same_rules ∙ a.steady.same_rules;
-      same_handles = b.steady.same_handles ∙ a.steady.same_handles;
-      same_handle = b.steady.same_handle ∙ a.steady.same_handle;
-    };
-  }
+  module _ (strict : Bool) where
+    -- these labels are rounds; what `Away` says of a sector keeps them away from it, and with `Synced` their syncs succeeded
+    pub record AreRounds (old new : FiledView) (labels : List Label) (Away : ℕ → Type 0) (Synced : Type 0) : Type 0 where
+      pub rounds : List Round
+      pub labels_are : labels ≡ labels_of_all rounds
+      pub are : All IsRound rounds
+      pub away : (k : ℕ) → Away k → All (IsAway rules (extent.first + k)) rounds
+      pub well : Synced → All (SyncsSo strict) rounds
+      pub steady : IsSteady old new
 
-  told_if : (old new : FiledView) (ls : List Label) (Away Away' : ℕ → Type 0) (Synced Synced' : Type 0) → ((k : ℕ) → Away' k → Away k) → (Synced' → Synced) → AreRounds old new ls Away Synced → AreRounds old new ls Away' Synced'
-  told_if old new ls Away Away' Synced Synced' away synced h = record { rounds = h.rounds; labels_are = h.labels_are; are = h.are; away = λ k out. h.away k (away k out); well = λ s. h.well (synced s); steady = h.steady }
+    none_told : (old new : FiledView) (Away : ℕ → Type 0) (Synced : Type 0) → new ≡ old → AreRounds old new [] Away Synced
+    none_told old new Away Synced same = subst (λ (v : FiledView). AreRounds old v [] Away Synced) (sym same) (record {
+      rounds = [];
+      labels_are = refl;
+      are = All-nil IsRound;
+      away = λ k out. All-nil (IsAway rules (extent.first + k));
+      well = λ synced. All-nil (SyncsSo strict);
+      steady = record { same_rules = refl; same_handles = refl; same_handle = refl };
+    })
 
-  pub steady_of : (old new : FiledView) (event : Event) (done : Result (List ℕ) ReplyError) → IsAsked old event done new → IsSteady old new
-  steady_of old new event done h = record { same_rules = h.requests.same_rules; same_handles = h.requests.same_handles; same_handle = h.same_handle }
+    told_then : (old mid new : FiledView) (ls ls' : List Label) (Away Away' : ℕ → Type 0) (Synced Synced' : Type 0) → AreRounds old mid ls Away Synced → AreRounds mid new ls' Away' Synced' → AreRounds old new (ls ++ ls') (λ k. Away k × Away' k) (Synced × Synced')
+    told_then old mid new ls ls' Away Away' Synced Synced' a b = record {
+      rounds = a.rounds ++ b.rounds;
+      labels_are = rw (a.labels_are, b.labels_are) (sym (all_labels a.rounds b.rounds));
+      are = All-append IsRound a.rounds b.rounds a.are b.are;
+      away = λ k out. All-append (IsAway rules (extent.first + k)) a.rounds b.rounds (a.away k out.0) (b.away k out.1);
+      well = λ synced. All-append (SyncsSo strict) a.rounds b.rounds (a.well synced.0) (b.well synced.1);
+      steady = record {
+        same_rules = b.steady.same_rules ∙ a.steady.same_rules;
+        same_handles = b.steady.same_handles ∙ a.steady.same_handles;
+        same_handle = b.steady.same_handle ∙ a.steady.same_handle;
+      };
+    }
 
-  -- one request
-  one_round : (old new : FiledView) (labels : List Label) (q : ClientRequest) (done : Result (List ℕ) ReplyError) (Away : ℕ → Type 0) (Synced : Type 0) → IsSteady old new → ((r : Round) → IsCallOf q r → (k : ℕ) → Away k → IsAway rules (extent.first + k) r)
-      → ((r : Round) → IsCallOf q r → ((bytes : List ℕ) → done ≡ Ok bytes → r.status ≡ Success) → Synced → SyncsWell r) → IsOneOrNone q done labels → AreRounds old new labels Away Synced
-  one_round old new labels q done Away Synced steady away well (inl one) = record {
-    rounds = one.round ∷ [];
-    labels_are = one.labels_are ∙ sym (append-nil (labels_of one.round));
-    are = All-cons IsRound one.round [] one.is_round (All-nil IsRound);
-    away = λ k out. All-cons (IsAway rules (extent.first + k)) one.round [] (away one.round one.called k out) (All-nil (IsAway rules (extent.first + k)));
-    well = λ synced. All-cons SyncsWell one.round [] (well one.round one.called one.good synced) (All-nil SyncsWell);
-    steady = steady;
-  }
-  one_round old new labels q done Away Synced steady away well (inr none) = subst (λ (ls : List Label). AreRounds old new ls Away Synced) (sym none.0) (record {
-    rounds = [];
-    labels_are = refl;
-    are = All-nil IsRound;
-    away = λ k out. All-nil (IsAway rules (extent.first + k));
-    well = λ synced. All-nil SyncsWell;
-    steady = steady;
-  })
+    told_if : (old new : FiledView) (ls : List Label) (Away Away' : ℕ → Type 0) (Synced Synced' : Type 0) → ((k : ℕ) → Away' k → Away k) → (Synced' → Synced) → AreRounds old new ls Away Synced → AreRounds old new ls Away' Synced'
+    told_if old new ls Away Away' Synced Synced' away synced h = record { rounds = h.rounds; labels_are = h.labels_are; are = h.are; away = λ k out. h.away k (away k out); well = λ s. h.well (synced s); steady = h.steady }
 
-  kind_of : (q : ClientRequest) (r : Round) → IsCallOf q r → r.request.kind ≡ q.kind
-  kind_of q r (inl is) = ap (λ (x : ClientRequest). x.kind) is
-  kind_of q r (inr is) = ap (λ (x : ClientRequest). x.kind) is
+    pub steady_of : (old new : FiledView) (event : Event) (done : Result (List ℕ) ReplyError) → IsAsked old event done new → IsSteady old new
+    steady_of old new event done h = record { same_rules = h.requests.same_rules; same_handles = h.requests.same_handles; same_handle = h.same_handle }
 
-  not_write : (q : ClientRequest) (r : Round) (i : ℕ) → IsCallOf q r → (q.kind ≡ WriteKind → ⊥) → IsAway rules i r
-  not_write q r i of other is_write place low = absurd (other (sym (kind_of q r of) ∙ is_write))
+    -- one request
+    one_round : (old new : FiledView) (labels : List Label) (q : ClientRequest) (done : Result (List ℕ) ReplyError) (Away : ℕ → Type 0) (Synced : Type 0) → IsSteady old new → ((r : Round) → IsCallOf q r → (k : ℕ) → Away k → IsAway rules (extent.first + k) r)
+        → ((r : Round) → IsCallOf q r → ((bytes : List ℕ) → done ≡ Ok bytes → r.status ≡ Success) → Synced → SyncsSo strict r) → IsOneOrNone q done labels → AreRounds old new labels Away Synced
+    one_round old new labels q done Away Synced steady away well (inl one) = record {
+      rounds = one.round ∷ [];
+      labels_are = one.labels_are ∙ sym (append-nil (labels_of one.round));
+      are = All-cons IsRound one.round [] one.is_round (All-nil IsRound);
+      away = λ k out. All-cons (IsAway rules (extent.first + k)) one.round [] (away one.round one.called k out) (All-nil (IsAway rules (extent.first + k)));
+      well = λ synced. All-cons (SyncsSo strict) one.round [] (well one.round one.called one.good synced) (All-nil (SyncsSo strict));
+      steady = steady;
+    }
+    one_round old new labels q done Away Synced steady away well (inr none) = subst (λ (ls : List Label). AreRounds old new ls Away Synced) (sym none.0) (record {
+      rounds = [];
+      labels_are = refl;
+      are = All-nil IsRound;
+      away = λ k out. All-nil (IsAway rules (extent.first + k));
+      well = λ synced. All-nil (SyncsSo strict);
+      steady = steady;
+    })
 
-  no_sync : (q : ClientRequest) (r : Round) → IsCallOf q r → q.kind ≡ ReadKind → SyncsWell r
-  no_sync q r of is_read sync = absurd (by_kind r.request.kind (kind_of q r of ∙ is_read) sync)
-    where
-      by_kind : (k : Kind) → k ≡ ReadKind → IsTrue (must_sync (record r.request { kind = k })) → ⊥
-      by_kind ReadKind e h = cc (h)
-      by_kind WriteKind e h = cc (e)
-      by_kind FlushKind e h = cc (e)
+    kind_of : (q : ClientRequest) (r : Round) → IsCallOf q r → r.request.kind ≡ q.kind
+    kind_of q r (inl is) = ap (λ (x : ClientRequest). x.kind) is
+    kind_of q r (inr is) = ap (λ (x : ClientRequest). x.kind) is
 
-  abbrev Never : ℕ → Type 0
-  Never k = Unit {0}
+    not_write : (q : ClientRequest) (r : Round) (i : ℕ) → IsCallOf q r → (q.kind ≡ WriteKind → ⊥) → IsAway rules i r
+    not_write q r i of other is_write place low = absurd (other (sym (kind_of q r of) ∙ is_write))
 
-  read_rounds : (old new : FiledView) (offset count : ℕ) (done : Result (List ℕ) ReplyError) (h : Gets old offset count done new) → AreRounds old new h.asked.requests.labels Never (Unit {0})
-  read_rounds old new offset count done h =
-      let a : AskedFor old.carried.stack (Read old.handle offset h.buffer) done h.asked.requests.labels = asked_for old (Read old.handle offset h.buffer) done new h.asked tt in
-      one_round old new h.asked.requests.labels a.request done Never (Unit {0}) (steady_of old new (Read old.handle offset h.buffer) done h.asked)
-      (λ r of k out. not_write a.request r (extent.first + k) of (λ is. let no : ReadKind ≡ WriteKind = sym (ap (λ (q : ClientRequest). q.kind) a.asks) ∙ is in cc (no)))
-      (λ r of good synced. no_sync a.request r of (ap (λ (q : ClientRequest). q.kind) a.asks)) a.one
+    no_sync : (q : ClientRequest) (r : Round) → IsCallOf q r → q.kind ≡ ReadKind → SyncsSo strict r
+    no_sync q r of is_read sync = absurd (by_kind r.request.kind (kind_of q r of ∙ is_read) sync)
+      where
+        by_kind : (k : Kind) → k ≡ ReadKind → IsTrue (must_sync (record r.request { kind = k })) → ⊥
+        by_kind ReadKind e h = cc (h)
+        by_kind WriteKind e h = cc (e)
+        by_kind FlushKind e h = cc (e)
 
-  flush_rounds : (old new : FiledView) (failed : Option ReplyError) (h : Flushes old failed new) → AreRounds old new h.asked.requests.labels Never (failed ≡ None)
-  flush_rounds old new failed h =
-      let a : AskedFor old.carried.stack (Flush old.handle) h.done h.asked.requests.labels = asked_for old (Flush old.handle) h.done new h.asked tt in
-      one_round old new h.asked.requests.labels a.request h.done Never (failed ≡ None) (steady_of old new (Flush old.handle) h.done h.asked)
-      (λ r of k out. not_write a.request r (extent.first + k) of (λ is. let no : FlushKind ≡ WriteKind = sym (ap (λ (q : ClientRequest). q.kind) a.asks) ∙ is in cc (no)))
-      (λ r of good synced sync. let b = none_failed h.done (sym h.failed_so ∙ synced) in good b.0 b.1) a.one
+    abbrev Never : ℕ → Type 0
+    Never k = Unit {0}
 
-  -- a write of bytes that are a part of some
-  write_rounds : (old new : FiledView) (from : ℕ) (bytes : List ℕ) (through : Bool) (failed : Option ReplyError) (h : Writes old from bytes through failed new) (offset count : ℕ) → IsHeld old → offset ≤ from → from + length bytes ≤ offset + count
-      → AreRounds old new h.asked.requests.labels (λ k. has (sectors_in rules.sector_size offset count) k ≡ false) (through ≡ true → failed ≡ None)
-  write_rounds old new from bytes through failed h offset count held low high =
-      let a : AskedFor old.carried.stack (Write old.handle from bytes through) h.done h.asked.requests.labels = asked_for old (Write old.handle from bytes through) h.done new h.asked tt in
-      one_round old new h.asked.requests.labels a.request h.done (λ k. has (sectors_in rules.sector_size offset count) k ≡ false) (through ≡ true → failed ≡ None) (steady_of old new (Write old.handle from bytes through) h.done h.asked)
-      (λ r of k out. put_away old from (length bytes) through r offset count k (put a.request a.asks r of) low high out)
-      (λ r of good synced sync. let b = none_failed h.done (sym h.failed_so ∙ synced (syncs_so a.request a.asks r of sync)) in good b.0 b.1) a.one
-    where
-      put : (q : ClientRequest) → q ≡ call_on old.carried.stack old.handle WriteKind from bytes through → (r : Round) → IsCallOf q r → IsPut old from (length bytes) through r
-      put q is r of = put_by old from bytes through r held (subst (λ (x : ClientRequest). IsCallOf x r) is of)
+    read_rounds : (old new : FiledView) (offset count : ℕ) (done : Result (List ℕ) ReplyError) (h : Gets old offset count done new) → AreRounds old new h.asked.requests.labels Never (Unit {0})
+    read_rounds old new offset count done h =
+        let a : AskedFor old.carried.stack (Read old.handle offset h.buffer) done h.asked.requests.labels = asked_for old (Read old.handle offset h.buffer) done new h.asked tt in
+        one_round old new h.asked.requests.labels a.request done Never (Unit {0}) (steady_of old new (Read old.handle offset h.buffer) done h.asked)
+        (λ r of k out. not_write a.request r (extent.first + k) of (λ is. let no : ReadKind ≡ WriteKind = sym (ap (λ (q : ClientRequest). q.kind) a.asks) ∙ is in cc (no)))
+        (λ r of good synced. no_sync a.request r of (ap (λ (q : ClientRequest). q.kind) a.asks)) a.one
 
-      syncs_so : (q : ClientRequest) → q ≡ call_on old.carried.stack old.handle WriteKind from bytes through → (r : Round) → IsCallOf q r → IsTrue (must_sync r.request) → through ≡ true
-      syncs_so q is r of sync = sym (put q is r of).through_is ∙ by_kind r.request.kind (put q is r of).kind sync
-        where
-          by_kind : (k : Kind) → k ≡ WriteKind → IsTrue (must_sync (record r.request { kind = k })) → r.request.through ≡ true
-          by_kind WriteKind e h = h
-          by_kind ReadKind e h = absurd (cc (e))
-          by_kind FlushKind e h = absurd (cc (e))
+    flush_rounds : (old new : FiledView) (failed : Option ReplyError) (h : Flushes old failed new) → AreRounds old new h.asked.requests.labels Never (Fails strict failed)
+    flush_rounds old new failed h =
+        let a : AskedFor old.carried.stack (Flush old.handle) h.done h.asked.requests.labels = asked_for old (Flush old.handle) h.done new h.asked tt in
+        one_round old new h.asked.requests.labels a.request h.done Never (Fails strict failed) (steady_of old new (Flush old.handle) h.done h.asked)
+        (λ r of k out. not_write a.request r (extent.first + k) of (λ is. let no : FlushKind ≡ WriteKind = sym (ap (λ (q : ClientRequest). q.kind) a.asks) ∙ is in cc (no)))
+        (λ r of good synced sync. ends_if strict failed h.done r.status h.failed_so good synced) a.one
 
-  -- ZEROS
+    -- a write of bytes that are a part of some
+    write_rounds : (old new : FiledView) (from : ℕ) (bytes : List ℕ) (through : Bool) (failed : Option ReplyError) (h : Writes old from bytes through failed new) (offset count : ℕ) → IsHeld old → offset ≤ from → from + length bytes ≤ offset + count
+        → AreRounds old new h.asked.requests.labels (λ k. has (sectors_in rules.sector_size offset count) k ≡ false) (through ≡ true → Fails strict failed)
+    write_rounds old new from bytes through failed h offset count held low high =
+        let a : AskedFor old.carried.stack (Write old.handle from bytes through) h.done h.asked.requests.labels = asked_for old (Write old.handle from bytes through) h.done new h.asked tt in
+        one_round old new h.asked.requests.labels a.request h.done (λ k. has (sectors_in rules.sector_size offset count) k ≡ false) (through ≡ true → Fails strict failed) (steady_of old new (Write old.handle from bytes through) h.done h.asked)
+        (λ r of k out. put_away old from (length bytes) through r offset count k (put a.request a.asks r of) low high out)
+        (λ r of good synced sync. ends_if strict failed h.done r.status h.failed_so good (synced (syncs_so a.request a.asks r of sync))) a.one
+      where
+        put : (q : ClientRequest) → q ≡ call_on old.carried.stack old.handle WriteKind from bytes through → (r : Round) → IsCallOf q r → IsPut old from (length bytes) through r
+        put q is r of = put_by old from bytes through r held (subst (λ (x : ClientRequest). IsCallOf x r) is of)
 
-  abbrev Well : Bool → Option ReplyError → Type 0
-  Well through failed = through ≡ true → failed ≡ None
+        syncs_so : (q : ClientRequest) → q ≡ call_on old.carried.stack old.handle WriteKind from bytes through → (r : Round) → IsCallOf q r → IsTrue (must_sync r.request) → through ≡ true
+        syncs_so q is r of sync = sym (put q is r of).through_is ∙ by_kind r.request.kind (put q is r of).kind sync
+          where
+            by_kind : (k : Kind) → k ≡ WriteKind → IsTrue (must_sync (record r.request { kind = k })) → r.request.through ≡ true
+            by_kind WriteKind e h = h
+            by_kind ReadKind e h = absurd (cc (e))
+            by_kind FlushKind e h = absurd (cc (e))
 
-  abbrev Out : ℕ → ℕ → ℕ → Type 0
-  Out offset count k = has (sectors_in rules.sector_size offset count) k ≡ false
+    -- ZEROS
 
-  clears_rounds : (old new : FiledView) (from : ℕ) (counts : List ℕ) (through : Bool) (h : Clears old from counts through new) (offset count : ℕ) → IsHeld old → offset ≤ from → from + total counts ≤ offset + count
-      → AreRounds old new (of_clears old from counts through new h) (Out offset count) (Unit {0})
-  clears_rounds old new from [] through h offset count held low high = none_told old new (Out offset count) (Unit {0}) h
-  clears_rounds old new from (n ∷ counts) through h offset count held low high =
-      let some : from + total counts ≤ offset + count = omega (arith, high) in
-      let a : AreRounds old h.0 (of_clears old from counts through h.0 h.1) (Out offset count) (Unit {0}) = clears_rounds old h.0 from counts through h.1 offset count held low some in
-      let long : length {A = ℕ} (replicate n 0) ≡ n = length-replicate n 0 in
-      let b : AreRounds h.0 new h.2.asked.requests.labels (Out offset count) (Well through None) =
-      write_rounds h.0 new (from + total counts) (replicate n 0) through None h.2 offset count (held_on old h.0 a.steady held) (omega (arith, low)) (omega (arith, high, long)) in
-      told_if old new (of_clears old from counts through h.0 h.1 ++ h.2.asked.requests.labels) (λ k. Out offset count k × Out offset count k) (Out offset count) (Unit {0} × Well through None) (Unit {0}) (λ k out. (out, out)) (λ synced. (tt, λ e. refl))
-      (told_then old h.0 new (of_clears old from counts through h.0 h.1) h.2.asked.requests.labels (Out offset count) (Out offset count) (Unit {0}) (Well through None) a b)
+    abbrev Well : Bool → Option ReplyError → Type 0
+    Well through failed = through ≡ true → Fails strict failed
 
-  stop_rounds : (mid new : FiledView) (from next : ℕ) (through : Bool) (error : ReplyError) (h : Writes mid from (replicate next 0) through (Some error) new ⊎ LacksMemory mid error new) (offset count : ℕ) → IsHeld mid → offset ≤ from
-      → from + next ≤ offset + count → AreRounds mid new (of_stop mid from next through error new h) (Out offset count) (Well through (Some error))
-  stop_rounds mid new from next through error (inl h) offset count held low high =
-      let long : length {A = ℕ} (replicate next 0) ≡ next = length-replicate next 0 in
-      write_rounds mid new from (replicate next 0) through (Some error) h offset count held low (omega (arith, high, long))
-  stop_rounds mid new from next through error (inr h) offset count held low high = none_told mid new (Out offset count) (Well through (Some error)) h.same
+    abbrev Out : ℕ → ℕ → ℕ → Type 0
+    Out offset count k = has (sectors_in rules.sector_size offset count) k ≡ false
 
-  cleared_rounds : (old new : FiledView) (offset count : ℕ) (through : Bool) (failed : Option ReplyError) (h : ClearsBy old offset count through failed new) → IsHeld old
-      → AreRounds old new (of_cleared old offset count through failed new h) (Out offset count) (through ≡ true → failed ≡ None)
-  cleared_rounds old new offset count through None h held =
-      told_if old new (of_clears old offset h.counts through new h.clears) (Out offset count) (Out offset count) (Unit {0}) (Well through None) (λ k out. out) (λ synced. tt)
-      (clears_rounds old new offset h.counts through h.clears offset count held (omega arith) (let all = h.all in omega (arith, all)))
-  cleared_rounds old new offset count through (Some error) h held =
-      let fewer : h.done + h.next ≤ count = h.fewer in
-      let all : h.done ≡ total h.cleared.counts = h.cleared.all in
-      let a : AreRounds old h.mid (of_clears old offset h.cleared.counts through h.mid h.cleared.clears) (Out offset count) (Unit {0}) =
-      clears_rounds old h.mid offset h.cleared.counts through h.cleared.clears offset count held (omega arith) (omega (arith, fewer, all)) in
-      let b : AreRounds h.mid new (of_stop h.mid (offset + h.done) h.next through error new h.stops) (Out offset count) (Well through (Some error)) =
-      stop_rounds h.mid new (offset + h.done) h.next through error h.stops offset count (held_on old h.mid a.steady held) (omega arith) (omega (arith, fewer)) in
-      told_if old new (of_cleared old offset count through (Some error) new h) (λ k. Out offset count k × Out offset count k) (Out offset count) (Unit {0} × Well through (Some error)) (Well through (Some error)) (λ k out. (out, out)) (λ synced. (tt, synced))
-      (told_then old h.mid new (of_clears old offset h.cleared.counts through h.mid h.cleared.clears) (of_stop h.mid (offset + h.done) h.next through error new h.stops) (Out offset count) (Out offset count) (Unit {0}) (Well through (Some error)) a b)
+    clears_rounds : (old new : FiledView) (from : ℕ) (counts : List ℕ) (through : Bool) (h : Clears old from counts through new) (offset count : ℕ) → IsHeld old → offset ≤ from → from + total counts ≤ offset + count
+        → AreRounds old new (of_clears old from counts through new h) (Out offset count) (Well through None)
+    clears_rounds old new from [] through h offset count held low high = none_told old new (Out offset count) (Well through None) h
+    clears_rounds old new from (n ∷ counts) through h offset count held low high =
+        let some : from + total counts ≤ offset + count = omega (arith, high) in
+        let a : AreRounds old h.0 (of_clears old from counts through h.0 h.1) (Out offset count) (Well through None) = clears_rounds old h.0 from counts through h.1 offset count held low some in
+        let long : length {A = ℕ} (replicate n 0) ≡ n = length-replicate n 0 in
+        let b : AreRounds h.0 new h.2.asked.requests.labels (Out offset count) (Well through None) =
+        write_rounds h.0 new (from + total counts) (replicate n 0) through None h.2 offset count (held_on old h.0 a.steady held) (omega (arith, low)) (omega (arith, high, long)) in
+        told_if old new (of_clears old from counts through h.0 h.1 ++ h.2.asked.requests.labels) (λ k. Out offset count k × Out offset count k) (Out offset count) (Well through None × Well through None) (Well through None) (λ k out. (out, out)) (λ synced. (synced, synced))
+        (told_then old h.0 new (of_clears old from counts through h.0 h.1) h.2.asked.requests.labels (Out offset count) (Out offset count) (Well through None) (Well through None) a b)
 
-  -- COMMANDS
+    stop_rounds : (mid new : FiledView) (from next : ℕ) (through : Bool) (error : ReplyError) (h : Writes mid from (replicate next 0) through (Some error) new ⊎ LacksMemory mid error new) (offset count : ℕ) → IsHeld mid → offset ≤ from
+        → from + next ≤ offset + count → AreRounds mid new (of_stop mid from next through error new h) (Out offset count) (Well through (Some error))
+    stop_rounds mid new from next through error (inl h) offset count held low high =
+        let long : length {A = ℕ} (replicate next 0) ≡ next = length-replicate next 0 in
+        write_rounds mid new from (replicate next 0) through (Some error) h offset count held low (omega (arith, high, long))
+    stop_rounds mid new from next through error (inr h) offset count held low high = none_told mid new (Out offset count) (Well through (Some error)) h.same
 
-  reads_rounds : (old new : FiledView) (offset count : ℕ) (done : Result (List ℕ) ReplyError) (h : Reads old offset count done new) → AreRounds old new (of_read old offset count done new h) Never (Unit {0})
-  reads_rounds old new offset count (Ok bytes) h = read_rounds old new offset count (Ok bytes) h
-  reads_rounds old new offset count (Err error) (inl h) = read_rounds old new offset count (Err error) h
-  reads_rounds old new offset count (Err error) (inr h) = none_told old new Never (Unit {0}) h.same
+    cleared_rounds : (old new : FiledView) (offset count : ℕ) (through : Bool) (failed : Option ReplyError) (h : ClearsBy old offset count through failed new) → IsHeld old
+        → AreRounds old new (of_cleared old offset count through failed new h) (Out offset count) (through ≡ true → Fails strict failed)
+    cleared_rounds old new offset count through None h held =
+        told_if old new (of_clears old offset h.counts through new h.clears) (Out offset count) (Out offset count) (Well through None) (Well through None) (λ k out. out) (λ synced. synced)
+        (clears_rounds old new offset h.counts through h.clears offset count held (omega arith) (let all = h.all in omega (arith, all)))
+    cleared_rounds old new offset count through (Some error) h held =
+        let fewer : h.done + h.next ≤ count = h.fewer in
+        let all : h.done ≡ total h.cleared.counts = h.cleared.all in
+        let a : AreRounds old h.mid (of_clears old offset h.cleared.counts through h.mid h.cleared.clears) (Out offset count) (Well through None) =
+        clears_rounds old h.mid offset h.cleared.counts through h.cleared.clears offset count held (omega arith) (omega (arith, fewer, all)) in
+        let b : AreRounds h.mid new (of_stop h.mid (offset + h.done) h.next through error new h.stops) (Out offset count) (Well through (Some error)) =
+        stop_rounds h.mid new (offset + h.done) h.next through error h.stops offset count (held_on old h.mid a.steady held) (omega arith) (omega (arith, fewer)) in
+        told_if old new (of_cleared old offset count through (Some error) new h) (λ k. Out offset count k × Out offset count k) (Out offset count) (Well through None × Well through (Some error)) (Well through (Some error)) (λ k out. (out, out)) (λ synced. ((λ e. fails_none strict (Some error) (synced e)), synced))
+        (told_then old h.mid new (of_clears old offset h.cleared.counts through h.mid h.cleared.clears) (of_stop h.mid (offset + h.done) h.next through error new h.stops) (Out offset count) (Out offset count) (Well through None) (Well through (Some error)) a b)
 
-  command_rounds : (command : Command) (payload : List ℕ) (old : FiledView) (o : Outcome) (new : FiledView) (h : CarriesBy command payload old o new) → IsHeld old → length payload ≡ payload_of command
-      → AreRounds old new (of_command command payload old o new h) (λ k. writes rules.sector_size k command ≡ false) (syncs command ≡ true → o.error ≡ 0)
-  command_rounds (ReadCommand offset count) payload old o new h held long =
-      told_if old new (of_read old offset count h.0 new h.1) Never (λ k. false ≡ false) (Unit {0}) (false ≡ true → o.error ≡ 0) (λ k out. tt) (λ synced. tt) (reads_rounds old new offset count h.0 h.1)
-  command_rounds (WriteCommand offset count through) payload old o new h held long =
-      told_if old new h.1.asked.requests.labels (Out offset count) (Out offset count) (through ≡ true → h.0 ≡ None) (through ≡ true → o.error ≡ 0) (λ k out. out) (λ synced e. done_plain o h.0 h.2 (synced e))
-      (write_rounds old new offset payload through h.0 h.1 offset count held (omega arith) (omega (arith, long)))
-  command_rounds FlushCommand payload old o new h held long =
-      told_if old new h.1.asked.requests.labels Never (λ k. false ≡ false) (h.0 ≡ None) (true ≡ true → o.error ≡ 0) (λ k out. tt) (λ synced. done_plain o h.0 h.2 (synced refl)) (flush_rounds old new h.0 h.1)
-  command_rounds (WriteZeroes offset count through) payload old o new h held long =
-      told_if old new (of_cleared old offset count through h.0 new h.1) (Out offset count) (Out offset count) (through ≡ true → h.0 ≡ None) (through ≡ true → o.error ≡ 0) (λ k out. out) (λ synced e. done_plain o h.0 h.2 (synced e))
-      (cleared_rounds old new offset count through h.0 h.1 held)
+    -- COMMANDS
 
-  -- A RUN OF EXCHANGES
+    reads_rounds : (old new : FiledView) (offset count : ℕ) (done : Result (List ℕ) ReplyError) (h : Reads old offset count done new) → AreRounds old new (of_read old offset count done new h) Never (Unit {0})
+    reads_rounds old new offset count (Ok bytes) h = read_rounds old new offset count (Ok bytes) h
+    reads_rounds old new offset count (Err error) (inl h) = read_rounds old new offset count (Err error) h
+    reads_rounds old new offset count (Err error) (inr h) = none_told old new Never (Unit {0}) h.same
 
-  module _ (sizes : Sizes) (block : sizes.block ≡ rules.sector_size) where
-    found_rounds : (x : Exchange) (found : Result Command ReplyError) (old new : FiledView) → command_of sizes x ≡ found
-        → (h : MatchResult found (λ command. CarriesOver CarriesBy sizes command x.payload old x.outcome new) (λ e. (x.outcome ≡ failure e) × (new ≡ old))) → IsHeld old → length x.payload ≡ payload_count x.request
-        → AreRounds old new (of_found sizes found x.payload old x.outcome new h) (λ k. IsElsewhere sizes k x) (HasSynced sizes x)
-    found_rounds x (Ok command) old new e (inl h) held long =
-        told_if old new (of_command command x.payload old x.outcome new h) (λ k. writes rules.sector_size k command ≡ false) (λ k. IsElsewhere sizes k x) (syncs command ≡ true → x.outcome.error ≡ 0) (HasSynced sizes x)
-        (λ k out. subst (λ (n : ℕ). writes n k command ≡ false) block (out command e)) (λ synced. synced command e)
-        (command_rounds command x.payload old x.outcome new h held (long ∙ payload_is sizes.block sizes.bytes x.request command e))
-    found_rounds x (Ok command) old new e (inr h) held long = none_told old new (λ k. IsElsewhere sizes k x) (HasSynced sizes x) h.2
-    found_rounds x (Err error) old new e h held long = none_told old new (λ k. IsElsewhere sizes k x) (HasSynced sizes x) h.1
+    command_rounds : (command : Command) (payload : List ℕ) (old : FiledView) (o : Outcome) (new : FiledView) (h : CarriesBy command payload old o new) → IsHeld old → length payload ≡ payload_of command
+        → AreRounds old new (of_command command payload old o new h) (λ k. writes rules.sector_size k command ≡ false) (syncs command ≡ true → Errs strict o.error)
+    command_rounds (ReadCommand offset count) payload old o new h held long =
+        told_if old new (of_read old offset count h.0 new h.1) Never (λ k. false ≡ false) (Unit {0}) (false ≡ true → Errs strict o.error) (λ k out. tt) (λ synced. tt) (reads_rounds old new offset count h.0 h.1)
+    command_rounds (WriteCommand offset count through) payload old o new h held long =
+        told_if old new h.1.asked.requests.labels (Out offset count) (Out offset count) (through ≡ true → Fails strict h.0) (through ≡ true → Errs strict o.error) (λ k out. out) (λ synced e. fails_if strict o h.0 h.2 (synced e))
+        (write_rounds old new offset payload through h.0 h.1 offset count held (omega arith) (omega (arith, long)))
+    command_rounds FlushCommand payload old o new h held long =
+        told_if old new h.1.asked.requests.labels Never (λ k. false ≡ false) (Fails strict h.0) (true ≡ true → Errs strict o.error) (λ k out. tt) (λ synced. fails_if strict o h.0 h.2 (synced refl)) (flush_rounds old new h.0 h.1)
+    command_rounds (WriteZeroes offset count through) payload old o new h held long =
+        told_if old new (of_cleared old offset count through h.0 new h.1) (Out offset count) (Out offset count) (through ≡ true → Fails strict h.0) (through ≡ true → Errs strict o.error) (λ k out. out) (λ synced e. fails_if strict o h.0 h.2 (synced e))
+        (cleared_rounds old new offset count through h.0 h.1 held)
 
-    pub run_rounds : (old : FiledView) (xs : List Exchange) (new : FiledView) (h : RunOver CarriesBy sizes old xs new) → IsHeld old
-        → AreRounds old new (of_run sizes old xs new h) (λ k. All (IsElsewhere sizes k) xs) (All (HasSynced sizes) xs)
-    run_rounds old [] new h held = none_told old new (λ k. All (IsElsewhere sizes k) []) (All (HasSynced sizes) []) h
-    run_rounds old (x ∷ xs) new h held =
-        let a = found_rounds x (command_in sizes.block sizes.bytes x.request) old h.0 refl h.1.serves held h.1.long in
-        let b = run_rounds h.0 xs new h.2 (held_on old h.0 a.steady held) in
-        told_if old new (of_run sizes old (x ∷ xs) new h) (λ k. IsElsewhere sizes k x × All (IsElsewhere sizes k) xs) (λ k. All (IsElsewhere sizes k) (x ∷ xs)) (HasSynced sizes x × All (HasSynced sizes) xs) (All (HasSynced sizes) (x ∷ xs))
-        (λ k out. (All-head (IsElsewhere sizes k) x xs out, All-tail (IsElsewhere sizes k) x xs out)) (λ synced. (All-head (HasSynced sizes) x xs synced, All-tail (HasSynced sizes) x xs synced))
-        (told_then old h.0 new (of_found sizes (command_in sizes.block sizes.bytes x.request) x.payload old x.outcome h.0 h.1.serves) (of_run sizes h.0 xs new h.2) (λ k. IsElsewhere sizes k x) (λ k. All (IsElsewhere sizes k) xs) (HasSynced sizes x) (All (HasSynced sizes) xs) a b)
+    -- A RUN OF EXCHANGES
+
+    module _ (sizes : Sizes) (block : sizes.block ≡ rules.sector_size) where
+      found_rounds : (x : Exchange) (found : Result Command ReplyError) (old new : FiledView) → command_of sizes x ≡ found
+          → (h : MatchResult found (λ command. CarriesOver CarriesBy sizes command x.payload old x.outcome new) (λ e. (x.outcome ≡ failure e) × (new ≡ old))) → IsHeld old → length x.payload ≡ payload_count x.request
+          → AreRounds old new (of_found sizes found x.payload old x.outcome new h) (λ k. IsElsewhere sizes k x) (Keeps strict sizes x)
+      found_rounds x (Ok command) old new e (inl h) held long =
+          told_if old new (of_command command x.payload old x.outcome new h) (λ k. writes rules.sector_size k command ≡ false) (λ k. IsElsewhere sizes k x) (syncs command ≡ true → Errs strict x.outcome.error) (Keeps strict sizes x)
+          (λ k out. subst (λ (n : ℕ). writes n k command ≡ false) block (out command e)) (λ synced. synced command e)
+          (command_rounds command x.payload old x.outcome new h held (long ∙ payload_is sizes.block sizes.bytes x.request command e))
+      found_rounds x (Ok command) old new e (inr h) held long = none_told old new (λ k. IsElsewhere sizes k x) (Keeps strict sizes x) h.2
+      found_rounds x (Err error) old new e h held long = none_told old new (λ k. IsElsewhere sizes k x) (Keeps strict sizes x) h.1
+
+      pub run_rounds : (old : FiledView) (xs : List Exchange) (new : FiledView) (h : RunOver CarriesBy sizes old xs new) → IsHeld old
+          → AreRounds old new (of_run sizes old xs new h) (λ k. All (IsElsewhere sizes k) xs) (All (Keeps strict sizes) xs)
+      run_rounds old [] new h held = none_told old new (λ k. All (IsElsewhere sizes k) []) (All (Keeps strict sizes) []) h
+      run_rounds old (x ∷ xs) new h held =
+          let a = found_rounds x (command_in sizes.block sizes.bytes x.request) old h.0 refl h.1.serves held h.1.long in
+          let b = run_rounds h.0 xs new h.2 (held_on old h.0 a.steady held) in
+          told_if old new (of_run sizes old (x ∷ xs) new h) (λ k. IsElsewhere sizes k x × All (IsElsewhere sizes k) xs) (λ k. All (IsElsewhere sizes k) (x ∷ xs)) (Keeps strict sizes x × All (Keeps strict sizes) xs) (All (Keeps strict sizes) (x ∷ xs))
+          (λ k out. (All-head (IsElsewhere sizes k) x xs out, All-tail (IsElsewhere sizes k) x xs out)) (λ synced. (All-head (Keeps strict sizes) x xs synced, All-tail (Keeps strict sizes) x xs synced))
+          (told_then old h.0 new (of_found sizes (command_in sizes.block sizes.bytes x.request) x.payload old x.outcome h.0 h.1.serves) (of_run sizes h.0 xs new h.2) (λ k. IsElsewhere sizes k x) (λ k. All (IsElsewhere sizes k) xs) (Keeps strict sizes x) (All (Keeps strict sizes) xs) a b)

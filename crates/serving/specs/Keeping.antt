@@ -1,5 +1,5 @@
 -- What a client of a served file keeps, by what it asked for and what it was told.
-use Rattle.std.specs.Prelude.{◌≡◌, ◌<◌, ℕ, ◌+◌, ◌-◌, ◌/◌, Bool, true, false, List, [], ◌∷◌, ◌++◌, All, Option, Result, Ok, Err}
+use Rattle.std.specs.Prelude.{◌≡◌, ◌<◌, ◌⊎◌, ℕ, ◌+◌, ◌-◌, ◌/◌, Bool, true, false, List, [], ◌∷◌, ◌++◌, All, Option, Result, Ok, Err}
 use mathlib.Core.Logic.{inl, inr}
 use Rattle.sector.specs.declared.Extent.{Extent}
 use Rattle.settings.specs.declared.Config.{Config}
@@ -15,7 +15,7 @@ use Rattle.nbd.specs.declared.requests.ReplyError.{ReplyError}
 use Rattle.nbd.specs.Over.{IsSessionOver, RunOver}
 use Rattle.nbd.specs.Requests.{command_in}
 use Rattle.nbd.specs.Session.{Exchange}
-use Rattle.file_sessions.specs.Stored.{Content, IsKept, Survives, under_way}
+use Rattle.file_sessions.specs.Stored.{Content, IsKept, Remains, Survives, under_way}
 use Rattle.serving.specs.declared.faults.Error.{Error}
 use Rattle.serving.specs.Filed.{CarriesBy, FiledView}
 use Rattle.serving.specs.Lasting.{ServesFile}
@@ -61,6 +61,10 @@ IsElsewhere sizes k x = (command : Command) → command_of sizes x ≡ Ok comman
 -- no sync of it was told to have failed
 abbrev pub HasSynced : Sizes → Exchange → Type 0
 HasSynced sizes x = (command : Command) → command_of sizes x ≡ Ok command → syncs command ≡ true → IsToldDone x
+
+-- it has none
+abbrev pub HasNoSync : Sizes → Exchange → Type 0
+HasNoSync sizes x = (command : Command) → command_of sizes x ≡ Ok command → syncs command ≡ false
 
 -- a write of these bytes that was told as done, of which sector k of the partition is sector `place`
 pub record IsWrite (sizes : Sizes) (w : Exchange) (place k : ℕ) : Type 0 where
@@ -119,6 +123,16 @@ UntouchedIsKept = (c : Config) (p : ℕ) (opened : List Call) (old : FiledView) 
     → sector_on c p k < c.sectors → Survives c.sector_size c.sectors before calls left
     → left (sector_on c p k) ≡ before (sector_on c p k)
 
+-- a write that was told as done outlives its process, where no sync was told to have failed since
+abbrev pub AnsweredIsKept : Type 0
+AnsweredIsKept = (c : Config) (p : ℕ) (opened : List Call) (old : FiledView) (input out : Option (List ℕ)) (fault : Option Error) (new : FiledView) (after : Option (List ℕ)) (calls : List Call) (before left : Content)
+    (first : List Exchange) (w : Exchange) (later : List Exchange) (place k : ℕ)
+    → (h : ServesFile c p opened old input out fault new after calls) → 0 < c.sector_size → IsKept c.sector_size before calls
+    → served_in c p opened old input out fault new after calls h ≡ first ++ w ∷ later
+    → IsWrite old.sizes w place k → All (IsElsewhere old.sizes k) later → All (HasSynced old.sizes) later
+    → sector_on c p k < c.sectors → Remains c.sector_size c.sectors before calls left
+    → left (sector_on c p k) ≡ sector_in c.sector_size place w.payload
+
 -- AT A MOMENT
 
 -- a client was told of some requests. At a moment behind that, while later ones are served, the file had got these calls since, and one was
@@ -157,3 +171,42 @@ UntouchedIsKeptMeanwhile = (c : Config) (p : ℕ) (opened : List Call) (old new 
     → All (IsElsewhere old.sizes k) front → All (IsElsewhere old.sizes k) later
     → sector_on c p k < c.sectors → Survives c.sector_size c.sectors before (under_way call ∷ (since ++ told)) left
     → left (sector_on c p k) ≡ before (sector_on c p k)
+
+-- where the process ended then, and none of the requests that were served is a sync
+abbrev pub AnsweredIsKeptMeanwhile : Type 0
+AnsweredIsKeptMeanwhile = (c : Config) (p : ℕ) (opened : List Call) (old new : FiledView) (told since : List Call) (call : Call) (before left : Content)
+    (first : List Exchange) (w : Exchange) (behind later : List Exchange) (place k : ℕ)
+    → IsMoment c p opened old (first ++ w ∷ behind) later new told since call → 0 < c.sector_size → IsKept c.sector_size before (since ++ told)
+    → IsWrite old.sizes w place k
+    → All (IsElsewhere old.sizes k) behind → All (HasSynced old.sizes) behind → All (IsElsewhere old.sizes k) later → All (HasNoSync old.sizes) later
+    → sector_on c p k < c.sectors → Remains c.sector_size c.sectors before (under_way call ∷ (since ++ told)) left
+    → left (sector_on c p k) ≡ sector_in c.sector_size place w.payload
+
+-- SESSIONS IN A ROW
+
+-- a session over a file that held `before`; no request of it wrote sector i of the disk; behind it power was lost, or only the process ended
+pub record LeavesAlone (c : Config) (i : ℕ) (before left : Content) : Type 0 where
+  pub p : ℕ
+  pub opened : List Call
+  pub old : FiledView
+  pub input : Option (List ℕ)
+  pub out : Option (List ℕ)
+  pub fault : Option Error
+  pub new : FiledView
+  pub after : Option (List ℕ)
+  pub calls : List Call
+  pub serves : ServesFile c p opened old input out fault new after calls
+  pub kept : IsKept c.sector_size before calls
+  pub k : ℕ
+  pub is_sector : sector_on c p k ≡ i
+  pub elsewhere : All (IsElsewhere old.sizes k) (served_in c p opened old input out fault new after calls serves)
+  pub ends : Survives c.sector_size c.sectors before calls left ⊎ Remains c.sector_size c.sectors before calls left
+
+-- such sessions, each over what the last one left
+abbrev pub LeaveAlone : Config → ℕ → Content → List Content → Content → Type 0
+LeaveAlone c i before [] left = left ≡ before
+LeaveAlone c i before (mid ∷ mids) left = LeavesAlone c i before mid × LeaveAlone c i mid mids left
+
+-- so what one session made certain stays over the next ones, until a request writes the sector
+abbrev pub StaysOverSessions : Type 0
+StaysOverSessions = (c : Config) (i : ℕ) (before left : Content) (mids : List Content) → 0 < c.sector_size → i < c.sectors → LeaveAlone c i before mids left → left i ≡ before i

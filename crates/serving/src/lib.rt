@@ -13,8 +13,9 @@
 //! each request and at any moment of it (`served_are_sessions`): what a loss of power leaves is what that table lets it
 //! leave. So a write that a client was told as done stays, at any later moment, until a request writes its sector: if it
 //! was write-through, or once a flush that came behind it was told as done, with no failed sync between
-//! (`done_is_kept`); and each session keeps what the one before it left (`UntouchedIsKept`). `command`: paths, partition
-//! and `--create` as found (`IsFoundIn`). All for readers and writers that tell their bytes.
+//! (`done_is_kept`); the end of the process alone loses nothing that was told as done, where no sync failed since or was
+//! under way (`AnsweredIsKept`); and sessions in a row keep what one of them left (`StaysOverSessions`). `command`: paths,
+//! partition and `--create` as found (`IsFoundIn`). All for readers and writers that tell their bytes.
 #![tactic(auto)]
 
 mod faults;
