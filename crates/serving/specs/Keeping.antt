@@ -210,3 +210,18 @@ LeaveAlone c i before (mid ∷ mids) left = LeavesAlone c i before mid × LeaveA
 -- so what one session made certain stays over the next ones, until a request writes the sector
 abbrev pub StaysOverSessions : Type 0
 StaysOverSessions = (c : Config) (i : ℕ) (before left : Content) (mids : List Content) → 0 < c.sector_size → i < c.sectors → LeaveAlone c i before mids left → left i ≡ before i
+
+-- BY HAND
+
+-- sectors of 512 bytes: those of 1,024 bytes from byte 1,024 on, and what syncs
+pub record AreCommandsByHand : Type 0 where
+  pub before : writes 512 1 (Write 1024 1024 false) ≡ false
+  pub first : writes 512 2 (Write 1024 1024 false) ≡ true
+  pub last : writes 512 3 (Write 1024 1024 false) ≡ true
+  pub behind : writes 512 4 (Write 1024 1024 false) ≡ false
+  pub zeros : writes 512 3 (WriteZeroes 1024 1024 false) ≡ true
+  pub zeros_behind : writes 512 4 (WriteZeroes 1024 1024 false) ≡ false
+  pub read : writes 512 2 (Read 1024 1024) ≡ false
+  pub flush : writes 512 2 Flush ≡ false
+  pub syncing : (syncs Flush ≡ true) × (syncs (Write 1024 1024 true) ≡ true) × (syncs (WriteZeroes 1024 1024 true) ≡ true)
+  pub not_syncing : (syncs (Read 1024 1024) ≡ false) × (syncs (Write 1024 1024 false) ≡ false) × (syncs (WriteZeroes 1024 1024 false) ≡ false)

@@ -30,7 +30,8 @@ mod words;
 pub use faults::{Difference, DiskFault, Error};
 pub use filed::Filed;
 pub use on_disk::{
-    disk_bytes, done_is_kept, open_file, put_table, read_only, serve_file, served_are_sessions,
+    commands_by_hand, disk_bytes, done_is_kept, open_file, put_table, read_only, serve_file,
+    served_are_sessions,
 };
 pub use same_file::{Inode, check_apart};
 pub use serving::serve_disk;

@@ -15,7 +15,7 @@ ghost use Rattle.file_disk.specs.Transfers.{DiskView, SyncsAfter};
 ghost use Rattle.machine_laws.specs.Reached.{OpeningsAreReached};
 ghost use Rattle.machine_laws.specs.WriteLaws.{RunsKeepLengths};
 ghost use Rattle.serving.specs.Carried.{StandsIn, TellsOn, quiet};
-ghost use Rattle.serving.specs.Keeping.{AnsweredIsKept, AnsweredIsKeptMeanwhile, FlushedIsKept, FlushedIsKeptMeanwhile};
+ghost use Rattle.serving.specs.Keeping.{AnsweredIsKept, AreCommandsByHand, AnsweredIsKeptMeanwhile, FlushedIsKept, FlushedIsKeptMeanwhile};
 ghost use Rattle.serving.specs.Keeping.{SecuredIsKept, SecuredIsKeptMeanwhile, StaysOverSessions, UntouchedIsKept, UntouchedIsKeptMeanwhile};
 ghost use Rattle.serving.specs.Lasting.{ServedAreSessions, ServedMomentsAreSessions};
 ghost use Rattle.serving.specs.OnDisk.{Differs, DiffersFrom, HasNoFaults, IsFileSession, IsOpenFault, IsOpened, IsPutFault};
@@ -390,6 +390,11 @@ pub fn done_is_kept()
     file_sessions::answers_survive();
     file_sessions::runs_are_sessions();
 }
+
+/// Which sectors commands write, and which of them sync, worked out by hand.
+pub fn commands_by_hand()
+    ensures { AreCommandsByHand }
+{}
 
 /// Serves a client over a partition of a disk in a file.
 ///
