@@ -14,3 +14,11 @@ mod Moments
 mod Series
 mod Surviving
 mod Refuting
+mod Alone
+mod Spoiling
+mod Rounds
+mod Alike
+mod Kept
+mod Answered
+mod Later
+mod Remaining

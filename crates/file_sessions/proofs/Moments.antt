@@ -23,10 +23,10 @@ use Rattle.file_sessions.proofs.Walking.{HasDeed, HasNone, IsBuiltAll, all_behin
 
 -- LISTS TAKEN APART
 
-abbrev Parts : {X : Type 0} → List X → List X → List X → List X → Type 0
+abbrev pub Parts : {X : Type 0} → List X → List X → List X → List X → Type 0
 Parts {X} xs ys zs ws = ((k : List X) × (xs ≡ zs ++ k) × (ws ≡ k ++ ys)) ⊎ ((k : List X) × (zs ≡ xs ++ k) × (ys ≡ k ++ ws))
 
-apart_at : {X : Type 0} (xs ys zs ws : List X) → xs ++ ys ≡ zs ++ ws → Parts xs ys zs ws
+pub apart_at : {X : Type 0} (xs ys zs ws : List X) → xs ++ ys ≡ zs ++ ws → Parts xs ys zs ws
 apart_at [] ys zs ws e = inr (zs, refl, e)
 apart_at (x ∷ xs) ys [] ws e = inl (x ∷ xs, refl, sym e)
 apart_at {X} (x ∷ xs) ys (z ∷ zs) ws e =
@@ -53,7 +53,7 @@ module _ (rules : Rules) (arrays : List (List (List ℕ))) (before : Content) wh
   abbrev size : ℕ
   size = rules.sector_size
 
-  line_lost : (end : Moment) (calls : List Call) → end.machine.arrays ≡ arrays → ((i : ℕ) (value : List ℕ) → IsOneOf value (left (held size i (before i) calls)) → MayBeLeft rules end.machine end.table i value)
+  pub line_lost : (end : Moment) (calls : List Call) → end.machine.arrays ≡ arrays → ((i : ℕ) (value : List ℕ) → IsOneOf value (left (held size i (before i) calls)) → MayBeLeft rules end.machine end.table i value)
       → (after : Content) → Survives size rules.disk_sectors before calls after → LineStep rules end Lost (beginning arrays after)
   line_lost end calls same may after survives = record {
     disk = after;
@@ -62,7 +62,7 @@ module _ (rules : Rules) (arrays : List (List (List ℕ))) (before : Content) wh
     table = λ i. refl;
   }
 
-  line_ended : (end : Moment) (calls : List Call) → end.machine.arrays ≡ arrays → ((i : ℕ) (value : List ℕ) → IsOneOf value (held size i (before i) calls).now → MayRemain rules end.machine end.table i value)
+  pub line_ended : (end : Moment) (calls : List Call) → end.machine.arrays ≡ arrays → ((i : ℕ) (value : List ℕ) → IsOneOf value (held size i (before i) calls).now → MayRemain rules end.machine end.table i value)
       → (after : Content) → Remains size rules.disk_sectors before calls after → LineStep rules end Ended (beginning arrays after)
   line_ended end calls same may after remains = record {
     disk = after;
@@ -95,15 +95,15 @@ module _ (rules : Rules) (content : Content) (some : 0 < rules.sector_size) (bas
   bytes = rules.sector_size
 
   -- the run up to the label of a piece that the call is of
-  record IsCut (s : State) (t : Table) (labels : List Label) : Type 0 where
-    first : List Label
-    rest : List Label
-    mid : State
-    between : Table
-    labels_are : labels ≡ first ++ rest
-    run : TableRun rules s t first mid between
-    left_so : (i : ℕ) (value : List ℕ) → IsOneOf value (left (held bytes i (content i) (under_way call ∷ earlier))) → MayBeLeft rules mid between i value
-    remains_so : (i : ℕ) (value : List ℕ) → IsOneOf value (held bytes i (content i) (under_way call ∷ earlier)).now → MayRemain rules mid between i value
+  pub record IsCut (s : State) (t : Table) (labels : List Label) : Type 0 where
+    pub first : List Label
+    pub rest : List Label
+    pub mid : State
+    pub between : Table
+    pub labels_are : labels ≡ first ++ rest
+    pub run : TableRun rules s t first mid between
+    pub left_so : (i : ℕ) (value : List ℕ) → IsOneOf value (left (held bytes i (content i) (under_way call ∷ earlier))) → MayBeLeft rules mid between i value
+    pub remains_so : (i : ℕ) (value : List ℕ) → IsOneOf value (held bytes i (content i) (under_way call ∷ earlier)).now → MayRemain rules mid between i value
 
   -- here it is
   here : (s : State) (t : Table) (label : Label) (labels : List Label) (deeds : List Deed) (old new : DiskView) (calls k front : List Call) (d : HasDeed rules content some base s label deeds old new calls)
@@ -188,7 +188,7 @@ module _ (rules : Rules) (content : Content) (some : 0 < rules.sector_size) (bas
     by_label (inl d) = with_deed d
     by_label (inr d) = goes_on calls k old (d.builds t covering) d.files size_is was suffix
 
-  cut_at : (s : State) (t : Table) (labels : List Label) (s' : State) (deeds : List Deed) (run : DeedRun rules s labels s' deeds) (old new : DiskView) (calls k all : List Call) → Files old deeds new
+  pub cut_at : (s : State) (t : Table) (labels : List Label) (s' : State) (deeds : List Deed) (run : DeedRun rules s labels s' deeds) (old new : DiskView) (calls k all : List Call) → Files old deeds new
       → old.sector_size ≡ bytes → old.calls ≡ calls ++ base → new.calls ≡ all ++ base → all ≡ later ++ call ∷ earlier → earlier ≡ k ++ calls → IsKept bytes content earlier → IsCovering rules content some calls t → IsCut s t labels
   cut_at s t [] s' deeds run old new calls k all files size_is was is parts suffix kept covering =
       let none : Files old [] new = subst (λ (ds : List Deed). Files old ds new) run.1 files in

@@ -5,3 +5,5 @@ pub mod Runs
 pub mod Sessions
 pub mod Laws
 pub mod Worked
+pub mod OneByOne
+pub mod Behind

@@ -11,11 +11,15 @@
 //! (`MomentsAreSessions`), and sessions one behind the other are one trace (`SeriesAreSessions`). A write that was
 //! answered SUCCESS is in the file behind a loss if it was write-through (`ThroughSurvives`), or once a flush that was
 //! called behind its answer was answered SUCCESS, with no failed sync between (`SuccessSurvives`), until its sector is
-//! written again.
+//! written again. Where requests are served one at a time their answers alone say so, at any moment behind them
+//! (`answers_survive`, `LaterMomentsAreSessions`); a sector that none writes is as it was (`UntouchedSurvives`), and the
+//! end of the process alone loses nothing that was answered, where no sync failed since or is under way
+//! (`AnsweredRemains`).
 //!
 //! That a file keeps to `Stored` is a premise; that a program makes such a run isn't said here.
 #![tactic(auto)]
 
+ghost use Rattle.file_sessions.specs.Behind.{LaterMomentsAreSessions};
 ghost use Rattle.file_sessions.specs.Laws.{
   CertainSurvives,
   MomentsAreSessions,
@@ -29,6 +33,7 @@ ghost use Rattle.file_sessions.specs.Laws.{
   SurvivorsAreLeft,
   ThroughSurvives,
 };
+ghost use Rattle.file_sessions.specs.OneByOne.{AnsweredRemains, FlushedSurvives, RemainsSurvive, SecuredSurvives, UntouchedSurvives};
 ghost use Rattle.file_sessions.specs.Runs.{ActsWithOne, DeedRunsJoin, FaultsWithOne, RunsWithNone};
 ghost use Rattle.file_sessions.specs.Worked.{AreHeldByHand, AreLeftByHand};
 
@@ -42,6 +47,7 @@ pub fn pieces_leave_no_more()
 pub fn runs_are_sessions()
     ensures runs { RunsAreSessions }
     ensures moments { MomentsAreSessions }
+    ensures later_moments { LaterMomentsAreSessions }
     ensures none_under_way { NoneUnderWay }
 {}
 
@@ -74,6 +80,23 @@ pub fn success_survives()
     ensures through { ThroughSurvives }
     ensures flushed { SuccessSurvives }
 {
+    loss::certain_is_left();
+    loss::success_is_left();
+}
+
+/// Of requests that are served one at a time: a write that was answered SUCCESS is in the file behind a loss once a flush
+/// that was called behind its answer was answered SUCCESS, and at once where it went past volatile caches; until its
+/// sector is written again. A sector that no request writes is as it was. The end of the process loses nothing that was
+/// answered, where no sync failed and none was under way.
+pub fn answers_survive()
+    ensures flushed { FlushedSurvives }
+    ensures secured { SecuredSurvives }
+    ensures untouched { UntouchedSurvives }
+    ensures remains { AnsweredRemains }
+    ensures no_less { RemainsSurvive }
+{
+    success_survives();
+    survivors_are_left();
     loss::certain_is_left();
     loss::success_is_left();
 }

@@ -76,13 +76,13 @@ found sizes (Ok command) payload old o new (inl h) = carries command payload old
 found sizes (Ok command) payload old o new (inr h) = stays old new h.2
 found sizes (Err e) payload old o new h = stays old new h.1
 
-run : (sizes : Sizes) (old : FiledView) (xs : List Exchange) (new : FiledView) (h : RunOver CarriesBy sizes old xs new) → Lasts (of_run sizes old xs new h) old new
-run sizes old [] new h = stays old new h
-run sizes old (x ∷ xs) new h =
+pub run_lasts : (sizes : Sizes) (old : FiledView) (xs : List Exchange) (new : FiledView) (h : RunOver CarriesBy sizes old xs new) → Lasts (of_run sizes old xs new h) old new
+run_lasts sizes old [] new h = stays old new h
+run_lasts sizes old (x ∷ xs) new h =
     lasts_then old h.0 new (of_found sizes (command_in sizes.block sizes.bytes x.request) x.payload old x.outcome h.0 h.1.serves) (of_run sizes h.0 xs new h.2)
-    (found sizes (command_in sizes.block sizes.bytes x.request) x.payload old x.outcome h.0 h.1.serves) (run sizes h.0 xs new h.2)
+    (found sizes (command_in sizes.block sizes.bytes x.request) x.payload old x.outcome h.0 h.1.serves) (run_lasts sizes h.0 xs new h.2)
 
 pub session_lasts : (sizes : Sizes) (old : FiledView) (input out : Option (List ℕ)) (end : End) (new : FiledView) (after : Option (List ℕ)) (h : IsSessionOver CarriesBy sizes old input out end new after)
     → Lasts (of_session sizes old input out end new after h) old new
 session_lasts sizes old input out end new after (inl early) = stays old new early.same
-session_lasts sizes old input out end new after (inr talks) = run sizes old talks.exchanges new talks.run
+session_lasts sizes old input out end new after (inr talks) = run_lasts sizes old talks.exchanges new talks.run

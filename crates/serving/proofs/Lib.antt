@@ -15,3 +15,7 @@ pub mod Filing
 pub mod Failing
 pub mod Noting
 mod Common
+mod Asking
+mod Rounds
+mod Keeping
+mod Meanwhile

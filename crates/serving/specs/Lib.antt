@@ -6,3 +6,4 @@ pub mod Filed
 pub mod OnDisk
 pub mod Telling
 pub mod Lasting
+pub mod Keeping

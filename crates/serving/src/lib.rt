@@ -11,8 +11,11 @@
 //! call failed, or none was made (`synced`, `IsPutFault`). `check_apart` refuses an image that is known to be CONFIG
 //! or the output. A session over a file that keeps to `Stored` is one of the table of `loss`, behind what was told of
 //! each request and at any moment of it (`served_are_sessions`): what a loss of power leaves is what that table lets it
-//! leave. `command`: paths, partition and `--create` as found (`IsFoundIn`). All for readers and writers that tell their
-//! bytes.
+//! leave. So a write that a client was told as done stays, at any later moment, until a request writes its sector: if it
+//! was write-through, or once a flush that came behind it was told as done, with no failed sync between
+//! (`done_is_kept`); the end of the process alone loses nothing that was told as done, where no sync failed since or was
+//! under way (`AnsweredIsKept`); and sessions in a row keep what one of them left (`StaysOverSessions`). `command`: paths,
+//! partition and `--create` as found (`IsFoundIn`). All for readers and writers that tell their bytes.
 #![tactic(auto)]
 
 mod faults;
@@ -26,7 +29,10 @@ mod words;
 
 pub use faults::{Difference, DiskFault, Error};
 pub use filed::Filed;
-pub use on_disk::{disk_bytes, open_file, put_table, read_only, serve_file, served_are_sessions};
+pub use on_disk::{
+    commands_by_hand, disk_bytes, done_is_kept, open_file, put_table, read_only, serve_file,
+    served_are_sessions,
+};
 pub use same_file::{Inode, check_apart};
 pub use serving::serve_disk;
 pub use words::asked::Asked;

@@ -15,6 +15,8 @@ ghost use Rattle.file_disk.specs.Transfers.{DiskView, SyncsAfter};
 ghost use Rattle.machine_laws.specs.Reached.{OpeningsAreReached};
 ghost use Rattle.machine_laws.specs.WriteLaws.{RunsKeepLengths};
 ghost use Rattle.serving.specs.Carried.{StandsIn, TellsOn, quiet};
+ghost use Rattle.serving.specs.Keeping.{AnsweredIsKept, AreCommandsByHand, AnsweredIsKeptMeanwhile, FlushedIsKept, FlushedIsKeptMeanwhile};
+ghost use Rattle.serving.specs.Keeping.{SecuredIsKept, SecuredIsKeptMeanwhile, StaysOverSessions, UntouchedIsKept, UntouchedIsKeptMeanwhile};
 ghost use Rattle.serving.specs.Lasting.{ServedAreSessions, ServedMomentsAreSessions};
 ghost use Rattle.serving.specs.OnDisk.{Differs, DiffersFrom, HasNoFaults, IsFileSession, IsOpenFault, IsOpened, IsPutFault};
 ghost use Rattle.serving.specs.OnDisk.{IsNotStarted, IsStartedOver, IsTableFault, StopsPutting};
@@ -367,6 +369,32 @@ pub fn served_are_sessions()
 {
     file_sessions::runs_are_sessions();
 }
+
+/// Says what a client keeps, by what it was told: a write that was told as done is in the file behind a loss of power
+/// once a flush that came behind it was told as done, and at once where it went past volatile caches; until its sector is
+/// written again. A sector that no request writes is as it was. The end of the process alone loses nothing that was told
+/// as done, where no sync failed since or was under way. So it is behind a session, and at any moment of it. It does
+/// nothing; its contract is for callers.
+pub fn done_is_kept()
+    ensures flushed { FlushedIsKept }
+    ensures secured { SecuredIsKept }
+    ensures untouched { UntouchedIsKept }
+    ensures answered { AnsweredIsKept }
+    ensures flushed_meanwhile { FlushedIsKeptMeanwhile }
+    ensures secured_meanwhile { SecuredIsKeptMeanwhile }
+    ensures untouched_meanwhile { UntouchedIsKeptMeanwhile }
+    ensures answered_meanwhile { AnsweredIsKeptMeanwhile }
+    ensures over_sessions { StaysOverSessions }
+{
+    served_are_sessions();
+    file_sessions::answers_survive();
+    file_sessions::runs_are_sessions();
+}
+
+/// Which sectors commands write, and which of them sync, worked out by hand.
+pub fn commands_by_hand()
+    ensures { AreCommandsByHand }
+{}
 
 /// Serves a client over a partition of a disk in a file.
 ///
