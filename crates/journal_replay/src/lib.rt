@@ -6,7 +6,6 @@
 //! Nothing: tests call it.
 #![tactic(auto)]
 
-
 use disk::{BadSector, Medium, NoMemory};
 use sector::Extent;
 use sector_journal::Entered;

@@ -2,6 +2,8 @@
 
 use disk_judge::{Happening, Verdict, judge};
 use sector_judge::Event;
+use std::alloc::{AllocError, Global};
+use std::process::Abort;
 use std::test::Fail;
 
 const FIRST_READS_OLD: Happening = Happening::At {
@@ -42,8 +44,10 @@ const LOST: Happening = Happening::PowerLost;
 
 const ENDED: Happening = Happening::ProcessEnded;
 
-// The name of each, what happened, how much of it is refused, or 0, and at which sector.
-static CASES: [(&str, &[Happening], usize, usize); 7] = [
+/// A name, what happened, how much of it is refused, or 0, and at which sector.
+type Case = (&'static str, &'static [Happening], usize, usize);
+
+static CASES: [Case; 7] = [
     (
         "one is lost and its neighbour is not",
         &[
@@ -113,13 +117,17 @@ fn wanted_of(taken: usize, sector: usize) -> Verdict {
     }
 }
 
+fn check(rt: &impl Abort, alloc: Global, case: &Case) -> Result<(), AllocError> {
+    let (name, happenings, taken, sector) = *case;
+    let verdict = judge(alloc, 2, happenings)?;
+    assert_eq!(rt; verdict, wanted_of(taken, sector), "{name}");
+    Ok(())
+}
+
 #[test]
 fn disks_are_judged(rt: HostRuntime) -> Result<(), Fail> {
-    let alloc = rt.alloc();
-    for (name, happenings, taken, sector) in CASES {
-        let verdict = judge(alloc, 2, happenings)?;
-        let wanted = wanted_of(taken, sector);
-        assert_eq!(&rt; verdict, wanted, "{name}");
+    for case in &CASES {
+        check(&rt, rt.alloc(), case)?;
     }
     Ok(())
 }

@@ -1,6 +1,8 @@
 //! Events that can have happened, and events that can't.
 
 use sector_judge::{Event, Verdict, judge};
+use std::alloc::{AllocError, Global};
+use std::process::Abort;
 use std::test::Fail;
 
 // Piece 5 starts behind the first of these writes, piece 6 behind the second.
@@ -30,8 +32,10 @@ const LOST: Event = Event::Lost;
 
 const ENDED: Event = Event::Ended;
 
-// The name of each, its events, and how many of them are refused, or 0.
-static CASES: [(&str, &[Event], usize); 24] = [
+/// A name, events, and how many of them are refused, or 0.
+type Case = (&'static str, &'static [Event], usize);
+
+static CASES: [Case; 24] = [
     ("what was written", &[PUT_ONE, ONE], 0),
     ("what was never written", &[PUT_ONE, TWO], 2),
     ("two first values", &[OLD, ONE], 2),
@@ -98,13 +102,17 @@ fn wanted_of(events: usize) -> Verdict {
     }
 }
 
+fn check(rt: &impl Abort, alloc: Global, case: &Case) -> Result<(), AllocError> {
+    let (name, events, wanted) = *case;
+    let verdict = judge(alloc, events)?;
+    assert_eq!(rt; verdict, wanted_of(wanted), "{name}");
+    Ok(())
+}
+
 #[test]
 fn sectors_are_judged(rt: HostRuntime) -> Result<(), Fail> {
-    let alloc = rt.alloc();
-    for (name, events, wanted) in CASES {
-        let verdict = judge(alloc, events)?;
-        let wanted = wanted_of(wanted);
-        assert_eq!(&rt; verdict, wanted, "{name}");
+    for case in &CASES {
+        check(&rt, rt.alloc(), case)?;
     }
     Ok(())
 }

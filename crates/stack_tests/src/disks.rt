@@ -43,7 +43,7 @@ pub(crate) fn sector_0(table: Table<'_>) -> [u8; 512] {
     bytes
 }
 
-fn no_memory(_refused: NoMemory) -> AllocError {
+pub(crate) fn no_memory(_refused: NoMemory) -> AllocError {
     AllocError
 }
 

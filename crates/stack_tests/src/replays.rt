@@ -2,19 +2,27 @@
 
 ghost use Rattle.std.specs.Prelude.{◌≤◌, length};
 
-use disk::VecDisk;
+use crate::disks::no_memory;
+use disk::{Medium, VecDisk};
 use journal_replay::{ReplayFault, replay};
 use sector::{Bytes, Extent};
 use sector_journal::Entered;
 use srb::{Entry, Kind};
 use std::alloc::{AllocError, Global};
+use std::process::Abort;
 use std::test::Fail;
 
 /// An entry of one sector: what it did, the sector, a byte, and how many of it.
 type Act = (Kind, u64, u8, usize);
 
-/// Entries, and what their replay on a disk of zeros comes to. The journal's medium has 5 in each byte of sector 1.
-static CASES: [(&str, &[Act], Result<(), ReplayFault>); 13] = [
+/// A name, entries, and what their replay on a disk of zeros comes to.
+type Case = (&'static str, &'static [Act], Result<(), ReplayFault>);
+
+/// The sectors that are compared in the end.
+static MOVED: [Extent; 2] = [Extent { first: 0, count: 1 }, Extent { first: 1, count: 2 }];
+
+/// The journal's medium has 5 in each byte of sector 1.
+static CASES: [Case; 13] = [
     (
         "a write and a read",
         &[
@@ -83,12 +91,18 @@ static CASES: [(&str, &[Act], Result<(), ReplayFault>); 13] = [
 ];
 
 /// A disk of four sectors that begins with these bytes. The last sector is bad.
-fn disk(alloc: Global, first: &[u8]) -> Result<VecDisk, Fail>
+fn disk(alloc: Global, first: &[u8]) -> Result<VecDisk, AllocError>
     requires { length first.now ≤ 2048 }
 {
     let bad = Vec::from_slice(alloc, &[3])?;
-    let disk = VecDisk::starting_with(alloc, 512, 4, first, bad);
-    Ok(disk.ok().ok_or("no memory")?)
+    VecDisk::starting_with(alloc, 512, 4, first, bad).map_err(no_memory)
+}
+
+/// A disk with 5 in each byte of sector 1.
+fn disk_after(alloc: Global) -> Result<VecDisk, AllocError> {
+    let mut first = [0; 1024];
+    first[512..].fill(5);
+    disk(alloc, &first)
 }
 
 /// The entries of these acts.
@@ -112,18 +126,37 @@ fn entries(alloc: Global, acts: &[Act]) -> Result<Vec<Entered>, AllocError> {
     Ok(entries)
 }
 
+/// What the replay of these acts comes to.
+fn outcome<F: Medium, M: Medium>(
+    alloc: Global,
+    acts: &[Act],
+    fresh: &mut F,
+    medium: &mut M,
+) -> Result<Result<(), ReplayFault>, AllocError> {
+    let entries = entries(alloc, acts)?;
+    match replay(alloc, entries.as_slice(), fresh, medium, &MOVED) {
+        Err(ReplayFault::NoMemory) => Err(AllocError),
+        outcome => Ok(outcome),
+    }
+}
+
+fn outcome_of(alloc: Global, acts: &[Act]) -> Result<Result<(), ReplayFault>, AllocError> {
+    let mut fresh = disk(alloc, &[])?;
+    let mut medium = disk_after(alloc)?;
+    outcome(alloc, acts, &mut fresh, &mut medium)
+}
+
+fn check(rt: &impl Abort, alloc: Global, case: &Case) -> Result<(), AllocError> {
+    let (name, acts, wanted) = *case;
+    let outcome = outcome_of(alloc, acts)?;
+    assert_eq!(rt; outcome, wanted, "{name}");
+    Ok(())
+}
+
 #[test]
 fn entries_replay(rt: HostRuntime) -> Result<(), Fail> {
-    let alloc = rt.alloc();
-    let mut after = [0; 1024];
-    after[512..].fill(5);
-    for (name, acts, wanted) in CASES {
-        let entries = entries(alloc, acts)?;
-        let mut fresh = disk(alloc, &[])?;
-        let mut medium = disk(alloc, &after)?;
-        let moved = [Extent { first: 0, count: 1 }, Extent { first: 1, count: 2 }];
-        let outcome = replay(alloc, &entries, &mut fresh, &mut medium, &moved);
-        assert_eq!(&rt; outcome, wanted, "{name}");
+    for case in &CASES {
+        check(&rt, rt.alloc(), case)?;
     }
     Ok(())
 }
