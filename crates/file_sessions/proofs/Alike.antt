@@ -1,5 +1,5 @@
 -- Runs from states that say the same, over tables that do.
-use Rattle.std.proofs.Common.{◌≡◌, ◌<◌, ℕ, ◌+◌, List, [], ◌∷◌, ◌++◌, sym, ap, subst, ◌∙◌}
+use Rattle.std.proofs.Common.{◌≡◌, ℕ, ◌+◌, List, [], ◌∷◌, ◌++◌, sym, ap, subst, ◌∙◌}
 use Rattle.std.proofs.lemmas.List.Sorted.{Contains-permutation}
 use Rattle.sector.specs.declared.Extent.{Extent}
 use Rattle.srb.specs.declared.Class.TheVariants.{Good, Busy, Bad}
@@ -12,7 +12,7 @@ use Rattle.machine.specs.Rules.{Rules}
 use Rattle.machine.specs.State.{IsSame, OpenRequest, Piece, State}
 use Rattle.machine.proofs.Same.{IsSame-refl, IsSame-sym, IsSame-trans, Step-same}
 use Rattle.loss.specs.Held.{Change, Held, IsOneOf, act_changes, changed_by, fault_changes, return_changes, sector_in}
-use Rattle.loss.specs.Moved.{ActsOn, ComesBackBad, FailsOn, HandsOver, IsOut, IsSameTable, Moves, Table, TableRun, work_of}
+use Rattle.loss.specs.Moved.{HandsOver, IsOut, IsSameTable, Moves, Table, TableRun, work_of}
 
 module _ (rules : Rules) (s t : State) (a b : Table) (same : IsSame s t) (alike : IsSameTable a b) where
   out_same : (number : ℕ) (piece : Piece) (owner : OpenRequest) → IsOut s number piece owner → IsOut t number piece owner

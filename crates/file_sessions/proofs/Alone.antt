@@ -1,5 +1,5 @@
 -- What holds of all open requests while nothing is called.
-use Rattle.std.proofs.Common.{◌≡◌, inl, inr, ℕ, List, [], ◌∷◌, ◌++◌, subst}
+use Rattle.std.proofs.Common.{inl, inr, ℕ, List, [], ◌∷◌}
 use Rattle.std.specs.Prelude.{All, IsPermutation}
 use Rattle.std.proofs.lemmas.List.Sorted.{IsPermutation-sym, All-permutation}
 use Rattle.std.proofs.lemmas.List.Elements.{All-head, All-tail}
@@ -9,7 +9,7 @@ use Rattle.machine.specs.declared.Label.{Label}
 use Rattle.machine.specs.declared.Label.TheVariants.{Call, Device, Answer, Cancel, Pause, Resume, Remove, Surprise, Removed}
 use Rattle.machine.specs.Rules.{Rules}
 use Rattle.machine.specs.Sending.{given_back, sent}
-use Rattle.machine.specs.State.{IsSame, OpenRequest, State}
+use Rattle.machine.specs.State.{OpenRequest, State}
 use Rattle.machine.specs.Step.{Run, Step}
 use Rattle.machine.proofs.Permuting.{All-changed}
 use Rattle.file_sessions.specs.OneByOne.{IsOfOne}

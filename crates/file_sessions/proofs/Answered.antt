@@ -1,10 +1,9 @@
 -- The laws of requests that are served one at a time.
-use Rattle.std.proofs.Common.{◌≡◌, ◌<◌, ◌≤◌, inl, inr, ℕ, ◌+◌, ◌-◌, Bool, true, false, List, [], ◌∷◌, ◌++◌, Option, Some, None, refl, sym, ap, subst, ◌∙◌, arith, length, append_assoc, map}
-use Rattle.std.specs.Prelude.{All, slice_get}
+use Rattle.std.proofs.Common.{◌≡◌, ◌<◌, ◌≤◌, inl, inr, ℕ, ◌+◌, ◌-◌, true, false, List, ◌∷◌, ◌++◌, refl, sym, ap, subst, ◌∙◌, arith, length, append_assoc, map}
+use Rattle.std.specs.Prelude.{All}
 use Rattle.ntstatus.specs.declared.NtStatus.TheVariants.{Success}
-use Rattle.sector.specs.declared.Extent.{Extent}
 use Rattle.srb.specs.declared.Kind.{Kind}
-use Rattle.srb.specs.declared.Kind.TheVariants.{Read, Write, Flush}
+use Rattle.srb.specs.declared.Kind.TheVariants.{Write, Flush}
 use Rattle.machine.specs.declared.ClientRequest.{ClientRequest}
 use Rattle.machine.specs.declared.Label.{Label}
 use Rattle.machine.specs.declared.Label.TheVariants.{Answer}
@@ -15,8 +14,8 @@ use Rattle.machine_laws.specs.Reached.{AreWhole}
 use Rattle.machine_laws.proofs.Chunks.{range_chunk}
 use Rattle.file_disk.specs.Calls.{Call}
 use Rattle.loss.specs.Held.{sector_in, surely, value_of}
-use Rattle.loss.specs.Moved.{IsReachedWith, Table, TableRun, held_on, work_of}
-use Rattle.loss.specs.Laws.{AtWork, Brings, BringsSurely, CertainStays, Changes, Is, LeavesOnly, Throughout, sector_of, value_for, GivesOnly, SuccessIsRead}
+use Rattle.loss.specs.Moved.{Table, TableRun, held_on, work_of}
+use Rattle.loss.specs.Laws.{Brings, BringsSurely, CertainStays, Changes, Is, LeavesOnly, Throughout, sector_of, value_for, GivesOnly, SuccessIsRead}
 use Rattle.loss.specs.Sessions.{Moment}
 use Rattle.file_sessions.specs.Stored.{Content, Survives, Remains, held}
 use Rattle.file_sessions.specs.Sessions.{IsSession}

@@ -1,44 +1,40 @@
 -- What was answered SUCCESS, of requests that are served one at a time, survives.
-use Rattle.std.proofs.Common.{◌≡◌, ◌≢◌, ◌<◌, ◌≤◌, ◌⊎◌, inl, inr, ℕ, ◌+◌, ◌-◌, Bool, true, false, List, [], ◌∷◌, ◌++◌, Option, Some, None, refl, sym, ap, subst, ◌∙◌, arith, length, map, append_assoc, append-nil, length-append}
+use Rattle.std.proofs.Common.{◌≡◌, ◌<◌, ◌≤◌, inl, inr, ℕ, ◌+◌, ◌-◌, Bool, true, false, List, [], ◌∷◌, ◌++◌, Option, Some, None, refl, sym, ap, subst, ◌∙◌, arith, length, map, append_assoc, append-nil, length-append}
 use Rattle.std.proofs.lemmas.List.{length-map}
-use Rattle.std.specs.Prelude.{All, Contains, IsNone, IsPermutation, IsTrue, slice_get}
+use Rattle.std.specs.Prelude.{All, IsNone, IsPermutation, IsTrue, slice_get}
 use Rattle.std.proofs.lemmas.List.Sorted.{All-permutation, IsPermutation-sym, length_permutation}
-use Rattle.std.proofs.lemmas.List.Elements.{All-append, All-cons, All-contains, All-head, All-nil, All-tail}
+use Rattle.std.proofs.lemmas.List.Elements.{All-cons, All-contains, All-head, All-nil, All-tail}
 use Rattle.ntstatus.specs.declared.NtStatus.{NtStatus}
 use Rattle.ntstatus.specs.declared.NtStatus.TheVariants.{Success}
 use Rattle.sector.specs.declared.Extent.{Extent}
-use Rattle.srb.specs.declared.Kind.{Kind}
-use Rattle.srb.specs.declared.Kind.TheVariants.{Read, Write, Flush}
 use Rattle.machine.specs.declared.ClientRequest.{ClientRequest}
 use Rattle.machine.specs.declared.Label.{Label}
-use Rattle.machine.specs.declared.Label.TheVariants.{Call, Device, Answer, Cancel, Pause, Resume, Remove, Surprise, Removed}
+use Rattle.machine.specs.declared.Label.TheVariants.{Call, Answer}
 use Rattle.machine.specs.Answering.{Answers}
 use Rattle.machine.specs.Calling.{Opens, refusal}
-use Rattle.machine.specs.Numbers.{AreDistinct, request_number}
+use Rattle.machine.specs.Numbers.{request_number}
 use Rattle.machine.specs.Pieces.{ArePlaced}
 use Rattle.machine.specs.Rules.{Rules, first_sector, home, place_count}
-use Rattle.machine.specs.State.{IsSame, OpenRequest, Owed, Piece, State, opening}
+use Rattle.machine.specs.State.{OpenRequest, Owed, State, opening}
 use Rattle.machine.specs.Step.{Run, Step}
 use Rattle.machine.proofs.Placed.{ArePlaced-Run, ArePlaced-Step, differ_first}
 use Rattle.machine.proofs.Same.{IsSame-refl, none_there}
 use Rattle.machine_laws.specs.Along.{Sometime}
 use Rattle.machine_laws.specs.NumberLaws.{answer_numbers, awaited, call_numbers, owed_number}
-use Rattle.machine_laws.specs.Reached.{AreWhole, IsReached}
+use Rattle.machine_laws.specs.Reached.{IsReached}
 use Rattle.machine_laws.specs.Success.{MovesPlace, bytes_due}
 use Rattle.machine_laws.proofs.Awaiting.{calls_await}
 use Rattle.machine_laws.proofs.Going.{labels_are_of_one}
 use Rattle.machine_laws.proofs.Sound.{IsSound, IsSound-Run, IsSound-Step}
 use Rattle.machine_laws.proofs.Success.{answered_was_moved}
-use Rattle.loss.specs.Held.{Change, Work, fault_changes, has, value_at}
-use Rattle.loss.specs.Moved.{IsReachedWith, Table, TableRun, held_on, work_of}
-use Rattle.loss.specs.Laws.{AtWork, Brings, BringsSurely, Changes, Each, Is, Meanwhile, Succeeds, Throughout, sector_of, value_for}
-use Rattle.loss.specs.Sessions.{IsAtWork, Moment}
+use Rattle.loss.specs.Moved.{IsReachedWith, Table, TableRun, held_on}
+use Rattle.loss.specs.Laws.{AtWork, Brings, BringsSurely, Changes, Meanwhile, Succeeds, Throughout}
 use Rattle.file_sessions.specs.OneByOne.{IsAway, IsOfOne, IsPlain, IsRound, Round, SyncsWell, labels_of, labels_of_all, syncs}
 use Rattle.file_sessions.proofs.Alike.{table_append, table_same}
 use Rattle.file_sessions.proofs.Alone.{AllOf, all_along, all_step}
 use Rattle.file_sessions.proofs.Moments.{apart_at}
 use Rattle.file_sessions.proofs.Remaining.{SurelyAtWork}
-use Rattle.file_sessions.proofs.Rounds.{Fits, IsCalm, Mine, Never, Split, as_run, brings_along, brought_at_work, called_alone, calm_opening, calm_requests, calm_round, no_calls, no_length, none_of, nothing_along, parted, plain_along, plain_at_work, refused_never, split, sure_along, throughout}
+use Rattle.file_sessions.proofs.Rounds.{Fits, IsCalm, Mine, Never, Split, as_run, brings_along, brought_at_work, called_alone, calm_requests, calm_round, no_calls, no_length, none_of, nothing_along, parted, plain_along, plain_at_work, refused_never, split, sure_along, throughout}
 use Rattle.file_sessions.proofs.Within.{there_or_away}
 
 -- LISTS

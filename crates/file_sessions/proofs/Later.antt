@@ -1,5 +1,5 @@
 -- The calls of a session up to any moment behind a part of its run.
-use Rattle.std.proofs.Common.{◌≡◌, ◌<◌, ◌⊎◌, inl, inr, ℕ, List, [], ◌∷◌, ◌++◌, refl, sym, ap, subst, ◌∙◌, append_assoc}
+use Rattle.std.proofs.Common.{◌≡◌, ◌<◌, ◌⊎◌, inl, inr, ℕ, List, [], ◌∷◌, ◌++◌, refl, sym, ap, subst, ◌∙◌}
 use Rattle.std.proofs.lemmas.List.{append_cancel_right}
 use Rattle.srb.specs.declared.DeviceLabel.TheVariants.{Start, Act, Fault, Return}
 use Rattle.machine.specs.declared.Label.{Label}
@@ -14,7 +14,7 @@ use Rattle.loss.specs.Moved.{Table, TableRun, held_on}
 use Rattle.loss.specs.Sessions.{MayBeLeft, MayRemain, Moment}
 use Rattle.file_sessions.specs.Stored.{Content, IsKept, held, under_way}
 use Rattle.file_sessions.specs.Deeds.{Deed, DeedRun, Files, TakesDeed}
-use Rattle.file_sessions.specs.Behind.{IsFiledBehind, LaterMomentsAreSessions}
+use Rattle.file_sessions.specs.Behind.{LaterMomentsAreSessions}
 use Rattle.file_sessions.proofs.Within.{within_refl}
 use Rattle.file_sessions.proofs.Building.{IsBuilt, IsCovering, kept_behind, run_same}
 use Rattle.file_sessions.proofs.Walking.{HasDeed, HasNone, all_behind, label_has}

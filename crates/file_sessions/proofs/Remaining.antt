@@ -1,14 +1,12 @@
 -- What was answered SUCCESS outlives its process.
-use Rattle.std.proofs.Common.{◌≡◌, inl, inr, ℕ, List, [], ◌∷◌, ◌++◌, sym, ap, subst, ◌∙◌, append_assoc}
-use Rattle.std.specs.Prelude.{◌⊎◌, All, Bool, true, false}
-use Rattle.std.proofs.lemmas.List.Elements.{All-contains, All-head, All-tail}
+use Rattle.std.proofs.Common.{inl, inr, ℕ, List, [], ◌∷◌, sym, subst}
 use Rattle.srb.specs.declared.Class.TheVariants.{Good, Busy, Bad}
 use Rattle.srb.specs.declared.DeviceLabel.TheVariants.{Start, Act, Fault, Return}
 use Rattle.machine.specs.declared.Label.{Label}
 use Rattle.machine.specs.declared.Label.TheVariants.{Call, Device, Answer, Cancel, Pause, Resume, Remove, Surprise, Removed}
 use Rattle.machine.specs.Rules.{Rules}
 use Rattle.machine.specs.State.{OpenRequest, Piece, State}
-use Rattle.loss.specs.Held.{Change, Puts, Secures, Tries, Syncs, Doubts, Held, IsOneOf, act_changes, changed, changed_by, fault_changes, return_changes}
+use Rattle.loss.specs.Held.{Change, Puts, Secures, Tries, Syncs, Doubts, Held, act_changes, changed, changed_by, fault_changes, return_changes}
 use Rattle.loss.specs.Moved.{IsSameTable, Moves, Table, TableRun, work_of}
 use Rattle.loss.specs.Laws.{BringsSurely, Changes, Each, GivesOnly, Throughout}
 use Rattle.loss.specs.Sessions.{IsAtWork, MayRemain}

@@ -1,8 +1,8 @@
 -- Requests one behind the other, along a run and its table.
-use Rattle.std.proofs.Common.{◌≡◌, ◌≢◌, ◌<◌, ◌≤◌, ◌⊎◌, inl, inr, ℕ, ◌+◌, ◌-◌, Bool, true, false, List, [], ◌∷◌, ◌++◌, Option, Some, None, refl, sym, ap, subst, ◌∙◌, arith, length, map, append_assoc, length-append}
-use Rattle.std.specs.Prelude.{All, Contains, IsFalse, IsNone, IsPermutation, IsTrue, if◌then◌else◌, slice_get}
-use Rattle.std.proofs.lemmas.List.Sorted.{All-permutation, Contains-permutation, IsPermutation-sym, length_permutation}
-use Rattle.std.proofs.lemmas.List.Elements.{All-append, All-cons, All-contains, All-head, All-nil, All-tail, All-weaker}
+use Rattle.std.proofs.Common.{◌≡◌, ◌<◌, ◌≤◌, inl, inr, ℕ, ◌+◌, Bool, true, false, List, [], ◌∷◌, ◌++◌, Option, Some, None, refl, sym, ap, subst, ◌∙◌, arith, length, map, length-append}
+use Rattle.std.specs.Prelude.{All, Contains, if◌then◌else◌}
+use Rattle.std.proofs.lemmas.List.Sorted.{All-permutation, IsPermutation-sym, length_permutation}
+use Rattle.std.proofs.lemmas.List.Elements.{All-cons, All-contains, All-head, All-nil, All-tail}
 use Rattle.ntstatus.specs.declared.NtStatus.{NtStatus}
 use Rattle.ntstatus.specs.declared.NtStatus.TheVariants.{Success}
 use Rattle.sector.specs.declared.Extent.{Extent}
@@ -18,24 +18,23 @@ use Rattle.machine.specs.Answering.{Answers}
 use Rattle.machine.specs.Calling.{Admits, new_request, refusal}
 use Rattle.machine.specs.Numbers.{request_number}
 use Rattle.machine.specs.Pieces.{ArePlaced}
-use Rattle.machine.specs.Rules.{Rules, first_sector, home, place_count}
-use Rattle.machine.specs.State.{IsSame, OpenRequest, Owed, Piece, State, opening}
+use Rattle.machine.specs.Rules.{Rules, place_count}
+use Rattle.machine.specs.State.{OpenRequest, Owed, Piece, State, opening}
 use Rattle.machine.specs.Step.{Run, Step}
 use Rattle.machine.proofs.Placed.{ArePlaced-Run, ArePlaced-Step, ArePlaced-opening}
-use Rattle.machine.proofs.Same.{IsSame-refl, none_there}
+use Rattle.machine.proofs.Same.{IsSame-refl}
 use Rattle.machine_laws.specs.NumberLaws.{answer_numbers, awaited, call_numbers, owed_number}
 use Rattle.machine_laws.specs.Reached.{AreWhole}
 use Rattle.machine_laws.proofs.Awaiting.{calls_await}
 use Rattle.machine_laws.proofs.Serving.{HoldsPlaces, PieceFits}
 use Rattle.machine_laws.proofs.Sound.{Anything, IsSound, IsSound-Run, IsSound-Step, IsSound-opening}
-use Rattle.loss.specs.Held.{Change, Puts, Secures, Tries, Syncs, Doubts, Held, Work, act_changes, changed_by, fault_changes, has, return_changes, value_at}
-use Rattle.loss.specs.Moved.{IsOut, IsSameTable, Moves, Table, TableRun, work_of}
-use Rattle.loss.specs.Laws.{AtWork, Brings, BringsSurely, Changes, Each, Throughout, sector_of}
-use Rattle.file_sessions.specs.OneByOne.{IsAway, IsOfOne, IsRound, Round, SyncsWell, labels_of, labels_of_all, syncs}
-use Rattle.file_sessions.proofs.Alone.{AllOf, all_along, all_step}
+use Rattle.loss.specs.Held.{Change, Puts, Secures, Tries, Syncs, Doubts, Work, act_changes, fault_changes, has, value_at}
+use Rattle.loss.specs.Moved.{IsOut, Table, TableRun, work_of}
+use Rattle.loss.specs.Laws.{AtWork, Brings, BringsSurely, Changes, Each, Throughout}
+use Rattle.file_sessions.specs.OneByOne.{IsOfOne, IsRound, Round, labels_of, syncs}
+use Rattle.file_sessions.proofs.Alone.{AllOf, all_step}
 use Rattle.file_sessions.proofs.Remaining.{SurelyAtWork}
 use Rattle.file_sessions.proofs.Spoiling.{fault_sticks, first_or_other, never_stuck, return_sticks}
-use Rattle.file_sessions.proofs.Within.{there_or_away}
 
 -- A RUN IN TWO PARTS
 

@@ -1,6 +1,6 @@
 -- A request of which a piece failed never succeeds.
-use Rattle.std.proofs.Common.{◌≡◌, ◌≢◌, ◌<◌, ◌≤◌, ◌⊎◌, inl, inr, ℕ, zero, suc, ◌+◌, ◌-◌, Bool, true, false, List, [], ◌∷◌, ◌++◌, refl, sym, ap, subst, ◌∙◌, arith, length, get_or, replicate}
-use Rattle.std.specs.Prelude.{All, Contains, IsPermutation, IsTrue, remove, slice_range}
+use Rattle.std.proofs.Common.{◌≡◌, ◌≢◌, ◌<◌, ◌≤◌, ◌⊎◌, inl, inr, ℕ, zero, suc, ◌+◌, ◌-◌, true, List, [], ◌∷◌, refl, sym, ap, subst, ◌∙◌, arith, length, get_or, replicate}
+use Rattle.std.specs.Prelude.{All, Contains, IsPermutation, remove, slice_range}
 use Rattle.std.specs.List.{list_all}
 use Rattle.std.proofs.lemmas.Bool.{cases_lt}
 use Rattle.std.proofs.lemmas.List.{get_or-replicate, length-replicate}
@@ -32,7 +32,7 @@ use Rattle.machine.proofs.Placed.{ArePlaced-Step, ArePlaced-same, differ_first, 
 use Rattle.sector.specs.Splice.{splice}
 use Rattle.loss.specs.Moved.{IsOut}
 use Rattle.file_sessions.specs.OneByOne.{IsOfOne}
-use Rattle.file_sessions.proofs.Alone.{AllOf, all_along, all_step}
+use Rattle.file_sessions.proofs.Alone.{AllOf, all_step}
 
 -- LISTS
 
