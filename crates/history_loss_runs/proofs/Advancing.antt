@@ -89,6 +89,9 @@ told_lines (Told Removed ∷ lines) all = All-cons IsToldLine (Told Removed) lin
 pub told_one : (label : Label) → All IsToldLine (Told label ∷ [])
 told_one label = All-cons IsToldLine (Told label) [] (λ f. absurd (cc (f)), λ f. absurd (cc (f))) (All-nil IsToldLine)
 
+pub told_two : (first second : Label) → All IsToldLine (Told first ∷ Told second ∷ [])
+told_two first second = All-cons IsToldLine (Told first) (Told second ∷ []) (λ f. absurd (cc (f)), λ f. absurd (cc (f))) (told_one second)
+
 pub seen_distinct : (rules : Rules) (m m' : Moment) (seen : List Line) → All IsToldLine seen → AreDistinct m.machine → Goes rules m seen m' → AreDistinct m'.machine
 seen_distinct rules m m' seen told d g = path_distinct rules m g.lines m' (told_lines g.lines (subst (All IsToldLine) (sym g.seen) told)) d g.path
 

@@ -8,4 +8,5 @@ pub mod Sharing
 pub mod Failures
 pub mod Calls
 pub mod Answering
+pub mod Refusing
 pub mod Explaining

@@ -1,5 +1,5 @@
 -- What makes a history over sessions one that sessions explain.
-use Rattle.std.specs.Prelude.{◌≡◌, ◌≢◌, ◌↔◌, ℕ, Bool, true, false, List, [], ◌∷◌, ◌++◌, Option, None, All, if◌then◌else◌}
+use Rattle.std.specs.Prelude.{◌≡◌, ◌≢◌, ◌↔◌, ℕ, Bool, true, false, List, [], ◌∷◌, ◌++◌, Option, None, All, is_none, if◌then◌else◌}
 use Rattle.ntstatus.specs.declared.NtStatus.{NtStatus}
 use Rattle.ntstatus.specs.declared.NtStatus.TheVariants.{DeviceBusy}
 use Rattle.machine.specs.declared.ClientRequest.{ClientRequest}
@@ -9,31 +9,30 @@ use Rattle.machine.specs.Rules.{Rules}
 use Rattle.machine_laws.specs.NumberLaws.{IsNoAnswerOf}
 use Rattle.machine_laws.specs.Reached.{AreWhole}
 use Rattle.history_laws.specs.declared.Asked.{Asked}
-use Rattle.history_laws.specs.Fitting.{asked_after, fits, owed_after, refused}
+use Rattle.history_laws.specs.Fitting.{asked_after, fits, owed_after}
 use Rattle.history_runs.specs.Laws.{IsAddressable}
 use Rattle.loss.specs.Sessions.{Line, Told, Lost, Ended}
 use Rattle.history_loss.specs.Histories.{IsExplained, seen_of}
 use Rattle.history_loss.specs.Schedules.{AreScheduled}
 
--- each label of a session may come behind those before it, whatever the sectors hold
+-- each label of a session may come behind those before it, whatever the sectors hold, and a refused call is answered before its session ends
 abbrev pub all_fit_over : Rules → List (Option Asked) → Option NtStatus → List Line → Bool
-all_fit_over rules asked owed [] = true
+all_fit_over rules asked owed [] = is_none owed
 all_fit_over rules asked owed (Told label ∷ lines) =
     if fits rules asked owed label then all_fit_over rules (asked_after rules asked owed label) (owed_after rules owed label) lines else false
-all_fit_over rules asked owed (Lost ∷ lines) = all_fit_over rules (None ∷ []) None lines
-all_fit_over rules asked owed (Ended ∷ lines) = all_fit_over rules (None ∷ []) None lines
+all_fit_over rules asked owed (Lost ∷ lines) = if is_none owed then all_fit_over rules (None ∷ []) None lines else false
+all_fit_over rules asked owed (Ended ∷ lines) = if is_none owed then all_fit_over rules (None ∷ []) None lines else false
 
--- no call that is refused, and no answer DEVICE_BUSY
-abbrev pub IsPlain : Rules → Line → Type 0
-IsPlain rules (Told (Call number q)) = refused rules q ≡ None
-IsPlain rules (Told (Answer number status informed bytes)) = status ≢ DeviceBusy
-IsPlain rules _ = Unit {0}
+-- no answer DEVICE_BUSY
+abbrev pub IsNotBusy : Line → Type 0
+IsNotBusy (Told (Answer number status informed bytes)) = status ≢ DeviceBusy
+IsNotBusy _ = Unit {0}
 
--- calls and answers, losses and ends, that fit behind each other; none is refused or answered DEVICE_BUSY
+-- calls and answers, losses and ends, that fit behind each other, and none is answered DEVICE_BUSY
 pub record Fits (rules : Rules) (history : List Line) : Type 0 where
   pub is_history : seen_of history ≡ history
   pub fit : all_fit_over rules (None ∷ []) None history ≡ true
-  pub plain : All (IsPlain rules) history
+  pub not_busy : All IsNotBusy history
 
 -- such a history is explained exactly where its sectors have schedules that share the moments of failures
 abbrev pub ScheduledAreExplained : Type 0

@@ -8,7 +8,7 @@
 //! A history of calls and answers, losses and ends, that fit behind each other (`Fits`) is explained by some sessions
 //! exactly where its sectors have schedules that share the moments of failures (`scheduled_are_explained`). It stays
 //! explained where a call is seen earlier or an answer later (`explained_widen`). Each sector of a partition must have
-//! an address of 64 bits; no call is refused, and no answer is DEVICE_BUSY.
+//! an address of 64 bits; a refused call is answered before its session ends, and no answer is DEVICE_BUSY.
 #![tactic(auto)]
 
 ghost use Rattle.history_loss_runs.specs.Laws.{AnswersMoveDown, CallsMoveUp, ScheduledAreExplained};
