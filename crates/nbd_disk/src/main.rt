@@ -24,14 +24,14 @@ use found::settings_in;
 use nbd::Ahead;
 use read_ahead::{Naming, ReadAhead};
 use serving::{
-    Asked, DiskFault, Error, Filed, Inode, check_apart, command, disk_bytes, open_file, put_table,
-    read_only, serve_disk, serve_file,
+    Asked, DiskFault, Error, Filed, Inode, Pen, Silent, Trace, check_apart, command, disk_bytes,
+    open_file, put_table, read_only, serve_disk, serve_file,
 };
 use settings::Config;
 use startup::{Verdict, ended, fault_of, hold_standard, read_settings};
 use std::alloc::{AllocError, Global};
 use std::fs::{File, Metadata, OpenOptions, TryLockError};
-use std::io::{BufReader, BufWriter, ErrorKind, Read, Seek, SeekFrom, Write};
+use std::io::{BufReader, BufWriter, ErrorKind, Read, Seek, SeekFrom, Stdin, Stdout, Write};
 use std::marker::Brand;
 use std::os::unix::fs::MetadataExt;
 use std::process::ExitCode;
@@ -73,48 +73,124 @@ fn run<H: Threads + Wait + Copy + Send + 'static>(
         Ok(words) => words.collect::<Vec<String>>(alloc)?,
         Err(error) => return Err(fault_of(&error, Error::Usage)),
     };
-    let Asked {
-        config,
-        partition,
-        disk,
-        create,
-    } = command(alloc, words.as_slice())?;
-    if takes_faults(rt, disk) {
-        // A fault would be said into the disk.
+    let asked = command(alloc, words.as_slice())?;
+    if takes_faults(rt, asked.disk) || takes_faults(rt, asked.trace) {
+        // A fault would be said into the disk, or the trace.
         return Ok(Verdict::Failed);
     }
-    let config = match config {
+    let config = match asked.config {
         Some(path) => Some(config_file(rt, path)?),
         None => None,
     };
-    let Ok(input) = BufReader::with_capacity(alloc, INPUT_BUFFER, rt.stdin()) else {
-        return Err(Error::NoMemory);
-    };
-    let Ok(mut out) = BufWriter::with_capacity(alloc, BUFFER, rt.stdout()) else {
-        return Err(Error::NoMemory);
-    };
-    match disk {
-        Some(path) => {
-            let mut filed = match config {
-                Some(config) => filed(rt, path, create, config, partition)?,
-                None if create => return Err(Error::Usage),
-                None => told_by_file(rt, path, partition)?,
-            };
-            let (outcome, unread) = serve_ahead::<Brand, _, _, _, _>(
-                alloc, handle, &mut filed, input, &mut out,
-            );
-            served(outcome, create && unread)
-        }
-        None if create => Err(Error::Usage),
+    match asked.disk {
+        Some(path) => in_file(rt, handle, path, asked, config),
+        None if asked.create || asked.trace.is_some() => Err(Error::Usage),
         None => match config {
             Some(config) => {
-                let mut input = input;
-                serve_disk(alloc, config, partition, &mut input, &mut out)?;
+                let (mut input, mut out) = standard(rt)?;
+                serve_disk(alloc, config, asked.partition, &mut input, &mut out)?;
                 Ok(Verdict::Passed)
             }
             None => Err(Error::Usage),
         },
     }
+}
+
+/// Returns standard input and output, through buffers.
+fn standard(rt: &HostRuntime) -> Result<(BufReader<Stdin>, BufWriter<Stdout>), Error> {
+    let alloc = rt.alloc();
+    let Ok(input) = BufReader::with_capacity(alloc, INPUT_BUFFER, rt.stdin()) else {
+        return Err(Error::NoMemory);
+    };
+    match BufWriter::with_capacity(alloc, BUFFER, rt.stdout()) {
+        Ok(out) => Ok((input, out)),
+        Err(_) => Err(Error::NoMemory),
+    }
+}
+
+/// Serves a disk in a file, as the command line asks for.
+fn in_file<H: Threads + Wait + Copy + Send + 'static>(
+    rt: &HostRuntime,
+    handle: H,
+    path: &str,
+    asked: Asked<'_>,
+    config: Option<File>,
+) -> Result<Verdict, Error> {
+    let Some(trace) = asked.trace else {
+        let mut filed = filed(rt, path, asked, config, Silent)?;
+        return session(rt, handle, &mut filed, asked.create);
+    };
+    let found = match &config {
+        Some(config) => inode_of(config.metadata()),
+        None => None,
+    };
+    let trace = trace_file(rt, trace, path, found)?;
+    let pen = Trace::new(rt.alloc(), trace);
+    let mut filed = filed(rt, path, asked, config, pen)?;
+    let outcome = session(rt, handle, &mut filed, asked.create);
+    match (filed.into_pen().into_writer(), outcome) {
+        (Some(_), outcome) => outcome,
+        (None, Ok(_)) => Err(Error::TraceFailed),
+        (None, Err(fault)) => {
+            // Nobody is left to hear of a fault of this writer.
+            let _ = writeln!(rt.stderr(), "{}", Error::TraceFailed);
+            Err(fault)
+        }
+    }
+}
+
+/// Serves a client on standard input and output over a disk in a file.
+fn session<H: Threads + Wait + Copy + Send + 'static, P: Pen + Drop>(
+    rt: &HostRuntime,
+    handle: H,
+    filed: &mut Filed<DiskFile, P>,
+    made: bool,
+) -> Result<Verdict, Error> {
+    let (input, mut out) = standard(rt)?;
+    let (outcome, unread) = serve_ahead::<Brand, _, _, _, _, _>(
+        rt.alloc(),
+        handle,
+        filed,
+        input,
+        &mut out,
+    );
+    served(outcome, made && unread)
+}
+
+/// Opens the file of a trace, which is no other file of the program, locks it and empties it.
+fn trace_file(
+    rt: &HostRuntime,
+    path: &str,
+    disk: &str,
+    config: Option<Inode>,
+) -> Result<File, Error> {
+    let opened = OpenOptions::new().write(true).create(true).open(rt, path);
+    let file = match opened {
+        Ok(file) => file,
+        Err(error) => return Err(failed(rt, path, &error, Error::TraceNotOpened)),
+    };
+    let Some(found) = inode_of(file.metadata()) else {
+        return Err(Error::TraceNotOpened);
+    };
+    let output = inode_of(fs::metadata(rt, "/dev/stdout"));
+    let image = inode_of(fs::metadata(rt, disk));
+    let alone = check_apart(found, config, output).is_ok()
+        && check_apart(found, image, None).is_ok();
+    if !alone || file.try_lock().is_err() {
+        return Err(Error::TraceInUse);
+    }
+    match emptied(&file) {
+        Ok(()) => Ok(file),
+        Err(error) => Err(failed(rt, path, &error, Error::TraceNotOpened)),
+    }
+}
+
+/// Empties a file that has bytes.
+fn emptied(file: &File) -> io::Result<()> {
+    if file.metadata()?.len() == 0 {
+        return Ok(());
+    }
+    file.set_len(0)
 }
 
 /// Returns how a run ends behind a session. A file that was made for no client was made all the same.
@@ -132,12 +208,13 @@ fn serve_ahead<
     J: Naming + Send + Sync + 'static,
     H: Threads + Wait + Copy + Send + 'static,
     S: Storage + Drop,
+    P: Pen + Drop,
     I: Ahead + Send + Drop + 'static,
     W: Write,
 >(
     alloc: Global,
     handle: H,
-    filed: &mut Filed<S>,
+    filed: &mut Filed<S, P>,
     input: I,
     out: &mut W,
 ) -> (Result<(), Error>, bool)
@@ -174,7 +251,7 @@ fn inode_of(found: io::Result<Metadata>) -> Option<Inode> {
     }
 }
 
-/// Whether the disk's file takes what is said of faults.
+/// Whether the file of this path takes what is said of faults.
 fn takes_faults(rt: &HostRuntime, disk: Option<&str>) -> bool {
     let Some(path) = disk else {
         return false;
@@ -188,37 +265,39 @@ fn takes_faults(rt: &HostRuntime, disk: Option<&str>) -> bool {
     }
 }
 
-/// Opens a partition of the disk of some settings in a file.
-fn filed(
+/// Opens a partition of a disk in a file. Without settings the file tells its sizes and its partitions.
+fn filed<P: Pen + Drop>(
     rt: &HostRuntime,
     path: &str,
-    create: bool,
-    config: File,
-    partition: u8,
-) -> Result<Filed<DiskFile>, Error> {
+    asked: Asked<'_>,
+    config: Option<File>,
+    pen: P,
+) -> Result<Filed<DiskFile, P>, Error> {
+    let Some(config) = config else {
+        if asked.create {
+            return Err(Error::Usage);
+        }
+        let opened = opened(rt, path, None, false)?;
+        let settings = settings_in(rt.alloc(), &opened.file, opened.end)?;
+        return open_in(rt, opened, settings, asked.partition, pen);
+    };
     let config_inode = inode_of(config.metadata());
     let settings = read_settings(rt.alloc(), config)?;
-    if create {
-        return made(rt, path, settings, partition);
+    if asked.create {
+        return made(rt, path, settings, asked.partition, pen);
     }
     let opened = opened(rt, path, config_inode, settings.write_protected)?;
-    open_in(rt, opened, settings, partition)
-}
-
-/// Opens a partition of a disk whose sizes and partitions its file tells.
-fn told_by_file(rt: &HostRuntime, path: &str, partition: u8) -> Result<Filed<DiskFile>, Error> {
-    let opened = opened(rt, path, None, false)?;
-    let settings = settings_in(rt.alloc(), &opened.file, opened.end)?;
-    open_in(rt, opened, settings, partition)
+    open_in(rt, opened, settings, asked.partition, pen)
 }
 
 /// Opens a partition of the disk of some settings in a file that was opened.
-fn open_in(
+fn open_in<P: Pen + Drop>(
     rt: &HostRuntime,
     opened: Image,
     settings: Config,
     partition: u8,
-) -> Result<Filed<DiskFile>, Error>
+    pen: P,
+) -> Result<Filed<DiskFile, P>, Error>
     requires { AreInRange settings }
 {
     let Image {
@@ -231,20 +310,21 @@ fn open_in(
         return Err(Error::Disk(DiskFault::OtherSize { found, wanted }));
     }
     let settings = read_only(settings, only);
-    open_file(rt.alloc(), settings, partition, DiskFile::new(file))
+    open_file(rt.alloc(), settings, partition, DiskFile::new(file), pen)
 }
 
 /// Makes a file for the disk of some settings, and opens a partition of it. Where that fails the file is removed.
-fn made(
+fn made<P: Pen + Drop>(
     rt: &HostRuntime,
     path: &str,
     settings: Config,
     partition: u8,
-) -> Result<Filed<DiskFile>, Error>
+    pen: P,
+) -> Result<Filed<DiskFile, P>, Error>
     requires { AreInRange settings }
 {
     let storage = created(rt, path, &settings)?;
-    let opened = open_file(rt.alloc(), settings, partition, storage);
+    let opened = open_file(rt.alloc(), settings, partition, storage, pen);
     if opened.is_err() {
         remove(rt, path);
     }
@@ -252,10 +332,10 @@ fn made(
 }
 
 /// Returns the fault, and says the system's words for it.
-fn failed(rt: &HostRuntime, path: &str, error: &io::Error, fault: DiskFault) -> Error {
+fn failed(rt: &HostRuntime, path: &str, error: &io::Error, fault: Error) -> Error {
     // Nobody is left to hear of a fault of this writer.
     let _ = writeln!(rt.stderr(), "nbd_disk: {path}: {error}");
-    Error::Disk(fault)
+    fault
 }
 
 /// Removes a file that was made. Where that fails, it stays.
@@ -282,7 +362,7 @@ fn opened(
             end,
             read_only,
         }),
-        Err(error) => Err(failed(rt, path, &error, DiskFault::NotOpened)),
+        Err(error) => Err(failed(rt, path, &error, Error::Disk(DiskFault::NotOpened))),
     }
 }
 
@@ -298,7 +378,7 @@ fn created(rt: &HostRuntime, path: &str, config: &Config) -> Result<DiskFile, Er
 {
     let file = match File::create_new(rt, path) {
         Ok(file) => file,
-        Err(error) => return Err(failed(rt, path, &error, DiskFault::NotCreated)),
+        Err(error) => return Err(failed(rt, path, &error, Error::Disk(DiskFault::NotCreated))),
     };
     let filled = filled(rt, path, file, config);
     if filled.is_err() {
@@ -313,7 +393,7 @@ fn filled(rt: &HostRuntime, path: &str, file: File, config: &Config) -> Result<D
 {
     lock(&file)?;
     if let Err(error) = file.set_len(disk_bytes(config)) {
-        return Err(failed(rt, path, &error, DiskFault::NotCreated));
+        return Err(failed(rt, path, &error, Error::Disk(DiskFault::NotCreated)));
     }
     let Ok(mut storage) = DiskFile::made(rt.alloc(), file) else {
         return Err(Error::NoMemory);
@@ -321,7 +401,7 @@ fn filled(rt: &HostRuntime, path: &str, file: File, config: &Config) -> Result<D
     put_table(rt.alloc(), &mut storage, config)?;
     match sync_folder(rt, path) {
         Ok(()) => Ok(storage),
-        Err(error) => Err(failed(rt, path, &error, DiskFault::NotCreated)),
+        Err(error) => Err(failed(rt, path, &error, Error::Disk(DiskFault::NotCreated))),
     }
 }
 
@@ -345,9 +425,9 @@ fn open(rt: &HostRuntime, path: &str, protected: bool) -> Result<(File, bool), E
         Ok(file) => Ok((file, protected)),
         Err(error) if is_refused(&error) => match File::open(rt, path) {
             Ok(file) => Ok((file, true)),
-            Err(_) => Err(failed(rt, path, &error, DiskFault::NotOpened)),
+            Err(_) => Err(failed(rt, path, &error, Error::Disk(DiskFault::NotOpened))),
         },
-        Err(error) => Err(failed(rt, path, &error, DiskFault::NotOpened)),
+        Err(error) => Err(failed(rt, path, &error, Error::Disk(DiskFault::NotOpened))),
     }
 }
 

@@ -1,25 +1,25 @@
 -- A stack over a storage before its first event.
-use Rattle.serving.proofs.Common.{◌≡◌, ℕ, false, List, [], Result, Ok, length, map, refl, sym, ap, subst, ◌∙◌, All, All-nil, sectors_in, AdapterView, TagInUse, Extent, Rules, State, IsSame, opening, IsSame-refl, MbrFault, told_by, Config, extents_of, ManagerView, IsStartedUse, first_rules, limits_of, rules_over, DiskView, IsTold, StandsIn, quiet, IsStartedOver}
+use Rattle.serving.proofs.Common.{◌≡◌, ℕ, Bool, false, List, [], Result, Ok, length, map, refl, sym, ap, subst, ◌∙◌, All, All-nil, sectors_in, AdapterView, TagInUse, Extent, Rules, State, IsSame, opening, IsSame-refl, MbrFault, told_by, Config, extents_of, ManagerView, IsStartedUse, first_rules, limits_of, rules_over, DiskView, IsTold, StandsIn, shown_to, IsStartedOver}
 use Rattle.std.specs.Prelude.{◌≤◌, Some, IsFalse}
 use Rattle.machine.specs.Rules.{sectors_of}
 use Rattle.machine.specs.Sending.{array_at}
 use Rattle.machine_laws.specs.Reached.{AreWhole, IsReached, OpeningsAreReached}
 use Rattle.machine_laws.specs.WriteLaws.{RunsKeepLengths}
 
-module _ (c : Config) (table : List ℕ) (stack : ManagerView) (started : IsStartedOver c table stack) where
+module _ (keeps : Bool) (c : Config) (table : List ℕ) (stack : ManagerView) (started : IsStartedOver keeps c table stack) where
   -- the arrays that its run starts from
   abbrev pub first_arrays : List (List (List ℕ))
   first_arrays = map (sectors_in started.disk.sectors) started.first.partitions
 
   -- they have the sectors of their partitions
   pub whole_at_first : RunsKeepLengths → OpeningsAreReached → IsReached stack.rules stack.state → AreWhole stack.rules first_arrays
-  whole_at_first keeps opens reached p =
+  whole_at_first long opens reached p =
       let opened : IsReached stack.rules (opening reached.arrays) = opens stack.rules reached.arrays reached.whole in
-      let same : length (array_at stack.state.arrays p) ≡ length (array_at reached.arrays p) = (keeps stack.rules (opening reached.arrays) reached.labels stack.state opened reached.run).sectors p in
+      let same : length (array_at stack.state.arrays p) ≡ length (array_at reached.arrays p) = (long stack.rules (opening reached.arrays) reached.labels stack.state opened reached.run).sectors p in
       let first : stack.state.arrays ≡ first_arrays = ap (λ (s : State). s.arrays) started.first.state in
       subst (λ (n : ℕ). sectors_of stack.rules (Some p) ≤ n) (sym same ∙ ap (λ (arrays : List (List (List ℕ))). length (array_at arrays p)) first) (reached.whole p)
 
-  pub told_at_first : IsFalse stack.rules.faithful → AreWhole stack.rules first_arrays → IsTold first_arrays [] [] (quiet stack)
+  pub told_at_first : IsFalse stack.rules.faithful → AreWhole stack.rules first_arrays → IsTold first_arrays [] [] (shown_to keeps stack)
   told_at_first apart whole = record {
     apart = apart;
     whole = whole;
@@ -31,7 +31,7 @@ module _ (c : Config) (table : List ℕ) (stack : ManagerView) (started : IsStar
     };
   }
 
-  pub stands_at_first : (disk : DiskView) → disk.sector_size ≡ c.sector_size → disk.sectors ≡ c.sectors → StandsIn (quiet stack) disk
+  pub stands_at_first : (disk : DiskView) → disk.sector_size ≡ c.sector_size → disk.sectors ≡ c.sectors → StandsIn (shown_to keeps stack) disk
   stands_at_first disk size count = record {
     apart = started.first.same_disk.faithful ∙ started.apart;
     sector_size = size ∙ sym started.sector_size ∙ ap (λ (r : Rules). r.sector_size) (sym started.first.rules);
@@ -50,9 +50,9 @@ module _ (c : Config) (table : List ℕ) (stack : ManagerView) (started : IsStar
       same_items xs ys e = cc
 
   -- and the rules of the settings
-  pub rules_at_first : told_by c.sectors table ≡ Ok (extents_of c) → stack.rules ≡ rules_over false false c
-  rules_at_first told = started.first.rules ∙ same_rules started.disk started.first.partitions started.apart started.bare started.sector_size started.sectors started.max_transfer started.depth (same_partitions told)
+  pub rules_at_first : told_by c.sectors table ≡ Ok (extents_of c) → stack.rules ≡ rules_over false keeps c
+  rules_at_first told = started.first.rules ∙ same_rules started.disk started.first.partitions started.apart started.kept started.sector_size started.sectors started.max_transfer started.depth (same_partitions told)
     where
-      same_rules : (disk : AdapterView) (partitions : List Extent) → disk.faithful ≡ false → disk.keeps_bytes ≡ false → disk.sector_size ≡ c.sector_size → length disk.sectors ≡ c.sectors → disk.max_transfer ≡ c.max_transfer → disk.depth ≡ c.depth
-          → partitions ≡ extents_of c → first_rules disk (limits_of c) partitions ≡ rules_over false false c
-      same_rules disk partitions apart bare sector_size sectors max_transfer depth same = cc
+      same_rules : (disk : AdapterView) (partitions : List Extent) → disk.faithful ≡ false → disk.keeps_bytes ≡ keeps → disk.sector_size ≡ c.sector_size → length disk.sectors ≡ c.sectors → disk.max_transfer ≡ c.max_transfer → disk.depth ≡ c.depth
+          → partitions ≡ extents_of c → first_rules disk (limits_of c) partitions ≡ rules_over false keeps c
+      same_rules disk partitions apart kept sector_size sectors max_transfer depth same = cc

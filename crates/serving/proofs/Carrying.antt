@@ -1,5 +1,7 @@
 -- A stack over a storage: steps, one after the other.
-use Rattle.serving.proofs.Common.{◌≡◌, ◌<◌, inl, inr, ℕ, zero, suc, Bool, true, false, List, [], ◌∷◌, ◌++◌, length, map, Option, Some, None, Result, Ok, Err, IsFalse, refl, sym, ap, subst, ◌∙◌, append-nil, append_assoc, All, Contains, IfOk, IsPermutation, MatchBool, MatchResult, slice_get, remove, if◌then◌else◌, All-nil, All-cons, All-head, All-tail, All-append, All-map, All-weaker, All-contains, All-contains_itself, Contains-append_left, Contains-append_right, Contains-append_cases, IsPermutation-refl, IsPermutation-trans, IsPermutation-append_right, IsPermutation-append_left, IsPermutation-append_comm, All-permutation, Contains-permutation, Success, Entry, Srb, Completion, AdapterView, IsInOrder, Sent, IsArmed, IsBookable, Suits, with_booking, Books, entry_sent, handed, sent_of, srb_on_is, HasNoneFresh, ClientRequest, Label, Rules, Settled, State, opening, Run, as_label, IsSame-refl, Run-append, CallsAreAnswered, IsReached, Answer, Handle, Id, Refusal, Reply, ManagerView, call_on, partition_of, without_bytes, Event, Open, Close, Read, Write, Flush, CancelIoEx, Mark, QueryRemove, CancelRemove, Remove, SurpriseRemove, Act, Finish, Reset, IsTransferEvent, IsRight, IsLed, led, there_mapped, Asks, IsQuiet, answers_of, fresh_count, answers-append, quiet_rest, rest_of, untaken_told, IsOn, given_known, given_on, DiskView, IsOfPiece, Transfers, BooksArmed, CarriedView, Deed, Files, Goes, HasBooked, HasNoneToBook, IsAnsweredBy, IsRefusedAtOnce, IsTold, Requests, StandsIn, TellsOn, entries_of, entry_in, over}
+use Rattle.serving.proofs.Common.{◌≡◌, ◌<◌, inl, inr, ℕ, zero, suc, Bool, true, false, List, [], ◌∷◌, ◌++◌, length, map, Option, Some, None, Result, Ok, Err, IsFalse, refl, sym, ap, subst, ◌∙◌, append-nil, append_assoc, All, Contains, IfOk, IsPermutation, MatchBool, MatchResult, slice_get, remove, if◌then◌else◌, All-nil, All-cons, All-head, All-tail, All-append, All-map, All-weaker, All-contains, All-contains_itself, Contains-append_left, Contains-append_right, Contains-append_cases, IsPermutation-refl, IsPermutation-trans, IsPermutation-append_right, IsPermutation-append_left, IsPermutation-append_comm, All-permutation, Contains-permutation, Success, Entry, Srb, Completion, AdapterView, IsInOrder, Sent, IsArmed, IsBookable, Suits, with_booking, Books, entry_sent, handed, sent_of, srb_on_is, HasNoneFresh, ClientRequest, Label, Rules, Settled, State, opening, Run, as_label, IsSame-refl, Run-append, CallsAreAnswered, IsReached, Answer, Handle, Id, Refusal, Reply, ManagerView, call_on, partition_of, without_bytes, Event, Open, Close, Read, Write, Flush, CancelIoEx, Mark, QueryRemove, CancelRemove, Remove, SurpriseRemove, Act, Finish, Reset, IsTransferEvent, IsRight, IsLed, led, there_mapped, Asks, IsQuiet, answers_of, fresh_count, answers-append, quiet_rest, rest_of, untaken_told, IsOn, given_known, given_on, DiskView, IsOfPiece, Transfers, BooksArmed, CarriedView, Deed, Files, Goes, HasBooked, HasNoneToBook, IsAnsweredBy, IsRefusedAtOnce, IsTold, Requests, StandsIn, TellsOn, entries_of, entry_in, over, TraceView, Wrote}
+use Rattle.std.specs.Prelude.{IsTrue}
+use Rattle.serving.proofs.Writing.{wrote_more, wrote_none}
 use Rattle.machine.specs.declared.Label.TheVariants.{Call, Device, Answer as AnswerLabel, Cancel, Pause, Resume, Remove as RemoveLabel, Surprise, Removed as RemovedLabel}
 use Rattle.io_manager.specs.declared.Reply.TheVariants.{Handle as HandleReply, Ok as Done, Request as Requested, Answered, Refused, Ignored}
 use Rattle.io_manager.specs.Right.{ActReplies, BooksPiece, FinishReplies, FitsTogether, HasNoneFresh as HasNoneFreshIn, IsOfAnother, IsRight as IsRightCall, IsRightBy, TakesAnswerOf, Told, TransferReplies, as_answer, end_labels, labels_of, tells_nothing}
@@ -89,7 +91,12 @@ Goes-refl v = record {
   files = refl;
   untaken = IsPermutation-refl (map as_answer v.stack.answers);
   stands = λ s. s;
+  wrote = λ _. wrote_none v.trace;
 }
+
+-- the same rules keep the bytes of labels alike
+pub keeps_on : (new old : ManagerView) → old.rules ≡ new.rules → IsTrue old.rules.keeps_bytes → IsTrue new.rules.keeps_bytes
+keeps_on new old same bytes = subst (λ (r : Rules). IsTrue r.keeps_bytes) same bytes
 
 exchanged : {X : Type 0} (xs ys zs : List X) → IsPermutation (xs ++ (ys ++ zs)) ((ys ++ xs) ++ zs)
 exchanged xs ys zs =
@@ -116,6 +123,7 @@ Goes-trans old mid new a b = record {
       (IsPermutation-trans _ _ _ (IsPermutation-append_right (answers_of b.labels) (map as_answer mid.stack.answers) (answers_of a.labels ++ map as_answer old.stack.answers) a.untaken)
       (exchanged (answers_of b.labels) (answers_of a.labels) (map as_answer old.stack.answers))));
   stands = λ s. b.stands (a.stands s);
+  wrote = λ bytes. wrote_more old.trace mid.trace new.trace a.labels b.labels (a.wrote bytes) (b.wrote (keeps_on mid.stack old.stack (sym a.same_rules) bytes));
 }
 
 -- THE RUN OF A STEP
@@ -231,9 +239,9 @@ module _ (keep : StepsKeepEntries) (apart : StepsStayApart) (old new : ManagerVi
     sectors = s.sectors ∙ ap (λ (r : Rules). r.disk_sectors) (sym by.by.same_rules);
   }
 
-  pub others_go : (disk : DiskView) → Undoes event → All IsQuiet new.labels → new.handles ≡ old.handles → new.state.paused ≡ old.state.paused → IsPermutation (map as_answer new.answers) (answers_of new.labels ++ map as_answer old.answers)
-      → Goes (over old disk) (over (record new { labels = [] }) disk)
-  others_go disk undoes all_quiet handles paused untaken = record {
+  pub others_go : (disk : DiskView) (trace trace' : TraceView) → (IsTrue old.rules.keeps_bytes → Wrote trace new.labels trace') → Undoes event → All IsQuiet new.labels → new.handles ≡ old.handles → new.state.paused ≡ old.state.paused → IsPermutation (map as_answer new.answers) (answers_of new.labels ++ map as_answer old.answers)
+      → Goes (over old disk trace) (over (record new { labels = [] }) disk trace')
+  others_go disk trace trace' wrote undoes all_quiet handles paused untaken = record {
     labels = new.labels;
     all_quiet = all_quiet;
     deeds = [];
@@ -245,10 +253,12 @@ module _ (keep : StepsKeepEntries) (apart : StepsStayApart) (old new : ManagerVi
     files = refl;
     untaken = untaken;
     stands = others_stand disk;
+    wrote = wrote;
   }
 
-pub finish_goes : StepsKeepEntries → StepsStayApart → (old new : ManagerView) (disk : DiskView) (tag : ℕ) (reply : Reply) → IsRight old (Finish tag) reply new → Goes (over old disk) (over (record new { labels = [] }) disk)
-finish_goes keep apart old new disk tag reply right = others_go keep apart old new (Finish tag) reply tt right disk tt (finish_quiet old new tag reply right) (finish_handles old new tag reply right) (finish_steady old new tag reply right) (finish_untaken old new tag reply right)
+pub finish_goes : StepsKeepEntries → StepsStayApart → (old new : ManagerView) (disk : DiskView) (trace trace' : TraceView) (tag : ℕ) (reply : Reply) → (IsTrue old.rules.keeps_bytes → Wrote trace new.labels trace') → IsRight old (Finish tag) reply new
+    → Goes (over old disk trace) (over (record new { labels = [] }) disk trace')
+finish_goes keep apart old new disk trace trace' tag reply wrote right = others_go keep apart old new (Finish tag) reply tt right disk trace trace' wrote tt (finish_quiet old new tag reply right) (finish_handles old new tag reply right) (finish_steady old new tag reply right) (finish_untaken old new tag reply right)
 
 -- AN ACT
 
@@ -332,8 +342,8 @@ module _ (idle : IdleActsKeepEntries) (adds : BookedActsAddEntries) (may : Armed
           (adds trace (entries_of deeds) old booked new tag has.piece has.what reply (bookable arrays trace deeds told) (of_tags tag has.piece has.what has.of_piece) has.books order fits.read.pieces reached right told.journaled);
     })
 
-    booked_goes : Goes (over old before) (over (record new { labels = [] }) after)
-    booked_goes = record {
+    booked_goes : (trace trace' : TraceView) → (IsTrue booked.rules.keeps_bytes → Wrote trace new.labels trace') → Goes (over old before trace) (over (record new { labels = [] }) after trace')
+    booked_goes trace trace' wrote = record {
       labels = new.labels;
       all_quiet = act_quiet booked new tag reply right;
       deeds = deed ∷ [];
@@ -346,6 +356,7 @@ module _ (idle : IdleActsKeepEntries) (adds : BookedActsAddEntries) (may : Armed
       untaken = subst (λ (xs : List Answer). IsPermutation (map as_answer new.answers) (answers_of new.labels ++ map as_answer xs)) answers_are (act_untaken booked new tag reply right);
       stands = λ s. restand new after (stands_by old new before after new_rules (apart booked (Act tag) reply new right (booked_apart old.adapter booked.adapter tag has.piece has.what has.books.adapter s.apart))
           (transferred_large before tag has.piece has.srb has.what after has.transfers) s);
+      wrote = λ bytes. wrote (keeps_on booked old (sym rules_are) bytes);
     }
 
   module _ (none : HasNoneToBook old before tag booked after) where
@@ -372,8 +383,8 @@ module _ (idle : IdleActsKeepEntries) (adds : BookedActsAddEntries) (may : Armed
           (idle trace (entries_of deeds) booked tag reply new fits.read.pieces still_none right (subst (λ (v : ManagerView). IsJournaled trace (entries_of deeds) v) (sym none.same_stack) told.journaled));
     })
 
-    idle_goes : Goes (over old before) (over (record new { labels = [] }) after)
-    idle_goes = record {
+    idle_goes : (trace trace' : TraceView) → (IsTrue booked.rules.keeps_bytes → Wrote trace new.labels trace') → Goes (over old before trace) (over (record new { labels = [] }) after trace')
+    idle_goes trace trace' wrote = record {
       labels = new.labels;
       all_quiet = act_quiet booked new tag reply right;
       deeds = [];
@@ -387,11 +398,12 @@ module _ (idle : IdleActsKeepEntries) (adds : BookedActsAddEntries) (may : Armed
           subst (λ (v : ManagerView). IsPermutation (map as_answer new.answers) (answers_of new.labels ++ map as_answer v.answers)) none.same_stack (act_untaken booked new tag reply right);
       stands = λ s. restand new after (stands_by old new before after idle_new (apart booked (Act tag) reply new right (subst (λ (v : ManagerView). IsFalse v.adapter.faithful) (sym none.same_stack) s.apart))
           (as_large_by before after none.same_disk) s);
+      wrote = λ bytes. wrote (keeps_on booked old (sym idle_rules) bytes);
     }
 
-  pub act_goes : BooksArmed old before tag booked after → Goes (over old before) (over (record new { labels = [] }) after)
-  act_goes (inl has) = booked_goes has
-  act_goes (inr none) = idle_goes none
+  pub act_goes : (trace trace' : TraceView) → (IsTrue booked.rules.keeps_bytes → Wrote trace new.labels trace') → BooksArmed old before tag booked after → Goes (over old before trace) (over (record new { labels = [] }) after trace')
+  act_goes trace trace' wrote (inl has) = booked_goes has trace trace' wrote
+  act_goes trace trace' wrote (inr none) = idle_goes none trace trace' wrote
 
 -- A REQUEST
 
@@ -533,22 +545,25 @@ abbrev taken : ManagerView → ManagerView
 taken v = record v { labels = [] }
 
 -- one that was refused, or ended at once
-pub ends_now : StepsKeepEntries → StepsStayApart → (first now : ManagerView) (disk : DiskView) (event : Event) (reply : Reply) (result : Result Answer Refusal) → IsTransferEvent event
-    → IsRight (cleared first) event reply now → MatchResult result (λ answer. IsAnsweredBy (over first disk) event answer now.labels) (λ reason. IsRefusedAtOnce (over first disk) event reason now.labels [])
-    → Requests (over first disk) event result (over (taken now) disk)
-ends_now keep apart first now disk event reply result transfer right answered = record {
+pub ends_now : StepsKeepEntries → StepsStayApart → (first now : ManagerView) (disk : DiskView) (trace trace' : TraceView) (event : Event) (reply : Reply) (result : Result Answer Refusal)
+    → (IsTrue first.rules.keeps_bytes → Wrote trace now.labels trace') → IsTransferEvent event
+    → IsRight (cleared first) event reply now → MatchResult result (λ answer. IsAnsweredBy (over first disk trace) event answer now.labels) (λ reason. IsRefusedAtOnce (over first disk trace) event reason now.labels [])
+    → Requests (over first disk trace) event result (over (taken now) disk trace')
+ends_now keep apart first now disk trace trace' event reply result wrote transfer right answered = record {
   labels = now.labels;
   deeds = [];
   same_rules = (led (cleared first) event reply now right).by.same_rules;
   same_handles = asked_handles (cleared first) now event reply transfer right;
   told = reanswered first (taken now) [] now.answers now.labels [] (others_told keep apart (cleared first) now event reply (no_act event transfer) right (transfer_undoes event transfer));
   files = refl;
+  wrote = wrote;
   answered = answered;
 }
 
 -- a read, a write or a flush of no bytes is answered at once
-pub answered_now : (first now : ManagerView) (disk : DiskView) (event : Event) (answer : Answer) → IsTransferEvent event → IsRight (cleared first) event (Answered answer) now → IsAnsweredBy (over first disk) event answer now.labels
-answered_now first now disk event answer transfer right =
+pub answered_now : (first now : ManagerView) (disk : DiskView) (trace : TraceView) (event : Event) (answer : Answer) → IsTransferEvent event → IsRight (cleared first) event (Answered answer) now
+    → IsAnsweredBy (over first disk trace) event answer now.labels
+answered_now first now disk trace event answer transfer right =
     let ask = asked_by (cleared first) event transfer in
     let h = called (cleared first) event ask.0 (Answered answer) now ask.1 right in
     let number = first.state.next_request in
@@ -591,8 +606,8 @@ none_mapped : (number : ℕ) (answers : List Answer) → All (IsOfAnother number
 none_mapped number answers h = All-map (IsNoAnswerTo number) as_answer answers (All-weaker (IsOfAnother number) (λ (a : Answer). IsNoAnswerTo number (as_answer a)) (λ (a : Answer) other. other) answers h)
 
 -- one that went, and whose pieces are back
-module _ (keep : StepsKeepEntries) (apart : StepsStayApart) (first now : ManagerView) (disk : DiskView) (last : CarriedView) (event : Event) (id : Id) (transfer : IsTransferEvent event)
-    (right : IsRight (cleared first) event (Requested id) now) (drained : Goes (over (taken now) disk) last) where
+module _ (keep : StepsKeepEntries) (apart : StepsStayApart) (first now : ManagerView) (disk : DiskView) (trace trace' : TraceView) (last : CarriedView) (event : Event) (id : Id) (transfer : IsTransferEvent event)
+    (right : IsRight (cleared first) event (Requested id) now) (drained : Goes (over (taken now) disk trace') last) where
   told_all : TellsOn (cleared first) (now.labels ++ drained.labels) drained.deeds last.stack
   told_all =
       tells_more (cleared first) (taken now) last.stack now.labels drained.labels [] drained.deeds
@@ -617,7 +632,7 @@ module _ (keep : StepsKeepEntries) (apart : StepsStayApart) (first now : Manager
         | inr k ↦ Contains-append_left now.labels drained.labels (as_answer answer) (from_call answer k)
       ]
 
-  is_answered : (answer : Answer) → Contains last.stack.answers answer → answer.number ≡ id.number → IsAnsweredBy (over first disk) event answer (now.labels ++ drained.labels)
+  is_answered : (answer : Answer) → Contains last.stack.answers answer → answer.number ≡ id.number → IsAnsweredBy (over first disk trace) event answer (now.labels ++ drained.labels)
   is_answered answer c same =
       let ask = asked_by (cleared first) event transfer in
       let h = called (cleared first) event ask.0 (Requested id) now ask.1 right in
@@ -663,8 +678,9 @@ module _ (keep : StepsKeepEntries) (apart : StepsStayApart) (first now : Manager
   handles_all = drained.same_handles ∙ asked_handles (cleared first) now event (Requested id) transfer right
 
   -- its answer was taken
-  pub ends_later : (answer : Answer) (after : ManagerView) → TakesAnswerOf last.stack id.number (Some answer) after → Requests (over first disk) event (Ok answer) (over after last.disk)
-  ends_later answer after takes = record {
+  pub ends_later : (IsTrue first.rules.keeps_bytes → Wrote trace now.labels trace') → (answer : Answer) (after : ManagerView) → TakesAnswerOf last.stack id.number (Some answer) after
+      → Requests (over first disk trace) event (Ok answer) (over after last.disk last.trace)
+  ends_later wrote answer after takes = record {
     labels = now.labels ++ drained.labels;
     deeds = drained.deeds;
     same_rules = ap (λ (v : ManagerView). v.rules) takes.3 ∙ rules_all;
@@ -673,6 +689,7 @@ module _ (keep : StepsKeepEntries) (apart : StepsStayApart) (first now : Manager
         subst (λ (v : ManagerView). TellsOn first (now.labels ++ drained.labels) drained.deeds v) (sym takes.3)
         (reanswered first last.stack [] (remove last.stack.answers takes.0) (now.labels ++ drained.labels) drained.deeds told_all);
     files = drained.files;
+    wrote = λ bytes. wrote_more trace trace' last.trace now.labels drained.labels (wrote bytes) (drained.wrote (keeps_on now first (sym (led (cleared first) event (Requested id) now right).by.same_rules) bytes));
     answered = is_answered answer (got_there last.stack.answers takes.0 answer takes.1) takes.2;
   }
 
@@ -742,6 +759,9 @@ unanswered_stands v disk answers s = record { apart = s.apart; sector_size = s.s
 
 module _ (keep : StepsKeepEntries) (apart : StepsStayApart) (first clean now after : ManagerView) (disk : DiskView) (event : Event) (transfer : IsTransferEvent event)
     (is_clean : clean ≡ cleared first) (is_after : after ≡ taken now) where
+  wrote_from : (trace trace' : TraceView) → (IsTrue clean.rules.keeps_bytes → Wrote trace now.labels trace') → IsTrue first.rules.keeps_bytes → Wrote trace now.labels trace'
+  wrote_from trace trace' wrote bytes = wrote (subst (λ (v : ManagerView). IsTrue v.rules.keeps_bytes) (sym is_clean) bytes)
+
   module _ (reply : Reply) (right : IsRight clean event reply now) where
     right_from : IsRight (cleared first) event reply now
     right_from = subst (λ (v : ManagerView). IsRight v event reply now) is_clean right
@@ -754,17 +774,19 @@ module _ (keep : StepsKeepEntries) (apart : StepsStayApart) (first clean now aft
     pub carry_paused : IsFalse first.state.paused → IsFalse after.state.paused
     carry_paused unpaused = ap (λ (v : ManagerView). v.state.paused) is_after ∙ asked_steady (cleared first) now event reply transfer right_from ∙ unpaused
 
-    pub carry_ends : (result : Result Answer Refusal) → MatchResult result (λ answer. IsAnsweredBy (over first disk) event answer now.labels) (λ reason. IsRefusedAtOnce (over first disk) event reason now.labels []) → Requests (over first disk) event result (over after disk)
-    carry_ends result answered =
-        subst (λ (v : ManagerView). Requests (over first disk) event result (over v disk)) (sym is_after) (ends_now keep apart first now disk event reply result transfer right_from answered)
+    pub carry_ends : (trace trace' : TraceView) (wrote : IsTrue clean.rules.keeps_bytes → Wrote trace now.labels trace') (result : Result Answer Refusal)
+        → MatchResult result (λ answer. IsAnsweredBy (over first disk trace) event answer now.labels) (λ reason. IsRefusedAtOnce (over first disk trace) event reason now.labels []) → Requests (over first disk trace) event result (over after disk trace')
+    carry_ends trace trace' wrote result answered =
+        subst (λ (v : ManagerView). Requests (over first disk trace) event result (over v disk trace')) (sym is_after) (ends_now keep apart first now disk trace trace' event reply result (wrote_from trace trace' wrote) transfer right_from answered)
 
-  pub carry_answers : (answer : Answer) → IsRight clean event (Answered answer) now → Requests (over first disk) event (Ok answer) (over after disk)
-  carry_answers answer right =
-      carry_ends (Answered answer) right (Ok answer) (answered_now first now disk event answer transfer (subst (λ (v : ManagerView). IsRight v event (Answered answer) now) is_clean right))
+  pub carry_answers : (trace trace' : TraceView) (wrote : IsTrue clean.rules.keeps_bytes → Wrote trace now.labels trace') (answer : Answer) → IsRight clean event (Answered answer) now → Requests (over first disk trace) event (Ok answer) (over after disk trace')
+  carry_answers trace trace' wrote answer right =
+      carry_ends (Answered answer) right trace trace' wrote (Ok answer) (answered_now first now disk trace event answer transfer (subst (λ (v : ManagerView). IsRight v event (Answered answer) now) is_clean right))
 
-  pub carry_refused : (reason : Refusal) (bytes : List ℕ) → IsRight clean event (Refused reason bytes) now → Requests (over first disk) event (Err reason) (over after disk)
-  carry_refused reason bytes right =
-      carry_ends (Refused reason bytes) right (Err reason) (record {
+  pub carry_refused : (trace trace' : TraceView) (wrote : IsTrue clean.rules.keeps_bytes → Wrote trace now.labels trace') (reason : Refusal) (bytes : List ℕ) → IsRight clean event (Refused reason bytes) now
+      → Requests (over first disk trace) event (Err reason) (over after disk trace')
+  carry_refused trace trace' wrote reason bytes right =
+      carry_ends (Refused reason bytes) right trace trace' wrote (Err reason) (record {
         after = now;
         bytes = bytes;
         refused = subst (λ (v : ManagerView). IsRight v event (Refused reason bytes) now) is_clean right;
@@ -772,18 +794,19 @@ module _ (keep : StepsKeepEntries) (apart : StepsStayApart) (first clean now aft
         none_moved = refl;
       })
 
-  module _ (id : Id) (right : IsRight clean event (Requested id) now) (last : CarriedView) (drained : Goes (over after disk) last) where
+  module _ (trace trace' : TraceView) (id : Id) (right : IsRight clean event (Requested id) now) (last : CarriedView) (drained : Goes (over after disk trace') last) where
     right_request : IsRight (cleared first) event (Requested id) now
     right_request = subst (λ (v : ManagerView). IsRight v event (Requested id) now) is_clean right
 
-    drained_from : Goes (over (taken now) disk) last
-    drained_from = subst (λ (v : ManagerView). Goes (over v disk) last) is_after drained
+    drained_from : Goes (over (taken now) disk trace') last
+    drained_from = subst (λ (v : ManagerView). Goes (over v disk trace') last) is_after drained
 
-    pub carry_later : (answer : Answer) (final : ManagerView) → TakesAnswerOf last.stack id.number (Some answer) final → Requests (over first disk) event (Ok answer) (over final last.disk)
-    carry_later = ends_later keep apart first now disk last event id transfer right_request drained_from
+    pub carry_later : (wrote : IsTrue clean.rules.keeps_bytes → Wrote trace now.labels trace') (answer : Answer) (final : ManagerView) → TakesAnswerOf last.stack id.number (Some answer) final
+        → Requests (over first disk trace) event (Ok answer) (over final last.disk last.trace)
+    carry_later wrote = ends_later keep apart first now disk trace trace' last event id transfer right_request drained_from (wrote_from trace trace' wrote)
 
     pub carry_waits : CallsAreAnswered → Settled last.stack.rules last.stack.state → last.stack.state.pieces ≡ [] → IsFalse first.state.paused → (final : ManagerView) → TakesAnswerOf last.stack id.number None final → ⊥
-    carry_waits law settled none_out unpaused final takes = cannot_wait keep apart first now disk last event id transfer right_request drained_from law settled none_out unpaused takes.0
+    carry_waits law settled none_out unpaused final takes = cannot_wait keep apart first now disk trace trace' last event id transfer right_request drained_from law settled none_out unpaused takes.0
 
 pub labels_still : (last final : ManagerView) (number : ℕ) (found : Option Answer) → TakesAnswerOf last number found final → last.labels ≡ [] → final.labels ≡ []
 labels_still last final number (Some answer) t e = ap (λ (v : ManagerView). v.labels) t.3 ∙ e

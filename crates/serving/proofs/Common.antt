@@ -56,7 +56,8 @@ pub use Rattle.ntstatus.specs.declared.NtStatus.{NtStatus}
 pub use Rattle.ntstatus.specs.declared.NtStatus.TheVariants.{Success}
 pub use Rattle.sector.specs.Extents.{sectors_in}
 pub use Rattle.sector.specs.declared.Extent.{Extent}
-pub use Rattle.serving.specs.Carried.{BooksArmed, CarriedView, Deed, Files, Goes, HasBooked, HasNoneToBook, IsAnsweredBy, IsRefusedAtOnce, IsTold, Requests, StandsIn, TellsOn, entries_of, entry_in, over, quiet}
+pub use Rattle.serving.specs.Carried.{BooksArmed, CarriedView, Deed, Files, Goes, HasBooked, HasNoneToBook, IsAnsweredBy, IsRefusedAtOnce, IsTold, Requests, StandsIn, TellsOn, entries_of, entry_in, over}
+pub use Rattle.serving.specs.Traces.{StepsFor, TraceView, Wrote, lines_of, shown_lines, shown_to}
 pub use Rattle.serving.specs.CommandLine.{IsFlag, SpellsPartition}
 pub use Rattle.serving.specs.Filed.{ComesTo, FiledKept, FiledView, HasCleared, IsAsked, IsDone, Writes}
 pub use Rattle.serving.specs.OnDisk.{Differs, DiffersFrom, IsFirstOther, IsStartedOver, StopsPutting}
@@ -65,7 +66,7 @@ pub use Rattle.serving.specs.declared.faults.Difference.{Difference}
 pub use Rattle.serving.specs.declared.faults.Difference.TheVariants.{BadTable}
 pub use Rattle.serving.specs.declared.faults.DiskFault.TheVariants.{HasFaults, InUse, IsConfig, IsOutput, NotCreated, NotOpened, OtherSize, OtherTable, Unreadable}
 pub use Rattle.serving.specs.declared.faults.Error.{Error}
-pub use Rattle.serving.specs.declared.faults.Error.TheVariants.{Disk, InputEnded, Malformed, NoMemory, NoPartition, OutputFailed, Startup, Usage}
+pub use Rattle.serving.specs.declared.faults.Error.TheVariants.{Disk, InputEnded, Malformed, NoMemory, NoPartition, OutputFailed, Startup, TraceFailed, TraceInUse, TraceNotOpened, Usage}
 pub use Rattle.settings.specs.Medium.{extent_of, extents_of}
 pub use Rattle.settings.specs.declared.Config.{Config}
 pub use Rattle.settings.specs.declared.Partition.{Partition}

@@ -1,5 +1,5 @@
 -- Why no partition of a disk in a storage was opened.
-use Rattle.serving.proofs.Common.{◌≡◌, ◌<◌, ◌≤◌, ◌⊎◌, inl, inr, ℕ, Bool, true, false, List, ◌∷◌, [], Some, None, Result, Ok, Err, length, refl, sym, subst, arith, IfErr, count_by, is_some, nat_le, nat_tests, when, first_some, Rules, Config, extents_of, Handle, InvalidParameter, Reply, are_used_up, handle_limit, open_refusal, ManagerView, Open, IsRight, rules_over, Error, Usage, Startup, NoPartition, Disk, Malformed, InputEnded, OutputFailed, NoMemory, NotOpened, NotCreated, InUse, OtherSize, Unreadable, OtherTable, HasFaults, IsConfig, IsOutput}
+use Rattle.serving.proofs.Common.{◌≡◌, ◌<◌, ◌≤◌, ◌⊎◌, inl, inr, ℕ, Bool, true, false, List, ◌∷◌, [], Some, None, Result, Ok, Err, length, refl, sym, subst, arith, IfErr, count_by, is_some, nat_le, nat_tests, when, first_some, Rules, Config, extents_of, Handle, InvalidParameter, Reply, are_used_up, handle_limit, open_refusal, ManagerView, Open, IsRight, rules_over, Error, Usage, Startup, NoPartition, Disk, Malformed, InputEnded, TraceNotOpened, TraceInUse, TraceFailed, OutputFailed, NoMemory, NotOpened, NotCreated, InUse, OtherSize, Unreadable, OtherTable, HasFaults, IsConfig, IsOutput}
 use Rattle.ntstatus.specs.declared.NtStatus.TheVariants.{InvalidParameter as ParameterStatus, DeletePending as PendingStatus, DeviceBusy as BusyStatus}
 use Rattle.io_manager.specs.declared.Reply.TheVariants.{Refused}
 use Rattle.startup.specs.declared.faults.Error.TheVariants.{ConfigUnreadable, Settings as WrongSettings, Start, NoMemory as LacksMemory}
@@ -52,6 +52,9 @@ module _ (c : Config) (p : ℕ) (before after : List Call) (servable : AreServab
   fault_of_table Malformed h = absurd h
   fault_of_table InputEnded h = absurd h
   fault_of_table OutputFailed h = absurd h
+  fault_of_table TraceNotOpened h = absurd h
+  fault_of_table TraceInUse h = absurd h
+  fault_of_table TraceFailed h = absurd h
 
   module _ (read : ReadsTable c before after) where
     -- no stack could be started
@@ -67,11 +70,14 @@ module _ (c : Config) (p : ℕ) (before after : List Call) (servable : AreServab
     fault_of_start Malformed h = absurd h
     fault_of_start InputEnded h = absurd h
     fault_of_start OutputFailed h = absurd h
+    fault_of_start TraceNotOpened h = absurd h
+    fault_of_start TraceInUse h = absurd h
+    fault_of_start TraceFailed h = absurd h
 
     -- no handle was given
-    pub fault_of_handle : (rules : Rules) → rules ≡ rules_over false false c → (fault : Error) → (fault ≡ NoMemory) ⊎ ((fault ≡ NoPartition) × (length rules.partitions ≤ p)) → IsOpenFault c p before fault after
-    fault_of_handle rules same fault (inl lacks) = subst (λ (f : Error). IsOpenFault c p before f after) (sym lacks) (servable, inr read)
-    fault_of_handle rules same fault (inr none) =
+    pub fault_of_handle : (keeps : Bool) (rules : Rules) → rules ≡ rules_over false keeps c → (fault : Error) → (fault ≡ NoMemory) ⊎ ((fault ≡ NoPartition) × (length rules.partitions ≤ p)) → IsOpenFault c p before fault after
+    fault_of_handle keeps rules same fault (inl lacks) = subst (λ (f : Error). IsOpenFault c p before f after) (sym lacks) (servable, inr read)
+    fault_of_handle keeps rules same fault (inr none) =
         let past : length (extents_of c) ≤ p = subst (λ (r : Rules). length r.partitions ≤ p) same none.1 in
         let low : p < length (extents_of c) = servable.1 in
         absurd (omega (arith, past, low))

@@ -1,17 +1,17 @@
 -- What a partition of a disk in a storage comes to by its requests.
-use Rattle.serving.proofs.Common.{◌≡◌, ◌≢◌, ◌≤◌, ◌<◌, ◌^◌, ℕ, ◌+◌, arith, List, [], ◌∷◌, Bool, None, Some, Option, Result, Ok, Err, IsFalse, replicate, refl, sym, ap, subst, ◌∙◌, result_err, Answer, Handle, Refusal, ManagerView, Event, Sizes, WriteZeroes, ReplyError, IsWithin, DiskView, Requests, StandsIn, over, ComesTo, FiledKept, FiledView, HasCleared, IsAsked, IsDone, Writes}
+use Rattle.serving.proofs.Common.{◌≡◌, ◌≢◌, ◌≤◌, ◌<◌, ◌^◌, ℕ, ◌+◌, arith, List, [], ◌∷◌, Bool, None, Some, Option, Result, Ok, Err, IsFalse, replicate, refl, sym, ap, subst, ◌∙◌, result_err, Answer, Handle, Refusal, ManagerView, Event, Sizes, WriteZeroes, ReplyError, IsWithin, DiskView, Requests, StandsIn, over, ComesTo, FiledKept, FiledView, TraceView, HasCleared, IsAsked, IsDone, Writes}
 
 -- ONE REQUEST
 
-abbrev pub filed_over : ManagerView → DiskView → Handle → Sizes → FiledView
-filed_over stack disk handle sizes = record { carried = over stack disk; handle = handle; sizes = sizes }
+abbrev pub filed_over : ManagerView → DiskView → TraceView → Handle → Sizes → FiledView
+filed_over stack disk trace handle sizes = record { carried = over stack disk trace; handle = handle; sizes = sizes }
 
-module _ (stack stack' : ManagerView) (disk disk' : DiskView) (handle : Handle) (sizes : Sizes) where
-  pub asked_so : (event : Event) (result : Result Answer Refusal) (done : Result (List ℕ) ReplyError) → Requests (over stack disk) event result (over stack' disk') → ComesTo disk'.full result done
-      → IsAsked (filed_over stack disk handle sizes) event done (filed_over stack' disk' handle sizes)
+module _ (stack stack' : ManagerView) (disk disk' : DiskView) (trace trace' : TraceView) (handle : Handle) (sizes : Sizes) where
+  pub asked_so : (event : Event) (result : Result Answer Refusal) (done : Result (List ℕ) ReplyError) → Requests (over stack disk trace) event result (over stack' disk' trace') → ComesTo disk'.full result done
+      → IsAsked (filed_over stack disk trace handle sizes) event done (filed_over stack' disk' trace' handle sizes)
   asked_so event result done requests comes_to = record { result = result; requests = requests; comes_to = comes_to; same_handle = refl; same_sizes = refl }
 
-  pub kept_so : FiledKept (over stack disk) sizes → StandsIn stack' disk' → stack'.labels ≡ [] → IsFalse stack'.state.paused → FiledKept (over stack' disk') sizes
+  pub kept_so : FiledKept (over stack disk trace) sizes → StandsIn stack' disk' → stack'.labels ≡ [] → IsFalse stack'.state.paused → FiledKept (over stack' disk' trace') sizes
   kept_so kept stands taken unpaused = record { stands = stands; taken = taken; unpaused = unpaused; block = kept.block; few = kept.few }
 
 pub done_so : (old new : FiledView) (event : Event) (done : Result (List ℕ) ReplyError) (failed : Option ReplyError) → IsAsked old event done new → failed ≡ result_err done → IsDone old event failed new

@@ -11,22 +11,24 @@ use Rattle.nbd.specs.Requests.{command_in}
 use Rattle.nbd.specs.Replies.{Outcome, failure}
 use Rattle.nbd.specs.Session.{Exchange}
 use Rattle.nbd.specs.Over.{CarriesOver, IsSessionOver, RunOver, ServesOver}
-use Rattle.serving.specs.Carried.{Deed, Files, TellsOn}
+use Rattle.serving.specs.Carried.{Deed, Files, TellsOn, WroteOf}
 use Rattle.machine.specs.declared.Label.{Label}
 use Rattle.machine.specs.Rules.{Rules}
 use Rattle.serving.specs.Telling.{of_clears, of_cleared, of_command, of_found, of_read, of_run, of_session, of_stop}
 use Rattle.serving.specs.Filed.{CarriesBy, Clears, ClearsBy, FiledView, HasCleared, IsAsked, IsDone, LacksMemory, Reads, StopsClearing, Writes}
-use Rattle.serving.proofs.Carrying.{files_append, tells_more, tells_nothing_more}
+use Rattle.serving.proofs.Carrying.{files_append, keeps_on, tells_more, tells_nothing_more}
+use Rattle.serving.proofs.Writing.{wrote_more, wrote_none}
 
--- the stack went on by these labels, and the storage by their deeds
+-- the stack went on by these labels, the storage by their deeds, and the trace by their lines
 pub record Lasts (labels : List Label) (old new : FiledView) : Type 0 where
   pub deeds : List Deed
   pub same_rules : new.carried.stack.rules ≡ old.carried.stack.rules
   pub told : TellsOn old.carried.stack labels deeds new.carried.stack
   pub files : Files old.carried.disk deeds new.carried.disk
+  pub wrote : WroteOf old.carried labels new.carried
 
 lasts_refl : (v : FiledView) → Lasts [] v v
-lasts_refl v = record { deeds = []; same_rules = refl; told = tells_nothing_more v.carried.stack; files = refl }
+lasts_refl v = record { deeds = []; same_rules = refl; told = tells_nothing_more v.carried.stack; files = refl; wrote = λ _. wrote_none v.carried.trace }
 
 lasts_then : (old mid new : FiledView) (ls ls' : List Label) → Lasts ls old mid → Lasts ls' mid new → Lasts (ls ++ ls') old new
 lasts_then old mid new ls ls' a b = record {
@@ -34,13 +36,14 @@ lasts_then old mid new ls ls' a b = record {
   same_rules = b.same_rules ∙ a.same_rules;
   told = tells_more old.carried.stack mid.carried.stack new.carried.stack ls ls' a.deeds b.deeds a.told b.told;
   files = files_append old.carried.disk mid.carried.disk new.carried.disk a.deeds b.deeds a.files b.files;
+  wrote = λ bytes. wrote_more old.carried.trace mid.carried.trace new.carried.trace ls ls' (a.wrote bytes) (b.wrote (keeps_on mid.carried.stack old.carried.stack (sym a.same_rules) bytes));
 }
 
 stays : (old new : FiledView) → new ≡ old → Lasts [] old new
 stays old new same = subst (λ (v : FiledView). Lasts [] old v) (sym same) (lasts_refl old)
 
 asked : (old new : FiledView) (event : Event) (done : Result (List ℕ) ReplyError) (h : IsAsked old event done new) → Lasts h.requests.labels old new
-asked old new event done h = record { deeds = h.requests.deeds; same_rules = h.requests.same_rules; told = h.requests.told; files = h.requests.files }
+asked old new event done h = record { deeds = h.requests.deeds; same_rules = h.requests.same_rules; told = h.requests.told; files = h.requests.files; wrote = h.requests.wrote }
 
 -- COMMANDS
 

@@ -8,6 +8,7 @@ mod AsSessions
 pub mod Lasting
 pub mod Steady
 pub mod Undone
+pub mod Writing
 pub mod Carrying
 pub mod Putting
 pub mod Beginning

@@ -1,5 +1,5 @@
 -- A stack whose sectors stand in a storage: what is told of it, and what its pieces did there.
-use Rattle.std.specs.Prelude.{◌≡◌, ◌⊎◌, ℕ, false, List, [], ◌∷◌, ◌++◌, map, All, Contains, IsFalse, IsPermutation, Result, Ok, Err, MatchResult}
+use Rattle.std.specs.Prelude.{◌≡◌, ◌⊎◌, ℕ, List, [], ◌∷◌, ◌++◌, map, All, Contains, IsFalse, IsTrue, IsPermutation, Result, Ok, Err, MatchResult}
 use Rattle.srb.specs.declared.Srb.{Srb}
 use Rattle.srb.specs.declared.Entry.{Entry}
 use Rattle.srb.specs.declared.Completion.{Completion}
@@ -22,18 +22,20 @@ use Rattle.compose.specs.Right.{IsRight}
 use Rattle.volume.specs.Working.{Asks, IsQuiet, answers_of}
 use Rattle.machine_laws.specs.Reached.{AreWhole}
 use Rattle.file_disk.specs.Transfers.{DiskView, IsOfPiece, Transfers}
+use Rattle.serving.specs.Traces.{TraceView, Wrote}
 pub use Rattle.file_sessions.specs.Deeds.{Deed, DeedRun, Files}
 
 pub record CarriedView : Type 0 where
   pub stack : ManagerView
   pub disk : DiskView
+  pub trace : TraceView
 
--- a stack that keeps none of its labels
-abbrev pub quiet : ManagerView → ManagerView
-quiet stack = record stack { keeps = false }
+abbrev pub over : ManagerView → DiskView → TraceView → CarriedView
+over stack disk trace = record { stack = stack; disk = disk; trace = trace }
 
-abbrev pub over : ManagerView → DiskView → CarriedView
-over stack disk = record { stack = stack; disk = disk }
+-- the trace got the lines of these labels, where labels keep their bytes
+abbrev pub WroteOf : CarriedView → List Label → CarriedView → Type 0
+WroteOf old labels new = IsTrue old.stack.rules.keeps_bytes → Wrote old.trace labels new.trace
 
 -- the stack's adapter moves no sectors, and the storage has as many sectors as the stack, of the same size
 pub record StandsIn (stack : ManagerView) (disk : DiskView) : Type 0 where
@@ -101,6 +103,7 @@ pub record Goes (old new : CarriedView) : Type 0 where
   pub files : Files old.disk deeds new.disk
   pub untaken : IsPermutation (map as_answer new.stack.answers) (answers_of labels ++ map as_answer old.stack.answers)
   pub stands : StandsIn old.stack old.disk → StandsIn new.stack new.disk
+  pub wrote : WroteOf old labels new
 
 -- REQUESTS
 
@@ -138,4 +141,5 @@ pub record Requests (old : CarriedView) (event : Event) (result : Result Answer 
   pub same_handles : new.stack.handles ≡ old.stack.handles
   pub told : TellsOn old.stack labels deeds new.stack
   pub files : Files old.disk deeds new.disk
+  pub wrote : WroteOf old labels new
   pub answered : MatchResult result (λ answer. IsAnsweredBy old event answer labels) (λ reason. IsRefusedAtOnce old event reason labels deeds)

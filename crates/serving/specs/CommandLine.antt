@@ -11,9 +11,9 @@ use Rattle.serving.specs.declared.words.asked.Asked.{Asked}
 abbrev pub words : App
 words = with_rule (with_rule (new_app (codes "nbd_disk")) (word_rule (codes "CONFIG") false)) (word_rule (codes "PARTITION") false)
 
--- nbd_disk [CONFIG [PARTITION]] [--disk FILE] [--create]
+-- nbd_disk [CONFIG [PARTITION]] [--disk FILE] [--create] [--trace TRACE]
 abbrev pub program : App
-program = with_rule (with_rule words (option_rule (codes "disk"))) (flag_rule (codes "create"))
+program = with_rule (with_rule (with_rule words (option_rule (codes "disk"))) (flag_rule (codes "create"))) (option_rule (codes "trace"))
 
 pub is_simple_program : is_simple program ≡ true
 unfolding clap_on_literals
@@ -36,6 +36,7 @@ pub record IsFoundIn (rows : List Row) (asked : Asked) : Type 0 where
   pub partition : MatchOption (first_of (codes "PARTITION") rows) (asked.partition ≡ 0) (λ word. SpellsPartition word asked.partition)
   pub disk : first_of (codes "disk") rows ≡ option_map (λ word. word.now) asked.disk
   pub create : IsFlag (one_of (codes "create") rows) asked.create
+  pub trace : first_of (codes "trace") rows ≡ option_map (λ word. word.now) asked.trace
 
 -- what these words ask for
 abbrev pub IsAsked : List Text → Asked → Type 0

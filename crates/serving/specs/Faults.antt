@@ -8,7 +8,7 @@ use Rattle.serving.specs.declared.faults.Difference.{Difference}
 use Rattle.serving.specs.declared.faults.Difference.TheVariants.{BadTable, Count, Partition}
 use Rattle.serving.specs.declared.faults.DiskFault.{DiskFault}
 use Rattle.serving.specs.declared.faults.DiskFault.TheVariants.{NotOpened, NotCreated, InUse, OtherSize, Unreadable, OtherTable, HasFaults, IsConfig, IsOutput}
-use Rattle.serving.specs.declared.faults.Error.TheVariants.{Usage, Startup, NoPartition, Disk, Malformed, InputEnded, OutputFailed, NoMemory}
+use Rattle.serving.specs.declared.faults.Error.TheVariants.{Usage, Startup, NoPartition, Disk, Malformed, InputEnded, TraceNotOpened, TraceInUse, TraceFailed, OutputFailed, NoMemory}
 
 -- what a table has, and what the settings ask for
 abbrev pub difference_text : Difference → List ℕ
@@ -32,12 +32,15 @@ disk_text IsOutput = codes "FILE is standard output"
 
 -- the line of a fault, without its end
 abbrev pub line_of : Error → List ℕ
-line_of Usage = codes "usage: nbd_disk CONFIG [PARTITION] [--disk FILE [--create]] | nbd_disk --disk FILE"
+line_of Usage = codes "usage: nbd_disk CONFIG [PARTITION] [--disk FILE [--create] [--trace TRACE]] | nbd_disk --disk FILE [--trace TRACE]"
 line_of (Startup fault) = codes "nbd_disk: " ++ startup_text fault
 line_of NoPartition = codes "nbd_disk: no such partition"
 line_of (Disk fault) = codes "nbd_disk: " ++ disk_text fault
 line_of Malformed = codes "nbd_disk: malformed input"
 line_of InputEnded = codes "nbd_disk: input ended"
+line_of TraceNotOpened = codes "nbd_disk: cannot open TRACE"
+line_of TraceInUse = codes "nbd_disk: TRACE is in use"
+line_of TraceFailed = codes "nbd_disk: cannot write TRACE"
 line_of OutputFailed = codes "nbd_disk: output failed"
 line_of NoMemory = codes "nbd_disk: no memory"
 

@@ -1,9 +1,11 @@
 pub mod CommandLine
 pub mod Faults
 pub mod Serving
+pub mod Traces
 pub mod Carried
 pub mod Filed
 pub mod OnDisk
 pub mod Telling
+pub mod Tracing
 pub mod Lasting
 pub mod Keeping

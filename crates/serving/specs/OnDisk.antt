@@ -1,5 +1,5 @@
 -- A session over a disk in a storage.
-use Rattle.std.specs.Prelude.{◌≡◌, ◌≢◌, ◌<◌, ◌≤◌, ◌⊎◌, ℕ, ◌+◌, ◌*◌, false, IsFalse}
+use Rattle.std.specs.Prelude.{◌≡◌, ◌≢◌, ◌<◌, ◌≤◌, ◌⊎◌, ℕ, ◌+◌, ◌*◌, Bool, false, IsFalse}
 use Rattle.std.specs.Prelude.{List, [], ◌∷◌, ◌++◌, get_or, length, map, take, Option, Some, Result, Ok, Err}
 use Rattle.sector.specs.declared.Extent.{Extent}
 use Rattle.settings.specs.declared.Config.{Config}
@@ -93,12 +93,12 @@ IsTableFault c before _ after = ⊥
 -- A STACK IS STARTED
 
 -- a stack before its first event, over an adapter of the settings' sizes that holds no sectors but this first one and
--- keeps no bytes of labels
-pub record IsStartedOver (c : Config) (first_sector : List ℕ) (stack : ManagerView) : Type 0 where
+-- keeps the bytes of labels or not
+pub record IsStartedOver (keeps : Bool) (c : Config) (first_sector : List ℕ) (stack : ManagerView) : Type 0 where
   pub disk : AdapterView
   pub first : IsFirstView disk (limits_of c) stack
   pub apart : IsFalse disk.faithful
-  pub bare : IsFalse disk.keeps_bytes
+  pub kept : disk.keeps_bytes ≡ keeps
   pub sector_size : disk.sector_size ≡ c.sector_size
   pub sectors : length disk.sectors ≡ c.sectors
   pub max_transfer : disk.max_transfer ≡ c.max_transfer
@@ -124,8 +124,8 @@ IsNotStarted c first_sector _ = ⊥
 abbrev pub HasNoFaults : Config → Type 0
 HasNoFaults c = (c.bad_sectors.items ≡ []) × (c.faults.items ≡ [])
 
--- a partition of these settings, over a storage of which just its partition table was read
-pub record IsOpened (c : Config) (p : ℕ) (calls : List Call) (filed : FiledView) : Type 0 where
+-- a partition of these settings, over a storage of which just its partition table was read. Labels keep their bytes, or not
+pub record IsOpenedFor (keeps : Bool) (c : Config) (p : ℕ) (calls : List Call) (filed : FiledView) : Type 0 where
   pub no_faults : HasNoFaults c
   pub table : ReadsTable c calls filed.carried.disk.calls
   pub block : filed.sizes.block ≡ c.sector_size
@@ -133,7 +133,7 @@ pub record IsOpened (c : Config) (p : ℕ) (calls : List Call) (filed : FiledVie
   pub write_protected : filed.carried.disk.write_protected ≡ c.write_protected
   pub told : filed.sizes.read_only ≡ c.write_protected
   -- the stack's partitions, sizes and limits are those of the settings; the handle is on this partition
-  pub rules : filed.carried.stack.rules ≡ rules_over false false c
+  pub rules : filed.carried.stack.rules ≡ rules_over false keeps c
   pub on : IsOn filed.carried.stack filed.handle p
   pub bytes : filed.sizes.bytes ≡ (extent_at (extents_of c) p).count * c.sector_size
   -- what is told of the stack from here on is told of a run from its start, in which nothing acted
@@ -144,6 +144,10 @@ pub record IsOpened (c : Config) (p : ℕ) (calls : List Call) (filed : FiledVie
   pub none_called : trace ≡ []
   -- the storage is as large as the stack's disk
   pub stands : StandsIn filed.carried.stack filed.carried.disk
+
+-- such a partition, whose labels keep no bytes
+abbrev pub IsOpened : Config → ℕ → List Call → FiledView → Type 0
+IsOpened c p calls filed = IsOpenedFor false c p calls filed
 
 -- the settings have no faults, and have this partition
 abbrev pub AreServable : Config → ℕ → Type 0

@@ -25,6 +25,12 @@ pub enum Error {
     Malformed,
     /// The input ended or failed before the client left by the protocol.
     InputEnded,
+    /// The trace's file can't be opened.
+    TraceNotOpened,
+    /// Another process has locked the trace's file, or it is another file of the program.
+    TraceInUse,
+    /// The trace's file didn't take all.
+    TraceFailed,
     /// Output didn't take all of a reply.
     OutputFailed,
     /// Memory was refused.
@@ -90,13 +96,16 @@ impl fmt::Display for Error {
     fn fmt<W: fmt::Write>(&self, f: &mut fmt::Formatter<W>) -> fmt::Result {
         match self {
             Error::Usage => f.write_str(
-                "usage: nbd_disk CONFIG [PARTITION] [--disk FILE [--create]] | nbd_disk --disk FILE",
+                "usage: nbd_disk CONFIG [PARTITION] [--disk FILE [--create] [--trace TRACE]] | nbd_disk --disk FILE [--trace TRACE]",
             ),
             Error::Startup(fault) => write!(f, "nbd_disk: {fault}"),
             Error::NoPartition => f.write_str("nbd_disk: no such partition"),
             Error::Disk(fault) => write!(f, "nbd_disk: {fault}"),
             Error::Malformed => f.write_str("nbd_disk: malformed input"),
             Error::InputEnded => f.write_str("nbd_disk: input ended"),
+            Error::TraceNotOpened => f.write_str("nbd_disk: cannot open TRACE"),
+            Error::TraceInUse => f.write_str("nbd_disk: TRACE is in use"),
+            Error::TraceFailed => f.write_str("nbd_disk: cannot write TRACE"),
             Error::OutputFailed => f.write_str("nbd_disk: output failed"),
             Error::NoMemory => f.write_str("nbd_disk: no memory"),
         }

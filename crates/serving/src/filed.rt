@@ -8,6 +8,7 @@ ghost use Rattle.nbd.specs.Replies.{outcome_of};
 ghost use Rattle.serving.specs.Filed.{ClearsBy, Flushes, IsAsked, IsDone, Reads, Writes, plain_outcome, read_outcome, refusal_error, status_error};
 
 use crate::moving::carry_out;
+use crate::pens::Pen;
 use compose::{Event, Handle, Refusal, Stack};
 use file_disk::{FileDisk, Storage};
 use miniport::BookedAdapter;
@@ -21,29 +22,39 @@ use std::mem;
 /// How many zeros are written at once: whole sectors of either size.
 const PIECE: u32 = 1_048_576;
 
-/// A partition of a stack whose sectors stand in a storage, open for one user.
+/// A partition of a stack whose sectors stand in a storage, open for one user. Its pen is told of each step.
 #[derive(Drop)]
-pub struct Filed<S: Storage + Drop> {
+pub struct Filed<S: Storage + Drop, P: Pen + Drop> {
     pub(crate) stack: Stack<BookedAdapter>,
     pub(crate) disk: FileDisk<S>,
+    pub(crate) pen: P,
     pub(crate) handle: Handle,
     pub(crate) sizes: Sizes,
     /// The memory for the bytes of the next request.
     pub(crate) kept: Vec<u8>,
 }
 
-impl<S: Storage + Drop> Model for Filed<S> {
-    ghost use Rattle.serving.specs.Carried.{over, quiet};
+impl<S: Storage + Drop, P: Pen + Drop> Model for Filed<S, P> {
+    ghost use Rattle.serving.specs.Carried.{over};
+    ghost use Rattle.serving.specs.Traces.{shown_to};
     ghost use Rattle.serving.specs.Filed.{FiledKept, FiledView};
 
     ghost Value = { FiledView };
 
-    ghost view = { λ f. record { carried = over (quiet f.stack) f.disk; handle = f.handle; sizes = f.sizes } };
+    ghost view = { λ f. record { carried = over (shown_to P.keeps f.stack) f.disk (P.trace f.pen); handle = f.handle; sizes = f.sizes } };
 
-    ghost invariant = { λ f. FiledKept (over (quiet f.stack) f.disk) f.sizes };
+    ghost invariant = { λ f. FiledKept (over (shown_to P.keeps f.stack) f.disk (P.trace f.pen)) f.sizes };
 }
 
-impl<S: Storage + Drop> Filed<S> {
+impl<S: Storage + Drop, P: Pen + Drop> Filed<S, P> {
+    /// Gives the pen back.
+    pub fn into_pen(self) -> P
+        ensures { P.trace result ≡ self.carried.trace }
+    {
+        let Filed { pen, .. } = self;
+        pen
+    }
+
     /// Says that the partition's bytes can be counted. It does nothing; its contract is for callers.
     fn shows_few(&self)
         ensures { self.now.sizes.bytes ≤ 2 ^ 63 }
@@ -61,7 +72,7 @@ impl<S: Storage + Drop> Filed<S> {
         ensures asked { IsAsked self.old event result self.new }
         ensures same { self.new.sizes ≡ self.old.sizes }
     {
-        match carry_out(&mut self.stack, &mut self.disk, alloc, event) {
+        match carry_out(&mut self.stack, &mut self.disk, &mut self.pen, alloc, event) {
             Ok(answer) => match answer.status {
                 NtStatus::Success => Ok(answer.bytes),
                 status => Err(status_error(self.disk.is_full(), status)),
@@ -243,7 +254,7 @@ fn plain_answer(done: Result<(), ReplyError>) -> Answer
     }
 }
 
-impl<S: Storage + Drop> Backing for Filed<S> {
+impl<S: Storage + Drop, P: Pen + Drop> Backing for Filed<S, P> {
     ghost use Rattle.serving.specs.Filed.{CarriesBy};
 
     ghost shape = { λ f. f.sizes };

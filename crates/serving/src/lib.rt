@@ -14,14 +14,17 @@
 //! leave. So a write that a client was told as done stays, at any later moment, until a request writes its sector: if it
 //! was write-through, or once a flush that came behind it was told as done, with no failed sync between
 //! (`done_is_kept`); the end of the process alone loses nothing that was told as done, where no sync failed since or was
-//! under way (`AnsweredIsKept`); and sessions in a row keep what one of them left (`StaysOverSessions`). `command`: paths,
-//! partition and `--create` as found (`IsFoundIn`). All for readers and writers that tell their bytes.
+//! under way (`AnsweredIsKept`); and sessions in a row keep what one of them left (`StaysOverSessions`). A `Trace`, if its
+//! writer took all, has the lines of the labels that a session over a file told, in order, and no others
+//! (`traces_tell_sessions`). `command`: paths, partition and `--create` as found (`IsFoundIn`). All for readers and
+//! writers that tell their bytes.
 #![tactic(auto)]
 
 mod faults;
 mod filed;
 mod moving;
 mod on_disk;
+mod pens;
 mod same_file;
 mod served;
 mod serving;
@@ -31,8 +34,9 @@ pub use faults::{Difference, DiskFault, Error};
 pub use filed::Filed;
 pub use on_disk::{
     commands_by_hand, disk_bytes, done_is_kept, open_file, put_table, read_only, serve_file,
-    served_are_sessions,
+    served_are_sessions, traces_tell_sessions,
 };
+pub use pens::{Pen, Silent, Trace};
 pub use same_file::{Inode, check_apart};
 pub use serving::serve_disk;
 pub use words::asked::Asked;

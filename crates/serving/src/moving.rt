@@ -10,8 +10,10 @@ ghost use Rattle.compose.specs.Journaled.{ArmedMayBeBooked, BookedActsAddEntries
 ghost use Rattle.compose.specs.StepLaws.{IsTransferEvent};
 ghost use Rattle.volume.specs.Working.{fresh_count, tags_out, work};
 ghost use Rattle.file_disk.specs.Transfers.{DiskView};
-ghost use Rattle.serving.specs.Carried.{BooksArmed, Goes, Requests, StandsIn, over, quiet};
+ghost use Rattle.serving.specs.Carried.{BooksArmed, Goes, Requests, StandsIn, over};
+ghost use Rattle.serving.specs.Traces.{shown_to};
 
+use crate::pens::Pen;
 use compose::{Answer, Event, Refusal, Reply, Stack};
 use file_disk::{FileDisk, Moved, Storage};
 use miniport::BookedAdapter;
@@ -51,28 +53,29 @@ fn law_of_answers()
 /// # Errors
 ///
 /// Why the request was refused.
-pub(crate) fn carry_out<S: Storage + Drop>(
+pub(crate) fn carry_out<S: Storage + Drop, P: Pen>(
     stack: &mut Stack<BookedAdapter>,
     disk: &mut FileDisk<S>,
+    pen: &mut P,
     alloc: Global,
     event: Event,
 ) -> Result<Answer, Refusal>
     requires taken { stack.old.labels ≡ [] }
-    requires stands { StandsIn (quiet stack.old) disk.old }
+    requires stands { StandsIn (shown_to P.keeps stack.old) disk.old }
     requires unpaused { IsFalse stack.old.state.paused }
     requires transfer { IsTransferEvent event }
-    ensures requests { Requests (over (quiet stack.old) disk.old) event result (over (quiet stack.new) disk.new) }
+    ensures requests { Requests (over (shown_to P.keeps stack.old) disk.old (P.trace pen.old)) event result (over (shown_to P.keeps stack.new) disk.new (P.trace pen.new)) }
     ensures taken { stack.new.labels ≡ [] }
-    ensures stands { StandsIn (quiet stack.new) disk.new }
+    ensures stands { StandsIn (shown_to P.keeps stack.new) disk.new }
     ensures unpaused { IsFalse stack.new.state.paused }
 {
     laws_of_entries();
     law_of_answers();
     forget_answers(stack);
-    let reply = stack.step_untraced(alloc, event);
+    let reply = pen.step(stack, alloc, event);
     match reply {
         Reply::Request(id) => {
-            drain(stack, disk, alloc);
+            drain(stack, disk, pen, alloc);
             stack.shows_whole();
             match stack.take_answer_of(id.number) {
                 Some(answer) => Ok(answer),
@@ -96,32 +99,38 @@ fn forget_answers(stack: &mut Stack<BookedAdapter>)
 }
 
 /// Lets the adapter act and hand back until nothing is out.
-fn drain<S: Storage + Drop>(stack: &mut Stack<BookedAdapter>, disk: &mut FileDisk<S>, alloc: Global)
+fn drain<S: Storage + Drop, P: Pen>(
+    stack: &mut Stack<BookedAdapter>,
+    disk: &mut FileDisk<S>,
+    pen: &mut P,
+    alloc: Global,
+)
     requires taken { stack.old.labels ≡ [] }
-    requires stands { StandsIn (quiet stack.old) disk.old }
-    ensures goes { Goes (over (quiet stack.old) disk.old) (over (quiet stack.new) disk.new) }
+    requires stands { StandsIn (shown_to P.keeps stack.old) disk.old }
+    ensures goes { Goes (over (shown_to P.keeps stack.old) disk.old (P.trace pen.old)) (over (shown_to P.keeps stack.new) disk.new (P.trace pen.new)) }
     ensures taken { stack.new.labels ≡ [] }
     ensures none_out { stack.new.state.pieces ≡ [] }
 {
-    'finishing: while finish_one(stack, disk, alloc) {}
+    'finishing: while finish_one(stack, disk, pen, alloc) {}
 }
 
 /// Lets a piece act and come back, and says whether there was one. Where there was none, none is out.
-fn finish_one<S: Storage + Drop>(
+fn finish_one<S: Storage + Drop, P: Pen>(
     stack: &mut Stack<BookedAdapter>,
     disk: &mut FileDisk<S>,
+    pen: &mut P,
     alloc: Global,
 ) -> bool
     requires taken { stack.old.labels ≡ [] }
-    requires stands { StandsIn (quiet stack.old) disk.old }
-    ensures goes { Goes (over (quiet stack.old) disk.old) (over (quiet stack.new) disk.new) }
+    requires stands { StandsIn (shown_to P.keeps stack.old) disk.old }
+    ensures goes { Goes (over (shown_to P.keeps stack.old) disk.old (P.trace pen.old)) (over (shown_to P.keeps stack.new) disk.new (P.trace pen.new)) }
     ensures taken { stack.new.labels ≡ [] }
     ensures less { MatchBool result (work stack.new.state < work stack.old.state) (stack.new.state.pieces ≡ []) }
 {
     let depth = stack.depth();
     for tag in 0..depth {
-        act(stack, disk, alloc, tag);
-        if finishes(stack, alloc, tag) {
+        act(stack, disk, pen, alloc, tag);
+        if finishes(stack, pen, alloc, tag) {
             return true;
         }
     }
@@ -130,33 +139,35 @@ fn finish_one<S: Storage + Drop>(
 }
 
 /// Lets the piece on a tag act, if there is one that may.
-fn act<S: Storage + Drop>(
+fn act<S: Storage + Drop, P: Pen>(
     stack: &mut Stack<BookedAdapter>,
     disk: &mut FileDisk<S>,
+    pen: &mut P,
     alloc: Global,
     tag: u8,
 )
     requires taken { stack.old.labels ≡ [] }
-    requires stands { StandsIn (quiet stack.old) disk.old }
-    ensures goes { Goes (over (quiet stack.old) disk.old) (over (quiet stack.new) disk.new) }
+    requires stands { StandsIn (shown_to P.keeps stack.old) disk.old }
+    ensures goes { Goes (over (shown_to P.keeps stack.old) disk.old (P.trace pen.old)) (over (shown_to P.keeps stack.new) disk.new (P.trace pen.new)) }
     ensures taken { stack.new.labels ≡ [] }
     ensures same_tags { IsPermutation (tags_out stack.old.state) (tags_out stack.new.state) }
     ensures same_work { work stack.new.state ≡ work stack.old.state }
     ensures none_fresh { HasNoneFresh stack.new tag }
 {
-    'acting: while acts(stack, disk, alloc, tag) {}
+    'acting: while acts(stack, disk, pen, alloc, tag) {}
 }
 
 /// Lets a piece on the tag act, or fail where the storage failed, and says whether one did.
-fn acts<S: Storage + Drop>(
+fn acts<S: Storage + Drop, P: Pen>(
     stack: &mut Stack<BookedAdapter>,
     disk: &mut FileDisk<S>,
+    pen: &mut P,
     alloc: Global,
     tag: u8,
 ) -> bool
     requires taken { stack.old.labels ≡ [] }
-    requires stands { StandsIn (quiet stack.old) disk.old }
-    ensures goes { Goes (over (quiet stack.old) disk.old) (over (quiet stack.new) disk.new) }
+    requires stands { StandsIn (shown_to P.keeps stack.old) disk.old }
+    ensures goes { Goes (over (shown_to P.keeps stack.old) disk.old (P.trace pen.old)) (over (shown_to P.keeps stack.new) disk.new (P.trace pen.new)) }
     ensures taken { stack.new.labels ≡ [] }
     ensures same_tags { IsPermutation (tags_out stack.old.state) (tags_out stack.new.state) }
     ensures same_work { work stack.new.state ≡ work stack.old.state }
@@ -166,13 +177,13 @@ fn acts<S: Storage + Drop>(
     stack.shows_whole();
     book_armed(stack, disk, tag);
     stack.shows_whole();
-    let reply = stack.step_untraced(alloc, Event::Act { tag });
+    let reply = pen.step(stack, alloc, Event::Act { tag });
     is_done(reply)
 }
 
 /// Has the storage move the piece of a tag, if one may act, and books what came of it.
 fn book_armed<S: Storage + Drop>(stack: &mut Stack<BookedAdapter>, disk: &mut FileDisk<S>, tag: u8)
-    ensures { BooksArmed (quiet stack.old) disk.old tag (quiet stack.new) disk.new }
+    ensures { BooksArmed stack.old disk.old tag stack.new disk.new }
 {
     stack.shows_whole();
     let Some((piece, srb)) = stack.armed(tag) else {
@@ -189,16 +200,16 @@ fn book_armed<S: Storage + Drop>(stack: &mut Stack<BookedAdapter>, disk: &mut Fi
 }
 
 /// Lets a piece come back from the tag, and says whether one did. A piece on it has acted, or failed.
-fn finishes(stack: &mut Stack<BookedAdapter>, alloc: Global, tag: u8) -> bool
+fn finishes<P: Pen>(stack: &mut Stack<BookedAdapter>, pen: &mut P, alloc: Global, tag: u8) -> bool
     requires taken { stack.old.labels ≡ [] }
     requires none_fresh { HasNoneFresh stack.old tag }
-    ensures goes { (disk : DiskView) → Goes (over (quiet stack.old) disk) (over (quiet stack.new) disk) }
+    ensures goes { (disk : DiskView) → Goes (over (shown_to P.keeps stack.old) disk (P.trace pen.old)) (over (shown_to P.keeps stack.new) disk (P.trace pen.new)) }
     ensures taken { stack.new.labels ≡ [] }
     ensures done { MatchBool result (work stack.new.state < work stack.old.state) ((stack.new.state ≡ stack.old.state) × All (HasOtherTag tag) stack.new.state.pieces) }
 {
     laws_of_entries();
     stack.shows_whole();
-    let reply = stack.step_untraced(alloc, Event::Finish { tag });
+    let reply = pen.step(stack, alloc, Event::Finish { tag });
     is_done(reply)
 }
 

@@ -14,17 +14,20 @@ ghost use Rattle.file_disk.specs.Calls.{ReadsAll, Since};
 ghost use Rattle.file_disk.specs.Transfers.{DiskView, SyncsAfter};
 ghost use Rattle.machine_laws.specs.Reached.{OpeningsAreReached};
 ghost use Rattle.machine_laws.specs.WriteLaws.{RunsKeepLengths};
-ghost use Rattle.serving.specs.Carried.{StandsIn, TellsOn, quiet};
 ghost use Rattle.serving.specs.Keeping.{AnsweredIsKept, AreCommandsByHand, AnsweredIsKeptMeanwhile, FlushedIsKept, FlushedIsKeptMeanwhile};
 ghost use Rattle.serving.specs.Keeping.{SecuredIsKept, SecuredIsKeptMeanwhile, StaysOverSessions, UntouchedIsKept, UntouchedIsKeptMeanwhile};
+ghost use Rattle.serving.specs.Carried.{StandsIn, TellsOn};
 ghost use Rattle.serving.specs.Lasting.{ServedAreSessions, ServedMomentsAreSessions};
-ghost use Rattle.serving.specs.OnDisk.{Differs, DiffersFrom, HasNoFaults, IsFileSession, IsOpenFault, IsOpened, IsPutFault};
+ghost use Rattle.serving.specs.OnDisk.{Differs, DiffersFrom, HasNoFaults, IsFileSession, IsOpenFault, IsOpenedFor, IsPutFault};
 ghost use Rattle.serving.specs.OnDisk.{IsNotStarted, IsStartedOver, IsTableFault, StopsPutting};
+ghost use Rattle.serving.specs.Tracing.{TracedAreSessions, TracedMomentsAreSessions, TracesTellSessions};
+ghost use Rattle.serving.specs.Traces.{Wrote, shown_to};
 ghost use Rattle.serving.specs.declared.faults.Error.TheVariants.{NoMemory, NoPartition};
 
 use crate::faults::{Difference, DiskFault, Error};
 use crate::filed::Filed;
 use crate::moving::laws_of_entries;
+use crate::pens::Pen;
 use crate::serving::outcome;
 use compose::{Event, Handle, Refusal, Reply, Settings, Stack};
 use file_disk::{Failure, FileDisk, Sizes as FileSizes, Storage, read_all, write_all};
@@ -209,26 +212,28 @@ fn are_same(one: Extent, other: Extent) -> bool
 /// [`DiskFault::Unreadable`] where a call failed as sector 0 was read; [`DiskFault::OtherTable`] where it gives other
 /// partitions than the settings, or none; [`Error::Startup`] where no stack could be started.
 /// [`Error::NoMemory`] may stand in place of any but the first two.
-pub fn open_file<S: Storage + Drop>(
+pub fn open_file<S: Storage + Drop, P: Pen + Drop>(
     alloc: Global,
     config: Config,
     partition: u8,
     storage: S,
-) -> Result<Filed<S>, Error>
+    pen: P,
+) -> Result<Filed<S, P>, Error>
     requires { AreInRange config }
-    ensures opened { IfOk result (IsOpened config partition (S.calls storage)) }
+    ensures opened { IfOk result (IsOpenedFor P.keeps config partition (S.calls storage)) }
+    ensures untold { IfOk result (λ filed. IsTrue P.keeps → Wrote (P.trace pen) [] filed.carried.trace) }
     ensures fault { IfErr result (λ fault. (spent : S) × IsOpenFault config partition (S.calls storage) fault (S.calls spent)) }
 {
     if has_faults(&config) {
         return Err(Error::Disk(DiskFault::HasFaults));
     }
-    let mut storage = storage;
+    let (mut storage, mut pen) = (storage, pen);
     let sizes = sizes_of(&config, partition)?;
     let first = checked_table(alloc, &mut storage, &config)?;
-    let mut stack = started(alloc, &config, first)?;
+    let mut stack = started(alloc, &config, first, &pen)?;
     laws_of_arrays();
     stack.shows_whole();
-    let handle = opened(&mut stack, alloc, partition)?;
+    let handle = opened(&mut stack, &mut pen, alloc, partition)?;
     let disk = FileDisk::new(
         alloc,
         storage,
@@ -241,6 +246,7 @@ pub fn open_file<S: Storage + Drop>(
     Ok(Filed {
         stack,
         disk,
+        pen,
         handle,
         sizes,
         kept: Vec::new(alloc),
@@ -281,15 +287,21 @@ fn sizes_of(config: &Config, partition: u8) -> Result<Sizes, Error>
     }
 }
 
-/// Returns a stack over an adapter of the settings that holds no sectors but the first, and keeps no bytes of labels.
+/// Returns a stack over an adapter of the settings that holds no sectors but the first, and keeps the bytes of labels
+/// where the pen wants them.
 ///
 /// # Errors
 ///
 /// Why the stack could not be started.
-fn started(alloc: Global, config: &Config, first: Vec<u8>) -> Result<Stack<BookedAdapter>, Error>
+fn started<P: Pen>(
+    alloc: Global,
+    config: &Config,
+    first: Vec<u8>,
+    pen: &P,
+) -> Result<Stack<BookedAdapter>, Error>
     requires range { AreInRange config.now }
     requires long { length first.items ≡ config.now.sector_size }
-    ensures started { IfOk result (IsStartedOver config.now first.items) }
+    ensures started { IfOk result (IsStartedOver P.keeps config.now first.items) }
     ensures fault { IfErr result (IsNotStarted config.now first.items) }
 {
     let adapter = BookedAdapter::new(
@@ -306,7 +318,7 @@ fn started(alloc: Global, config: &Config, first: Vec<u8>) -> Result<Stack<Booke
         window: config.window,
         open_requests: config.open_requests,
     };
-    match Stack::start(alloc, adapter.noting(), settings) {
+    match Stack::start(alloc, pen.adapter(adapter), settings) {
         Ok(stack) => Ok(stack),
         Err(why) => Err(Error::Startup(startup::Error::Start(why.fault))),
     }
@@ -317,18 +329,24 @@ fn started(alloc: Global, config: &Config, first: Vec<u8>) -> Result<Stack<Booke
 /// # Errors
 ///
 /// [`Error::NoPartition`], [`Error::NoMemory`].
-fn opened(stack: &mut Stack<BookedAdapter>, alloc: Global, partition: u8) -> Result<Handle, Error>
+fn opened<P: Pen>(
+    stack: &mut Stack<BookedAdapter>,
+    pen: &mut P,
+    alloc: Global,
+    partition: u8,
+) -> Result<Handle, Error>
     requires taken { stack.old.labels ≡ [] }
     ensures taken { stack.new.labels ≡ [] }
     ensures rules { stack.new.rules ≡ stack.old.rules }
-    ensures stands { (disk : DiskView) → StandsIn (quiet stack.old) disk → StandsIn (quiet stack.new) disk }
-    ensures told { TellsOn (quiet stack.old) [] [] (quiet stack.new) }
+    ensures stands { (disk : DiskView) → StandsIn (shown_to P.keeps stack.old) disk → StandsIn (shown_to P.keeps stack.new) disk }
+    ensures told { TellsOn (shown_to P.keeps stack.old) [] [] (shown_to P.keeps stack.new) }
+    ensures wrote { IsTrue stack.old.rules.keeps_bytes → Wrote (P.trace pen.old) [] (P.trace pen.new) }
     ensures same_paused { stack.new.state.paused ≡ stack.old.state.paused }
-    ensures on { IfOk result (λ handle. IsOn (quiet stack.new) handle partition) }
+    ensures on { IfOk result (λ handle. IsOn (shown_to P.keeps stack.new) handle partition) }
     ensures fault { IfErr result (λ fault. (fault ≡ NoMemory) ⊎ ((fault ≡ NoPartition) × (length stack.old.rules.partitions ≤ partition))) }
 {
     laws_of_entries();
-    let reply = stack.step_untraced(alloc, Event::Open { partition });
+    let reply = pen.step(stack, alloc, Event::Open { partition });
     handle_in(reply)
 }
 
@@ -396,14 +414,25 @@ pub fn commands_by_hand()
     ensures { AreCommandsByHand }
 {}
 
+/// Says what a session over a file leaves whose trace is written: the trace has the lines of the labels that were told in
+/// it, in order, if all was written; the file has what one without a trace leaves there. It does nothing; its contract is
+/// for callers.
+pub fn traces_tell_sessions()
+    ensures traces { TracesTellSessions }
+    ensures sessions { TracedAreSessions }
+    ensures moments { TracedMomentsAreSessions }
+{
+    file_sessions::runs_are_sessions();
+}
+
 /// Serves a client over a partition of a disk in a file.
 ///
 /// # Errors
 ///
 /// How the session ended, where the client did not leave by the protocol.
-pub fn serve_file<S: Storage + Drop, R: Ahead, W: Write>(
+pub fn serve_file<S: Storage + Drop, P: Pen + Drop, R: Ahead, W: Write>(
     alloc: Global,
-    filed: &mut Filed<S>,
+    filed: &mut Filed<S, P>,
     input: &mut R,
     out: &mut W,
 ) -> Result<(), Error>

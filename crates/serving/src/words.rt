@@ -42,7 +42,8 @@ impl<'a> Parser<'a> for Asked<'a> {
             .arg(word(alloc, "CONFIG", false))?
             .arg(word(alloc, "PARTITION", false))?
             .arg(option(alloc, "disk"))?
-            .arg(flag(alloc, "create"))
+            .arg(flag(alloc, "create"))?
+            .arg(option(alloc, "trace"))
     }
 
     fn found_in(matches: &ArgMatches<'a>) -> Option<Asked<'a>> {
@@ -52,11 +53,13 @@ impl<'a> Parser<'a> for Asked<'a> {
         let config = matches.get_str("CONFIG");
         let disk = matches.get_str("disk");
         let create = matches.get_flag("create");
+        let trace = matches.get_str("trace");
         Some(Asked {
             config,
             partition,
             disk,
             create,
+            trace,
         })
     }
 

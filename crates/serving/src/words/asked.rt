@@ -12,4 +12,6 @@ pub struct Asked<'a> {
     pub disk: Option<&'a str>,
     /// Whether the file is to be made. Without `disk` that is for the caller to refuse.
     pub create: bool,
+    /// The path of the file that gets the trace of the session. Without `disk` that is for the caller to refuse.
+    pub trace: Option<&'a str>,
 }

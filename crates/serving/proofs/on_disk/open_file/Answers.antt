@@ -1,4 +1,5 @@
 use Rattle.serving.proofs.Common.{◌≡◌, ◌⊎◌, ℕ, List, [], Err, refl, rules, sym, ap, subst, ◌∙◌, State, DiskView}
+use Rattle.std.specs.Prelude.{IsTrue}
 use Rattle.file_disk.specs.Calls.{Call, ReadsAll, Since}
 use Rattle.serving.proofs.Failing.{fault_of_handle, fault_of_start, fault_of_table, no_partition}
 use Rattle.machine.specs.Rules.{Rules}
@@ -9,7 +10,7 @@ pub invariant_of-result : goal.invariant_of-result
 invariant_of-result g c = record {
   stands =
       c.in_ok-handle.ensures.stands c.new-disk.result
-      (stands_at_first c.args.config c.in_ok-first.first.items c.in_ok-stack.stack c.in_ok-stack.ensures.started c.new-disk.result (ap (λ (d : DiskView). d.sector_size) c.new-disk.ensures)
+      (stands_at_first g.P.Pen.keeps c.args.config c.in_ok-first.first.items c.in_ok-stack.stack c.in_ok-stack.ensures.started c.new-disk.result (ap (λ (d : DiskView). d.sector_size) c.new-disk.ensures)
       (ap (λ (d : DiskView). d.sectors) c.new-disk.ensures));
   taken = c.in_ok-handle.ensures.taken;
   block = subst (λ (n : ℕ). (n ≡ 512) ⊎ (n ≡ 4096)) (sym c.in_ok-sizes.ensures.block) c.requires.sector_size;
@@ -32,22 +33,27 @@ returns-clause-opened g c = record {
   told = c.in_ok-sizes.ensures.read_only;
   rules =
       c.in_ok-handle.ensures.rules
-      ∙ rules_at_first c.args.config c.in_ok-first.first.items c.in_ok-stack.stack c.in_ok-stack.ensures.started c.in_ok-first.ensures.told;
+      ∙ rules_at_first g.P.Pen.keeps c.args.config c.in_ok-first.first.items c.in_ok-stack.stack c.in_ok-stack.ensures.started c.in_ok-first.ensures.told;
   on = c.in_ok-handle.ensures.on;
   bytes = c.in_ok-sizes.ensures.bytes;
-  arrays = first_arrays c.args.config c.in_ok-first.first.items c.in_ok-stack.stack c.in_ok-stack.ensures.started;
+  arrays = first_arrays g.P.Pen.keeps c.args.config c.in_ok-first.first.items c.in_ok-stack.stack c.in_ok-stack.ensures.started;
   trace = [];
   begins =
-      c.in_ok-handle.ensures.told (first_arrays c.args.config c.in_ok-first.first.items c.in_ok-stack.stack c.in_ok-stack.ensures.started) [] []
-      (told_at_first c.args.config c.in_ok-first.first.items c.in_ok-stack.stack c.in_ok-stack.ensures.started
-      (ap (λ (r : Rules). r.faithful) (rules_at_first c.args.config c.in_ok-first.first.items c.in_ok-stack.stack c.in_ok-stack.ensures.started c.in_ok-first.ensures.told))
-      (whole_at_first c.args.config c.in_ok-first.first.items c.in_ok-stack.stack c.in_ok-stack.ensures.started c.laws_of_arrays.ensures.keeps c.laws_of_arrays.ensures.opens c.shows_whole.ensures.reached));
+      c.in_ok-handle.ensures.told (first_arrays g.P.Pen.keeps c.args.config c.in_ok-first.first.items c.in_ok-stack.stack c.in_ok-stack.ensures.started) [] []
+      (told_at_first g.P.Pen.keeps c.args.config c.in_ok-first.first.items c.in_ok-stack.stack c.in_ok-stack.ensures.started
+      (ap (λ (r : Rules). r.faithful) (rules_at_first g.P.Pen.keeps c.args.config c.in_ok-first.first.items c.in_ok-stack.stack c.in_ok-stack.ensures.started c.in_ok-first.ensures.told))
+      (whole_at_first g.P.Pen.keeps c.args.config c.in_ok-first.first.items c.in_ok-stack.stack c.in_ok-stack.ensures.started c.laws_of_arrays.ensures.keeps c.laws_of_arrays.ensures.opens c.shows_whole.ensures.reached));
   none_called = refl;
   stands =
       c.in_ok-handle.ensures.stands c.new-disk.result
-      (stands_at_first c.args.config c.in_ok-first.first.items c.in_ok-stack.stack c.in_ok-stack.ensures.started c.new-disk.result (ap (λ (d : DiskView). d.sector_size) c.new-disk.ensures)
+      (stands_at_first g.P.Pen.keeps c.args.config c.in_ok-first.first.items c.in_ok-stack.stack c.in_ok-stack.ensures.started c.new-disk.result (ap (λ (d : DiskView). d.sector_size) c.new-disk.ensures)
       (ap (λ (d : DiskView). d.sectors) c.new-disk.ensures));
 }
+
+pub returns-clause-untold : goal.returns-clause-untold
+returns-clause-untold g c = λ keeps.
+    c.in_ok-handle.ensures.wrote
+    (subst (λ (r : Rules). IsTrue r.keeps_bytes) (sym (rules_at_first g.P.Pen.keeps c.args.config c.in_ok-first.first.items c.in_ok-stack.stack c.in_ok-stack.ensures.started c.in_ok-first.ensures.told)) keeps)
 
 -- WHERE IT FAILS
 
@@ -85,6 +91,6 @@ returns-in_err-handle-clause-fault g c =
       c.checked_table.new.storage,
       fault_of_handle c.args.config c.args.partition (g.S.Storage.calls c.args.storage) (g.S.Storage.calls c.checked_table.new.storage)
           (c.has_faults.ensures.none c.if-has_faults.false, c.in_ok-sizes.ensures.known)
-          (record { table = c.in_ok-first.first.items; long = c.in_ok-first.ensures.long; reads = c.in_ok-first.ensures.reads; told = c.in_ok-first.ensures.told }) c.in_ok-stack.stack.rules
-          (rules_at_first c.args.config c.in_ok-first.first.items c.in_ok-stack.stack c.in_ok-stack.ensures.started c.in_ok-first.ensures.told) c.in_err-handle.field-0.0 c.in_err-handle.ensures.fault,
+          (record { table = c.in_ok-first.first.items; long = c.in_ok-first.ensures.long; reads = c.in_ok-first.ensures.reads; told = c.in_ok-first.ensures.told }) g.P.Pen.keeps c.in_ok-stack.stack.rules
+          (rules_at_first g.P.Pen.keeps c.args.config c.in_ok-first.first.items c.in_ok-stack.stack c.in_ok-stack.ensures.started c.in_ok-first.ensures.told) c.in_err-handle.field-0.0 c.in_err-handle.ensures.fault,
     )

@@ -11,6 +11,7 @@ returns-clause-some c =
       partition = subst (λ (o : Option Text). MatchOption o (n ≡ 0) (λ word. SpellsPartition word n)) (c.get_str.ensures ∙ first_value-rows found (codes "PARTITION")) c.in-Some.ensures;
       disk = sym (c.get_str-disk.ensures ∙ first_value-rows found (codes "disk"));
       create = flag_is found (codes "create") c.get_flag-create.result c.get_flag-create.ensures.none c.get_flag-create.ensures.value c.get_flag-create.ensures.other;
+      trace = sym (c.get_str-trace.ensures ∙ first_value-rows found (codes "trace"));
     }
 
 pub returns-in_default-clause-none : goal.returns-in_default-clause-none
