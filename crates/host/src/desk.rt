@@ -8,9 +8,9 @@ use crate::condvars::Concerned;
 use crate::host::Host;
 use crate::kept::KeptBook;
 use crate::name::HostNaming;
-use compose::Event;
+use compose::{Event, Reply};
 use disk::Medium;
-use lanes::{Desk, Signals, Step};
+use lanes::{Desk, Signals, Step, Turn};
 use machine::Label;
 use srb::{Completion, DeviceLabel};
 use std::sync::{Mutex, Wait};
@@ -98,25 +98,49 @@ impl<M: Medium, N: HostNaming> Host<M, N> {
         }
     }
 
-    // Carries out the act of a tag whose piece failed in the journal.
-    fn fail<R: Wait>(&self, rt: &R, tag: u8, completion: Completion)
-        requires { class_of completion ≡ Bad completion }
-    {
-        let concerned = self.fail_in(rt, &mut self.book.lock(rt), tag, completion);
-        self.condvars.notify(rt, concerned);
-    }
-
-    fn fail_in<R: Wait>(
+    // Books the act of a tag whose piece failed so in the journal, or acted there.
+    fn book_act<R: Wait>(
         &self,
         rt: &R,
         book: &mut KeptBook<N>,
         tag: u8,
-        completion: Completion,
+        failed: Option<Completion>,
+    ) -> Reply
+        requires { IfSome failed (λ completion. class_of completion ≡ Bad completion) }
+    {
+        match failed {
+            Some(completion) => book.act_failed(rt, &self.beside(), tag, completion),
+            None => self.step_in(rt, book, Event::Act { tag }),
+        }
+    }
+
+    fn act_in<R: Wait>(
+        &self,
+        rt: &R,
+        book: &mut KeptBook<N>,
+        tag: u8,
+        failed: Option<Completion>,
     ) -> Concerned
-        requires { class_of completion ≡ Bad completion }
+        requires { IfSome failed (λ completion. class_of completion ≡ Bad completion) }
     {
         let from = book.len();
-        book.act_failed(rt, &self.beside(), tag, completion);
+        self.book_act(rt, book, tag, failed);
+        Concerned::since(book, from)
+    }
+
+    // Books its finish as well.
+    fn complete_in<R: Wait>(
+        &self,
+        rt: &R,
+        book: &mut KeptBook<N>,
+        tag: u8,
+        failed: Option<Completion>,
+    ) -> Concerned
+        requires { IfSome failed (λ completion. class_of completion ≡ Bad completion) }
+    {
+        let from = book.len();
+        self.book_act(rt, book, tag, failed);
+        self.step_in(rt, book, Event::Finish { tag });
         Concerned::since(book, from)
     }
 }
@@ -134,16 +158,24 @@ impl<M: Medium, N: HostNaming> Desk for Host<M, N> {
     }
 
     fn act<R: Wait>(&self, rt: &R, tag: u8) {
-        match self.transfer(rt, tag) {
-            Some(completion) => self.fail(rt, tag, completion),
-            None => {
-                self.step(rt, Event::Act { tag });
-            }
-        }
+        let failed = self.transfer(rt, tag);
+        let concerned = self.act_in(rt, &mut self.book.lock(rt), tag, failed);
+        self.condvars.notify(rt, concerned);
     }
 
     fn finish<R: Wait>(&self, rt: &R, tag: u8) {
         self.step(rt, Event::Finish { tag });
+    }
+
+    fn act_in_turn<R: Wait>(&self, rt: &R, tag: u8, turn: &Turn) -> bool {
+        let failed = self.transfer(rt, tag);
+        let taken = turn.try_take();
+        let concerned = match &taken {
+            Some(_) => self.complete_in(rt, &mut self.book.lock(rt), tag, failed),
+            None => self.act_in(rt, &mut self.book.lock(rt), tag, failed),
+        };
+        self.condvars.notify(rt, concerned);
+        taken.is_some()
     }
 
     fn signal<R: Wait>(&self, rt: &R) {

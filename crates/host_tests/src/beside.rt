@@ -31,8 +31,8 @@ pub(crate) enum Scene {
     Reset,
     /// A read's lane is held at its turnstile, while the other client reads and is answered.
     Turnstile,
-    /// The worker is held with the first item of its queue, which has one place, while a client reads four sectors. The
-    /// queue hands back what another lane puts, and that lane finishes its piece itself, which lets the worker go.
+    /// The lane that has the turn is held, and the worker with the first item of its queue, which has one place, while a client
+    /// reads four sectors. The queue hands back what the last lane puts, which finishes its piece itself and lets them go.
     FullQueue,
 }
 

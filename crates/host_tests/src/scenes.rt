@@ -14,7 +14,7 @@ use crate::replaying::{compare_acts, replay};
 use crate::texts;
 use disk::Medium;
 use host::{Client, Closed, Host, HostNaming, Keeper};
-use lanes::{Completions, Desk, Pass, Signals, Step, Turnstile};
+use lanes::{Completions, Desk, Pass, Signals, Step, Turn, Turnstile};
 use rounds::{Lanes, remove, start_lanes};
 use sector_journal::{OfArmings, OfEntries};
 use std::alloc::{AllocError, Global};
@@ -67,7 +67,8 @@ pub(crate) struct Setting<'a, C: Clock> {
     pub at_worker: Held,
 }
 
-/// A host as the desk of its lanes and of a worker, where a finish lets the worker go if it is held.
+/// A host as the desk of its lanes and of a worker. Where the worker is to be held, so is a lane that has the turn; the finish
+/// of a piece that was handed over lets go who is held.
 #[derive(Drop)]
 struct LetsGo<'a, 'b, M: Medium, N: HostNaming, C: Clock>
 where
@@ -93,6 +94,17 @@ impl<'a, 'b, M: Medium, N: HostNaming, C: Clock> Desk for LetsGo<'a, 'b, M, N, C
         if let Held::Anyone = self.at_worker {
             self.holding.let_go(rt);
         }
+    }
+
+    fn act_in_turn<R: Wait>(&self, rt: &R, tag: u8, turn: &Turn) -> bool {
+        let Held::Anyone = self.at_worker else {
+            return Desk::act_in_turn(self.host, rt, tag, turn);
+        };
+        let taken = turn.try_take();
+        if taken.is_some() {
+            self.holding.hold(rt);
+        }
+        Desk::act_in_turn(self.host, rt, tag, turn)
     }
 
     fn signal<R: Wait>(&self, rt: &R) {

@@ -1,7 +1,8 @@
 //! Lanes: one thread for each tag of a disk, which has the adapter carry out the pieces started on it, and a worker,
-//! which finishes the pieces that the lanes hand over through a bounded queue. A lane stands for what a device does
-//! with one tag on its own; an item in the queue for a completed SRB that StorPortNotification (RequestComplete) hands
-//! to the port; the worker for the port's completion DPC.
+//! which finishes the pieces that the lanes hand over through a bounded queue. A lane that finds nobody completing a
+//! piece finishes its own at once, so that no second thread is woken. A lane stands for what a device does with one tag
+//! on its own; an item in the queue for a completed SRB that StorPortNotification (RequestComplete) hands to the port;
+//! the worker for the port's completion DPC.
 //!
 //! A [`Pass`] stands for the right to put items of one tag, or, the worker's, to take items; its view is what it put or
 //! took.
@@ -22,7 +23,7 @@ mod rule;
 use rule::{Another, Item, Put, Queue, QueuePass, Take};
 use std::alloc::{AllocError, Global};
 use std::marker::Model;
-use std::sync::Wait;
+use std::sync::{Mutex, MutexGuard, Wait};
 use thiserror::Error;
 
 /// There was no memory.
@@ -72,6 +73,10 @@ pub trait Desk {
     /// Completes the piece on the tag.
     fn finish<R: Wait>(&self, rt: &R, tag: u8);
 
+    /// Has the adapter carry out the piece on the tag. Where the turn is free then, it completes the piece, too, and
+    /// returns true.
+    fn act_in_turn<R: Wait>(&self, rt: &R, tag: u8, turn: &Turn) -> bool;
+
     /// Signals to the worker that an item was put.
     fn signal<R: Wait>(&self, rt: &R);
 
@@ -79,10 +84,36 @@ pub trait Desk {
     fn wait_for_signal<R: Wait>(&self, rt: &R, seen: u64) -> Signals;
 }
 
+/// The turn to complete a piece. The worker has it while it finishes one, and so has a lane that found it free.
+#[derive(Drop)]
+pub struct Turn {
+    held: Mutex<()>,
+}
+
+impl Turn {
+    /// A turn that is free.
+    pub fn new() -> Turn {
+        Turn {
+            held: Mutex::new(()),
+        }
+    }
+
+    /// Takes the turn until what it returns is dropped; nothing where it isn't free.
+    pub fn try_take(&self) -> Option<MutexGuard<'_, ()>> {
+        self.held.try_lock()
+    }
+
+    // Waits until the turn is free, and takes it.
+    fn take<R: Wait>(&self, rt: &R) -> MutexGuard<'_, ()> {
+        self.held.lock(rt)
+    }
+}
+
 /// The queue from the lanes to the worker. Contracts see it as its identity and its capacity.
 #[derive(Drop)]
 pub struct Completions {
     queue: Queue,
+    turn: Turn,
 }
 
 impl Model for Completions {
@@ -176,7 +207,8 @@ impl Completions {
         if passes.push(worker).is_err() {
             return Err(NoMemory);
         }
-        Ok((Completions { queue }, passes))
+        let turn = Turn::new();
+        Ok((Completions { queue, turn }, passes))
     }
 
     // Puts the lane's next item. It comes back where the queue was full at one moment of the call, or where the lane's counts
@@ -233,14 +265,18 @@ pub struct Lane<'l, D, T> {
 }
 
 impl<'l, D: Desk, T: Turnstile> Lane<'l, D, T> {
-    // Has the tag's piece carried out, and puts an item for the worker; where the queue is full it finishes the piece.
+    // Has the tag's piece carried out, and finished where nobody else completes one. Else it puts an item for the worker; where
+    // the queue is full it finishes the piece.
     fn carry_out<R: Wait>(&self, rt: &R, pass: &mut Pass)
         requires lane { IsLane self.now.completions.now.id self.now.tag pass.old }
         ensures lane { IsLane self.now.completions.now.id self.now.tag pass.new }
         ensures put { (pass.new.view ≡ pass.old.view) ⊎ (pass.new.view ≡ with_put pass.old.view (item_of self.now.tag (length pass.old.view.put))) }
     {
         self.turnstile.pass(rt, self.tag);
-        self.desk.act(rt, self.tag);
+        let turn = &self.completions.turn;
+        if self.desk.act_in_turn(rt, self.tag, turn) {
+            return;
+        }
         match self.completions.put(rt, pass, self.tag) {
             Ok(()) => self.desk.signal(rt),
             Err(item) => self.desk.finish(rt, item.tag),
@@ -248,8 +284,9 @@ impl<'l, D: Desk, T: Turnstile> Lane<'l, D, T> {
     }
 }
 
-/// A tag's lane. For each piece started on the tag it passes the turnstile, has the piece carried out, and puts an item for
-/// the worker; where the queue is full it finishes the piece itself. It ends once the disk is removed, and gives its pass back.
+/// A tag's lane. For each piece started on the tag it passes the turnstile, and has the piece carried out. Where nobody else
+/// completes a piece then, it finishes it at once; else it puts an item for the worker, and where the queue is full it finishes
+/// the piece itself. It ends once the disk is removed, and gives its pass back.
 pub fn serve_lane<R: Wait, D: Desk, T: Turnstile>(rt: &R, lane: &Lane<D, T>, mut pass: Pass) -> Pass
     requires lane { IsLane lane.now.completions.now.id lane.now.tag pass }
     ensures lane { IsLane lane.now.completions.now.id lane.now.tag result }
@@ -264,7 +301,7 @@ pub fn serve_lane<R: Wait, D: Desk, T: Turnstile>(rt: &R, lane: &Lane<D, T>, mut
     pass
 }
 
-/// The worker. It takes items, passes its own turnstile with the tag of each, and finishes the piece on that tag. Where there
+/// The worker. It takes items, passes its own turnstile with the tag of each, and finishes the piece on that tag in its turn. Where there
 /// is none it sleeps until a lane signals. It ends where a look at the queue that began after the disk was removed finds none,
 /// and gives its pass back.
 pub fn serve_completions<R: Wait, D: Desk, T: Turnstile>(
@@ -292,6 +329,7 @@ pub fn serve_completions<R: Wait, D: Desk, T: Turnstile>(
             continue;
         };
         turnstile.pass(rt, item.tag);
+        let _turn = completions.turn.take(rt);
         desk.finish(rt, item.tag);
     }
     unreachable!()
