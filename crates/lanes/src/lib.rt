@@ -273,11 +273,11 @@ impl<'l, D: Desk, T: Turnstile> Lane<'l, D, T> {
         ensures put { (pass.new.view ≡ pass.old.view) ⊎ (pass.new.view ≡ with_put pass.old.view (item_of self.now.tag (length pass.old.view.put))) }
     {
         self.turnstile.pass(rt, self.tag);
-        let turn = &self.completions.turn;
-        if self.desk.act_in_turn(rt, self.tag, turn) {
+        let completions: &Completions = self.completions;
+        if self.desk.act_in_turn(rt, self.tag, &completions.turn) {
             return;
         }
-        match self.completions.put(rt, pass, self.tag) {
+        match completions.put(rt, pass, self.tag) {
             Ok(()) => self.desk.signal(rt),
             Err(item) => self.desk.finish(rt, item.tag),
         }
