@@ -22,3 +22,4 @@ mod Kept
 mod Answered
 mod Later
 mod Remaining
+mod Exchanging

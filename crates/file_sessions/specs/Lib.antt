@@ -7,3 +7,4 @@ pub mod Laws
 pub mod Worked
 pub mod OneByOne
 pub mod Behind
+pub mod Arrays

@@ -8,17 +8,18 @@
 //!
 //! A run whose acts and faults are pieces that a file carried out is a session (`RunsAreSessions`): what a loss leaves
 //! of the file is what it may leave by `loss` (`SurvivorsAreLeft`). So it is at any moment, also within a call
-//! (`MomentsAreSessions`), and sessions one behind the other are one trace (`SeriesAreSessions`). A write that was
-//! answered SUCCESS is in the file behind a loss if it was write-through (`ThroughSurvives`), or once a flush that was
-//! called behind its answer was answered SUCCESS, with no failed sync between (`SuccessSurvives`), until its sector is
-//! written again. Where requests are served one at a time their answers alone say so, at any moment behind them
-//! (`answers_survive`, `LaterMomentsAreSessions`); a sector that none writes is as it was (`UntouchedSurvives`), and the
-//! end of the process alone loses nothing that was answered, where no sync failed since or is under way
-//! (`AnsweredRemains`).
+//! (`MomentsAreSessions`), and over any arrays (`AnyArraysDo`); sessions one behind the other are one trace
+//! (`SeriesAreSessions`). A write that was answered SUCCESS is in the file behind a loss if it was write-through
+//! (`ThroughSurvives`), or once a flush that was called behind its answer was answered SUCCESS, with no failed sync
+//! between (`SuccessSurvives`), until its sector is written again. Where requests are served one at a time their answers
+//! alone say so, at any moment behind them (`answers_survive`, `LaterMomentsAreSessions`); a sector that none writes is
+//! as it was (`UntouchedSurvives`), and the end of the process alone loses nothing that was answered, where no sync
+//! failed since or is under way (`AnsweredRemains`).
 //!
 //! That a file keeps to `Stored` is a premise; that a program makes such a run isn't said here.
 #![tactic(auto)]
 
+ghost use Rattle.file_sessions.specs.Arrays.{AnyArraysDo};
 ghost use Rattle.file_sessions.specs.Behind.{LaterMomentsAreSessions};
 ghost use Rattle.file_sessions.specs.Laws.{
   CertainSurvives,
@@ -63,6 +64,11 @@ pub fn deed_runs_join()
 /// Sessions one behind the other are a trace with losses and ends.
 pub fn series_are_sessions()
     ensures { SeriesAreSessions }
+{}
+
+/// A machine that moves no sectors makes the same session over any arrays.
+pub fn any_arrays_do()
+    ensures { AnyArraysDo }
 {}
 
 /// What a loss of power leaves of a file is what it may leave of the machine's sectors, and so is what the end of the

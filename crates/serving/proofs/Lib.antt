@@ -20,3 +20,4 @@ mod Asking
 mod Rounds
 mod Keeping
 mod Meanwhile
+mod Series

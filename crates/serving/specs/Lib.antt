@@ -8,4 +8,5 @@ pub mod OnDisk
 pub mod Telling
 pub mod Tracing
 pub mod Lasting
+pub mod Series
 pub mod Keeping

@@ -11,7 +11,8 @@
 //! call failed, or none was made (`synced`, `IsPutFault`). `check_apart` refuses an image that is known to be CONFIG
 //! or the output. A session over a file that keeps to `Stored` is one of the table of `loss`, behind what was told of
 //! each request and at any moment of it (`served_are_sessions`): what a loss of power leaves is what that table lets it
-//! leave. So a write that a client was told as done stays, at any later moment, until a request writes its sector: if it
+//! leave. Sessions one behind the other, of whatever partitions, are one trace of that table, with a line for how each
+//! ended (`served_series_are_sessions`). So a write that a client was told as done stays, at any later moment, until a request writes its sector: if it
 //! was write-through, or once a flush that came behind it was told as done, with no failed sync between
 //! (`done_is_kept`); the end of the process alone loses nothing that was told as done, where no sync failed since or was
 //! under way (`AnsweredIsKept`); and sessions in a row keep what one of them left (`StaysOverSessions`). A `Trace`, if its
@@ -34,7 +35,7 @@ pub use faults::{Difference, DiskFault, Error};
 pub use filed::Filed;
 pub use on_disk::{
     commands_by_hand, disk_bytes, done_is_kept, open_file, put_table, read_only, serve_file,
-    served_are_sessions, traces_tell_sessions,
+    served_are_sessions, served_series_are_sessions, traces_tell_sessions,
 };
 pub use pens::{Pen, Silent, Trace};
 pub use same_file::{Inode, check_apart};

@@ -20,6 +20,7 @@ ghost use Rattle.serving.specs.Carried.{StandsIn, TellsOn};
 ghost use Rattle.serving.specs.Lasting.{ServedAreSessions, ServedMomentsAreSessions};
 ghost use Rattle.serving.specs.OnDisk.{Differs, DiffersFrom, HasNoFaults, IsFileSession, IsOpenFault, IsOpenedFor, IsPutFault};
 ghost use Rattle.serving.specs.OnDisk.{IsNotStarted, IsStartedOver, IsTableFault, StopsPutting};
+ghost use Rattle.serving.specs.Series.{ServedSeriesAreSessions};
 ghost use Rattle.serving.specs.Tracing.{TracedAreSessions, TracedMomentsAreSessions, TracesTellSessions};
 ghost use Rattle.serving.specs.Traces.{Wrote, shown_to};
 ghost use Rattle.serving.specs.declared.faults.Error.TheVariants.{NoMemory, NoPartition};
@@ -423,6 +424,18 @@ pub fn traces_tell_sessions()
     ensures moments { TracedMomentsAreSessions }
 {
     file_sessions::runs_are_sessions();
+}
+
+/// Says that sessions over a file, each over what the last one left there behind a loss of power or the end of the process,
+/// also such as were cut off at a moment, are one trace: what was told in each, and a line for how it ended. It does
+/// nothing; its contract is for callers.
+pub fn served_series_are_sessions()
+    ensures { ServedSeriesAreSessions }
+{
+    served_are_sessions();
+    traces_tell_sessions();
+    file_sessions::any_arrays_do();
+    file_sessions::series_are_sessions();
 }
 
 /// Serves a client over a partition of a disk in a file.
