@@ -440,15 +440,40 @@ const SECOND_ACT_FAILS: [Row; 13] = [
     (Back(1, Good, 0xA5), Some(&[Told::Good(4)])),
 ];
 
+/// Takes the steps of three tags. A table and the type of an adapter stand in functions of their own: together they are
+/// dear to prove.
+fn run_three_tags<A: Adapter>(rt: &impl Abort, alloc: Global, adapter: A) -> Result<(), Fail>
+    requires few { (A.view adapter).accepted ≡ 0 }
+    requires labels { length (A.view adapter).labels ≡ 0 }
+{
+    run(rt, alloc, adapter, &THREE_TAGS)
+}
+
+/// Takes the steps on a disk whose second act fails, and which tells of itself what the one in memory does.
+fn run_failing<A: Adapter>(rt: &impl Abort, alloc: Global, adapter: A) -> Result<(), Fail>
+    requires few { (A.view adapter).accepted ≡ 0 }
+    requires labels { length (A.view adapter).labels ≡ 0 }
+{
+    same(rt, &adapter.sector_size(), &512);
+    same(rt, &adapter.max_transfer(), &64);
+    assert!(rt; adapter.is_faithful() && adapter.failures() == 0);
+    run(rt, alloc, adapter, &SECOND_ACT_FAILS)
+}
+
+/// A disk whose second act fails.
+fn failing_disk(alloc: Global) -> Result<PlannedAdapter<VecDisk>, Fail>
+    ensures accepted { IfOk result (λ a. a.inner.shown.accepted ≡ 0) }
+    ensures labels { IfOk result (λ a. length a.inner.shown.labels ≡ 0) }
+{
+    let disk = disk_of(alloc, 2, false)?;
+    Ok(PlannedAdapter::failing_once(alloc, disk, 1)?)
+}
+
 #[test]
 fn tags_serve_at_once_and_resets_are_met(rt: HostRuntime) -> Result<(), Fail> {
     let alloc = rt.alloc();
-    run(&rt, alloc, disk_of(alloc, 3, false)?, &THREE_TAGS)?;
-    let once = PlannedAdapter::failing_once(alloc, disk_of(alloc, 2, false)?, 1)?;
-    same(&rt, &once.sector_size(), &512);
-    same(&rt, &once.max_transfer(), &64);
-    assert!(rt; once.is_faithful() && once.failures() == 0);
-    run(&rt, alloc, once, &SECOND_ACT_FAILS)
+    run_three_tags(&rt, alloc, disk_of(alloc, 3, false)?)?;
+    run_failing(&rt, alloc, failing_disk(alloc)?)
 }
 
 /// The disk of an adapter of one tag, of whose labels contracts alone read the bytes.
