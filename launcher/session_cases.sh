@@ -57,13 +57,44 @@ run_session() (
     [ ! -f disk ] || { cp disk "$scratch/found/$it.disk" && digits_of "$scratch/found/$it.disk"; }
 )
 
+# Kills sessions over a file below a cache that loses what was not synced (bench/loss), and prints whether no sector was wrong.
+kill_sessions() {
+    local status=0
+    timeout 150 python3 "$top/bench/loss/sessions.py" --first 1 "$@" L "$program" settings 0 --disk L/disk.img > said || status=$?
+    grep -o ' 0 wrong$' said
+    return "$status"
+}
+
+# run_losing NAME WORDS..: such sessions in a folder of its own.
+run_losing() (
+    mkdir -p "$scratch/files/losing.$1/L"
+    cd "$scratch/files/losing.$1" || return
+    cp "$top/bench/loss/settings" .
+    "${CC:-cc}" -O2 -shared -fPIC -o L/losing.so "$top/bench/loss/losing.c" -ldl
+    "$program" settings 0 --disk L/disk.img --create < /dev/null > made
+    note_run "$scratch/found/losing.$1" /dev/null kill_sessions "${@:2}"
+)
+
+# Nothing is lost that was synced, with one request out or sixteen, and where a sync fails; a disk that lies is caught.
+run_losing_sessions() {
+    local it
+    for it in one sixteen failing; do echo ' 0 wrong' | want "losing.$it" 0; done
+    want losing.lying 1 < /dev/null
+    run_losing one --seed 1 20
+    run_losing sixteen --out 16 --seed 2 20
+    run_losing failing --out 16 --fail 2 --seed 3 20
+    run_losing lying --lie --seed 5 5
+}
+
 # Runs all cases of the server, and compares them.
 run_server_cases() {
     local folder
     make_case_folders
     while IFS= read -r folder; do run_session "$folder"; done < <(session_folders)
     run_refused_words
+    run_losing_sessions
     count_cases "nbd_disk, sessions" examples.
     count_cases "nbd_disk, words refused" refused.
+    count_cases "nbd_disk, loss of power" losing.
     cp "$scratch"/*.counts "${scratch%/*}"
 }
