@@ -1,15 +1,19 @@
 -- What a register may have had at the start.
-use Rattle.std.proofs.Common.{◌≡◌, ◌<◌, ◌≤◌, ◌⊎◌, inl, inr, ℕ, zero, suc, ◌+◌, Bool, true, false, List, [], ◌∷◌, ◌++◌, refl, sym, ◌∙◌, ap, subst, arith, get_or, length, take, drop}
-use Rattle.std.specs.Prelude.{All, Contains, Result, IfOk}
+use Rattle.std.proofs.Common.{◌≡◌, ◌<◌, ◌≤◌, ◌⊎◌, inl, inr, ℕ, zero, suc, ◌+◌, Bool, true, false, List, [], ◌∷◌, ◌++◌, refl, sym, ◌∙◌, ap, subst, arith, append-nil, get_or, length, take, drop}
+use Rattle.std.specs.Prelude.{All, Contains}
 use Rattle.std.proofs.lemmas.List.{take_more, take_all}
-use Rattle.std.proofs.lemmas.List.Elements.{All-nil, All-append, All-cons, All-head, All-tail, All-contains}
+use Rattle.std.proofs.lemmas.List.Elements.{All-nil, All-append, All-cons, All-head, All-tail, All-contains, Contains-append_left, Contains-push}
 use Rattle.register.specs.declared.Sight.{Sight}
 use Rattle.register.specs.declared.Sight.TheVariants.{Write, Read, Done, Failed}
-use Rattle.register.specs.Schedules.{Event, Seen, Effect, seen_of, value_after, IsCalledFor, TakesEffect, May, IsSchedule, HasSchedule, PrefixesAreScheduled}
-use Rattle.register_judge.specs.declared.Verdict.{Verdict}
-use Rattle.register_judge.specs.declared.Verdict.TheVariants.{Passed, Refused, Undecided}
-use Rattle.register_judge.specs.Verdicts.{IsRefusal}
-use Rattle.history_judge.specs.inside.Starting.{IsEarly, Keeps, TakesStart, HasStarts, IsTriedWith, IsTriedOf, IsTriedAll, IsTriedAny, IsTriedBy, IsBetter}
+use Rattle.register.specs.Schedules.{Event, Seen, Effect, seen_of, value_after, IsCalledFor, TakesEffect, May, IsSchedule, HasSchedule}
+use Rattle.register_judge.specs.declared.observed.SoFar.{SoFar}
+use Rattle.register_judge.specs.declared.observed.SoFar.TheVariants.{Passed, Refused, Undecided}
+use Rattle.register_judge.specs.Observed.{IsSoFar}
+use Rattle.std.specs.Bool.{OnTrue}
+use Rattle.history_judge.specs.declared.trying.Starts.{Starts}
+use Rattle.history_judge.specs.declared.trying.Try.{Try}
+use Rattle.history_judge.specs.inside.Cells.{starts_in, IsTry, AreBegun}
+use Rattle.history_judge.specs.inside.Starting.{IsEarly, Keeps, TakesStart, HasStarts, StartsOf, Counts, Serves, so_far_if, IsTriedOf, IsTriedAll, IsTriedAny, IsTriedBy, IsBetter}
 
 -- EVENTS
 
@@ -159,10 +163,10 @@ drop_out [] (suc i) end = refl
 drop_out (x ∷ xs) zero end = absurd (omega arith)
 drop_out (x ∷ xs) (suc i) end = drop_out xs i (omega arith)
 
--- those of the sights so far are there
+-- those of the sights so far are there, whatever comes behind them
 pub record HasStartsTo (first : ℕ) (sights : List Sight) (index : ℕ) (values : List ℕ) : Type 0 where
   pub has_first : Contains values first
-  pub early : (value : ℕ) → IsEarly value sights → Contains values value ⊎ IsEarly value (drop index sights)
+  pub early : (more : List Sight) (value : ℕ) → IsEarly value (sights ++ more) → Contains values value ⊎ IsEarly value (drop index sights ++ more)
 
 taken : (sight : Sight) (later : List Sight) (old new : List ℕ) (goes : Bool) → TakesStart old sight new goes → (value : ℕ) → IsEarly value (sight ∷ later) → Contains new value ⊎ ((goes ≡ true) × IsEarly value later)
 taken (Read number other) later old new goes takes value (inl e) = inl (subst (Contains new) e takes.2)
@@ -178,79 +182,121 @@ kept (Write number other) old new goes takes = takes.1
 kept (Failed number) old new goes takes = takes.1
 
 starts_step : (first : ℕ) (sights : List Sight) (i : ℕ) (d : Sight) (old new : List ℕ) (goes : Bool) → i < length sights → HasStartsTo first sights i old
-    → TakesStart old (get_or sights i d) new goes → (value : ℕ) → IsEarly value sights → Contains new value ⊎ ((goes ≡ true) × IsEarly value (drop (i + 1) sights))
-starts_step first sights i d old new goes low h takes value early = elim (h.early value early) [
+    → TakesStart old (get_or sights i d) new goes → (more : List Sight) (value : ℕ) → IsEarly value (sights ++ more) → Contains new value ⊎ ((goes ≡ true) × IsEarly value (drop (i + 1) sights ++ more))
+starts_step first sights i d old new goes low h takes more value early = elim (h.early more value early) [
   | inl there ↦ inl (kept (get_or sights i d) old new goes takes value there)
-  | inr left ↦ taken (get_or sights i d) (drop (i + 1) sights) old new goes takes value (subst (IsEarly value) (drop_sight sights i d low) left)
+  | inr left ↦ taken (get_or sights i d) (drop (i + 1) sights ++ more) old new goes takes value (subst (λ xs. IsEarly value (xs ++ more)) (drop_sight sights i d low) left)
 ]
+
+pub starts_none : (first : ℕ) (sights : List Sight) (values : List ℕ) → values ≡ first ∷ [] → HasStartsTo first sights 0 values
+starts_none first sights values is = record {
+  has_first = subst (λ xs. Contains xs first) (sym is) (zero, omega arith, refl);
+  early = λ more value early. inr early;
+}
 
 pub starts_more : (first : ℕ) (sights : List Sight) (i : ℕ) (d : Sight) (old new : List ℕ) (goes : Bool) → i < length sights → HasStartsTo first sights i old
     → TakesStart old (get_or sights i d) new goes → HasStartsTo first sights (i + 1) new
 starts_more first sights i d old new goes low h takes = record {
   has_first = kept (get_or sights i d) old new goes takes first h.has_first;
-  early = λ value early. elim (starts_step first sights i d old new goes low h takes value early) [ inl there ↦ inl there | inr left ↦ inr left.1 ];
+  early = λ more value early. elim (starts_step first sights i d old new goes low h takes more value early) [ inl there ↦ inl there | inr left ↦ inr left.1 ];
 }
 
-pub starts_over : (first : ℕ) (sights : List Sight) (i : ℕ) (d : Sight) (old new : List ℕ) (goes : Bool) → i < length sights → HasStartsTo first sights i old
-    → TakesStart old (get_or sights i d) new goes → goes ≡ false → HasStarts first sights new
-starts_over first sights i d old new goes low h takes over = record {
+over_all : (first : ℕ) (sights : List Sight) (i : ℕ) (d : Sight) (old new : List ℕ) (goes : Bool) → i < length sights → HasStartsTo first sights i old
+    → TakesStart old (get_or sights i d) new goes → goes ≡ false → (more : List Sight) → HasStarts first (sights ++ more) new
+over_all first sights i d old new goes low h takes over more = record {
   has_first = kept (get_or sights i d) old new goes takes first h.has_first;
-  early = λ value early. elim (starts_step first sights i d old new goes low h takes value early) [ inl there ↦ there | inr left ↦ let on : goes ≡ true = left.0 in absurd (cc (on, over)) ];
+  early = λ value early. elim (starts_step first sights i d old new goes low h takes more value early) [
+    | inl there ↦ there
+    | inr left ↦ let on : goes ≡ true = left.0 in absurd (cc (on, over))
+  ];
 }
 
-pub starts_all : (first : ℕ) (sights : List Sight) (i : ℕ) (values : List ℕ) → length sights ≤ i → HasStartsTo first sights i values → HasStarts first sights values
-starts_all first sights i values end h = record {
-  has_first = h.has_first;
-  early = λ value early. elim (h.early value early) [ inl there ↦ there | inr left ↦ absurd (subst (IsEarly value) (drop_out sights i end) left) ];
+pub starts_over : (first : ℕ) (sights : List Sight) (i : ℕ) (d : Sight) (old : List ℕ) (starts : Starts) (goes : Bool) → i < length sights → HasStartsTo first sights i old
+    → TakesStart old (get_or sights i d) starts.values.items goes → goes ≡ false → StartsOf first sights starts
+starts_over first sights i d old starts goes low h takes over = record {
+  here = subst (λ xs. HasStarts first xs starts.values.items) (append-nil sights) (over_all first sights i d old starts.values.items goes low h takes over []);
+  later = λ is more. over_all first sights i d old starts.values.items goes low h takes over more;
+}
+
+pub starts_all : (first : ℕ) (sights : List Sight) (i : ℕ) (starts : Starts) → length sights ≤ i → starts.over ≡ false → HasStartsTo first sights i starts.values.items → StartsOf first sights starts
+starts_all first sights i starts end going h = record {
+  here = record {
+    has_first = h.has_first;
+    early = λ value early. elim (h.early [] value (subst (IsEarly value) (sym (append-nil sights)) early)) [
+      | inl there ↦ there
+      | inr left ↦ absurd (subst (IsEarly value) (ap (λ xs. xs ++ []) (drop_out sights i end)) left)
+    ];
+  };
+  later = λ is more. absurd (cc (sym going ∙ is));
 }
 
 -- VERDICTS
 
-pub refused_at : PrefixesAreScheduled → (start : ℕ) (sights : List Sight) (left : ℕ) → IsRefusal start sights left → HasSchedule start sights → ⊥
-refused_at prefixes start sights left refusal h = refusal.none (prefixes start sights left h)
-
-module _ (size : ℕ) (table : List (List ℕ)) (sights : List Sight) where
-  by_all : PrefixesAreScheduled → (values : List ℕ) (value : ℕ) (a b verdict : Verdict) → IsTriedAll size table values sights a → IsTriedOf size table value sights b → IsBetter a b verdict
-      → IsTriedAll size table (values ++ value ∷ []) sights verdict
-  by_all prefixes values value a b Passed all one better = elim (better.passes refl) [
-    | inl e ↦ subst (IsTriedAll size table values sights) e all
-    | inr e ↦ subst (IsTriedOf size table value sights) e one
+module _ (any : Bool) (size : ℕ) (sights : List Sight) where
+  by_all : (values : List ℕ) (value : ℕ) (a b best : SoFar) → IsTriedAll any size values sights a → IsTriedOf any size value sights b → IsBetter a b best → IsTriedAll any size (values ++ value ∷ []) sights best
+  by_all values value a b Passed all one better = elim (better.passes refl) [
+    | inl e ↦
+        let h : IsTriedAll any size values sights Passed = subst (IsTriedAll any size values sights) e all in
+        (h.0, Contains-append_left values (value ∷ []) h.0 h.1, h.2)
+    | inr e ↦ (value, Contains-push values value, subst (IsTriedOf any size value sights) e one)
   ]
-  by_all prefixes values value (Refused left) (Refused other) (Refused both) all one better =
-      All-append (λ start. HasSchedule start sights → ⊥) values (value ∷ []) all
-      (All-cons (λ start. HasSchedule start sights → ⊥) value [] (refused_at prefixes value sights other one) (All-nil (λ start. HasSchedule start sights → ⊥)))
-  by_all prefixes values value Passed b (Refused both) all one better = absurd (better.refused tt).0
-  by_all prefixes values value Undecided b (Refused both) all one better = absurd (better.refused tt).0
-  by_all prefixes values value (Refused left) Passed (Refused both) all one better = absurd (better.refused tt).1
-  by_all prefixes values value (Refused left) Undecided (Refused both) all one better = absurd (better.refused tt).1
-  by_all prefixes values value a b Undecided all one better = tt
+  by_all values value a b Refused all one better =
+      let both = better.refused refl in
+      All-append (λ start. HasSchedule start sights → ⊥) values (value ∷ []) (subst (IsTriedAll any size values sights) both.0 all)
+      (All-cons (λ start. HasSchedule start sights → ⊥) value [] (subst (IsTriedOf any size value sights) both.1 one) (All-nil (λ start. HasSchedule start sights → ⊥)))
+  by_all values value a b Undecided all one better = tt
 
-  pub tried_more : PrefixesAreScheduled → (values : List ℕ) (i d : ℕ) (a b verdict : Verdict) → i < length values → IsTriedAll size table (take i values) sights a
-      → IsTriedOf size table (get_or values i d) sights b → IsBetter a b verdict → IsTriedAll size table (take (i + 1) values) sights verdict
-  tried_more prefixes values i d a b verdict low all one better =
-      subst (λ xs. IsTriedAll size table xs sights verdict) (sym (take_more values i d low)) (by_all prefixes (take i values) (get_or values i d) a b verdict all one better)
+  starts_push : (tries : List Try) (t : Try) → starts_in (tries ++ t ∷ []) ≡ starts_in tries ++ t.start ∷ []
+  starts_push [] t = refl
+  starts_push (x ∷ tries) t = ap (λ xs. x.start ∷ xs) (starts_push tries t)
 
-  pub tried_all : (values : List ℕ) (i : ℕ) (verdict : Verdict) → length values ≤ i → IsTriedAll size table (take i values) sights verdict → IsTriedAll size table values sights verdict
-  tried_all values i verdict end h = subst (λ xs. IsTriedAll size table xs sights verdict) (take_all i values end) h
+  pub tried_more : (tries : List Try) (i : ℕ) (d : Try) (a b best : SoFar) → i < length tries → IsTriedAll any size (starts_in (take i tries)) sights a
+      → IsTriedOf any size (get_or tries i d).start sights b → IsBetter a b best → IsTriedAll any size (starts_in (take (i + 1) tries)) sights best
+  tried_more tries i d a b best low all one better =
+      subst (λ xs. IsTriedAll any size (starts_in xs) sights best) (sym (take_more tries i d low))
+      (subst (λ xs. IsTriedAll any size xs sights best) (sym (starts_push (take i tries) (get_or tries i d)))
+      (by_all (starts_in (take i tries)) (get_or tries i d).start a b best all one better))
 
-  -- where no start that is tried serves, none does
-  pub tried_any : (first : ℕ) (values : List ℕ) (verdict : Verdict) → HasStarts first sights values → IsTriedAll size table values sights verdict → IsTriedAny size table sights verdict
-  tried_any first values Passed starts h = h
-  tried_any first values Undecided starts h = tt
-  tried_any first values (Refused left) starts h = λ start schedule.
-      elim (started start first sights schedule) [
-        | inl early ↦ All-contains (λ v. HasSchedule v sights → ⊥) values start h (starts.early start early) schedule
-        | inr from_first ↦ All-contains (λ v. HasSchedule v sights → ⊥) values first h starts.has_first from_first
-      ]
+  pub tried_all : (tries : List Try) (i : ℕ) (best : SoFar) → length tries ≤ i → IsTriedAll any size (starts_in (take i tries)) sights best → IsTriedAll any size (starts_in tries) sights best
+  tried_all tries i best end h = subst (λ xs. IsTriedAll any size (starts_in xs) sights best) (take_all i tries end) h
 
--- BY ONE START OR ANY
+-- where no start that is tried serves, none does
+pub tried_any : (size first : ℕ) (sights : List Sight) (values : List ℕ) (best : SoFar) → HasStarts first sights values → IsTriedAll true size values sights best → IsTriedAny size sights best
+tried_any size first sights values Passed starts h = record { start = h.0; sized = h.2.counts; schedule = h.2.schedule }
+tried_any size first sights values Undecided starts h = tt
+tried_any size first sights values Refused starts h = λ start schedule.
+    elim (started start first sights schedule) [
+      | inl early ↦ All-contains (λ v. HasSchedule v sights → ⊥) values start h (starts.early start early) schedule
+      | inr from_first ↦ All-contains (λ v. HasSchedule v sights → ⊥) values first h starts.has_first from_first
+    ]
 
-pub by_any : {E : Type 0} (any : Bool) (size : ℕ) (table : List (List ℕ)) (first : ℕ) (sights : List Sight) (result : Result Verdict E) → any ≡ true → IfOk result (IsTriedAny size table sights)
-    → IfOk result (IsTriedBy any size table first sights)
-by_any true size table first sights result is h = h
-by_any false size table first sights result is h = absurd (cc (is))
+tried_one : (size start : ℕ) (sights : List Sight) (best : SoFar) → IsTriedAll false size (start ∷ []) sights best → IsSoFar start sights best
+tried_one size start sights Passed h = subst (λ v. HasSchedule v sights) (sym (only start h.0 h.1)) h.2.schedule
+  where
+    only : (x y : ℕ) → Contains (x ∷ []) y → x ≡ y
+    only x y (zero, low, is) = is
+    only x y (suc k, low, is) = absurd (omega (arith, low))
+tried_one size start sights Refused h = All-head (λ v. HasSchedule v sights → ⊥) start [] h
+tried_one size start sights Undecided h = tt
 
-pub by_first : {E : Type 0} (any : Bool) (size : ℕ) (table : List (List ℕ)) (first : ℕ) (sights : List Sight) (result : Result Verdict E) → any ≡ false → IfOk result (IsTriedWith (length table) first sights)
-    → IfOk result (IsTriedBy any size table first sights)
-by_first false size table first sights result is h = h
-by_first true size table first sights result is h = absurd (cc (is))
+-- what is known by tries that are begun
+pub tried_by : (any : Bool) (size start : ℕ) (seen given : List Sight) (values : List ℕ) (best : SoFar) → AreBegun any start seen values → (values ≡ [] → ⊥) → IsTriedAll any size values (seen ++ given) best
+    → IsTriedBy any size start (seen ++ given) best
+tried_by false size start seen given values best begun some h = tried_one size start (seen ++ given) best (subst (λ xs. IsTriedAll false size xs (seen ++ given) best) begun h)
+tried_by true size start seen given values best begun some h = elim (begun given) [
+  | inl none ↦ absurd (some none.0)
+  | inr starts ↦ tried_any size start (seen ++ given) values best starts h
+]
+
+-- what is known of one try
+pub so_far_of : (any : Bool) (size : ℕ) (t : Try) (sights : List Sight) (counts : Bool) (so_far : SoFar) → OnTrue counts (Counts any size t.start) → IsTry sights t → IsSoFar t.seen.start t.seen.sights so_far
+    → IsTriedOf any size t.start sights (so_far_if counts so_far)
+so_far_of any size t sights counts so_far counted is h = by_counts counts so_far counted (subst (λ xs. IsSoFar t.start xs so_far) is.sights (subst (λ s. IsSoFar s t.seen.sights so_far) is.start h))
+  where
+    by_counts : (counts : Bool) (so_far : SoFar) → OnTrue counts (Counts any size t.start) → IsSoFar t.start sights so_far → IsTriedOf any size t.start sights (so_far_if counts so_far)
+    by_counts true Passed counted h = record { counts = counted; schedule = h }
+    by_counts false Passed counted h = tt
+    by_counts true Refused counted h = h
+    by_counts false Refused counted h = h
+    by_counts true Undecided counted h = tt
+    by_counts false Undecided counted h = tt

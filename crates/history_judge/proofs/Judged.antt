@@ -1,130 +1,90 @@
 -- Verdicts of sectors.
-use Rattle.std.proofs.Common.{◌≡◌, ◌<◌, ◌⊎◌, inl, inr, ℕ, ◌+◌, Bool, true, false, List, [], ◌∷◌, Option, Some, None, refl, sym, ◌∙◌, subst, length, get_or, take, append-nil, ap}
+use Rattle.std.proofs.Common.{◌≡◌, ◌<◌, ◌≤◌, ◌⊎◌, inl, inr, ℕ, suc, ◌+◌, Bool, true, false, List, [], ◌∷◌, ◌++◌, Option, Some, None, refl, sym, ◌∙◌, ap, subst, arith, length, get_or, take, append-nil, replicate}
 use Rattle.std.specs.Prelude.{All, Contains}
-use Rattle.std.proofs.lemmas.List.{take_more}
+use Rattle.std.proofs.lemmas.List.{take_more, take_all, length-replicate}
 use Rattle.std.proofs.lemmas.List.Elements.{All-nil, All-append, All-contains, All-cons}
-use Rattle.std.proofs.lemmas.List.Sorted.{All-permutation, IsPermutation-sym}
-use Rattle.std.specs.List.Sorted.{IsPermutation}
 use Rattle.machine.specs.declared.Label.{Label}
 use Rattle.machine.specs.Rules.{Rules}
 use Rattle.history_laws.specs.Fitting.{all_fit_at_first}
 use Rattle.history_laws.specs.Laws.{ExplainedFit}
+use Rattle.register.specs.Values.{code, CodesTell}
 use Rattle.register.specs.declared.Sight.{Sight}
-use Rattle.register.specs.Schedules.{HasSchedule, PrefixesAreScheduled}
-use Rattle.register_judge.specs.declared.Verdict.{Verdict as RegisterVerdict}
-use Rattle.register_judge.specs.declared.Verdict.TheVariants.{Passed as RegisterPassed, Refused as RegisterRefused}
+use Rattle.register.specs.declared.Sight.TheVariants.{Write, Read, Done, Failed}
+use Rattle.register.specs.Schedules.{HasSchedule}
+use Rattle.register_judge.specs.declared.observed.SoFar.{SoFar}
+use Rattle.register_judge.specs.declared.observed.SoFar.TheVariants.{Passed as PassedSoFar, Refused as RefusedSoFar, Undecided as UndecidedSoFar}
+use Rattle.history.specs.declared.Wait.{Wait}
 use Rattle.history.specs.Sights.{sights_of}
+use Rattle.history.specs.Waits.{known, ShownByWaits}
 use Rattle.history.specs.Refusing.{RefusedAreUnexplained}
+use Rattle.history_shown.specs.Laws.{IsReadBelow, ShownAreScheduled}
 use Rattle.history_judge.specs.declared.service.Service.{Service}
-use Rattle.history_judge.specs.declared.recorded.Fitted.{Fitted}
-use Rattle.history_judge.specs.inside.Histories.{IsWhole}
 use Rattle.history_judge.specs.declared.service.Place.{Place}
+use Rattle.history_judge.specs.declared.cells.Cells.{Cells}
 use Rattle.history_judge.specs.declared.fitting.Misfit.{Misfit as MisfitWhy}
 use Rattle.history_judge.specs.declared.judging.Verdict.{Verdict}
 use Rattle.history_judge.specs.declared.judging.Verdict.TheVariants.{Passed, Misfit, Refused, Undecided}
 use Rattle.history_judge.specs.Services.{rules_of}
-use Rattle.history_judge.specs.Values.{number_in, IsBelow}
-use Rattle.history_judge.specs.Verdicts.{IsTouched, Passes, PassesFromSome, IsUnexplained, IsUnfit}
-use Rattle.history_judge.specs.inside.Touching.{HasTouched}
-use Rattle.history_judge.specs.inside.Judging.{PassesBy, IsRightBy, IsRightOf, IsOneOf}
-use Rattle.history_judge.specs.inside.Starting.{Stands, StandsFrom, IsTriedWith, IsTriedAny, IsTriedBy}
-use Rattle.std.specs.Bool.{OnTrue}
-use Rattle.history_judge.specs.inside.Picking.{picked, HasRow}
-use Rattle.history_judge.specs.inside.Rows.{AreRising}
-use Rattle.history_judge.specs.inside.Tables.{AreOnce}
-use Rattle.history_judge.specs.inside.Keeping.{KeptView, IsKept, chosen, sights_seen}
-use Rattle.history_judge.proofs.Keeping.{shown_by_entries}
-use Rattle.history_judge.proofs.Begun.{refused_at}
+use Rattle.history_judge.specs.Verdicts.{IsTouched, Passes, PassesFromSome, IsUnexplained, IsUnfit, IsRightBy}
+use Rattle.history_judge.specs.inside.Starting.{StandsFrom, IsTriedAny, IsTriedBy}
+use Rattle.history_judge.specs.inside.Cells.{seen_of, index_at, cell_by, IsCellAt, HasCells}
+use Rattle.history_judge.specs.inside.Judging.{Shows, ShowsFromSome, ShowsBy, IsRightOf, IsOneOf, IsVerdictOf}
 use Rattle.history_judge.proofs.Alike.{shown_alike, fits_alike}
-use Rattle.history_judge.proofs.Thinning.{shown_by_row}
 
-module _ (law : RefusedAreUnexplained) (service : Service) (labels : List Label) (place : Place) (table : List (List ℕ)) (shown : List Sight)
-    (is : shown ≡ sights_of (number_in table) (rules_of service) place.partition place.sector [] labels) where
-  -- a sector that shows what has no schedule from some bytes on
-  unexplained : (start : List ℕ) → (HasSchedule (number_in table start) shown → ⊥) → IsUnexplained service start labels place
-  unexplained start none = λ rules arrays of whole there.
-      law (number_in table) rules arrays labels place.partition place.sector start whole there
-      λ schedule. none (subst (HasSchedule (number_in table start)) (shown_alike service rules of (number_in table) place.partition place.sector labels ∙ sym is) schedule)
+-- a number above all that is read
+abbrev above : List Sight → ℕ
+above [] = 0
+above (Read number value ∷ sights) = suc (value + above sights)
+above (Write number value ∷ sights) = above sights
+above (Done number ∷ sights) = above sights
+above (Failed number ∷ sights) = above sights
 
-  pub refused_by : PrefixesAreScheduled → (any : Bool) (start : List ℕ) (verdict : RegisterVerdict) (count : ℕ) (label : ℕ) → verdict ≡ RegisterRefused count
-      → IsTriedBy any service.sector_size table (number_in table start) shown verdict → IsRightBy any service start labels (Refused place label)
-  refused_by prefixes true start verdict count label told h = λ bytes.
-      unexplained bytes ((subst (IsTriedAny service.sector_size table shown) told h) (number_in table bytes))
-  refused_by prefixes false start verdict count label told h =
-      unexplained start (refused_at prefixes (number_in table start) shown count (subst (IsTriedWith (length table) (number_in table start) shown) told h))
+reads_below : (count : ℕ) (sights : List Sight) → above sights ≤ count → All (IsReadBelow count) sights
+reads_below count [] low = All-nil (IsReadBelow count)
+reads_below count (Read number value ∷ sights) low = All-cons (IsReadBelow count) (Read number value) sights (omega (arith, low)) (reads_below count sights (omega (arith, low)))
+reads_below count (Write number value ∷ sights) low = All-cons (IsReadBelow count) (Write number value) sights tt (reads_below count sights low)
+reads_below count (Done number ∷ sights) low = All-cons (IsReadBelow count) (Done number) sights tt (reads_below count sights low)
+reads_below count (Failed number ∷ sights) low = All-cons (IsReadBelow count) (Failed number) sights tt (reads_below count sights low)
 
-  stands : (start : List ℕ) → Stands (length table) (number_in table start) shown → Passes service start labels place
-  stands start h = record {
-    table = table;
-    starts = h.low;
-    numbered = subst (All (IsBelow (length table))) is h.below;
-    schedule = subst (HasSchedule (number_in table start)) is h.schedule;
-  }
+-- ONE SECTOR
 
-  stands_from : StandsFrom service.sector_size table shown → PassesFromSome service labels place
-  stands_from h = record {
-    start = h.found.bytes;
-    whole = h.found.whole;
-    passes = stands h.found.bytes (subst (λ n. Stands (length table) n shown) h.found.numbered h.stands);
-  }
-
-  pub passed_by : (any : Bool) (start : List ℕ) (verdict : RegisterVerdict) → verdict ≡ RegisterPassed → IsTriedBy any service.sector_size table (number_in table start) shown verdict
-      → All (PassesBy any service start labels) (place ∷ [])
-  passed_by true start verdict told h =
-      All-cons (PassesBy true service start labels) place [] (stands_from (subst (IsTriedAny service.sector_size table shown) told h)) (All-nil (PassesBy true service start labels))
-  passed_by false start verdict told h =
-      All-cons (PassesBy false service start labels) place [] (stands start (subst (IsTriedWith (length table) (number_in table start) shown) told h)) (All-nil (PassesBy false service start labels))
-
--- what the labels of a row that rises show
-pub by_row : (code : List ℕ → ℕ) (rules : Rules) (place : Place) (labels : List Label) (rising : Bool) (row indexes : List ℕ) → rising ≡ true → OnTrue rising (AreRising 0 (length labels) row) → row ≡ indexes
-    → HasRow rules place labels indexes → sights_of code rules place.partition place.sector [] (picked labels row) ≡ sights_of code rules place.partition place.sector [] labels
-by_row code rules place labels rising row indexes is rises same has =
-    shown_by_row code rules place labels (length labels) row (subst (λ b. OnTrue b (AreRising 0 (length labels) row)) is rises) (subst (HasRow rules place labels) (sym same) has)
-
--- what the entries of a row show is what all labels show
-pub by_entries : (kept : KeptView) (rules : Rules) (place : Place) (indexes : List ℕ) (rising : Bool) → rising ≡ true → OnTrue rising (AreRising 0 (length kept.labels) indexes) → kept.size ≡ rules.sector_size → IsKept kept
-    → AreOnce kept.table → HasRow rules place kept.labels indexes
-    → sights_seen kept rules place.partition place.sector [] (chosen kept.entries indexes) ≡ sights_of (number_in kept.table) rules place.partition place.sector [] kept.labels
-by_entries kept rules place indexes rising is rises size each once has =
-    shown_by_entries kept rules size each once place.partition place.sector indexes
-    ∙ by_row (number_in kept.table) rules place kept.labels rising indexes indexes is rises refl has
-
--- labels that don't fit are explained by no run
-pub unfit : ExplainedFit → (service : Service) (labels : List Label) → all_fit_at_first (rules_of service) labels ≡ false → IsUnfit service labels
-unfit law service labels not_fit rules arrays of whole explained =
-    let fit : all_fit_at_first rules labels ≡ true = law rules arrays labels whole explained in
-    let same : all_fit_at_first rules labels ≡ all_fit_at_first (rules_of service) labels = fits_alike service rules of (None ∷ []) None labels in
-    cc (fit, same, not_fit)
-
--- labels so far fit
-pub fit_so_far : (f : Fitted) → IsWhole f → all_fit_at_first (rules_of f.service) f.kept.labels ≡ true
-fit_so_far f whole = ap (all_fit_at_first (rules_of f.service)) (sym (append-nil f.kept.labels)) ∙ whole.known []
-
--- labels that no run explains are so wherever sectors begin
-pub misfit_by : (any : Bool) (service : Service) (start : List ℕ) (labels : List Label) (label : ℕ) (why : MisfitWhy) → IsUnfit service labels → IsRightBy any service start labels (Misfit label why)
-misfit_by true service start labels label why unfit = unfit
-misfit_by false service start labels label why unfit = unfit
-
--- what is right of no sector, or of these two lists, is so whatever they are, unless it passes
-other_right : (any : Bool) (service : Service) (start : List ℕ) (labels : List Label) (old new : List Place) (verdict : Verdict) → (All (PassesBy any service start labels) old → All (PassesBy any service start labels) new)
-    → IsRightOf any service start labels old verdict → IsRightOf any service start labels new verdict
-other_right any service start labels old new Passed more h = more h
-other_right any service start labels old new (Misfit label why) more h = h
-other_right any service start labels old new (Refused place label) more h = h
-other_right any service start labels old new (Undecided place) more h = h
-
-pub same_again : (any : Bool) (service : Service) (start : List ℕ) (labels : List Label) (places : List Place) (index : ℕ) (place : Place) (found : Verdict) → index < length places
-    → ((d : Place) → Contains (take index places) (get_or places index d)) → IsRightOf any service start labels (take index places) found → IsRightOf any service start labels (take (index + 1) places) found
-same_again any service start labels places index place found low again h =
-    other_right any service start labels (take index places) (take (index + 1) places) found
-    (λ all. subst (All (PassesBy any service start labels)) (sym (take_more places index place low))
-    (All-append (PassesBy any service start labels) (take index places) (get_or places index place ∷ []) all
-    (All-cons (PassesBy any service start labels) (get_or places index place) [] (All-contains (PassesBy any service start labels) (take index places) (get_or places index place) all (again place)) (All-nil (PassesBy any service start labels)))))
-    h
-
-undecided_by : (any : Bool) (service : Service) (start : List ℕ) (labels : List Label) (place : Place) → IsRightBy any service start labels (Undecided place)
+pub undecided_by : (any : Bool) (service : Service) (start : List ℕ) (labels : List Label) (place : Place) → IsRightBy any service start labels (Undecided place)
 undecided_by true service start labels place = tt
 undecided_by false service start labels place = tt
+
+module _ (law : RefusedAreUnexplained) (waits : ShownByWaits) (service : Service) (labels : List Label) (place : Place) where
+  abbrev seen : List Sight
+  seen = known (seen_of (rules_of service) labels place.partition place.sector)
+
+  is_shown : sights_of code (rules_of service) place.partition place.sector [] labels ≡ seen
+  is_shown = waits code (rules_of service) place.partition place.sector labels
+
+  -- a sector that shows what has no schedule from some bytes on
+  unexplained : (start : List ℕ) → (HasSchedule (code start) seen → ⊥) → IsUnexplained service start labels place
+  unexplained start none = λ rules arrays of whole there.
+      law code rules arrays labels place.partition place.sector start whole there
+      λ schedule. none (subst (HasSchedule (code start)) (shown_alike service rules of code place.partition place.sector labels ∙ is_shown) schedule)
+
+  refused_by : (any : Bool) (start : List ℕ) (line : ℕ) → IsTriedBy any service.sector_size (code start) seen RefusedSoFar → IsRightBy any service start labels (Refused place line)
+  refused_by true start line h = λ bytes. unexplained bytes (h (code bytes))
+  refused_by false start line h = unexplained start h
+
+  passed_by : (any : Bool) (start : List ℕ) → IsTriedBy any service.sector_size (code start) seen PassedSoFar → ShowsBy any service start labels place
+  passed_by true start h = record {
+    start = h.sized.bytes;
+    whole = h.sized.whole;
+    shows = subst (HasSchedule (code h.sized.bytes)) (sym is_shown) (subst (λ n. HasSchedule n seen) h.sized.is h.schedule);
+  }
+  passed_by false start h = subst (HasSchedule (code start)) (sym is_shown) h
+
+  pub sector_right : (any : Bool) (start : List ℕ) (so_far : SoFar) (verdict : Verdict) → IsTriedBy any service.sector_size (code start) seen so_far → IsVerdictOf place so_far verdict
+      → IsRightOf any service start labels (place ∷ []) verdict
+  sector_right any start PassedSoFar verdict h is =
+      subst (IsRightOf any service start labels (place ∷ [])) (sym is) (All-cons (ShowsBy any service start labels) place [] (passed_by any start h) (All-nil (ShowsBy any service start labels)))
+  sector_right any start RefusedSoFar verdict h is = subst (IsRightOf any service start labels (place ∷ [])) (sym is.1) (refused_by any start is.0 h)
+  sector_right any start UndecidedSoFar verdict h is = subst (IsRightOf any service start labels (place ∷ [])) (sym is) (undecided_by any service start labels place)
+
+-- SOME SECTORS
 
 pub right_more : (any : Bool) (service : Service) (start : List ℕ) (labels : List Label) (places : List Place) (index : ℕ) (d : Place) (found verdict both : Verdict) → index < length places
     → IsRightOf any service start labels (take index places) found → IsRightOf any service start labels (get_or places index d ∷ []) verdict → IsOneOf found verdict both
@@ -133,25 +93,76 @@ right_more any service start labels places index d found verdict both low h here
   where
     by_both : (both : Verdict) → (both ≡ Passed → (found ≡ Passed) × (verdict ≡ Passed)) → (both ≡ found) ⊎ (both ≡ verdict) → IsRightOf any service start labels (take (index + 1) places) both
     by_both Passed passes one =
-        subst (All (PassesBy any service start labels)) (sym (take_more places index d low))
-        (All-append (PassesBy any service start labels) (take index places) (get_or places index d ∷ []) (subst (IsRightOf any service start labels (take index places)) (passes refl).0 h)
+        subst (All (ShowsBy any service start labels)) (sym (take_more places index d low))
+        (All-append (ShowsBy any service start labels) (take index places) (get_or places index d ∷ []) (subst (IsRightOf any service start labels (take index places)) (passes refl).0 h)
         (subst (IsRightOf any service start labels (get_or places index d ∷ [])) (passes refl).1 here))
-    by_both (Misfit label why) passes (inl e) = subst (IsRightOf any service start labels (take index places)) (sym e) h
-    by_both (Misfit label why) passes (inr e) = subst (IsRightOf any service start labels (get_or places index d ∷ [])) (sym e) here
-    by_both (Refused other label) passes (inl e) = subst (IsRightOf any service start labels (take index places)) (sym e) h
-    by_both (Refused other label) passes (inr e) = subst (IsRightOf any service start labels (get_or places index d ∷ [])) (sym e) here
+    by_both (Misfit line why) passes (inl e) = subst (IsRightOf any service start labels (take index places)) (sym e) h
+    by_both (Misfit line why) passes (inr e) = subst (IsRightOf any service start labels (get_or places index d ∷ [])) (sym e) here
+    by_both (Refused other line) passes (inl e) = subst (IsRightOf any service start labels (take index places)) (sym e) h
+    by_both (Refused other line) passes (inr e) = subst (IsRightOf any service start labels (get_or places index d ∷ [])) (sym e) here
     by_both (Undecided other) passes one = undecided_by any service start labels other
 
-all_pass : (any : Bool) (service : Service) (start : List ℕ) (labels : List Label) → all_fit_at_first (rules_of service) labels ≡ true
-    → ((place : Place) → IsTouched (rules_of service) place labels → PassesBy any service start labels place) → IsRightBy any service start labels Passed
-all_pass true service start labels fit passes = record { fit = fit; passes = passes }
-all_pass false service start labels fit passes = record { fit = fit; passes = passes }
+pub right_of_all : (any : Bool) (service : Service) (start : List ℕ) (labels : List Label) (places : List Place) (index : ℕ) (verdict : Verdict) → length places ≤ index
+    → IsRightOf any service start labels (take index places) verdict → IsRightOf any service start labels places verdict
+right_of_all any service start labels places index verdict end h = subst (λ ps. IsRightOf any service start labels ps verdict) (take_all index places end) h
 
-pub right_all : (any : Bool) (service : Service) (start : List ℕ) (labels : List Label) (places sorted : List Place) (verdict : Verdict) → all_fit_at_first (rules_of service) labels ≡ true → HasTouched (rules_of service) labels places
-    → IsPermutation places sorted → IsRightOf any service start labels sorted verdict → IsRightBy any service start labels verdict
-right_all any service start labels places sorted Passed fit touched moved h =
-    all_pass any service start labels fit
-    λ place t. All-contains (PassesBy any service start labels) places place (All-permutation (PassesBy any service start labels) sorted places (IsPermutation-sym places sorted moved) h) (touched _ t.called place t.moves)
-right_all any service start labels places sorted (Misfit label why) fit touched moved h = h
-right_all any service start labels places sorted (Refused place label) fit touched moved h = h
-right_all any service start labels places sorted (Undecided place) fit touched moved h = h
+-- ALL SECTORS
+
+-- labels that don't fit are explained by no run
+pub unfit : ExplainedFit → (service : Service) (labels : List Label) → all_fit_at_first (rules_of service) labels ≡ false → IsUnfit service labels
+unfit law service labels not_fit rules arrays of whole explained =
+    let fit : all_fit_at_first rules labels ≡ true = law rules arrays labels whole explained in
+    let same : all_fit_at_first rules labels ≡ all_fit_at_first (rules_of service) labels = fits_alike service rules of (None ∷ []) None labels in
+    cc (fit, same, not_fit)
+
+-- labels that no run explains are so wherever sectors begin
+pub misfit_by : (any : Bool) (service : Service) (start : List ℕ) (labels : List Label) (line : ℕ) (why : MisfitWhy) → IsUnfit service labels → IsRightBy any service start labels (Misfit line why)
+misfit_by true service start labels line why unfit = unfit
+misfit_by false service start labels line why unfit = unfit
+
+-- a sector that shows what has a schedule has one
+module _ (tell : CodesTell) (law : ShownAreScheduled) (service : Service) (labels : List Label) (fit : all_fit_at_first (rules_of service) labels ≡ true) (place : Place) where
+  abbrev shown : List Sight
+  shown = sights_of code (rules_of service) place.partition place.sector [] labels
+
+  passes_by : (start : List ℕ) → Shows service start labels place → Passes service start labels place
+  passes_by start h =
+      law code (above shown) (rules_of service) place.partition place.sector start labels (λ a b low same. tell a b same) fit
+      (reads_below (above shown) shown (omega arith))
+      h
+
+  passes_from : ShowsFromSome service labels place → PassesFromSome service labels place
+  passes_from h = record { start = h.start; whole = h.whole; passes = passes_by h.start h.shows }
+
+all_pass : CodesTell → ShownAreScheduled → (any : Bool) (service : Service) (start : List ℕ) (labels : List Label) → all_fit_at_first (rules_of service) labels ≡ true
+    → ((place : Place) → IsTouched (rules_of service) place labels → ShowsBy any service start labels place) → IsRightBy any service start labels Passed
+all_pass tell law true service start labels fit shows = record { fit = fit; passes = λ place t. passes_from tell law service labels fit place (shows place t) }
+all_pass tell law false service start labels fit shows = record { fit = fit; passes = λ place t. passes_by tell law service labels fit place start (shows place t) }
+
+-- a sector of which nothing is seen has a schedule
+shows_none : ShownByWaits → (any : Bool) (service : Service) (start : List ℕ) (labels : List Label) (place : Place) → seen_of (rules_of service) labels place.partition place.sector ≡ [] → ShowsBy any service start labels place
+shows_none waits any service start labels place none = by_any any
+  where
+    empty : sights_of code (rules_of service) place.partition place.sector [] labels ≡ []
+    empty = waits code (rules_of service) place.partition place.sector labels ∙ ap known none
+
+    scheduled : (n : ℕ) → HasSchedule n (sights_of code (rules_of service) place.partition place.sector [] labels)
+    scheduled n = record { events = []; in_turn = tt; seen = sym empty }
+
+    by_any : (any : Bool) → ShowsBy any service start labels place
+    by_any true = record { start = replicate service.sector_size 0; whole = length-replicate service.sector_size 0; shows = scheduled (code (replicate service.sector_size 0)) }
+    by_any false = scheduled (code start)
+
+pub right_all : CodesTell → ShownAreScheduled → ShownByWaits → (any : Bool) (service : Service) (start : List ℕ) (began : ℕ) (labels : List Label) (cells : Cells) (verdict : Verdict) → all_fit_at_first (rules_of service) labels ≡ true
+    → HasCells any began (seen_of (rules_of service) labels) cells → IsRightOf any service start labels cells.places.items verdict → IsRightBy any service start labels verdict
+right_all tell law waits any service start began labels cells Passed fit has h =
+    all_pass tell law any service start labels fit (λ place t. by_index place (index_at cells.index place.partition place.sector) refl)
+  where
+    by_index : (place : Place) (found : Option ℕ) → index_at cells.index place.partition place.sector ≡ found → ShowsBy any service start labels place
+    by_index place None is =
+        shows_none waits any service start labels place
+        (subst (IsCellAt any began (seen_of (rules_of service) labels place.partition place.sector)) (ap (cell_by cells.cells.items) is) (has.cell place.partition place.sector))
+    by_index place (Some k) is = All-contains (ShowsBy any service start labels) cells.places.items place h (has.listed place.partition place.sector k is)
+right_all tell law waits any service start began labels cells (Misfit line why) fit has h = h
+right_all tell law waits any service start began labels cells (Refused place line) fit has h = h
+right_all tell law waits any service start began labels cells (Undecided place) fit has h = h

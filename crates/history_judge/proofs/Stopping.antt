@@ -1,107 +1,134 @@
 -- Histories, label by label.
-use Rattle.std.proofs.Common.{◌≡◌, ◌<◌, ℕ, ◌+◌, true, false, List, [], ◌∷◌, ◌++◌, Option, Some, None, refl, sym, ◌∙◌, ap, subst, append-nil, append_assoc, length, length-append}
-use Rattle.std.specs.Prelude.{Result, OnOk, if◌then◌else◌}
+use Rattle.std.proofs.Common.{◌≡◌, ◌<◌, ℕ, ◌+◌, ◌^◌, Bool, true, false, List, [], ◌∷◌, ◌++◌, ◌⊎◌, inl, inr, Option, Some, None, refl, sym, ◌∙◌, ap, subst, append-nil, append_assoc}
+use Rattle.std.specs.Prelude.{Result, Ok, Err, OnOk, if◌then◌else◌}
+use Rattle.std.proofs.lemmas.Bool.{cases_Bool}
 use Rattle.ntstatus.specs.declared.NtStatus.{NtStatus}
-use Rattle.std.proofs.lemmas.Bool.{and_parts, eqb-true}
-use Rattle.std.proofs.lemmas.List.{length-set}
+use Rattle.srb.specs.declared.Kind.{Kind}
 use Rattle.machine.specs.declared.Label.{Label}
-use Rattle.machine.specs.declared.Label.TheVariants.{Call, Device, Answer, Cancel, Pause, Resume, Remove, Surprise, Removed}
-use Rattle.history_laws.specs.declared.Asked.{Asked}
-use Rattle.history_judge.specs.declared.index.Index.{Index}
-use Rattle.history_judge.specs.inside.Indexing.{AreSpans, HasRows, IsNext, Takes}
-use Rattle.history_judge.specs.inside.Touching.{AddsMoved, HasTouched}
-use Rattle.history_judge.proofs.Indexing.{rows_push, spans_next}
-use Rattle.history_judge.proofs.Touching.{on_ok, touched_push}
 use Rattle.machine.specs.Rules.{Rules}
-use Rattle.history_laws.specs.Fitting.{fits, all_fit, all_fit_at_first, asked_after, owed_after, entry_of, refused, without}
+use Rattle.history_laws.specs.declared.Asked.{Asked}
+use Rattle.history_laws.specs.Fitting.{fits, all_fit, all_fit_at_first, asked_after, owed_after}
 use Rattle.history_laws.specs.Laws.{ExplainedFit}
+use Rattle.register.specs.Values.{code}
+use Rattle.history.specs.declared.Wait.{Wait}
+use Rattle.history.specs.Waits.{step}
+use Rattle.history_judge.specs.declared.fitting.Known.{Known}
 use Rattle.history_judge.specs.declared.fitting.Misfit.{Misfit}
+use Rattle.history_judge.specs.declared.cells.Cells.{Cells}
+use Rattle.history_judge.specs.declared.cells.Span.{Span}
 use Rattle.history_judge.specs.declared.recorded.Fitted.{Fitted}
 use Rattle.history_judge.specs.Services.{rules_of}
 use Rattle.history_judge.specs.Verdicts.{IsUnfit}
-use Rattle.history_judge.specs.inside.Histories.{IsWhole, IsStopped, StopsAt}
+use Rattle.history_judge.specs.inside.Opened.{opened_at, may_come, Takes}
+use Rattle.history_judge.specs.inside.Cells.{HasCells, AreToldOf, in_span, seen_in, seen_of}
+use Rattle.history_judge.specs.inside.Histories.{AreTold, IsSpan, IsWhole, IsStopped, StopsAt}
 use Rattle.history_judge.proofs.Judged.{unfit}
+use Rattle.history_judge.proofs.Opening.{comes_is, open_next, owed_next, open_first}
+use Rattle.history_judge.proofs.Fresh.{seen_push, told_next, told_first, passed_over, told_of, span_fits}
+use Rattle.history_judge.proofs.Visiting.{cells_alike}
+
+pub on_ok : {T E : Type 0} {P Q : Type 0} (r : Result T E) → (P → Q) → OnOk r P → OnOk r Q
+on_ok (Ok x) f h = f h
+on_ok (Err fault) f h = tt
+
+abbrev span_or : Span → Option (Span × Kind) → Span
+span_or span None = span
+span_or span (Some found) = found.0
+
+same_span : (span other : Span) (kind same : Kind) → ◌≡◌ {A = Option (Span × Kind)} (Some (span, kind)) (Some (other, same)) → span ≡ other
+same_span span other kind same e = ap (span_or span) e
+
+-- labels so far fit
+pub fit_so_far : (f : Fitted) → IsWhole f → all_fit_at_first (rules_of f.basis.service) f.labels.items ≡ true
+fit_so_far f whole = ap (all_fit_at_first (rules_of f.basis.service)) (sym (append-nil f.labels.items)) ∙ whole.known []
 
 -- labels behind one that doesn't fit make no history that a run explains
-pub unfit_stopped : ExplainedFit → (f : Fitted) (behind : List Label) → IsWhole f → IsStopped f behind → IsUnfit f.service (f.kept.labels ++ behind)
+pub unfit_stopped : ExplainedFit → (f : Fitted) (behind : List Label) → IsWhole f → IsStopped f behind → IsUnfit f.basis.service (f.labels.items ++ behind)
 unfit_stopped law f behind whole stopped =
-    unfit law f.service (f.kept.labels ++ behind)
-    (whole.known behind ∙ ap (all_fit (rules_of f.service) f.known.asked.items f.known.owed) stopped.is
-    ∙ ap (λ b. if b then all_fit (rules_of f.service) (asked_after (rules_of f.service) f.known.asked.items f.known.owed stopped.label) (owed_after (rules_of f.service) f.known.owed stopped.label) stopped.rest else false) stopped.misfit)
+    let rules : Rules = rules_of f.basis.service in
+    let not_fit : fits rules whole.asked f.known.owed stopped.label ≡ false = sym (comes_is rules whole.asked f.known whole.opens stopped.label) ∙ stopped.misfit in
+    unfit law f.basis.service (f.labels.items ++ behind)
+    (whole.known behind ∙ ap (all_fit rules whole.asked f.known.owed) stopped.is
+    ∙ ap (λ b. if b then all_fit rules (asked_after rules whole.asked f.known.owed stopped.label) (owed_after rules f.known.owed stopped.label) stopped.rest else false) not_fit)
 
-pub unfit_by : ExplainedFit → (f : Fitted) (misfit : Option (ℕ × Misfit)) (behind labels : List Label) (at : ℕ × Misfit) → misfit ≡ Some at → f.kept.labels ++ behind ≡ labels → IsWhole f → StopsAt f misfit behind
-    → IsUnfit f.service labels
-unfit_by law f misfit behind labels at is same whole stops = subst (IsUnfit f.service) same (unfit_stopped law f behind whole (subst (λ m. StopsAt f m behind) is stops))
+pub unfit_by : ExplainedFit → (f : Fitted) (misfit : Option (ℕ × Misfit)) (behind labels : List Label) (at : ℕ × Misfit) → misfit ≡ Some at → f.labels.items ++ behind ≡ labels → IsWhole f → StopsAt f misfit behind
+    → IsUnfit f.basis.service labels
+unfit_by law f misfit behind labels at is same whole stops = subst (IsUnfit f.basis.service) same (unfit_stopped law f behind whole (subst (λ m. StopsAt f m behind) is stops))
 
 -- where all labels fit none is behind
-pub none_behind : (f : Fitted) (misfit : Option (ℕ × Misfit)) (behind labels : List Label) → misfit ≡ None → f.kept.labels ++ behind ≡ labels → StopsAt f misfit behind → f.kept.labels ≡ labels
-none_behind f misfit behind labels is same stops = sym (ap (λ xs. f.kept.labels ++ xs) (subst (λ m. StopsAt f m behind) is stops) ∙ append-nil f.kept.labels) ∙ same
+pub none_behind : (f : Fitted) (misfit : Option (ℕ × Misfit)) (behind labels : List Label) → misfit ≡ None → f.labels.items ++ behind ≡ labels → StopsAt f misfit behind → f.labels.items ≡ labels
+none_behind f misfit behind labels is same stops = sym (ap (λ xs. f.labels.items ++ xs) (subst (λ m. StopsAt f m behind) is stops) ∙ append-nil f.labels.items) ∙ same
+
+-- BEFORE THE FIRST LABEL
+
+pub whole_first : (f : Fitted) → 0 < f.basis.service.sector_size → f.labels.items ≡ [] → f.known.calls ≡ 0 → f.known.owed ≡ None → ((n : ℕ) → opened_at f.known.opened n ≡ None)
+    → HasCells f.basis.start.any f.basis.start.bytes (λ p i. []) f.cells → IsWhole f
+whole_first f sized none calls owed closed cells = record {
+  sized = sized;
+  asked = None ∷ [];
+  known = λ rest. ap (λ xs. all_fit_at_first (rules_of f.basis.service) (xs ++ rest)) none ∙ ap (λ o. all_fit (rules_of f.basis.service) (None ∷ []) o rest) (sym owed);
+  opens = open_first f.known calls owed closed;
+  told = subst (λ ls. AreTold (rules_of f.basis.service) ls f.known) (sym none) (told_first (rules_of f.basis.service) f.known closed);
+  cells = subst (λ ls. HasCells f.basis.start.any f.basis.start.bytes (seen_of (rules_of f.basis.service) ls) f.cells) (sym none) cells;
+}
 
 -- ONE LABEL MORE
 
-next_of : (rules : Rules) (asked : List (Option Asked)) (owed : Option NtStatus) (label : Label) (count : ℕ) → fits rules asked owed label ≡ true → count ≡ length asked → IsNext count label
-next_of rules asked owed (Call n q) count can same = eqb-true n (length asked) (and_parts _ _ (and_parts _ _ can).1).0 ∙ sym same
-next_of rules asked owed (Device label) count can same = tt
-next_of rules asked owed (Answer n status informed bytes) count can same = tt
-next_of rules asked owed (Cancel n) count can same = tt
-next_of rules asked owed Pause count can same = tt
-next_of rules asked owed Resume count can same = tt
-next_of rules asked owed Remove count can same = tt
-next_of rules asked owed Surprise count can same = tt
-next_of rules asked owed Removed count can same = tt
+module _ (f : Fitted) (label : Label) (whole : IsWhole f) (can : may_come (rules_of f.basis.service) f.known label ≡ true) where
+  abbrev rules : Rules
+  rules = rules_of f.basis.service
 
--- a label that fits is the next call, or none
-pub next_fits : (f : Fitted) (label : Label) → IsWhole f → fits (rules_of f.service) f.known.asked.items f.known.owed label ≡ true → IsNext (length f.index.spans.items) label
-next_fits f label whole can = next_of (rules_of f.service) f.known.asked.items f.known.owed label (length f.index.spans.items) can whole.numbered
+  next_seen : (p i : ℕ) → step code rules p i (seen_of rules f.labels.items p i) label ≡ seen_of rules (f.labels.items ++ label ∷ []) p i
+  next_seen p i = sym (seen_push rules p i [] f.labels.items label)
 
-without_length : (asked : List (Option Asked)) (owed : Option NtStatus) (n : ℕ) → length (without asked owed n) ≡ length asked
-without_length asked None n = length-set asked n None
-without_length asked (Some status) n = refl
+  passed : (found : Option (Span × Kind)) → IsSpan rules f.known label found → (p i : ℕ) → ((span : Span) (kind : Kind) → found ≡ Some (span, kind) → in_span span p i ≡ false)
+      → seen_of rules f.labels.items p i ≡ seen_of rules (f.labels.items ++ label ∷ []) p i
+  passed found spans p i out = sym (passed_over rules whole.asked f.labels.items f.known f.known whole.opens whole.told label found p i can spans out) ∙ next_seen p i
 
-numbered_next : (rules : Rules) (asked : List (Option Asked)) (owed : Option NtStatus) (label : Label) (index : ℕ) (old new : Index) → Takes rules old label index new → length old.spans.items ≡ length asked
-    → length new.spans.items ≡ length (asked_after rules asked owed label)
-numbered_next rules asked owed (Call n q) index old new (span, is, made, covers, adds) same =
-    ap length made ∙ length-append old.spans.items (span ∷ []) ∙ ap (λ n. n + 1) same ∙ sym (length-append asked (entry_of (refused rules q) q ∷ []))
-numbered_next rules asked owed (Answer n status informed bytes) index old new takes same = ap length takes.0 ∙ same ∙ sym (without_length asked owed n)
-numbered_next rules asked owed (Device label) index old new takes same = ap length takes.0 ∙ same
-numbered_next rules asked owed (Cancel n) index old new takes same = ap length takes.0 ∙ same
-numbered_next rules asked owed Pause index old new takes same = ap length takes.0 ∙ same
-numbered_next rules asked owed Resume index old new takes same = ap length takes.0 ∙ same
-numbered_next rules asked owed Remove index old new takes same = ap length takes.0 ∙ same
-numbered_next rules asked owed Surprise index old new takes same = ap length takes.0 ∙ same
-numbered_next rules asked owed Removed index old new takes same = ap length takes.0 ∙ same
+  -- what was visited is all that it is for
+  visited : (span : Span) (kind : Kind) → IsSpan rules f.known label (Some (span, kind)) → (p i : ℕ)
+      → seen_in rules (seen_of rules f.labels.items) span.partition span.extent.first (span.extent.first + span.extent.count) label p i ≡ seen_of rules (f.labels.items ++ label ∷ []) p i
+  visited span kind spans p i = by (cases_Bool (in_span span p i))
+    where
+      by : (in_span span p i ≡ true) ⊎ (in_span span p i ≡ false)
+          → seen_in rules (seen_of rules f.labels.items) span.partition span.extent.first (span.extent.first + span.extent.count) label p i ≡ seen_of rules (f.labels.items ++ label ∷ []) p i
+      by (inl e) = ap (λ b. if b then step code rules p i (seen_of rules f.labels.items p i) label else seen_of rules f.labels.items p i) e ∙ next_seen p i
+      by (inr e) =
+          ap (λ b. if b then step code rules p i (seen_of rules f.labels.items p i) label else seen_of rules f.labels.items p i) e
+          ∙ passed (Some (span, kind)) spans p i (λ s k other. subst (λ (x : Span). in_span x p i ≡ false) (same_span span s kind k other) e)
 
--- what holds of the labels so far holds with one more that fits
-pub whole_push : (f g : Fitted) (label : Label) (at : ℕ) → IsWhole f → fits (rules_of f.service) f.known.asked.items f.known.owed label ≡ true → at ≡ length f.kept.labels → g.service ≡ f.service
-    → g.kept.labels ≡ f.kept.labels ++ label ∷ [] → g.kept.size ≡ f.kept.size → 0 < length g.index.rows.items → Takes (rules_of f.service) f.index label at g.index
-    → g.known.asked.items ≡ asked_after (rules_of f.service) f.known.asked.items f.known.owed label → g.known.owed ≡ owed_after (rules_of f.service) f.known.owed label
-    → AddsMoved (rules_of f.service) f.places.items label g.places.items → IsWhole g
-whole_push f g label at whole can here same told size some takes asked owed adds = record {
-  sized = subst (λ service. 0 < service.sector_size) (sym same) whole.sized;
-  size = size ∙ whole.size ∙ ap (λ service. service.sector_size) (sym same);
-  known = λ rest.
-      ap (λ service. all_fit_at_first (rules_of service) (g.kept.labels ++ rest)) same
-      ∙ ap (λ xs. all_fit_at_first (rules_of f.service) (xs ++ rest)) told
-      ∙ ap (all_fit_at_first (rules_of f.service)) (append_assoc f.kept.labels (label ∷ []) rest)
-      ∙ whole.known (label ∷ rest)
-      ∙ ap (λ b. if b then all_fit (rules_of f.service) (asked_after (rules_of f.service) f.known.asked.items f.known.owed label) (owed_after (rules_of f.service) f.known.owed label) rest else false) can
-      ∙ ap (λ xs. all_fit (rules_of f.service) xs (owed_after (rules_of f.service) f.known.owed label) rest) (sym asked)
-      ∙ ap (λ o. all_fit (rules_of f.service) g.known.asked.items o rest) (sym owed)
-      ∙ ap (λ service. all_fit (rules_of service) g.known.asked.items g.known.owed rest) (sym same);
-  numbered = numbered_next (rules_of f.service) f.known.asked.items f.known.owed label at f.index g.index takes whole.numbered ∙ ap length (sym asked);
-  some = some;
-  spans = subst (λ service. AreSpans (rules_of service) g.kept.labels g.index.spans.items) (sym same)
-      (subst (λ xs. AreSpans (rules_of f.service) xs g.index.spans.items) (sym told) (spans_next (rules_of f.service) f.kept.labels label at f.index g.index takes whole.spans));
-  rows = subst (λ service. HasRows (rules_of service) g.kept.labels (length g.kept.labels) g.index.rows.items) (sym same)
-      (subst (λ xs. HasRows (rules_of f.service) xs (length xs) g.index.rows.items) (sym told)
-      (rows_push (rules_of f.service) f.kept.labels label f.index g.index (subst (λ n. Takes (rules_of f.service) f.index label n g.index) here takes) whole.spans whole.rows));
-  touched = subst (λ service. HasTouched (rules_of service) g.kept.labels g.places.items) (sym same)
-      (subst (λ xs. HasTouched (rules_of f.service) xs g.places.items) (sym told) (touched_push (rules_of f.service) f.kept.labels label f.places.items g.places.items whole.touched adds));
-}
+  pub cells_visited : (span : Span) (kind : Kind) (cells : Cells) → IsSpan rules f.known label (Some (span, kind))
+      → HasCells f.basis.start.any f.basis.start.bytes (seen_in rules (seen_of rules f.labels.items) span.partition span.extent.first (span.extent.first + span.extent.count) label) cells
+      → HasCells f.basis.start.any f.basis.start.bytes (seen_of rules (f.labels.items ++ label ∷ [])) cells
+  cells_visited span kind cells spans h =
+      cells_alike f.basis.start.any f.basis.start.bytes (seen_in rules (seen_of rules f.labels.items) span.partition span.extent.first (span.extent.first + span.extent.count) label)
+      (seen_of rules (f.labels.items ++ label ∷ [])) cells (visited span kind spans) h
 
-pub whole_if_pushed : {T E : Type 0} (r : Result T E) (f g : Fitted) (label : Label) (at : ℕ) → IsWhole f → fits (rules_of f.service) f.known.asked.items f.known.owed label ≡ true → at ≡ length f.kept.labels
-    → g.service ≡ f.service → OnOk r (g.kept.labels ≡ f.kept.labels ++ label ∷ []) → g.kept.size ≡ f.kept.size → 0 < length g.index.rows.items → Takes (rules_of f.service) f.index label at g.index
-    → g.known.asked.items ≡ asked_after (rules_of f.service) f.known.asked.items f.known.owed label → g.known.owed ≡ owed_after (rules_of f.service) f.known.owed label
-    → AddsMoved (rules_of f.service) f.places.items label g.places.items → OnOk r (IsWhole g)
-whole_if_pushed r f g label at whole can here same told size some takes asked owed adds =
-    on_ok r (λ is. whole_push f g label at whole can here same is size some takes asked owed adds) told
+  pub cells_passed : IsSpan rules f.known label None → HasCells f.basis.start.any f.basis.start.bytes (seen_of rules (f.labels.items ++ label ∷ [])) f.cells
+  cells_passed spans =
+      cells_alike f.basis.start.any f.basis.start.bytes (seen_of rules f.labels.items) (seen_of rules (f.labels.items ++ label ∷ [])) f.cells (λ p i. passed None spans p i (λ s k other. absurd (cc (other)))) whole.cells
+
+  pub told_label : (span : Span) (kind : Kind) → IsSpan rules f.known label (Some (span, kind)) → AreToldOf rules (seen_of rules f.labels.items) span kind label
+  told_label span kind spans = told_of rules whole.asked f.labels.items f.known f.known whole.opens whole.told label span kind can spans
+
+  pub fits_label : (span : Span) (kind : Kind) → IsSpan rules f.known label (Some (span, kind)) → span.extent.first + span.extent.count < 2 ^ 64
+  fits_label span kind spans = span_fits rules whole.asked f.labels.items f.known f.known whole.opens whole.told label span kind spans
+
+  pub whole_push : (g : Fitted) → g.basis ≡ f.basis → g.labels.items ≡ f.labels.items ++ label ∷ [] → Takes rules f.known label g.known → HasCells f.basis.start.any f.basis.start.bytes (seen_of rules (f.labels.items ++ label ∷ [])) g.cells → IsWhole g
+  whole_push g same told takes cells = record {
+    sized = subst (λ b. 0 < b.service.sector_size) (sym same) whole.sized;
+    asked = asked_after rules whole.asked f.known.owed label;
+    known = λ rest.
+        ap (λ b. all_fit_at_first (rules_of b.service) (g.labels.items ++ rest)) same
+        ∙ ap (λ xs. all_fit_at_first rules (xs ++ rest)) told
+        ∙ ap (all_fit_at_first rules) (append_assoc f.labels.items (label ∷ []) rest)
+        ∙ whole.known (label ∷ rest)
+        ∙ ap (λ b. if b then all_fit rules (asked_after rules whole.asked f.known.owed label) (owed_after rules f.known.owed label) rest else false) (sym (comes_is rules whole.asked f.known whole.opens label) ∙ can)
+        ∙ ap (λ o. all_fit rules (asked_after rules whole.asked f.known.owed label) o rest) (sym (owed_next rules f.known g.known label takes))
+        ∙ ap (λ b. all_fit (rules_of b.service) (asked_after rules whole.asked f.known.owed label) g.known.owed rest) (sym same);
+    opens = open_next rules whole.asked f.known g.known whole.opens label can takes;
+    told = subst (λ b. AreTold (rules_of b.service) g.labels.items g.known) (sym same)
+        (subst (λ xs. AreTold rules xs g.known) (sym told) (told_next rules whole.asked f.labels.items f.known g.known whole.opens whole.told whole.sized label can takes));
+    cells = subst (λ b. HasCells b.start.any b.start.bytes (seen_of (rules_of b.service) g.labels.items) g.cells) (sym same)
+        (subst (λ xs. HasCells f.basis.start.any f.basis.start.bytes (seen_of rules xs) g.cells) (sym told) cells);
+  }

@@ -1,10 +1,11 @@
 -- A history that was taken label by label.
-use Rattle.std.specs.Prelude.{ℕ, List}
+use Rattle.std.specs.Prelude.{ℕ, Bool, List}
 use Rattle.machine.specs.declared.Label.{Label}
 use Rattle.history_judge.specs.declared.service.Service.{Service}
 
--- the labels so far, of a service whose sectors all had these bytes at the start
+-- the labels so far, of a service whose sectors all had these bytes at the start, or any, each its own
 pub record HistoryView : Type 0 where
   pub service : Service
   pub start : List ℕ
+  pub any : Bool
   pub labels : List Label

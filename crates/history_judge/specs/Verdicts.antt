@@ -1,5 +1,5 @@
 -- What a verdict says of a history.
-use Rattle.std.specs.Prelude.{◌≡◌, ◌<◌, ℕ, List, [], true, Some, slice_get, length, All, Contains}
+use Rattle.std.specs.Prelude.{◌≡◌, ℕ, Bool, List, true, false, Some, slice_get, length, Contains}
 use Rattle.machine.specs.declared.ClientRequest.{ClientRequest}
 use Rattle.machine.specs.declared.Label.{Label}
 use Rattle.machine.specs.declared.Label.TheVariants.{Call}
@@ -7,15 +7,14 @@ use Rattle.machine.specs.Rules.{Rules}
 use Rattle.machine.specs.Sending.{array_at}
 use Rattle.machine_laws.specs.Reached.{AreWhole}
 use Rattle.history_laws.specs.History.{IsExplained}
+use Rattle.history_laws.specs.Schedules.{IsScheduled}
 use Rattle.history_laws.specs.Fitting.{all_fit_at_first}
-use Rattle.register.specs.Schedules.{HasSchedule}
-use Rattle.history.specs.Sights.{has_sector, sights_of}
+use Rattle.history.specs.Sights.{has_sector}
 use Rattle.history_judge.specs.declared.service.Service.{Service}
 use Rattle.history_judge.specs.declared.service.Place.{Place}
 use Rattle.history_judge.specs.declared.judging.Verdict.{Verdict}
 use Rattle.history_judge.specs.declared.judging.Verdict.TheVariants.{Passed, Misfit, Refused, Undecided}
 use Rattle.history_judge.specs.Services.{rules_of, AreOf}
-use Rattle.history_judge.specs.Values.{number_in, IsBelow}
 
 -- some call moves the sector
 pub record IsTouched (rules : Rules) (place : Place) (history : List Label) : Type 0 where
@@ -24,12 +23,9 @@ pub record IsTouched (rules : Rules) (place : Place) (history : List Label) : Ty
   pub called : Contains history (Call number request)
   pub moves : has_sector rules place.partition place.sector request ≡ true
 
--- the sector, which has these bytes at the start, has a schedule as a register: its values are numbers of its bytes in a table
-pub record Passes (service : Service) (start : List ℕ) (history : List Label) (place : Place) : Type 0 where
-  pub table : List (List ℕ)
-  pub starts : number_in table start < length table
-  pub numbered : All (IsBelow (length table)) (sights_of (number_in table) (rules_of service) place.partition place.sector [] history)
-  pub schedule : HasSchedule (number_in table start) (sights_of (number_in table) (rules_of service) place.partition place.sector [] history)
+-- the history has a schedule at the sector, which has these bytes at the start
+abbrev pub Passes : Service → List ℕ → List Label → Place → Type 0
+Passes service start history place = IsScheduled (rules_of service) place.partition place.sector start history
 
 -- no run of a service of these sizes explains the history, from arrays in which the sector has these bytes
 abbrev pub IsUnexplained : Service → List ℕ → List Label → Place → Type 0
@@ -48,8 +44,8 @@ IsUnfit service history = (rules : Rules) (arrays : List (List (List ℕ))) → 
 -- what passes fits, and has schedules; no run explains what is refused
 abbrev pub IsRight : Service → List ℕ → List Label → Verdict → Type 0
 IsRight service start history Passed = IsPassed service start history
-IsRight service start history (Misfit label why) = IsUnfit service history
-IsRight service start history (Refused place label) = IsUnexplained service start history place
+IsRight service start history (Misfit line why) = IsUnfit service history
+IsRight service start history (Refused place line) = IsUnexplained service start history place
 IsRight service start history (Undecided place) = Unit {0}
 
 -- the sector has a schedule from some bytes on
@@ -70,6 +66,11 @@ IsUnexplainedFromAny service history place = (start : List ℕ) → IsUnexplaine
 -- what passes fits, and has schedules from some bytes on; no run explains what is refused, from any
 abbrev pub IsRightFromAny : Service → List Label → Verdict → Type 0
 IsRightFromAny service history Passed = IsPassedFromSome service history
-IsRightFromAny service history (Misfit label why) = IsUnfit service history
-IsRightFromAny service history (Refused place label) = IsUnexplainedFromAny service history place
+IsRightFromAny service history (Misfit line why) = IsUnfit service history
+IsRightFromAny service history (Refused place line) = IsUnexplainedFromAny service history place
 IsRightFromAny service history (Undecided place) = Unit {0}
+
+-- from these bytes on, or from any
+abbrev pub IsRightBy : Bool → Service → List ℕ → List Label → Verdict → Type 0
+IsRightBy false service start history verdict = IsRight service start history verdict
+IsRightBy true service start history verdict = IsRightFromAny service history verdict

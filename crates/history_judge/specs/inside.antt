@@ -1,9 +1,5 @@
-pub mod Touching
-pub mod Judging
-pub mod Rows
-pub mod Picking
-pub mod Indexing
-pub mod Tables
-pub mod Keeping
-pub mod Histories
 pub mod Starting
+pub mod Opened
+pub mod Cells
+pub mod Histories
+pub mod Judging

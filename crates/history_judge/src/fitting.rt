@@ -1,30 +1,25 @@
 //! Whether each label of a history may come behind those before it, whatever the sectors hold.
 
-ghost use Rattle.std.specs.Prelude.{◌≡◌, ◌<◌, ◌∷◌, [], None, Some, IfOk, OnOk};
+ghost use Rattle.std.specs.Prelude.{◌≡◌, ◌<◌, ◌==◌, ◌+◌, ℕ, None, OnOk, option_copied};
 ghost use Rattle.machine.specs.Rules.{is_transfer};
 ghost use Rattle.history_laws.specs.Fitting.{
-  asked_after,
-  asked_of,
   brought,
   carried,
   ends,
-  ends_by,
-  ends_open,
-  entry_of,
-  fits,
   informed_of,
   is_failure,
-  owed_after,
   refused,
-  without,
 };
 ghost use Rattle.history_judge.specs.Services.{rules_of};
+ghost use Rattle.history_judge.specs.inside.Opened.{bare, ends_request, may_come, may_end, opened_at, Puts, PutsAnswer, PutsCall, Takes};
 
 use crate::service::Service;
 use history_laws::Asked;
 use machine::{ClientRequest, Kind, Label};
 use ntstatus::NtStatus;
+use sector::Bytes;
 use std::alloc::{AllocError, Global};
+use std::collections::BTreeMap;
 
 /// Why a label can't come where it stands.
 #[derive(Debug, Clone, Copy, PartialEq, Eq)]
@@ -42,10 +37,12 @@ pub enum Misfit {
 }
 
 /// What is known of the calls so far.
-#[derive(Debug, Drop)]
+#[derive(Drop)]
 pub(crate) struct Known {
-    /// By the number of its call, what an open request asked for.
-    pub asked: Vec<Option<Asked>>,
+    /// By its number, each open request, without its bytes.
+    pub opened: BTreeMap<u64, ClientRequest>,
+    /// How many calls there were.
+    pub calls: u64,
     /// What the last call is to be answered, where it was refused.
     pub owed: Option<NtStatus>,
 }
@@ -138,65 +135,123 @@ fn ends(asked: Asked, status: NtStatus, informed: u64, count: u64) -> bool
     }
 }
 
-/// The same of a number of which this is known.
-fn ends_open(asked: Option<Option<Asked>>, status: NtStatus, informed: u64, count: u64) -> bool
-    ensures { result ≡ ends_open asked status informed count }
+/// The same of a request, if it is open.
+fn ends_request(
+    request: Option<&ClientRequest>,
+    status: NtStatus,
+    informed: u64,
+    count: u64,
+) -> bool
+    ensures { result ≡ ends_request (option_copied request.entry) status informed count }
 {
-    match asked {
-        Some(Some(asked)) => ends(asked, status, informed, count),
-        _ => false,
+    let Some(request) = request else {
+        return false;
+    };
+    let asked = Asked {
+        kind: request.kind,
+        length: request.length,
+    };
+    ends(asked, status, informed, count)
+}
+
+/// Whether a number is the next.
+fn is_next(calls: u64, number: u64) -> bool
+    ensures { result ≡ (number == calls + 1) }
+{
+    number != 0 && number - 1 == calls
+}
+
+/// A request without its bytes.
+fn bare(alloc: Global, request: &ClientRequest) -> ClientRequest
+    ensures { result ≡ bare request.now }
+{
+    ClientRequest {
+        partition: request.partition,
+        kind: request.kind,
+        through: request.through,
+        offset: request.offset,
+        length: request.length,
+        bytes: Bytes::new(Vec::new(alloc)),
     }
 }
 
-/// What is known of a call, unless it was refused.
-fn entry_of(refused: Option<NtStatus>, request: &ClientRequest) -> Option<Asked>
-    ensures { result ≡ entry_of refused request.now }
+/// Opens a request, unless it was refused.
+fn open(
+    opened: &mut BTreeMap<u64, ClientRequest>,
+    alloc: Global,
+    refused: Option<NtStatus>,
+    number: u64,
+    request: &ClientRequest,
+) -> Result<(), AllocError>
+    ensures { OnOk result (PutsCall refused opened.old number request.now opened.new) }
 {
     match refused {
-        Some(_) => None,
-        None => Some(Asked {
-            kind: request.kind,
-            length: request.length,
-        }),
+        None => {
+            let request = bare(alloc, request);
+            opened.insert(number, request)?;
+            Ok(())
+        }
+        Some(_) => Ok(()),
+    }
+}
+
+/// Closes a request.
+fn close_open(opened: &mut BTreeMap<u64, ClientRequest>, number: u64)
+    ensures { Puts opened.old number None opened.new }
+{
+    opened.remove(&number);
+}
+
+/// Closes a request, unless it was refused.
+fn close(opened: &mut BTreeMap<u64, ClientRequest>, owed: Option<NtStatus>, number: u64)
+    ensures { PutsAnswer owed opened.old number opened.new }
+{
+    match owed {
+        None => close_open(opened, number),
+        Some(_) => {}
     }
 }
 
 impl Known {
-    /// Before the first label: no call has the number 0.
-    pub fn new(alloc: Global) -> Result<Known, AllocError>
-        ensures { IfOk result (λ known. (known.asked.items ≡ None ∷ []) × (known.owed ≡ None)) }
+    /// Before the first label.
+    pub fn new(alloc: Global) -> Known
+        ensures calls { result.calls ≡ 0 }
+        ensures owed { result.owed ≡ None }
+        ensures none { (number : ℕ) → opened_at result.opened number ≡ None }
     {
-        let mut asked = Vec::new(alloc);
-        asked.push(None)?;
-        Ok(Known { asked, owed: None })
+        let opened = BTreeMap::new(alloc);
+        Known {
+            opened,
+            calls: 0,
+            owed: None,
+        }
     }
 
     /// Whether an answer may come.
-    fn ends_by(&self, number: u64, status: NtStatus, informed: u64, count: u64) -> bool
-        ensures { result ≡ ends_by self.now.asked.items self.now.owed number status informed count }
+    fn may_end(&self, number: u64, status: NtStatus, informed: u64, count: u64) -> bool
+        ensures { result ≡ may_end self.now self.now.owed number status informed count }
     {
         match self.owed {
             Some(owed) => {
-                let last = (self.asked.len() as u64).saturating_sub(1);
-                number == last && status.value() == owed.value() && informed == 0 && count == 0
+                number == self.calls
+                    && status.value() == owed.value()
+                    && informed == 0
+                    && count == 0
             }
-            None => {
-                let asked = self.asked.get(number as usize).copied();
-                ends_open(asked, status, informed, count)
-            }
+            None => ends_request(self.opened.get(&number), status, informed, count),
         }
     }
 
     /// Whether a label may come.
-    pub fn fits(&self, service: &Service, label: &Label) -> bool
+    pub fn may_come(&self, service: &Service, label: &Label) -> bool
         requires { 0 < service.now.sector_size }
-        ensures { result ≡ fits (rules_of service.now) self.now.asked.items self.now.owed label.now }
+        ensures { result ≡ may_come (rules_of service.now) self.now label.now }
     {
         match label {
             Label::Call { number, request } => {
                 let wanted = carried(refused(service, request), request);
                 self.owed.is_none()
-                    && *number == self.asked.len() as u64
+                    && is_next(self.calls, *number)
                     && request.bytes.as_slice().len() as u64 == wanted
             }
             Label::Answer {
@@ -204,7 +259,7 @@ impl Known {
                 status,
                 information,
                 bytes,
-            } => self.ends_by(
+            } => self.may_end(
                 *number,
                 *status,
                 *information,
@@ -214,32 +269,27 @@ impl Known {
         }
     }
 
-    /// Closes the request of this number.
-    fn close(&mut self, number: u64)
-        ensures asked { self.new.asked.items ≡ without self.old.asked.items self.old.owed number }
-        ensures owed { self.new.owed ≡ None }
-    {
-        if self.owed.is_none() {
-            if let Some(entry) = self.asked.get_mut(number as usize) {
-                *entry = None;
-            }
-        }
-        self.owed = None;
-    }
-
     /// Takes the next label.
-    pub fn take(&mut self, service: &Service, label: &Label) -> Result<(), AllocError>
+    pub fn take(
+        &mut self,
+        alloc: Global,
+        service: &Service,
+        label: &Label,
+    ) -> Result<(), AllocError>
         requires { 0 < service.now.sector_size }
-        ensures asked { OnOk result (self.new.asked.items ≡ asked_after (rules_of service.now) self.old.asked.items self.old.owed label.now) }
-        ensures owed { OnOk result (self.new.owed ≡ owed_after (rules_of service.now) self.old.owed label.now) }
+        ensures { OnOk result (Takes (rules_of service.now) self.old label.now self.new) }
     {
         match label {
-            Label::Call { request, .. } => {
+            Label::Call { number, request } => {
                 let refused = refused(service, request);
-                self.asked.push(entry_of(refused, request))?;
+                open(&mut self.opened, alloc, refused, *number, request)?;
+                self.calls = *number;
                 self.owed = refused;
             }
-            Label::Answer { number, .. } => self.close(*number),
+            Label::Answer { number, .. } => {
+                close(&mut self.opened, self.owed, *number);
+                self.owed = None;
+            }
             _ => {}
         }
         Ok(())
@@ -249,7 +299,7 @@ impl Known {
     pub fn why_not(&self, label: &Label) -> Misfit {
         match label {
             Label::Call { .. } if self.owed.is_some() => Misfit::Owing,
-            Label::Call { number, .. } if *number != self.asked.len() as u64 => Misfit::Number,
+            Label::Call { number, .. } if !is_next(self.calls, *number) => Misfit::Number,
             Label::Call { .. } => Misfit::Bytes,
             Label::Answer { number, .. } => self.why_no_answer(*number),
             _ => Misfit::NotOpen,
@@ -257,12 +307,12 @@ impl Known {
     }
 
     fn why_no_answer(&self, number: u64) -> Misfit {
-        let is_last = number == (self.asked.len() as u64).saturating_sub(1);
-        match (self.owed, self.asked.get(number as usize).copied()) {
-            (Some(_), _) if is_last => Misfit::Answer,
-            (Some(_), _) => Misfit::Owing,
-            (None, Some(Some(_))) => Misfit::Answer,
-            (None, _) => Misfit::NotOpen,
+        let is_open = self.opened.get(&number).is_some();
+        match self.owed {
+            Some(_) if number == self.calls => Misfit::Answer,
+            Some(_) => Misfit::Owing,
+            None if is_open => Misfit::Answer,
+            None => Misfit::NotOpen,
         }
     }
 }

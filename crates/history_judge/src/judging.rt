@@ -1,238 +1,125 @@
 //! Verdicts of histories.
 
-ghost use Rattle.std.specs.Prelude.{◌≡◌, ◌<◌, ◌∷◌, [], Contains, IfOk, length, slice_index_or, take};
-ghost use Rattle.std.specs.Bool.{OnTrue};
-ghost use Rattle.history_judge.specs.declared.service.Place.{Place};
-ghost use Rattle.history_judge.specs.Services.{rules_of};
+ghost use Rattle.std.specs.Prelude.{◌≡◌, ◌∷◌, ℕ, [], IfOk, List, Some};
+ghost use Rattle.history_judge.specs.inside.Cells.{cell_at};
 ghost use Rattle.history_judge.specs.inside.Histories.{IsWhole};
-ghost use Rattle.history_judge.specs.inside.Judging.{IsOneOf, IsRightBy, IsRightOf};
-ghost use Rattle.history_judge.specs.inside.Picking.{HasRow};
+ghost use Rattle.history_judge.specs.Verdicts.{IsRightBy};
+ghost use Rattle.history_judge.specs.inside.Judging.{IsOneOf, IsRightOf, IsVerdictOf};
+ghost use Rattle.register.specs.Values.{code};
 
-use crate::entries::{Entry, Kept, Seen};
+use crate::cell::Cell;
 use crate::fitting::Misfit;
 use crate::recorded::Fitted;
-use crate::rising::are_rising;
-use crate::sectors::{Watched, sights_of};
 use crate::service::Place;
-use crate::starting::{Start, judge_shown};
-use history::refused_are_unexplained;
-use register::{Sight, prefixes_are_scheduled};
+use crate::trying::Tried;
+use history::{refused_are_unexplained, shown_by_waits};
+use history_shown::shown_are_scheduled;
+use register::codes_tell;
+use register_judge::SoFar;
 use std::alloc::{AllocError, Global};
 
-/// What the judge says of a history. Labels are counted from 0.
+/// What the judge says of a history. A line is the number that a label was given with.
 #[derive(Debug, Clone, Copy, PartialEq, Eq)]
 pub enum Verdict {
     /// Calls carry their bytes, answers are to open calls and of their sizes, and each sector that it touches has a schedule.
     Passed,
-    /// This label can't come behind those before it, whatever the sectors hold: no run explains the history.
-    Misfit { label: usize, why: Misfit },
-    /// The sector has no schedule, and had none behind this answer: no run explains the history.
-    Refused { place: Place, label: usize },
+    /// The label of this line can't come behind those before it, whatever the sectors hold: no run explains the history.
+    Misfit { line: u64, why: Misfit },
+    /// The sector has no schedule, and had none behind the answer of this line: no run explains the history.
+    Refused { place: Place, line: u64 },
     /// Too many of the sector's requests were open at once.
     Undecided { place: Place },
 }
 
-/// The answer at which the last sight ends a request.
-fn end_of(sights: &[Sight], kept: &Kept) -> usize {
-    let Some(Sight::Done { number: ended } | Sight::Failed { number: ended }) = sights.last() else {
-        return 0;
-    };
-    for index in 0..kept.count() {
-        if let Some(
-            Entry {
-                seen: Seen::Answer { number, .. },
-                ..
-            },
-        ) = kept.entry(index)
-        {
-            if number == ended {
-                return index;
-            }
-        }
-    }
-    0
+/// Whether one place comes before another.
+fn is_before(a: Place, b: Place) -> bool {
+    a.partition < b.partition || (a.partition == b.partition && a.sector < b.sector)
 }
 
-/// Judges one sector. Its labels are among those of the indexes.
-fn judge_sector(
-    alloc: Global,
-    watched: Watched<'_>,
-    start: &Start,
-    indexes: &[usize],
-) -> Result<Verdict, AllocError>
-    requires sized { 0 < watched.service.now.sector_size }
-    requires size { watched.kept.now.size ≡ watched.service.now.sector_size }
-    requires found { HasRow (rules_of watched.service.now) watched.place watched.kept.now.labels indexes.now }
-    ensures { IfOk result (IsRightOf start.now.any watched.entry.service.now start.now.bytes.items watched.entry.kept.now.labels (watched.entry.place ∷ [])) }
-{
-    prefixes_are_scheduled();
-    refused_are_unexplained();
-    watched.kept.shows_entries();
-    watched.kept.table().shows_once();
-    let place = watched.place;
-    if !are_rising(indexes, watched.kept.count()) {
-        return Ok(Verdict::Undecided { place });
-    }
-    let sights = sights_of(alloc, watched, indexes)?;
-    let size = watched.service.sector_size;
-    match judge_shown(alloc, size, watched.kept.table(), sights.as_slice(), start)? {
-        register_judge::Verdict::Passed => Ok(Verdict::Passed),
-        register_judge::Verdict::Refused { sights: count } => {
-            let sights = sights.as_slice();
-            let label = end_of(&sights[..count.min(sights.len())], watched.kept);
-            Ok(Verdict::Refused { place, label })
-        }
-        register_judge::Verdict::Undecided => Ok(Verdict::Undecided { place }),
-    }
-}
-
-/// The refusal at the earlier label, else what is undecided, if one of two verdicts is that.
+/// The refusal at the earlier line, else what is undecided, if one of two verdicts is that; of two that are alike that of the
+/// sector that comes first.
 fn first_of(a: Verdict, b: Verdict) -> Verdict
     ensures { IsOneOf a b result }
 {
-    match (a, b) {
-        (Verdict::Refused { label: first, .. }, Verdict::Refused { label, .. }) => {
-            if first <= label { a } else { b }
+    let swaps = match (a, b) {
+        (
+            Verdict::Refused { place, line },
+            Verdict::Refused {
+                place: other,
+                line: next,
+            },
+        ) => next < line || (next == line && is_before(other, place)),
+        (Verdict::Undecided { place }, Verdict::Undecided { place: other }) => {
+            is_before(other, place)
         }
-        (_, Verdict::Refused { .. }) | (Verdict::Passed, _) => b,
-        _ => a,
-    }
+        (_, Verdict::Refused { .. }) | (Verdict::Passed, _) => true,
+        _ => false,
+    };
+    if swaps { b } else { a }
 }
 
-/// Whether a sector stands right before it, too.
-fn is_again(places: &[Place], index: usize) -> bool
-    requires { index < length places.now }
-    ensures { OnTrue result ((d : Place) → Contains (take index places.now) (slice_index_or places.now index d)) }
+/// What is said of a sector.
+fn verdict_of(place: Place, tried: Tried) -> Verdict
+    ensures { IsVerdictOf place tried.so_far result }
 {
-    if index == 0 {
-        return false;
+    match tried.so_far {
+        SoFar::Passed => Verdict::Passed,
+        SoFar::Refused => Verdict::Refused {
+            place,
+            line: tried.line,
+        },
+        SoFar::Undecided => Verdict::Undecided { place },
     }
-    let before = places[index - 1];
-    let here = places[index];
-    before.partition == here.partition && before.sector == here.sector
 }
 
-/// How many different sectors these are.
-pub(crate) fn count_of(alloc: Global, places: &[Place]) -> Result<usize, AllocError> {
-    let mut places = Vec::from_slice(alloc, places)?;
-    places.sort()?;
-    let places = places.as_slice();
-    let mut count: usize = 0;
-    for index in 0..places.len() {
-        if !is_again(places, index) {
-            count = count.saturating_add(1);
-        }
+/// Judges one sector, of which this was seen.
+fn judge_cell(
+    alloc: Global,
+    fitted: &Fitted,
+    place: Place,
+    cell: &Cell,
+) -> Result<Verdict, AllocError>
+    requires whole { IsWhole fitted.now }
+    requires there { cell_at fitted.now.cells place.partition place.sector ≡ Some cell.now }
+    ensures { (start : List ℕ) → fitted.now.basis.start.bytes ≡ code start → IfOk result (IsRightOf fitted.now.basis.start.any fitted.now.basis.service start fitted.now.labels.items (place ∷ [])) }
+{
+    refused_are_unexplained();
+    shown_by_waits();
+    let tried = cell.judge(alloc, &fitted.basis)?;
+    Ok(verdict_of(place, tried))
+}
+
+/// The same of a sector at a place.
+fn judge_sector(alloc: Global, fitted: &Fitted, place: Place) -> Result<Verdict, AllocError>
+    requires { IsWhole fitted.now }
+    ensures { (start : List ℕ) → fitted.now.basis.start.bytes ≡ code start → IfOk result (IsRightOf fitted.now.basis.start.any fitted.now.basis.service start fitted.now.labels.items (place ∷ [])) }
+{
+    match fitted.cells.get(place) {
+        Some(cell) => judge_cell(alloc, fitted, place, cell),
+        None => Ok(Verdict::Undecided { place }),
     }
-    Ok(count)
 }
 
 /// Judges these sectors.
-#[tactic(auto, using(crate::proofs::Judged::same_again))]
-fn judge_all(
-    alloc: Global,
-    fitted: &Fitted,
-    start: &Start,
-    places: &[Place],
-) -> Result<Verdict, AllocError>
+fn judge_all(alloc: Global, fitted: &Fitted, places: &[Place]) -> Result<Verdict, AllocError>
     requires { IsWhole fitted.now }
-    ensures { IfOk result (IsRightOf start.now.any fitted.now.service start.now.bytes.items fitted.now.kept.labels places.now) }
+    ensures { (start : List ℕ) → fitted.now.basis.start.bytes ≡ code start → IfOk result (IsRightOf fitted.now.basis.start.any fitted.now.basis.service start fitted.now.labels.items places.now) }
 {
-    let Fitted { service, kept, .. } = fitted;
     let mut verdict = Verdict::Passed;
-    for index in 0..places.len() {
-        if is_again(places, index) {
-            continue;
-        }
-        let place = places[index];
-        let watched = Watched {
-            kept,
-            service,
-            place,
-        };
-        let other = judge_sector(alloc, watched, start, fitted.index.row(place))?;
+    for place in places {
+        let other = judge_sector(alloc, fitted, *place)?;
         verdict = first_of(verdict, other);
     }
     Ok(verdict)
 }
 
 /// Judges labels that fit.
-pub(crate) fn judge_sectors(
-    alloc: Global,
-    fitted: &Fitted,
-    start: &Start,
-) -> Result<Verdict, AllocError>
+pub(crate) fn judge_sectors(alloc: Global, fitted: &Fitted) -> Result<Verdict, AllocError>
     requires { IsWhole fitted.now }
-    ensures { IfOk result (IsRightBy start.now.any fitted.now.service start.now.bytes.items fitted.now.kept.labels) }
+    ensures { (start : List ℕ) → fitted.now.basis.start.bytes ≡ code start → IfOk result (IsRightBy fitted.now.basis.start.any fitted.now.basis.service start fitted.now.labels.items) }
 {
-    let mut places = Vec::from_slice(alloc, fitted.places.as_slice())?;
-    places.sort()?;
-    judge_all(alloc, fitted, start, places.as_slice())
-}
-
-/// The request that is seen.
-fn number_in(sight: &Sight) -> u64 {
-    match *sight {
-        Sight::Write { number, .. }
-        | Sight::Read { number, .. }
-        | Sight::Done { number }
-        | Sight::Failed { number } => number,
-    }
-}
-
-/// What is seen of other requests than these, whose numbers rise.
-fn without(alloc: Global, sights: &[Sight], numbers: &[u64]) -> Result<Vec<Sight>, AllocError> {
-    let mut others = Vec::new(alloc);
-    for sight in sights {
-        if numbers.binary_search(&number_in(sight)).is_err() {
-            others.push(*sight)?;
-        }
-    }
-    Ok(others)
-}
-
-/// Whether a sector passes where these requests had no effect.
-fn passes_without(
-    alloc: Global,
-    watched: Watched<'_>,
-    start: &Start,
-    indexes: &[usize],
-    numbers: &[u64],
-) -> Result<bool, AllocError>
-    requires { 0 < watched.service.now.sector_size }
-{
-    let sights = sights_of(alloc, watched, indexes)?;
-    let others = without(alloc, sights.as_slice(), numbers)?;
-    let size = watched.service.sector_size;
-    let verdict = judge_shown(alloc, size, watched.kept.table(), others.as_slice(), start)?;
-    Ok(matches!(verdict, register_judge::Verdict::Passed))
-}
-
-/// A sector that doesn't pass where these requests, whose numbers rise, had no effect.
-pub(crate) fn fails_without(
-    alloc: Global,
-    fitted: &Fitted,
-    start: &Start,
-    numbers: &[u64],
-) -> Result<Option<Place>, AllocError>
-    requires { IsWhole fitted.now }
-{
-    let mut places = Vec::from_slice(alloc, fitted.places.as_slice())?;
-    places.sort()?;
-    let places = places.as_slice();
-    for index in 0..places.len() {
-        if is_again(places, index) {
-            continue;
-        }
-        let place = places[index];
-        let watched = Watched {
-            kept: &fitted.kept,
-            service: &fitted.service,
-            place,
-        };
-        let row = fitted.index.row(place);
-        if !passes_without(alloc, watched, start, row, numbers)? {
-            return Ok(Some(place));
-        }
-    }
-    Ok(None)
+    codes_tell();
+    shown_are_scheduled();
+    shown_by_waits();
+    judge_all(alloc, fitted, fitted.cells.places.as_slice())
 }

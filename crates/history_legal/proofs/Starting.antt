@@ -10,16 +10,16 @@ use Rattle.machine.specs.declared.Label.{Label}
 use Rattle.machine.specs.declared.Label.TheVariants.{Call}
 use Rattle.machine.specs.Rules.{Rules, sectors_of}
 use Rattle.machine.specs.Sending.{array_at}
+use Rattle.history_laws.specs.Schedules.{IsScheduled}
 use Rattle.history.specs.Sights.{has_sector}
-use Rattle.history_shown.specs.Laws.{IsMoved, IsShown, ShownAreExplained}
+use Rattle.history_shown.specs.Laws.{IsMoved, MovedAreExplained}
 use Rattle.history_judge.specs.declared.service.Service.{Service}
 use Rattle.history_judge.specs.declared.service.Place.{Place}
 use Rattle.history_judge.specs.Services.{rules_of}
-use Rattle.history_judge.specs.Values.{NumbersTell}
 use Rattle.history_judge.specs.Verdicts.{IsTouched, IsPassedFromSome}
 use Rattle.history_legal.specs.Laws.{PassedFromSomeAreExplained}
 use Rattle.history_legal.proofs.Listing.{listed, listed_length, listed_gives, listed_at, listed_past}
-use Rattle.history_legal.proofs.Passing.{passes_shown, moved_touched}
+use Rattle.history_legal.proofs.Passing.{moved_touched}
 
 -- WHETHER A SECTOR IS TOUCHED
 
@@ -66,7 +66,7 @@ look rules place (label ∷ history) = look_at rules place label history (look r
 
 -- THE ARRAYS
 
-module _ (tell : NumbersTell) (service : Service) (history : List Label) (passed : IsPassedFromSome service history) where
+module _ (service : Service) (history : List Label) (passed : IsPassedFromSome service history) where
   abbrev pick : (p i : ℕ) → Tells (rules_of service) (record { partition = p; sector = i }) history → List ℕ
   pick p i (inl t) = (passed.passes (record { partition = p; sector = i }) t).start
   pick p i (inr untouched) = replicate service.sector_size 0
@@ -75,10 +75,9 @@ module _ (tell : NumbersTell) (service : Service) (history : List Label) (passed
   pick_whole p i (inl t) = (passed.passes (record { partition = p; sector = i }) t).whole
   pick_whole p i (inr untouched) = length-replicate service.sector_size 0
 
-  pick_shown : (p i : ℕ) (told : Tells (rules_of service) (record { partition = p; sector = i }) history) → IsMoved (rules_of service) p i history → IsShown (rules_of service) p i (pick p i told) history
-  pick_shown p i (inl t) moved =
-      passes_shown tell service (passed.passes (record { partition = p; sector = i }) t).start history p i (passed.passes (record { partition = p; sector = i }) t).passes
-  pick_shown p i (inr untouched) moved = absurd (untouched (moved_touched service history p i moved))
+  pick_scheduled : (p i : ℕ) (told : Tells (rules_of service) (record { partition = p; sector = i }) history) → IsMoved (rules_of service) p i history → IsScheduled (rules_of service) p i (pick p i told) history
+  pick_scheduled p i (inl t) moved = (passed.passes (record { partition = p; sector = i }) t).passes
+  pick_scheduled p i (inr untouched) moved = absurd (untouched (moved_touched service history p i moved))
 
   abbrev start_of : ℕ → ℕ → List ℕ
   start_of p i = pick p i (look (rules_of service) (record { partition = p; sector = i }) history)
@@ -112,13 +111,13 @@ module _ (tell : NumbersTell) (service : Service) (history : List Label) (passed
         omega (arith, zero_there)
   ]
 
-pub passed_from_some_explained : NumbersTell → ShownAreExplained → PassedFromSomeAreExplained
-passed_from_some_explained tell explained service history room seen none_busy passed = record {
-  arrays = arrays_of tell service history passed;
-  whole = whole tell service history passed;
+pub passed_from_some_explained : MovedAreExplained → PassedFromSomeAreExplained
+passed_from_some_explained explained service history room seen none_busy passed = record {
+  arrays = arrays_of service history passed;
+  whole = whole service history passed;
   sized = λ p i sector there.
-      ap length (held tell service history passed p i sector there) ∙ pick_whole tell service history passed p i (look (rules_of service) (record { partition = p; sector = i }) history);
-  explained = explained (rules_of service) (arrays_of tell service history passed) history room (whole tell service history passed) seen passed.fit none_busy
-      (λ p i sector there moved. subst (λ s. IsShown (rules_of service) p i s history) (sym (held tell service history passed p i sector there))
-      (pick_shown tell service history passed p i (look (rules_of service) (record { partition = p; sector = i }) history) moved));
+      ap length (held service history passed p i sector there) ∙ pick_whole service history passed p i (look (rules_of service) (record { partition = p; sector = i }) history);
+  explained = explained (rules_of service) (arrays_of service history passed) history room (whole service history passed) seen passed.fit none_busy
+      (λ p i sector there moved. subst (λ s. IsScheduled (rules_of service) p i s history) (sym (held service history passed p i sector there))
+      (pick_scheduled service history passed p i (look (rules_of service) (record { partition = p; sector = i }) history) moved));
 }

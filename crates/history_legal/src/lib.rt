@@ -4,27 +4,24 @@
 //!
 //! A history of calls and answers that `judge` of history_judge passes is explained by a run of the sector machine
 //! (`passed_are_explained`), from arrays of which each sector has the bytes that the judge was given. Each sector must have
-//! an address of 64 bits, and no write be answered DEVICE_BUSY. What `judge_any_start` passes is explained so from some
+//! an address of 64 bits, and no write be answered DEVICE_BUSY. What `judge` where any start will do passes is explained so from some
 //! arrays, whose sectors have the right size (`passed_from_some_are_explained`).
 #![tactic(auto)]
 
 ghost use Rattle.history_legal.specs.Laws.{PassedAreExplained, PassedFromSomeAreExplained};
 
-use history_judge::numbers_tell;
-use history_shown::shown_are_explained;
+use history_shown::moved_are_explained;
 
 /// What passes is explained.
 pub fn passed_are_explained()
     ensures { PassedAreExplained }
 {
-    numbers_tell();
-    shown_are_explained();
+    moved_are_explained();
 }
 
 /// What passes from any bytes is explained from some.
 pub fn passed_from_some_are_explained()
     ensures { PassedFromSomeAreExplained }
 {
-    numbers_tell();
-    shown_are_explained();
+    moved_are_explained();
 }

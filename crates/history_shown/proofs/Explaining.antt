@@ -1,4 +1,4 @@
--- A history whose sectors show what has a schedule is explained.
+-- A history of which each sector that calls move has a schedule is explained.
 use Rattle.std.proofs.Common.{◌≡◌, ℕ, Bool, true, false, List, [], ◌∷◌, Some, None, refl, sym, subst, arith}
 use Rattle.std.specs.Prelude.{All, slice_get, if◌then◌else◌}
 use Rattle.std.proofs.lemmas.List.Elements.{All-nil}
@@ -12,7 +12,7 @@ use Rattle.history_laws.proofs.Mirroring.{further, newest}
 use Rattle.history_runs.proofs.Explaining.{scheduled_explained}
 use Rattle.register.specs.Schedules.{HasSchedule}
 use Rattle.history.specs.Sights.{has_sector, call_sight, with_sight, sights_of}
-use Rattle.history_shown.specs.Laws.{IsReadBelow, IsMoved, IsShown, ShownAreExplained}
+use Rattle.history_shown.specs.Laws.{IsReadBelow, IsMoved, MovedAreExplained}
 use Rattle.history_shown.proofs.Scheduling.{shown_scheduled}
 
 module _ (rules : Rules) (p i : ℕ) where
@@ -70,12 +70,10 @@ module _ (rules : Rules) (p i : ℕ) where
       shown_scheduled none 0 rules p i start history (λ a b low e. absurd (omega arith)) fit (subst (All (IsReadBelow 0)) (sym silent) (All-nil (IsReadBelow 0)))
       (subst (HasSchedule (none start)) (sym silent) (record { events = []; in_turn = tt; seen = refl }))
 
-pub shown_explained : ShownAreExplained
-shown_explained rules arrays history room whole seen fit none_busy shown =
+pub moved_explained : MovedAreExplained
+moved_explained rules arrays history room whole seen fit none_busy schedules =
     scheduled_explained rules arrays history room whole seen fit (λ p i start there. by_moved p i start there (is_moved rules p i history) refl) (λ n q busy. absurd (none_busy n q busy))
   where
     by_moved : (p i : ℕ) (start : List ℕ) → slice_get (array_at arrays p) i ≡ Some start → (b : Bool) → is_moved rules p i history ≡ b → IsScheduled rules p i start history
-    by_moved p i start there true e =
-        let s : IsShown rules p i start history = shown p i start there (moved rules p i history e) in
-        shown_scheduled s.code s.count rules p i start history s.tells fit s.reads_below s.schedule
+    by_moved p i start there true e = schedules p i start there (moved rules p i history e)
     by_moved p i start there false e = unmoved_scheduled rules p i start history fit e

@@ -38,17 +38,9 @@ pub record IsMoved (rules : Rules) (p i : ℕ) (history : List Label) : Type 0 w
   pub called : Contains history (Call number request)
   pub moves : has_sector rules p i request ≡ true
 
--- what the sector shows has a schedule as a register, from these bytes on, whose values tell its bytes apart
-pub record IsShown (rules : Rules) (p i : ℕ) (start : List ℕ) (history : List Label) : Type 0 where
-  pub code : List ℕ → ℕ
-  pub count : ℕ
-  pub tells : Tells code count
-  pub reads_below : All (IsReadBelow count) (sights_of code rules p i [] history)
-  pub schedule : HasSchedule (code start) (sights_of code rules p i [] history)
-
--- a history that fits is explained, where no write is answered DEVICE_BUSY, and each sector that it moves shows what has a schedule
-abbrev pub ShownAreExplained : Type 0
-ShownAreExplained = (rules : Rules) (arrays : List (List (List ℕ))) (history : List Label) → IsAddressable rules → AreWhole rules arrays
+-- a history that fits is explained, where no write is answered DEVICE_BUSY, and each sector that it moves has a schedule
+abbrev pub MovedAreExplained : Type 0
+MovedAreExplained = (rules : Rules) (arrays : List (List (List ℕ))) (history : List Label) → IsAddressable rules → AreWhole rules arrays
     → history_of history ≡ history → all_fit_at_first rules history ≡ true → ((n : ℕ) (q : ClientRequest) → IsBusyWrite history n q → ⊥)
-    → ((p i : ℕ) (start : List ℕ) → slice_get (array_at arrays p) i ≡ Some start → IsMoved rules p i history → IsShown rules p i start history)
+    → ((p i : ℕ) (start : List ℕ) → slice_get (array_at arrays p) i ≡ Some start → IsMoved rules p i history → IsScheduled rules p i start history)
     → IsExplained rules arrays history

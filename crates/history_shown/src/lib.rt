@@ -3,18 +3,18 @@
 //! # Promises
 //!
 //! Where what a sector shows has a schedule as a register, in which different bytes are different values, the sector has a
-//! schedule (`shown_are_scheduled`). So a history that fits, each sector of which shows what has a schedule, is explained by
-//! a run (`shown_are_explained`), where no write is answered DEVICE_BUSY and each sector has an address of 64 bits.
+//! schedule (`shown_are_scheduled`). A history that fits, each sector of which that calls move has a schedule, is explained
+//! by a run (`moved_are_explained`), where no write is answered DEVICE_BUSY and each sector has an address of 64 bits.
 #![tactic(auto)]
 
-ghost use Rattle.history_shown.specs.Laws.{ShownAreExplained, ShownAreScheduled};
+ghost use Rattle.history_shown.specs.Laws.{MovedAreExplained, ShownAreScheduled};
 
 /// What shows a sector with a schedule as a register, in a history that fits, has a schedule.
 pub fn shown_are_scheduled()
     ensures { ShownAreScheduled }
 {}
 
-/// A history that fits is explained by a run, where each sector that it moves shows what has a schedule as a register.
-pub fn shown_are_explained()
-    ensures { ShownAreExplained }
+/// A history that fits is explained by a run, where each sector that it moves has a schedule.
+pub fn moved_are_explained()
+    ensures { MovedAreExplained }
 {}

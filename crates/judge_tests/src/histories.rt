@@ -88,7 +88,7 @@ static CASES: [(&str, &[Step], Verdict); 11] = [
         ],
         Verdict::Refused {
             place: SECOND,
-            label: 3,
+            line: 3,
         },
     ),
     (
@@ -131,7 +131,7 @@ static CASES: [(&str, &[Step], Verdict); 11] = [
         ],
         Verdict::Refused {
             place: SECOND,
-            label: 2,
+            line: 2,
         },
     ),
     (
@@ -164,7 +164,7 @@ static CASES: [(&str, &[Step], Verdict); 11] = [
         ],
         Verdict::Refused {
             place: SECOND,
-            label: 5,
+            line: 5,
         },
     ),
     (
@@ -220,7 +220,7 @@ static CASES: [(&str, &[Step], Verdict); 11] = [
         ],
         Verdict::Refused {
             place: SECOND,
-            label: 1,
+            line: 1,
         },
     ),
     (
@@ -231,7 +231,7 @@ static CASES: [(&str, &[Step], Verdict); 11] = [
             bytes: &[1, 2, 3, 4],
         }],
         Verdict::Misfit {
-            label: 0,
+            line: 0,
             why: Misfit::Bytes,
         },
     ),
@@ -249,7 +249,7 @@ static CASES: [(&str, &[Step], Verdict); 11] = [
             },
         ],
         Verdict::Misfit {
-            label: 1,
+            line: 1,
             why: Misfit::Answer,
         },
     ),
@@ -257,7 +257,7 @@ static CASES: [(&str, &[Step], Verdict); 11] = [
         "what was not called is answered",
         &[Step::Bad { number: 1 }],
         Verdict::Misfit {
-            label: 0,
+            line: 0,
             why: Misfit::NotOpen,
         },
     ),
@@ -276,7 +276,7 @@ static CASES: [(&str, &[Step], Verdict); 11] = [
             },
         ],
         Verdict::Misfit {
-            label: 1,
+            line: 1,
             why: Misfit::Number,
         },
     ),
@@ -340,9 +340,10 @@ fn recorded(alloc: Global, steps: &[Step]) -> Result<History, AllocError> {
         partitions: vec![in alloc; Extent { first: 1, count: 4 }]?,
         longest: 8,
     };
-    let mut history = History::new(alloc, service, &[0, 0])?;
-    for step in steps {
-        history = history.push(alloc, label_of(alloc, step)?)?;
+    let mut history = History::new(alloc, service, &[0, 0], false)?;
+    for (line, step) in steps.iter().enumerate() {
+        let label = label_of(alloc, step)?;
+        history = history.push(alloc, line as u64, &label)?;
     }
     Ok(history)
 }

@@ -1,111 +1,120 @@
 //! Sights that have a schedule, and sights that have none.
 
-use register::Sight;
-use register_judge::{Verdict, judge};
+use register::{Contents, Sight};
+use register_judge::{Observed, SoFar, Verdict, judge};
+use std::alloc::{AllocError, Global};
 use std::test::Fail;
 
+/// What is seen of a register of one byte.
+enum Step {
+    Write { number: u64, value: u8 },
+    Read { number: u64, value: u8 },
+    Done { number: u64 },
+    Failed { number: u64 },
+}
+
 /// What is seen of a register that has 7 at the start, and the verdict.
-static CASES: [(&str, &[Sight], Verdict); 14] = [
+static CASES: [(&str, &[Step], Verdict); 14] = [
     (
         "a read of the start",
         &[
-            Sight::Read {
+            Step::Read {
                 number: 1,
                 value: 7,
             },
-            Sight::Done { number: 1 },
+            Step::Done { number: 1 },
         ],
         Verdict::Passed,
     ),
     (
         "a read of what nobody wrote",
         &[
-            Sight::Read {
+            Step::Read {
                 number: 1,
                 value: 9,
             },
-            Sight::Done { number: 1 },
+            Step::Done { number: 1 },
         ],
         Verdict::Refused { sights: 2 },
     ),
     (
         "a read behind a write",
         &[
-            Sight::Write {
+            Step::Write {
                 number: 1,
                 value: 5,
             },
-            Sight::Done { number: 1 },
-            Sight::Read {
+            Step::Done { number: 1 },
+            Step::Read {
                 number: 2,
                 value: 7,
             },
-            Sight::Done { number: 2 },
+            Step::Done { number: 2 },
         ],
         Verdict::Refused { sights: 4 },
     ),
     (
         "a read beside a write that has not acted",
         &[
-            Sight::Write {
+            Step::Write {
                 number: 1,
                 value: 5,
             },
-            Sight::Read {
+            Step::Read {
                 number: 2,
                 value: 7,
             },
-            Sight::Done { number: 1 },
-            Sight::Done { number: 2 },
+            Step::Done { number: 1 },
+            Step::Done { number: 2 },
         ],
         Verdict::Passed,
     ),
     (
         "a read beside a write that has",
         &[
-            Sight::Write {
+            Step::Write {
                 number: 1,
                 value: 5,
             },
-            Sight::Read {
+            Step::Read {
                 number: 2,
                 value: 5,
             },
-            Sight::Done { number: 2 },
-            Sight::Done { number: 1 },
+            Step::Done { number: 2 },
+            Step::Done { number: 1 },
         ],
         Verdict::Passed,
     ),
     (
         "two reads of one write in the wrong order",
         &[
-            Sight::Write {
+            Step::Write {
                 number: 1,
                 value: 5,
             },
-            Sight::Read {
+            Step::Read {
                 number: 2,
                 value: 5,
             },
-            Sight::Done { number: 2 },
-            Sight::Read {
+            Step::Done { number: 2 },
+            Step::Read {
                 number: 3,
                 value: 7,
             },
-            Sight::Done { number: 3 },
-            Sight::Done { number: 1 },
+            Step::Done { number: 3 },
+            Step::Done { number: 1 },
         ],
         Verdict::Refused { sights: 5 },
     ),
     (
         "a read of a write called after its answer",
         &[
-            Sight::Read {
+            Step::Read {
                 number: 1,
                 value: 5,
             },
-            Sight::Done { number: 1 },
-            Sight::Write {
+            Step::Done { number: 1 },
+            Step::Write {
                 number: 2,
                 value: 5,
             },
@@ -115,108 +124,108 @@ static CASES: [(&str, &[Sight], Verdict); 14] = [
     (
         "a write that failed and acted",
         &[
-            Sight::Write {
+            Step::Write {
                 number: 1,
                 value: 5,
             },
-            Sight::Failed { number: 1 },
-            Sight::Read {
+            Step::Failed { number: 1 },
+            Step::Read {
                 number: 2,
                 value: 5,
             },
-            Sight::Done { number: 2 },
+            Step::Done { number: 2 },
         ],
         Verdict::Passed,
     ),
     (
         "a write that failed and did not",
         &[
-            Sight::Write {
+            Step::Write {
                 number: 1,
                 value: 5,
             },
-            Sight::Failed { number: 1 },
-            Sight::Read {
+            Step::Failed { number: 1 },
+            Step::Read {
                 number: 2,
                 value: 7,
             },
-            Sight::Done { number: 2 },
+            Step::Done { number: 2 },
         ],
         Verdict::Passed,
     ),
     (
         "a write that failed and acted later",
         &[
-            Sight::Write {
+            Step::Write {
                 number: 1,
                 value: 5,
             },
-            Sight::Failed { number: 1 },
-            Sight::Read {
+            Step::Failed { number: 1 },
+            Step::Read {
                 number: 2,
                 value: 7,
             },
-            Sight::Done { number: 2 },
-            Sight::Read {
+            Step::Done { number: 2 },
+            Step::Read {
                 number: 3,
                 value: 5,
             },
-            Sight::Done { number: 3 },
+            Step::Done { number: 3 },
         ],
         Verdict::Refused { sights: 6 },
     ),
     (
         "a write that is never answered and acted late",
         &[
-            Sight::Write {
+            Step::Write {
                 number: 1,
                 value: 5,
             },
-            Sight::Read {
+            Step::Read {
                 number: 2,
                 value: 7,
             },
-            Sight::Done { number: 2 },
-            Sight::Read {
+            Step::Done { number: 2 },
+            Step::Read {
                 number: 3,
                 value: 5,
             },
-            Sight::Done { number: 3 },
+            Step::Done { number: 3 },
         ],
         Verdict::Passed,
     ),
     (
         "eight open writes of values of their own",
         &[
-            Sight::Write {
+            Step::Write {
                 number: 1,
                 value: 1,
             },
-            Sight::Write {
+            Step::Write {
                 number: 2,
                 value: 2,
             },
-            Sight::Write {
+            Step::Write {
                 number: 3,
                 value: 3,
             },
-            Sight::Write {
+            Step::Write {
                 number: 4,
                 value: 4,
             },
-            Sight::Write {
+            Step::Write {
                 number: 5,
                 value: 5,
             },
-            Sight::Write {
+            Step::Write {
                 number: 6,
                 value: 6,
             },
-            Sight::Write {
+            Step::Write {
                 number: 7,
                 value: 7,
             },
-            Sight::Write {
+            Step::Write {
                 number: 8,
                 value: 8,
             },
@@ -226,11 +235,11 @@ static CASES: [(&str, &[Sight], Verdict); 14] = [
     (
         "a number that was given",
         &[
-            Sight::Write {
+            Step::Write {
                 number: 2,
                 value: 5,
             },
-            Sight::Read {
+            Step::Read {
                 number: 2,
                 value: 5,
             },
@@ -239,17 +248,61 @@ static CASES: [(&str, &[Sight], Verdict); 14] = [
     ),
     (
         "an end of what isn't open",
-        &[Sight::Done { number: 1 }],
+        &[Step::Done { number: 1 }],
         Verdict::Undecided,
     ),
 ];
 
+fn sight_of(alloc: Global, step: &Step) -> Result<Sight, AllocError> {
+    Ok(match *step {
+        Step::Write { number, value } => Sight::Write {
+            number,
+            value: Contents::new(alloc, &[value])?,
+        },
+        Step::Read { number, value } => Sight::Read {
+            number,
+            value: Contents::new(alloc, &[value])?,
+        },
+        Step::Done { number } => Sight::Done { number },
+        Step::Failed { number } => Sight::Failed { number },
+    })
+}
+
+fn sights_of(alloc: Global, steps: &[Step]) -> Result<Vec<Sight>, AllocError> {
+    let mut sights = Vec::new(alloc);
+    for step in steps {
+        sights.push(sight_of(alloc, step)?)?;
+    }
+    Ok(sights)
+}
+
+/// What is known of a register behind these sights.
+fn so_far_of(alloc: Global, start: &Contents, sights: &[Sight]) -> Result<SoFar, AllocError> {
+    let mut observed = Observed::new(alloc, start)?;
+    for sight in sights {
+        observed.see(alloc, sight)?;
+    }
+    Ok(observed.so_far())
+}
+
+fn wanted_of(verdict: Verdict) -> SoFar {
+    match verdict {
+        Verdict::Passed => SoFar::Passed,
+        Verdict::Refused { .. } => SoFar::Refused,
+        Verdict::Undecided => SoFar::Undecided,
+    }
+}
+
 #[test]
 fn registers_are_judged(rt: HostRuntime) -> Result<(), Fail> {
     let alloc = rt.alloc();
-    for (name, sights, wanted) in CASES {
-        let verdict = judge(alloc, 7, sights)?;
+    let start = Contents::new(alloc, &[7])?;
+    for (name, steps, wanted) in CASES {
+        let sights = sights_of(alloc, steps)?;
+        let verdict = judge(alloc, &start, sights.as_slice())?;
         assert_eq!(&rt; verdict, wanted, "{name}");
+        let so_far = so_far_of(alloc, &start, sights.as_slice())?;
+        assert_eq!(&rt; so_far, wanted_of(wanted), "{name}");
     }
     Ok(())
 }

@@ -2,7 +2,7 @@
 
 use crate::fields::Fields;
 use crate::histories::{Recorded, Said};
-use history_judge::{Misfit, Place};
+use history_judge::{Found, Misfit, Place, Refusal, Source};
 use std::alloc::{AllocError, Global};
 use std::io;
 use std::io::Write;
@@ -11,44 +11,7 @@ use std::io::Write;
 #[derive(Debug, Drop)]
 pub(crate) struct Finding {
     pub said: Said,
-    /// How many sectors its calls move.
-    pub sectors: usize,
-    /// What a refused read might have seen instead: writes, by the labels of their calls, or the start.
-    pub allowed: Vec<Option<usize>>,
-}
-
-/// Where bytes are from that were read.
-#[derive(Debug, Clone, Copy)]
-enum Source {
-    Start,
-    Nobody,
-    /// The label of this call.
-    Call(usize),
-}
-
-impl Recorded {
-    /// Where what an answer gives of a sector is from, if it is of a read.
-    fn source_of(&self, label: usize, place: Place) -> Option<Source> {
-        let bytes = self.history.read_at(label, place)?;
-        if let Some(call) = self.history.writer_of(label, place, bytes) {
-            return Some(Source::Call(call));
-        }
-        if are_zero(bytes) && !self.any_start {
-            Some(Source::Start)
-        } else {
-            Some(Source::Nobody)
-        }
-    }
-}
-
-/// Whether all bytes are zero, as at the start.
-fn are_zero(bytes: &[u8]) -> bool {
-    for byte in bytes {
-        if *byte != 0 {
-            return false;
-        }
-    }
-    true
+    pub refusal: Option<Refusal>,
 }
 
 /// Writes what is told of a history.
@@ -76,17 +39,18 @@ fn write_verdict<O: Write>(
     match verdict {
         history_judge::Verdict::Passed => {
             let requests = recorded.history.requests();
-            let sectors = finding.sectors;
+            let sectors = recorded.history.sectors();
             writeln!(out, "legal: {requests} requests, {sectors} sectors")
         }
-        history_judge::Verdict::Misfit { label, why } => {
-            let line = recorded.line_of(label);
+        history_judge::Verdict::Misfit { line, why } => {
             let told = text_of(why);
             writeln!(out, "line {line}: {told}")
         }
-        history_judge::Verdict::Refused { place, label } => {
-            write_refused(out, recorded, place, label)?;
-            write_allowed(out, recorded, finding.allowed.as_slice())
+        history_judge::Verdict::Refused { place, line } => {
+            let Some(refusal) = &finding.refusal else {
+                return writeln!(out, "line {line}: {NO_ORDER}");
+            };
+            write_refused(out, place, line, refusal)
         }
         history_judge::Verdict::Undecided { place } => {
             let Place { partition, sector } = place;
@@ -99,18 +63,10 @@ fn write_verdict<O: Write>(
 }
 
 /// Writes what a refused read might have seen instead.
-fn write_allowed<O: Write>(
-    out: &mut O,
-    recorded: &Recorded,
-    allowed: &[Option<usize>],
-) -> io::Result<()> {
-    for call in allowed {
+fn write_allowed<O: Write>(out: &mut O, allowed: &[Source]) -> io::Result<()> {
+    for source in allowed {
         write!(out, "allowed: as ")?;
-        let source = match *call {
-            Some(call) => Source::Call(call),
-            None => Source::Start,
-        };
-        write_source(out, recorded, source)?;
+        write_source(out, *source)?;
         writeln!(out)?;
     }
     Ok(())
@@ -131,35 +87,32 @@ fn text_of(why: Misfit) -> &'static str {
 /// Writes of which sector no order of requests explains an answer, what it read there, and who wrote that.
 fn write_refused<O: Write>(
     out: &mut O,
-    recorded: &Recorded,
     place: Place,
-    label: usize,
+    line: u64,
+    refusal: &Refusal,
 ) -> io::Result<()> {
-    let line = recorded.line_of(label);
-    let request = recorded.history.number_of(label);
+    let request = refusal.number;
     let Place { partition, sector } = place;
     write!(out, "line {line}: request {request} ")?;
-    let Some(source) = recorded.source_of(label, place) else {
+    let Some(found) = &refusal.found else {
         return writeln!(
             out,
             "ended, and no order of the requests explains sector {sector} of partition {partition}"
         );
     };
     write!(out, "read sector {sector} of partition {partition} as ")?;
-    write_source(out, recorded, source)?;
-    writeln!(out, ", and no order of the requests explains that")
+    write_source(out, found.source)?;
+    writeln!(out, ", and no order of the requests explains that")?;
+    write_allowed(out, found.allowed.as_slice())
 }
 
 /// Writes where bytes that were read are from.
-fn write_source<O: Write>(out: &mut O, recorded: &Recorded, source: Source) -> io::Result<()> {
+fn write_source<O: Write>(out: &mut O, source: Source) -> io::Result<()> {
     match source {
         Source::Start => write!(out, "it was at the start"),
         Source::Nobody => write!(out, "nobody had written it"),
-        Source::Call(call) => {
-            let request = recorded.history.number_of(call);
-            let line = recorded.line_of(call);
-            write!(out, "request {request} (line {line}) wrote it")
-        }
+        Source::Unknown => write!(out, "none of its last writes left it"),
+        Source::Call { number, line } => write!(out, "request {number} (line {line}) wrote it"),
     }
 }
 
@@ -193,20 +146,18 @@ fn verdict_object(
     match verdict {
         history_judge::Verdict::Passed => {
             let requests = recorded.history.requests();
-            let sectors = finding.sectors;
+            let sectors = recorded.history.sectors();
             format!(in alloc;
                 "{{\"verdict\": \"legal\", \"requests\": {requests}, \"sectors\": {sectors}}}"
             )
         }
-        history_judge::Verdict::Misfit { label, why } => {
-            let fields = fields_of(alloc, recorded, label)?;
-            broken_object(alloc, recorded, label, text_of(why), &fields)
+        history_judge::Verdict::Misfit { line, why } => {
+            let fields = fields_of(alloc, recorded.history.stopped())?;
+            broken_object(alloc, line, text_of(why), &fields)
         }
-        history_judge::Verdict::Refused { place, label } => {
-            let mut fields = fields_of(alloc, recorded, label)?;
-            tell_place(recorded, label, place, &mut fields)?;
-            tell_allowed(alloc, recorded, finding.allowed.as_slice(), &mut fields)?;
-            broken_object(alloc, recorded, label, NO_ORDER, &fields)
+        history_judge::Verdict::Refused { place, line } => {
+            let fields = refused_fields(alloc, place, finding.refusal.as_ref())?;
+            broken_object(alloc, line, NO_ORDER, &fields)
         }
         history_judge::Verdict::Undecided { place } => undecided_object(alloc, "states", place),
     }
@@ -216,44 +167,60 @@ fn verdict_object(
 const NO_ORDER: &str = "no order of the requests explains it";
 
 /// Which request a refused line tells.
-fn fields_of(alloc: Global, recorded: &Recorded, label: usize) -> Result<Fields, AllocError> {
+fn fields_of(alloc: Global, request: u64) -> Result<Fields, AllocError> {
     let mut fields = Fields::new(alloc, true);
-    fields.number("request", Some(recorded.history.number_of(label) as u128))?;
+    fields.number("request", Some(request as u128))?;
+    Ok(fields)
+}
+
+/// The same of an answer that is not explained, with its sector, and what it read there, if it is of a read.
+fn refused_fields(
+    alloc: Global,
+    place: Place,
+    refusal: Option<&Refusal>,
+) -> Result<Fields, AllocError> {
+    let Some(refusal) = refusal else {
+        return Ok(Fields::new(alloc, true));
+    };
+    let mut fields = fields_of(alloc, refusal.number)?;
+    let Place { partition, sector } = place;
+    fields.number("partition", Some(partition as u128))?;
+    fields.number("sector", Some(sector as u128))?;
+    if let Some(found) = &refusal.found {
+        tell_found(found, &mut fields)?;
+        tell_allowed(alloc, found.allowed.as_slice(), &mut fields)?;
+    }
     Ok(fields)
 }
 
 /// Which line is refused, and why, with what more there is to tell.
 fn broken_object(
     alloc: Global,
-    recorded: &Recorded,
-    label: usize,
+    line: u64,
     why: &str,
     fields: &Fields,
 ) -> Result<String, AllocError> {
-    let line = recorded.line_of(label);
     let more = fields.text.as_str();
     format!(in alloc; "{{\"verdict\": \"refused\", \"line\": {line}, \"rule\": \"{why}\"{more}}}")
 }
 
+/// A source of bytes.
+fn source_word(alloc: Global, source: Source) -> Result<String, AllocError> {
+    match source {
+        Source::Call { number, .. } => format!(in alloc; "{number}"),
+        Source::Start => format!(in alloc; "\"start\""),
+        Source::Nobody | Source::Unknown => format!(in alloc; "\"nobody\""),
+    }
+}
+
 /// Tells what a refused read might have seen instead, if there is something: requests, and `start`.
-fn tell_allowed(
-    alloc: Global,
-    recorded: &Recorded,
-    allowed: &[Option<usize>],
-    fields: &mut Fields,
-) -> Result<(), AllocError> {
+fn tell_allowed(alloc: Global, allowed: &[Source], fields: &mut Fields) -> Result<(), AllocError> {
     let mut sources = String::new(alloc);
-    for call in allowed {
+    for source in allowed {
         if !sources.is_empty() {
             sources.push_str(", ")?;
         }
-        let source = match *call {
-            Some(call) => {
-                let request = recorded.history.number_of(call);
-                format!(in alloc; "{request}")?
-            }
-            None => format!(in alloc; "\"start\"")?,
-        };
+        let source = source_word(alloc, *source)?;
         sources.push_str(source.as_str())?;
     }
     if sources.is_empty() {
@@ -264,32 +231,22 @@ fn tell_allowed(
     fields.text.push_str(field.as_str())
 }
 
-/// Tells of which sector an answer is not explained, and what it read there, if it is of a read.
-fn tell_place(
-    recorded: &Recorded,
-    label: usize,
-    place: Place,
-    fields: &mut Fields,
-) -> Result<(), AllocError> {
-    let Place { partition, sector } = place;
-    fields.number("partition", Some(partition as u128))?;
-    fields.number("sector", Some(sector as u128))?;
-    let Some(bytes) = recorded.history.read_at(label, place) else {
-        return Ok(());
-    };
-    match recorded.source_of(label, place) {
-        None => Ok(()),
-        Some(Source::Start) => tell_found(fields, bytes, "start"),
-        Some(Source::Nobody) => tell_found(fields, bytes, "nobody"),
-        Some(Source::Call(call)) => {
-            fields.bytes("found", bytes, Some(recorded.line_of(call)))?;
-            fields.number("writer", Some(recorded.history.number_of(call) as u128))
+/// Tells what a read gave, and who wrote it.
+fn tell_found(found: &Found, fields: &mut Fields) -> Result<(), AllocError> {
+    let bytes = found.bytes.as_slice();
+    match found.source {
+        Source::Call { number, line } => {
+            fields.bytes("found", bytes, Some(line))?;
+            fields.number("writer", Some(number as u128))
         }
+        Source::Start => tell_writer(fields, bytes, "start"),
+        Source::Nobody => tell_writer(fields, bytes, "nobody"),
+        Source::Unknown => fields.bytes("found", bytes, None),
     }
 }
 
 /// Tells bytes that no call wrote.
-fn tell_found(fields: &mut Fields, bytes: &[u8], writer: &str) -> Result<(), AllocError> {
+fn tell_writer(fields: &mut Fields, bytes: &[u8], writer: &str) -> Result<(), AllocError> {
     fields.bytes("found", bytes, None)?;
     fields.word("writer", writer)
 }

@@ -2,7 +2,7 @@
 
 ghost use Rattle.std.specs.Prelude.{IfOk};
 ghost use Rattle.settings.specs.InRange.{AreInRange};
-ghost use Rattle.judging.specs.Histories.{IsOfSettings, JudgedBy};
+ghost use Rattle.judging.specs.Histories.{IsOfSettings};
 ghost use Rattle.judging.specs.inside.Saying.{IsBy, IsSaid, IsServiceOf};
 
 use crate::Error;
@@ -12,7 +12,7 @@ use crate::progress::Progress;
 use crate::reading::{is_ended, next_line, without_end};
 use crate::told::{Told, told_whole};
 use compose::LONGEST_REQUEST;
-use history_judge::{History, Place, Service};
+use history_judge::{History, Place, Refusal, Service};
 use machine::Label;
 use settings::Config;
 use startup::{Verdict, read_settings};
@@ -23,7 +23,7 @@ use std::io::{BufRead, BufReader, Read, Write};
 const BUFFER: usize = 65_536;
 
 /// How many labels are read before they are judged the first time.
-const FIRST_LOOK: usize = 4_096;
+const FIRST_LOOK: u64 = 4_096;
 
 /// How a history is judged, and told of.
 #[derive(Debug, Clone, Copy)]
@@ -44,10 +44,8 @@ pub struct Listeners<O, W> {
 /// The calls and answers of a text.
 #[derive(Drop)]
 pub(crate) struct Recorded {
+    /// Lines count from 1.
     pub history: History,
-    /// The numbers of their lines, from 1.
-    lines: Vec<u64>,
-    pub any_start: bool,
 }
 
 /// What is said of a history.
@@ -60,20 +58,14 @@ pub(crate) enum Said {
 }
 
 impl Recorded {
-    /// The line of a label.
-    pub fn line_of(&self, label: usize) -> u64 {
-        self.lines.get(label).copied().unwrap_or(0)
-    }
-
-    /// What a refused read might have seen instead, if one is refused.
-    fn allowed(&self, alloc: Global, said: Said) -> Result<Vec<Option<usize>>, AllocError> {
-        let Said::By(history_judge::Verdict::Refused { place, label }) = said else {
-            return Ok(Vec::new(alloc));
-        };
-        if self.history.read_at(label, place).is_none() {
-            return Ok(Vec::new(alloc));
+    /// What is told of a refusal, if that is said.
+    fn refusal(&self, alloc: Global, said: Said) -> Result<Option<Refusal>, AllocError> {
+        match said {
+            Said::By(history_judge::Verdict::Refused { place, .. }) => {
+                self.history.refusal(alloc, place)
+            }
+            _ => Ok(None),
         }
-        self.history.allowed(alloc, label, place, self.any_start)
     }
 
     /// What is told of it.
@@ -81,8 +73,7 @@ impl Recorded {
         let said = judged(alloc, self)?;
         Ok(Finding {
             said,
-            sectors: self.history.sectors(alloc)?,
-            allowed: self.allowed(alloc, said)?,
+            refusal: self.refusal(alloc, said)?,
         })
     }
 }
@@ -107,12 +98,9 @@ pub fn judge_history<C: Read + Drop, T: Read + Drop, O: Write, W: Write>(
     let Ok(mut input) = BufReader::with_capacity(alloc, BUFFER, history) else {
         return Err(Error::NoMemory);
     };
-    let recorded = Recorded {
-        history: no_label(alloc, &config)?,
-        lines: Vec::new(alloc),
-        any_start: terms.any_start,
-    };
-    let recorded = read_history(alloc, &mut input, recorded, &mut listeners.progress)?;
+    let history = no_label(alloc, &config, terms.any_start)?;
+    let history = read_history(alloc, &mut input, history, &mut listeners.progress)?;
+    let recorded = Recorded { history };
     if recorded.history.count() == 0 {
         return Err(Error::NoLabel);
     }
@@ -133,9 +121,9 @@ pub fn judge_history<C: Read + Drop, T: Read + Drop, O: Write, W: Write>(
 /// What is said of a history. Where it passes, writes that were answered DEVICE_BUSY must be none, or it has to pass without
 /// their effects, too.
 fn judged(alloc: Global, recorded: &Recorded) -> Result<Said, AllocError>
-    ensures { IfOk result (IsSaid recorded.now.any_start recorded.now.history) }
+    ensures { IfOk result (IsSaid recorded.now.history) }
 {
-    let verdict = verdict_of(alloc, &recorded.history, recorded.any_start)?;
+    let verdict = recorded.history.judge(alloc)?;
     match verdict {
         history_judge::Verdict::Passed => judged_idle(alloc, recorded, verdict),
         _ => Ok(Said::By(verdict)),
@@ -150,23 +138,21 @@ fn judged_idle(
 ) -> Result<Said, AllocError>
     ensures { IfOk result (IsBy verdict) }
 {
-    let failing = recorded
-        .history
-        .fails_without_busy(alloc, recorded.any_start)?;
-    match failing {
+    match recorded.history.fails_without_busy(alloc)? {
         Some(place) => Ok(Said::Busy(place)),
         None => Ok(Said::By(verdict)),
     }
 }
 
-/// A history of the service that some settings describe, from sectors of zeros, with no label.
-fn no_label(alloc: Global, config: &Config) -> Result<History, AllocError>
+/// A history of the service that some settings describe, from sectors of zeros, or where it is asked for of any bytes, with
+/// no label.
+fn no_label(alloc: Global, config: &Config, any: bool) -> Result<History, AllocError>
     requires { AreInRange config.now }
-    ensures { IfOk result (IsOfSettings config.now) }
+    ensures { IfOk result (IsOfSettings config.now any) }
 {
     let service = service_of(alloc, config)?;
     let start = zero_sector(alloc, config.sector_size)?;
-    History::new(alloc, service, start.as_slice())
+    History::new(alloc, service, start.as_slice(), any)
 }
 
 /// Takes the calls and answers that the lines of an input tell, up to the end or to where no run explains them. Whether one
@@ -174,14 +160,10 @@ fn no_label(alloc: Global, config: &Config) -> Result<History, AllocError>
 fn read_history<B: BufRead, W: Write>(
     alloc: Global,
     input: &mut B,
-    recorded: Recorded,
+    history: History,
     progress: &mut Progress<W>,
-) -> Result<Recorded, Error> {
-    let Recorded {
-        mut history,
-        mut lines,
-        any_start,
-    } = recorded;
+) -> Result<History, Error> {
+    let mut history = history;
     let mut line = Vec::new(alloc);
     let mut next_look = FIRST_LOOK;
     for index in 0..u64::MAX {
@@ -189,8 +171,8 @@ fn read_history<B: BufRead, W: Write>(
         let number = index + 1;
         match told_whole(alloc, without_end(line.as_slice()))? {
             Told::Line(told) => {
-                history = with(alloc, history, &mut lines, number, told.line.label)?;
-                progress.say_read(lines.len() as u64);
+                history = with(alloc, history, number, &told.line.label)?;
+                progress.say_read(history.count());
             }
             Told::Nothing => {}
             Told::BadWord { column } => {
@@ -200,39 +182,23 @@ fn read_history<B: BufRead, W: Write>(
                 });
             }
         }
-        if !is_ended(line.as_slice()) || is_refused(alloc, &history, any_start, &mut next_look)? {
-            return Ok(Recorded {
-                history,
-                lines,
-                any_start,
-            });
+        if !is_ended(line.as_slice()) || is_refused(alloc, &history, &mut next_look)? {
+            return Ok(history);
         }
     }
     Err(Error::TraceUnreadable)
 }
 
 /// Takes the label of a line, unless it is of the service's device.
-fn with(
-    alloc: Global,
-    history: History,
-    lines: &mut Vec<u64>,
-    line: u64,
-    label: Label,
-) -> Result<History, AllocError> {
+fn with(alloc: Global, history: History, line: u64, label: &Label) -> Result<History, AllocError> {
     if !matches!(label, Label::Call { .. } | Label::Answer { .. }) {
         return Ok(history);
     }
-    lines.push(line)?;
-    history.push(alloc, label)
+    history.push(alloc, line, label)
 }
 
 /// Whether no run explains a history, whatever comes behind it.
-fn is_refused(
-    alloc: Global,
-    history: &History,
-    any_start: bool,
-    next_look: &mut usize,
-) -> Result<bool, AllocError> {
+fn is_refused(alloc: Global, history: &History, next_look: &mut u64) -> Result<bool, AllocError> {
     if history.misfit().is_some() {
         return Ok(true);
     }
@@ -240,7 +206,7 @@ fn is_refused(
         return Ok(false);
     }
     *next_look = history.count().saturating_mul(2);
-    let verdict = verdict_of(alloc, history, any_start)?;
+    let verdict = history.judge(alloc)?;
     Ok(matches!(verdict, history_judge::Verdict::Refused { .. }))
 }
 
@@ -254,19 +220,4 @@ fn service_of(alloc: Global, config: &Config) -> Result<Service, AllocError>
         partitions: extents(alloc, config.partitions.as_slice())?,
         longest: LONGEST_REQUEST as u64,
     })
-}
-
-/// What is said of a history.
-#[tactic(auto, using(crate::proofs::SaidOfHistories::from_any, crate::proofs::SaidOfHistories::from_zeros))]
-fn verdict_of(
-    alloc: Global,
-    history: &History,
-    any_start: bool,
-) -> Result<history_judge::Verdict, AllocError>
-    ensures { IfOk result (JudgedBy any_start history.now) }
-{
-    if any_start {
-        return history.judge_any_start(alloc);
-    }
-    history.judge(alloc)
 }

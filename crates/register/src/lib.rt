@@ -5,18 +5,23 @@
 //!
 //! # Promises
 //!
-//! Definitions alone.
+//! Values are bytes (`Contents`), of which contracts see a number that differs where they do (`codes_tell`).
 #![tactic(auto)]
 
+mod contents;
+
 ghost use Rattle.register.specs.Schedules.{PrefixesAreScheduled};
+ghost use Rattle.register.specs.Values.{CodesTell};
+
+pub use contents::Contents;
 
 /// What is seen of a register.
-#[derive(Debug, Clone, Copy, PartialEq, Eq)]
+#[derive(Drop)]
 pub enum Sight {
     /// A write of this value is called.
-    Write { number: u64, value: u64 },
+    Write { number: u64, value: Contents },
     /// A read is called that will succeed with this value.
-    Read { number: u64, value: u64 },
+    Read { number: u64, value: Contents },
     /// The operation succeeds.
     Done { number: u64 },
     /// The operation fails.
@@ -26,4 +31,10 @@ pub enum Sight {
 /// What has a schedule had one at each moment before.
 pub fn prefixes_are_scheduled()
     ensures { PrefixesAreScheduled }
+{}
+
+/// Different bytes have different numbers.
+#[tactic(auto, using(crate::proofs::Coding::codes_tell))]
+pub fn codes_tell()
+    ensures { CodesTell }
 {}

@@ -1,10 +1,11 @@
 -- States added one by one.
-use Rattle.std.proofs.Common.{◌≡◌, ◌<◌, ◌⊎◌, inl, inr, ℕ, ◌+◌, Bool, List, [], ◌∷◌, ◌++◌, refl, sym, ◌∙◌, ap, subst, map, length, get_or, drop}
-use Rattle.std.specs.Prelude.{Contains}
+use Rattle.std.proofs.Common.{◌≡◌, ◌<◌, ◌⊎◌, inl, inr, ℕ, ◌+◌, ◌==◌, ◌||◌, Bool, true, false, List, [], ◌∷◌, ◌++◌, Some, None, refl, sym, ◌∙◌, ap, subst, append-nil, append_assoc, map, length, get_or, drop}
+use Rattle.std.specs.Prelude.{Contains, Result, Ok, Err, OnOk, find, if◌then◌else◌}
 use Rattle.std.proofs.lemmas.List.{at_drop_more}
 use Rattle.register_judge.specs.declared.states.State.{State}
 use Rattle.register_judge.specs.declared.states.Turn.{Turn}
-use Rattle.register_judge.specs.inside.States.{Form, form_of, forms_of, Adds, turned, Ends, turns_of, EndsAll}
+use Rattle.register_judge.specs.declared.states.Waiting.{Waiting}
+use Rattle.register_judge.specs.inside.States.{Form, form_of, forms_of, with_some, lefts, leave, is_number, Adds, turned, Ends, turns_for, turns_of, EndsAll}
 use Rattle.register_judge.proofs.Listing.{Has, has_left, has_right, has_either, has_new, has_last, contains_has}
 
 pub forms_more : (states : List State) (s : State) → forms_of (states ++ s ∷ []) ≡ forms_of states ++ form_of s ∷ []
@@ -26,6 +27,27 @@ all_next must n states i d x low is old out mid new turns are so_far ends rest =
   where
     same : forms_of (drop i states) ≡ form_of x ∷ forms_of (drop (i + 1) states)
     same = at_drop_more forms_of states i d low ∙ ap (λ y. form_of y ∷ forms_of (drop (i + 1) states)) is
+
+-- WHAT DOESN'T WAIT
+
+lefts_next : (n : ℕ) (o : Waiting) (waits : List Waiting) (b : Bool) → ((if b then Some o else find (is_number n) waits) ≡ None) → (find (is_number n) waits ≡ None → (left : List Waiting) → lefts (leave n) left waits ≡ left ++ waits) → (left : List Waiting)
+    → lefts (leave n) (with_some left (if b || false then None else Some o)) waits ≡ left ++ o ∷ waits
+lefts_next n o waits true e rest left = absurd (cc (e))
+lefts_next n o waits false e rest left = rest e (left ++ o ∷ []) ∙ append_assoc left (o ∷ []) waits
+
+lefts_alike : (n : ℕ) (waits : List Waiting) → find (is_number n) waits ≡ None → (left : List Waiting) → lefts (leave n) left waits ≡ left ++ waits
+lefts_alike n [] none left = sym (append-nil left)
+lefts_alike n (o ∷ waits) none left = lefts_next n o waits (o.number == n) none (lefts_alike n waits) left
+
+-- the end of an operation that doesn't wait leaves a form as it is
+ends_alike : (must : Bool) (n : ℕ) (f : Form) (old new : List Form) → find (is_number n) f.waits ≡ None → Adds old f new → Ends f (turns_of must n f.waits) old new
+ends_alike must n f old new none adds =
+    subst (λ o. Ends f (turns_for must n f.waits o) old new) (sym none)
+    (new, subst (λ ws. Adds old (record { value = f.value; waits = ws }) new) (sym (lefts_alike n f.waits none [])) adds, refl)
+
+pub ends_still : {T E : Type 0} (must : Bool) (n : ℕ) (f g : Form) (old new : List Form) (r : Result T E) → find (is_number n) f.waits ≡ None → g ≡ f → OnOk r (Adds old g new) → OnOk r (Ends f (turns_of must n f.waits) old new)
+ends_still must n f g old new (Ok x) none is adds = ends_alike must n f old new none (subst (λ h. Adds old h new) is adds)
+ends_still must n f g old new (Err e) none is adds = tt
 
 -- WHAT IS THERE
 

@@ -574,15 +574,19 @@ pub covers_next : (start : ℕ) (old new : Register) (sights : List Sight) (inde
 covers_next start old new sights index d within x h =
     subst (Covers start new.last (forms_of new.states.items)) (sym (take_more sights index d within)) (covers_more start old new (take index sights) (get_or sights index d) x h)
 
-pub exact_next : (start : ℕ) (old new : Register) (sights : List Sight) (index : ℕ) (d : Sight) → index < length sights → IsExact start old (take index sights) → Sees old (get_or sights index d) new
-    → (new.states.items ≡ [] → ⊥) → IsExact start new (take (index + 1) sights)
-exact_next start old new sights index d within x h some = record {
-  covers = covers_next start old new sights index d within x h;
-  reals = λ f there. subst (λ seen. IsReal start new.last new.numbers.items seen f) (sym (take_more sights index d within)) (reals_more start old new (take index sights) (get_or sights index d) h x f there);
-  low = low_more start old new (take index sights) (get_or sights index d) h x;
-  tidy = subst (IsTidy new.last) (sym (take_more sights index d within)) (tidy_more start old new (take index sights) (get_or sights index d) h x.tidy);
+pub exact_more : (start : ℕ) (old new : Register) (sights : List Sight) (sight : Sight) → IsExact start old sights → Sees old sight new → (new.states.items ≡ [] → ⊥) → IsExact start new (sights ++ sight ∷ [])
+exact_more start old new sights sight x h some = record {
+  covers = covers_more start old new sights sight x h;
+  reals = reals_more start old new sights sight h x;
+  low = low_more start old new sights sight h x;
+  tidy = tidy_more start old new sights sight h x.tidy;
   some = some;
 }
+
+pub exact_next : (start : ℕ) (old new : Register) (sights : List Sight) (index : ℕ) (d : Sight) → index < length sights → IsExact start old (take index sights) → Sees old (get_or sights index d) new
+    → (new.states.items ≡ [] → ⊥) → IsExact start new (take (index + 1) sights)
+exact_next start old new sights index d within x h some =
+    subst (IsExact start new) (sym (take_more sights index d within)) (exact_more start old new (take index sights) (get_or sights index d) x h some)
 
 -- A PASS
 

@@ -8,3 +8,4 @@ pub mod Reaching
 pub mod Standing
 pub mod Pruning
 pub mod Judging
+pub mod Following

@@ -39,11 +39,11 @@ all_more P xs i d low all h = subst (All P) (sym (take_more xs i d low)) (All-ap
 pub all_taken : {X : Type 0} (P : X → Type 0) (xs : List X) (i : ℕ) → length xs ≤ i → All P (take i xs) → All P xs
 all_taken P xs i end h = subst (All P) (take_all i xs end) h
 
-or_left : (a b : Bool) → a ≡ true → a || b ≡ true
+pub or_left : (a b : Bool) → a ≡ true → a || b ≡ true
 or_left true b h = refl
 or_left false b h = absurd (cc (h))
 
-or_right : (a b : Bool) → b ≡ true → a || b ≡ true
+pub or_right : (a b : Bool) → b ≡ true → a || b ≡ true
 or_right true b h = refl
 or_right false b h = h
 
@@ -63,6 +63,11 @@ any_of : {X : Type 0} (f : X → Bool) (xs : List X) (x : X) → Has xs x → f 
 any_of f [] x h e = absurd h
 any_of f (y ∷ xs) x (inl is) e = or_left (f y) (list_any f xs) (ap f is ∙ e)
 any_of f (y ∷ xs) x (inr h) e = or_right (f y) (list_any f xs) (any_of f xs x h e)
+
+pub any_at : {X : Type 0} (f : X → Bool) (xs : List X) (i : ℕ) (d : X) → i < length xs → f (get_or xs i d) ≡ true → list_any f xs ≡ true
+any_at f [] i d low e = absurd (omega (arith, low))
+any_at f (y ∷ xs) zero d low e = or_left (f y) (list_any f xs) e
+any_at f (y ∷ xs) (suc i) d low e = or_right (f y) (list_any f xs) (any_at f xs i d (omega (arith, low)) e)
 
 any_from : {X : Type 0} (f : X → Bool) (xs : List X) → list_any f xs ≡ true → (x : X) × Has xs x × (f x ≡ true)
 any_from f [] e = absurd (cc (e))
@@ -86,6 +91,9 @@ covers_self f = record {
   wait = all_of (λ o. may_wait f.waits o ≡ true) f.waits (λ o h. or_right (o.writes && o.is_old) (list_any (is_later o) f.waits) (any_of (is_later o) f.waits o h (later_self o)));
   there = all_of (λ x. is_there f.waits x ≡ true) f.waits (λ x h. or_right (not x.writes) (list_any (is_number x.number) f.waits) (any_of (is_number x.number) f.waits x h (eq-eqb x.number x.number refl)));
 }
+
+pub prunes_self : (forms : List Form) → Prunes forms forms
+prunes_self forms = record { among = λ f h. h; covered = λ g h. (g, h, covers_self g) }
 
 -- THE LOOP
 

@@ -1,3 +1,4 @@
 pub mod States
 pub mod Covering
 pub mod Registers
+pub mod Following

@@ -1,6 +1,6 @@
 //! States that another one makes needless: whatever may still come of them may come of it.
 
-ghost use Rattle.std.specs.Prelude.{◌≡◌, ◌&&◌, All, IfOk, true};
+ghost use Rattle.std.specs.Prelude.{◌≡◌, ◌&&◌, All, IfOk, IfSome, true};
 ghost use Rattle.std.specs.List.{list_any};
 ghost use Rattle.register_judge.specs.inside.Covering.{Covers, is_later, is_there, IsCovered, may_wait, Prunes};
 ghost use Rattle.register_judge.specs.inside.States.{form_of, forms_of, is_number};
@@ -15,11 +15,20 @@ fn is_later(wait: &Waiting, other: &Waiting) -> bool
     other.number == wait.number && (wait.is_old || !other.is_old)
 }
 
-/// Whether one of these is an operation of its number that may have taken effect no later.
-fn has_later(others: &[Waiting], wait: &Waiting) -> bool
-    ensures { result ≡ list_any (is_later wait.now) others.now }
+/// From one place on, that of an operation of its number which may have taken effect no later. Numbers rise.
+fn later_from(others: &[Waiting], from: usize, wait: &Waiting) -> Option<usize>
+    ensures { IfSome result (λ _. list_any (is_later wait.now) others.now ≡ true) }
 {
-    others.iter().any(|other| is_later(wait, other))
+    for at in from..others.len() {
+        let other = &others[at];
+        if is_later(wait, other) {
+            return Some(at);
+        }
+        if other.number > wait.number {
+            return None;
+        }
+    }
+    None
 }
 
 /// Whether an operation waits among these.
@@ -35,11 +44,17 @@ fn is_free(wait: &Waiting) -> bool
     wait.writes && wait.is_old
 }
 
-/// Whether an operation may wait in a state that covers one with these.
-fn may_wait(others: &[Waiting], wait: &Waiting) -> bool
-    ensures { result ≡ may_wait others.now wait.now }
+/// Where the next operation is looked for, if one may wait in a state that covers one with these.
+fn next_from(others: &[Waiting], from: usize, wait: &Waiting) -> Option<usize>
+    ensures { IfSome result (λ _. may_wait others.now wait.now ≡ true) }
 {
-    is_free(wait) | has_later(others, wait)
+    if let Some(at) = later_from(others, from, wait) {
+        return Some(at.saturating_add(1));
+    }
+    if is_free(wait) {
+        return Some(from);
+    }
+    None
 }
 
 /// Whether a write waits among these, too.
@@ -53,10 +68,12 @@ fn is_there(waits: &[Waiting], other: &Waiting) -> bool
 fn all_may_wait(others: &[Waiting], waits: &[Waiting]) -> bool
     ensures { result ≡ true → All (λ wait. may_wait others.now wait ≡ true) waits.now }
 {
+    let mut from = 0;
     for wait in waits {
-        if !may_wait(others, wait) {
+        let Some(next) = next_from(others, from, wait) else {
             return false;
-        }
+        };
+        from = next;
     }
     true
 }
@@ -77,10 +94,10 @@ fn all_are_there(waits: &[Waiting], others: &[Waiting]) -> bool
 fn does_cover(state: &State, other: &State) -> bool
     ensures { result ≡ true → Covers (form_of state.now) (form_of other.now) }
 {
-    if state.value != other.value {
+    if !all_may_wait(other.waits.as_slice(), state.waits.as_slice()) {
         return false;
     }
-    if !all_may_wait(other.waits.as_slice(), state.waits.as_slice()) {
+    if !state.value.is(&other.value) {
         return false;
     }
     all_are_there(state.waits.as_slice(), other.waits.as_slice())
@@ -99,7 +116,7 @@ fn is_covered(states: &[State], other: &State) -> bool
 }
 
 /// The states, from the last to the first, without those that a later one makes needless.
-pub(crate) fn uncovered(alloc: Global, mut states: Vec<State>) -> Result<Vec<State>, AllocError>
+fn left_of_all(alloc: Global, mut states: Vec<State>) -> Result<Vec<State>, AllocError>
     ensures { IfOk result (λ left. Prunes (forms_of states.items) (forms_of left.items)) }
 {
     let mut states = states;
@@ -110,4 +127,15 @@ pub(crate) fn uncovered(alloc: Global, mut states: Vec<State>) -> Result<Vec<Sta
         }
     }
     Ok(left)
+}
+
+/// States without those that another one makes needless.
+#[tactic(auto, using(crate::proofs::Pruning::prunes_self))]
+pub(crate) fn uncovered(alloc: Global, states: Vec<State>) -> Result<Vec<State>, AllocError>
+    ensures { IfOk result (λ left. Prunes (forms_of states.items) (forms_of left.items)) }
+{
+    if states.len() <= 1 {
+        return Ok(states);
+    }
+    left_of_all(alloc, states)
 }

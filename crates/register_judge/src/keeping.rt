@@ -8,17 +8,18 @@ ghost use Rattle.register_judge.specs.inside.Registers.{
   Calls,
   EachCalled,
   EndsAt,
+  IsAlike,
   is_this,
   Sees,
   without,
 };
 
 use crate::covering::uncovered;
-use crate::states::{State, Waiting, end_all};
-use register::Sight;
+use crate::states::{State, Waiting, copies, end_all};
+use register::{Contents, Sight};
 use std::alloc::{AllocError, Global};
 
-#[derive(Debug, Drop)]
+#[derive(Drop)]
 pub(crate) struct Register {
     /// The numbers of the open operations.
     pub numbers: Vec<u64>,
@@ -54,19 +55,32 @@ fn without(alloc: Global, number: u64, numbers: &[u64]) -> Result<Vec<u64>, Allo
     Ok(left)
 }
 
-/// Lets a called operation wait, unless it is a read of the value that the register has.
-fn call_one(state: &mut State, wait: Waiting) -> Result<(), AllocError>
-    ensures { OnOk result (form_of state.new ≡ called wait (form_of state.old)) }
+/// Takes a number out of these, among which it is.
+fn take_out(alloc: Global, number: u64, numbers: &mut Vec<u64>) -> Result<(), AllocError>
+    requires { list_any (is_this number) numbers.old.items ≡ true }
+    ensures { OnOk result (numbers.new.items ≡ without number [] numbers.old.items) }
 {
-    if wait.writes || wait.value != state.value {
-        state.waits.push(wait)?;
+    if numbers.len() == 1 {
+        numbers.clear();
+        return Ok(());
+    }
+    *numbers = without(alloc, number, numbers.as_slice())?;
+    Ok(())
+}
+
+/// Lets a called operation wait, unless it is a read of the value that the register has.
+fn call_one(state: &mut State, wait: &Waiting) -> Result<(), AllocError>
+    ensures { OnOk result (form_of state.new ≡ called wait.now (form_of state.old)) }
+{
+    if wait.writes || !wait.value.is(&state.value) {
+        state.waits.push(wait.share()?)?;
     }
     Ok(())
 }
 
 /// The same in each state.
-fn call_all(states: &mut Vec<State>, wait: Waiting) -> Result<(), AllocError>
-    ensures { OnOk result (EachCalled wait states.old.items states.new.items) }
+fn call_all(states: &mut Vec<State>, wait: &Waiting) -> Result<(), AllocError>
+    ensures { OnOk result (EachCalled wait.now states.old.items states.new.items) }
 {
     for state in states.iter_mut() {
         call_one(state, wait)?;
@@ -76,19 +90,28 @@ fn call_all(states: &mut Vec<State>, wait: Waiting) -> Result<(), AllocError>
 
 impl Register {
     /// A register that has this value, with nothing open.
-    pub fn new(alloc: Global, start: u64) -> Result<Register, AllocError>
-        ensures { IfOk result (λ register. Begins start register) }
+    pub fn new(alloc: Global, start: &Contents) -> Result<Register, AllocError>
+        ensures { IfOk result (λ register. Begins start.now register) }
     {
+        let value = start.share()?;
         let waits = Vec::new(alloc);
         let mut states = Vec::new(alloc);
-        states.push(State {
-            value: start,
-            waits,
-        })?;
+        states.push(State { value, waits })?;
         Ok(Register {
             numbers: Vec::new(alloc),
             last: 0,
             states,
+        })
+    }
+
+    /// The same register once more.
+    pub fn copy(&self, alloc: Global) -> Result<Register, AllocError>
+        ensures { IfOk result (IsAlike self.now) }
+    {
+        Ok(Register {
+            numbers: Vec::from_slice(alloc, self.numbers.as_slice())?,
+            last: self.last,
+            states: copies(alloc, self.states.as_slice())?,
         })
     }
 
@@ -103,16 +126,16 @@ impl Register {
     pub fn see(&mut self, alloc: Global, sight: &Sight) -> Result<bool, AllocError>
         ensures { IfOk result (λ seen. seen ≡ true → Sees self.old sight.now self.new) }
     {
-        match *sight {
-            Sight::Write { number, value } => self.call(number, true, value),
-            Sight::Read { number, value } => self.call(number, false, value),
-            Sight::Done { number } => self.end(alloc, number, true),
-            Sight::Failed { number } => self.end(alloc, number, false),
+        match sight {
+            Sight::Write { number, value } => self.call(*number, true, value),
+            Sight::Read { number, value } => self.call(*number, false, value),
+            Sight::Done { number } => self.end(alloc, *number, true),
+            Sight::Failed { number } => self.end(alloc, *number, false),
         }
     }
 
-    fn call(&mut self, number: u64, writes: bool, value: u64) -> Result<bool, AllocError>
-        ensures { IfOk result (λ seen. seen ≡ true → Calls self.old number writes value self.new) }
+    fn call(&mut self, number: u64, writes: bool, value: &Contents) -> Result<bool, AllocError>
+        ensures { IfOk result (λ seen. seen ≡ true → Calls self.old number writes value.now self.new) }
     {
         if number <= self.last {
             return Ok(false);
@@ -120,12 +143,12 @@ impl Register {
         let wait = Waiting {
             number,
             writes,
-            value,
+            value: value.share()?,
             is_old: false,
         };
         self.numbers.push(number)?;
         self.last = number;
-        call_all(&mut self.states, wait)?;
+        call_all(&mut self.states, &wait)?;
         Ok(true)
     }
 
@@ -135,7 +158,7 @@ impl Register {
         if !is_among(number, self.numbers.as_slice()) {
             return Ok(false);
         }
-        self.numbers = without(alloc, number, self.numbers.as_slice())?;
+        take_out(alloc, number, &mut self.numbers)?;
         let ended = end_all(alloc, must, number, self.states.as_slice())?;
         self.states = uncovered(alloc, uncovered(alloc, ended)?)?;
         Ok(self.states.len() <= MOST)

@@ -6,18 +6,22 @@
 //! # Promises
 //!
 //! `judge` passes only what some schedule explains, refuses only what none does, and tells how many sights suffice
-//! (`right`). It is `Undecided` with more than 1,024 states left, or where numbers don't rise or what isn't open ends.
+//! (`right`). It is `Undecided` with more than 1,024 states left, or where numbers don't rise or what isn't open ends. An
+//! `Observed` takes sights one by one (`see`), and says the same of those so far (`so_far`). It keeps what is open, and the
+//! values that the register may have: bytes that none of its states has are freed.
 #![tactic(auto)]
 
 mod covering;
 mod keeping;
+mod observed;
 mod states;
 
 ghost use Rattle.std.specs.Prelude.{IfOk};
 ghost use Rattle.register_judge.specs.Verdicts.{IsRight};
 
 use keeping::Register;
-use register::Sight;
+pub use observed::{Observed, SoFar};
+use register::{Contents, Sight};
 use std::alloc::{AllocError, Global};
 
 /// What the judge says of some sights.
@@ -32,8 +36,8 @@ pub enum Verdict {
 }
 
 /// Judges what was seen of a register that had this value at the start.
-pub fn judge(alloc: Global, start: u64, sights: &[Sight]) -> Result<Verdict, AllocError>
-    ensures right { IfOk result (λ verdict. IsRight start sights.now verdict) }
+pub fn judge(alloc: Global, start: &Contents, sights: &[Sight]) -> Result<Verdict, AllocError>
+    ensures right { IfOk result (λ verdict. IsRight start.now sights.now verdict) }
 {
     let mut register = Register::new(alloc, start)?;
     for (index, sight) in sights.iter().enumerate() {

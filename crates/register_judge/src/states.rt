@@ -1,6 +1,6 @@
 //! The states that a register may have, and what an end makes of them.
 
-ghost use Rattle.std.specs.Prelude.{◌≡◌, ◌⊎◌, true, [], find, length, map, Contains, IfOk, OnOk};
+ghost use Rattle.std.specs.Prelude.{◌≡◌, ◌⊎◌, true, [], find, length, map, option_copied, Contains, IfOk, OnOk};
 ghost use Rattle.register_judge.specs.inside.States.{
   ages,
   Adds,
@@ -13,6 +13,7 @@ ghost use Rattle.register_judge.specs.inside.States.{
   is_number,
   is_source,
   left_of,
+  leave,
   lefts,
   may_turn,
   meets,
@@ -23,23 +24,69 @@ ghost use Rattle.register_judge.specs.inside.States.{
   value_by,
 };
 
+use register::Contents;
 use std::alloc::{AllocError, Global};
 
 /// An open operation that has not taken effect for certain.
-#[derive(Debug, Clone, Copy)]
+#[derive(Drop)]
 pub(crate) struct Waiting {
     pub number: u64,
     pub writes: bool,
-    pub value: u64,
+    pub value: Contents,
     /// It was open at the last effect of a write, and may have taken effect unseen just before that.
     pub is_old: bool,
 }
 
+impl Waiting {
+    pub fn share(&self) -> Result<Waiting, AllocError>
+        ensures { IfOk result (λ wait. wait ≡ self.now) }
+    {
+        Ok(Waiting {
+            number: self.number,
+            writes: self.writes,
+            value: self.value.share()?,
+            is_old: self.is_old,
+        })
+    }
+}
+
 /// A value that the register may have, and the operations that wait.
-#[derive(Debug, Drop)]
+#[derive(Drop)]
 pub(crate) struct State {
-    pub value: u64,
+    pub value: Contents,
     pub waits: Vec<Waiting>,
+}
+
+/// The same operations once more.
+fn shared(alloc: Global, waits: &[Waiting]) -> Result<Vec<Waiting>, AllocError>
+    ensures { IfOk result (λ all. all.items ≡ waits.now) }
+{
+    let mut all = Vec::new(alloc);
+    for wait in waits {
+        all.push(wait.share()?)?;
+    }
+    Ok(all)
+}
+
+impl State {
+    fn copy(&self, alloc: Global) -> Result<State, AllocError>
+        ensures { IfOk result (λ state. form_of state ≡ form_of self.now) }
+    {
+        let value = self.value.share()?;
+        let waits = shared(alloc, self.waits.as_slice())?;
+        Ok(State { value, waits })
+    }
+}
+
+/// The same states once more.
+pub(crate) fn copies(alloc: Global, states: &[State]) -> Result<Vec<State>, AllocError>
+    ensures { IfOk result (λ all. forms_of all.items ≡ forms_of states.now) }
+{
+    let mut all = Vec::new(alloc);
+    for state in states {
+        all.push(state.copy(alloc)?)?;
+    }
+    Ok(all)
 }
 
 /// What becomes of a write, or of any operation that need not take effect.
@@ -53,23 +100,23 @@ pub(crate) enum How {
     Leave,
 }
 
-#[derive(Debug, Clone, Copy)]
+#[derive(Drop)]
 pub(crate) struct Turn {
     pub how: How,
     pub number: u64,
-    pub value: u64,
+    pub value: Contents,
 }
 
 /// Whether this is a read of the value.
-fn is_met(value: u64, wait: &Waiting) -> bool
-    ensures { result ≡ is_met value wait.now }
+fn is_met(value: &Contents, wait: &Waiting) -> bool
+    ensures { result ≡ is_met value.now wait.now }
 {
-    !wait.writes && wait.value == value
+    !wait.writes && wait.value.is(value)
 }
 
 /// Whether a read takes effect behind a write of this value.
-fn meets(how: How, value: u64, wait: &Waiting) -> bool
-    ensures { result ≡ meets how value wait.now }
+fn meets(how: How, value: &Contents, wait: &Waiting) -> bool
+    ensures { result ≡ meets how value.now wait.now }
 {
     match how {
         How::Act => is_met(value, wait),
@@ -79,62 +126,62 @@ fn meets(how: How, value: u64, wait: &Waiting) -> bool
 }
 
 /// Whether an operation waits no more.
-fn is_gone(turn: Turn, wait: &Waiting) -> bool
-    ensures { result ≡ is_gone turn wait.now }
+fn is_gone(turn: &Turn, wait: &Waiting) -> bool
+    ensures { result ≡ is_gone turn.now wait.now }
 {
-    wait.number == turn.number || meets(turn.how, turn.value, wait)
+    wait.number == turn.number || meets(turn.how, &turn.value, wait)
 }
 
-fn ages(how: How, wait: &Waiting) -> Waiting
-    ensures { result ≡ ages how wait.now }
+fn ages(how: How, wait: &Waiting) -> Result<Waiting, AllocError>
+    ensures { IfOk result (λ next. next ≡ ages how wait.now) }
 {
+    let next = wait.share()?;
     match how {
-        How::Act => Waiting {
+        How::Act => Ok(Waiting {
             is_old: true,
-            ..*wait
-        },
-        How::Hide | How::Leave => *wait,
+            ..next
+        }),
+        How::Hide | How::Leave => Ok(next),
     }
 }
 
 /// What is left of an operation that waits.
-fn left_of(turn: Turn, wait: &Waiting) -> Option<Waiting>
-    ensures { result ≡ left_of turn wait.now }
+fn left_of(turn: &Turn, wait: &Waiting) -> Result<Option<Waiting>, AllocError>
+    ensures { IfOk result (λ left. left ≡ left_of turn.now wait.now) }
 {
     if is_gone(turn, wait) {
-        None
-    } else {
-        Some(ages(turn.how, wait))
+        return Ok(None);
     }
+    Ok(Some(ages(turn.how, wait)?))
 }
 
 /// What is left of those that wait.
-fn lefts(alloc: Global, turn: Turn, waits: &[Waiting]) -> Result<Vec<Waiting>, AllocError>
-    ensures { IfOk result (λ left. left.items ≡ lefts turn [] waits.now) }
+fn lefts(alloc: Global, turn: &Turn, waits: &[Waiting]) -> Result<Vec<Waiting>, AllocError>
+    ensures { IfOk result (λ left. left.items ≡ lefts turn.now [] waits.now) }
 {
     let mut left = Vec::new(alloc);
     for wait in waits {
-        if let Some(wait) = left_of(turn, wait) {
+        if let Some(wait) = left_of(turn, wait)? {
             left.push(wait)?;
         }
     }
     Ok(left)
 }
 
-fn value_by(turn: Turn, value: u64) -> u64
-    ensures { result ≡ value_by turn.how turn.value value }
+fn value_by(turn: &Turn, value: &Contents) -> Result<Contents, AllocError>
+    ensures { IfOk result (λ next. next ≡ value_by turn.now.how turn.now.value value.now) }
 {
     match turn.how {
-        How::Act => turn.value,
-        How::Hide | How::Leave => value,
+        How::Act => turn.value.share(),
+        How::Hide | How::Leave => value.share(),
     }
 }
 
 /// The state behind a turn.
-fn turned(alloc: Global, turn: Turn, state: &State) -> Result<State, AllocError>
-    ensures { IfOk result (λ next. form_of next ≡ turned turn (form_of state.now)) }
+fn turned(alloc: Global, turn: &Turn, state: &State) -> Result<State, AllocError>
+    ensures { IfOk result (λ next. form_of next ≡ turned turn.now (form_of state.now)) }
 {
-    let value = value_by(turn, state.value);
+    let value = value_by(turn, &state.value)?;
     let waits = lefts(alloc, turn, state.waits.as_slice())?;
     Ok(State { value, waits })
 }
@@ -149,7 +196,7 @@ fn is_source(of: &Waiting, wait: &Waiting) -> bool
     if of.writes {
         wait.number == of.number
     } else {
-        wait.value == of.value
+        wait.value.is(&of.value)
     }
 }
 
@@ -163,18 +210,18 @@ fn may_turn(how: How, of: &Waiting, wait: &Waiting) -> bool
     }
 }
 
-fn turn_by(how: How, of: &Waiting, wait: &Waiting) -> Option<Turn>
-    ensures { result ≡ turn_by how of.now wait.now }
+fn turn_by(how: How, of: &Waiting, wait: &Waiting) -> Result<Option<Turn>, AllocError>
+    ensures { IfOk result (λ turn. turn ≡ turn_by how of.now wait.now) }
 {
-    if may_turn(how, of, wait) {
-        Some(Turn {
-            how,
-            number: wait.number,
-            value: wait.value,
-        })
-    } else {
-        None
+    if !may_turn(how, of, wait) {
+        return Ok(None);
     }
+    let value = wait.value.share()?;
+    Ok(Some(Turn {
+        how,
+        number: wait.number,
+        value,
+    }))
 }
 
 /// Adds the turns by which an operation takes effect.
@@ -187,7 +234,7 @@ fn add_turns(
     ensures { OnOk result (turns.new.items ≡ turns_onto how of.now turns.old.items waits.now) }
 {
     for wait in waits {
-        if let Some(turn) = turn_by(how, of, wait) {
+        if let Some(turn) = turn_by(how, of, wait)? {
             turns.push(turn)?;
         }
     }
@@ -201,15 +248,27 @@ pub(crate) fn is_number(number: u64, wait: &Waiting) -> bool
 }
 
 /// The operation of this number, if it waits.
-fn wait_of(number: u64, waits: &[Waiting]) -> Option<Waiting>
-    ensures { result ≡ find (is_number number) waits.now }
+fn wait_of(number: u64, waits: &[Waiting]) -> Option<&Waiting>
+    ensures { option_copied result ≡ find (is_number number) waits.now }
 {
     for wait in waits {
         if is_number(number, wait) {
-            return Some(*wait);
+            return Some(wait);
         }
     }
     None
+}
+
+/// That an operation never takes effect.
+fn leave(alloc: Global, number: u64) -> Result<Turn, AllocError>
+    ensures { IfOk result (λ turn. turn ≡ leave number) }
+{
+    let value = Contents::none(alloc)?;
+    Ok(Turn {
+        how: How::Leave,
+        number,
+        value,
+    })
 }
 
 /// What an end may mean: how its operation took effect, or that it need not have.
@@ -221,20 +280,17 @@ fn turns_of(
 ) -> Result<Vec<Turn>, AllocError>
     ensures { IfOk result (λ turns. turns.items ≡ turns_of must number waits.now) }
 {
-    let leave = Turn {
-        how: How::Leave,
-        number,
-        value: 0,
-    };
     let mut turns = Vec::new(alloc);
     let Some(of) = wait_of(number, waits) else {
-        turns.push(leave)?;
+        let never = leave(alloc, number)?;
+        turns.push(never)?;
         return Ok(turns);
     };
-    add_turns(&mut turns, How::Act, &of, waits)?;
-    add_turns(&mut turns, How::Hide, &of, waits)?;
+    add_turns(&mut turns, How::Act, of, waits)?;
+    add_turns(&mut turns, How::Hide, of, waits)?;
     if !must {
-        turns.push(leave)?;
+        let never = leave(alloc, number)?;
+        turns.push(never)?;
     }
     Ok(turns)
 }
@@ -242,7 +298,20 @@ fn turns_of(
 fn is_equal(a: &Waiting, b: &Waiting) -> bool
     ensures { result ≡ true → a.now ≡ b.now }
 {
-    a.number == b.number && a.writes == b.writes && a.value == b.value && a.is_old == b.is_old
+    a.number == b.number && a.writes == b.writes && a.value.is(&b.value) && a.is_old == b.is_old
+}
+
+/// Whether operations may be equal, by all but their bytes: those are compared only of what is.
+fn are_alike(a: &[Waiting], b: &[Waiting]) -> bool
+    requires { length a.now ≡ length b.now }
+{
+    for index in 0..a.len() {
+        let (one, other) = (&a[index], &b[index]);
+        if one.number != other.number || one.is_old != other.is_old {
+            return false;
+        }
+    }
+    true
 }
 
 fn are_equal(a: &[Waiting], b: &[Waiting]) -> bool
@@ -262,7 +331,13 @@ fn are_equal(a: &[Waiting], b: &[Waiting]) -> bool
 fn is_same(a: &State, b: &State) -> bool
     ensures { result ≡ true → form_of a.now ≡ form_of b.now }
 {
-    a.value == b.value && are_equal(a.waits.as_slice(), b.waits.as_slice())
+    if a.waits.len() != b.waits.len() {
+        return false;
+    }
+    if !are_alike(a.waits.as_slice(), b.waits.as_slice()) {
+        return false;
+    }
+    a.value.is(&b.value) && are_equal(a.waits.as_slice(), b.waits.as_slice())
 }
 
 fn has(states: &[State], state: &State) -> bool
@@ -297,10 +372,32 @@ fn end_one(
     ensures { OnOk result (Ends (form_of state.now) turns.now (forms_of states.old.items) (forms_of states.new.items)) }
 {
     for turn in turns {
-        let next = turned(alloc, *turn, state)?;
+        let next = turned(alloc, turn, state)?;
         add(states, next)?;
     }
     Ok(())
+}
+
+/// Adds the states that the end of an operation leaves of one: itself, where the operation waits no more.
+fn end_of(
+    alloc: Global,
+    states: &mut Vec<State>,
+    must: bool,
+    number: u64,
+    state: &State,
+) -> Result<(), AllocError>
+    ensures { OnOk result (Ends (form_of state.now) (turns_of must number state.now.waits.items) (forms_of states.old.items) (forms_of states.new.items)) }
+{
+    match wait_of(number, state.waits.as_slice()) {
+        None => {
+            let same = state.copy(alloc)?;
+            add(states, same)
+        }
+        Some(_) => {
+            let turns = turns_of(alloc, must, number, state.waits.as_slice())?;
+            end_one(alloc, states, turns.as_slice(), state)
+        }
+    }
 }
 
 /// The states behind the end of an operation.
@@ -314,8 +411,7 @@ pub(crate) fn end_all(
 {
     let mut ended = Vec::new(alloc);
     for state in states {
-        let turns = turns_of(alloc, must, number, state.waits.as_slice())?;
-        end_one(alloc, &mut ended, turns.as_slice(), state)?;
+        end_of(alloc, &mut ended, must, number, state)?;
     }
     Ok(ended)
 }

@@ -1,36 +1,89 @@
 -- What holds of a history between two labels.
-use Rattle.std.specs.Prelude.{◌≡◌, ◌<◌, ℕ, List, [], ◌∷◌, ◌++◌, Option, Some, None, length, false}
+use Rattle.std.specs.Prelude.{◌≡◌, ◌<◌, ◌≤◌, ◌+◌, ◌^◌, ℕ, suc, Bool, List, [], ◌∷◌, ◌++◌, Option, Some, None, false, if◌then◌else◌}
+use Rattle.std.specs.List.{list_any}
+use Rattle.srb.specs.declared.Kind.{Kind}
+use Rattle.ntstatus.specs.declared.NtStatus.{NtStatus}
+use Rattle.machine.specs.declared.ClientRequest.{ClientRequest}
 use Rattle.machine.specs.declared.Label.{Label}
-use Rattle.history_laws.specs.Fitting.{all_fit, all_fit_at_first, fits}
+use Rattle.machine.specs.declared.Label.TheVariants.{Call, Answer}
+use Rattle.machine.specs.Rules.{Rules}
+use Rattle.history_laws.specs.declared.Asked.{Asked}
+use Rattle.history_laws.specs.Fitting.{all_fit, all_fit_at_first}
+use Rattle.register.specs.Values.{code}
+use Rattle.history.specs.declared.Wait.{Wait}
+use Rattle.history.specs.Sights.{has_sector}
+use Rattle.history.specs.Waits.{is_wait_of}
+use Rattle.history_judge.specs.declared.fitting.Known.{Known}
 use Rattle.history_judge.specs.declared.fitting.Misfit.{Misfit}
+use Rattle.history_judge.specs.declared.cells.Span.{Span}
 use Rattle.history_judge.specs.declared.recorded.Fitted.{Fitted}
 use Rattle.history_judge.specs.Services.{rules_of}
-use Rattle.history_judge.specs.inside.Indexing.{AreSpans, HasRows}
-use Rattle.history_judge.specs.inside.Touching.{HasTouched}
+use Rattle.history_judge.specs.inside.Opened.{opened_at, may_come, AreOpen}
+use Rattle.history_judge.specs.inside.Cells.{is_write, is_read, is_awaited, IsSpanOf, HasCells, seen_of}
 
--- all labels fit, and are found by their sectors
+-- what an open request does to the sector
+abbrev pub writes_at : Rules → ℕ → ℕ → Option ClientRequest → Bool
+writes_at rules p i None = false
+writes_at rules p i (Some q) = if has_sector rules p i q then is_write q.kind else false
+
+abbrev pub reads_at : Rules → ℕ → ℕ → Option ClientRequest → Bool
+reads_at rules p i None = false
+reads_at rules p i (Some q) = if has_sector rules p i q then is_read q.kind else false
+
+-- the first number that no request had which was taken in
+abbrev pub first_fresh : Option NtStatus → ℕ → ℕ
+first_fresh None calls = suc calls
+first_fresh (Some status) calls = calls
+
+-- the request is open, or was never taken in
+abbrev pub IsFresh : Known → ℕ → Type 0
+IsFresh known n = opened_at known.opened n ≡ None → first_fresh known.owed known.calls ≤ n
+
+-- of a request of this number just that is seen which follows from its call
+pub record ShowsCall (rules : Rules) (p i n : ℕ) (request : Option ClientRequest) (waits : List Wait) : Type 0 where
+  pub called : list_any (is_wait_of n) waits ≡ writes_at rules p i request
+  pub awaited : list_any (is_awaited n) waits ≡ reads_at rules p i request
+
+abbrev pub AreTold : Rules → List Label → Known → Type 0
+AreTold rules labels known = (p i n : ℕ) → IsFresh known n → ShowsCall rules p i n (opened_at known.opened n) (seen_of rules labels p i)
+
+-- which sectors a request moves, and what it does
+abbrev pub IsSpanBy : Rules → ClientRequest → Option (Span × Kind) → Type 0
+IsSpanBy rules q None = IsSpanOf rules q None
+IsSpanBy rules q (Some (span, kind)) = (kind ≡ q.kind) × IsSpanOf rules q (Some span)
+
+abbrev pub IsSpanAt : Rules → Option ClientRequest → Option (Span × Kind) → Type 0
+IsSpanAt rules None found = found ≡ None
+IsSpanAt rules (Some q) found = IsSpanBy rules q found
+
+-- the same of a label
+abbrev pub IsSpan : Rules → Known → Label → Option (Span × Kind) → Type 0
+IsSpan rules known (Call n q) found = IsSpanBy rules q found
+IsSpan rules known (Answer n status informed bytes) found = IsSpanAt rules (opened_at known.opened n) found
+IsSpan rules known _ found = found ≡ None
+
+-- all labels fit, and each sector has what they show of it
 pub record IsWhole (f : Fitted) : Type 0 where
-  pub sized : 0 < f.service.sector_size
-  pub size : f.kept.size ≡ f.service.sector_size
-  pub known : (rest : List Label) → all_fit_at_first (rules_of f.service) (f.kept.labels ++ rest) ≡ all_fit (rules_of f.service) f.known.asked.items f.known.owed rest
-  pub numbered : length f.index.spans.items ≡ length f.known.asked.items
-  pub some : 0 < length f.index.rows.items
-  pub spans : AreSpans (rules_of f.service) f.kept.labels f.index.spans.items
-  pub rows : HasRows (rules_of f.service) f.kept.labels (length f.kept.labels) f.index.rows.items
-  pub touched : HasTouched (rules_of f.service) f.kept.labels f.places.items
+  pub sized : 0 < f.basis.service.sector_size
+  pub asked : List (Option Asked)
+  pub known : (rest : List Label) → all_fit_at_first (rules_of f.basis.service) (f.labels.items ++ rest) ≡ all_fit (rules_of f.basis.service) asked f.known.owed rest
+  pub opens : AreOpen asked f.known
+  pub told : AreTold (rules_of f.basis.service) f.labels.items f.known
+  pub cells : HasCells f.basis.start.any f.basis.start.bytes (seen_of (rules_of f.basis.service) f.labels.items) f.cells
 
 -- the label behind these doesn't fit
 pub record IsStopped (f : Fitted) (behind : List Label) : Type 0 where
   pub label : Label
   pub rest : List Label
   pub is : behind ≡ label ∷ rest
-  pub misfit : fits (rules_of f.service) f.known.asked.items f.known.owed label ≡ false
+  pub misfit : may_come (rules_of f.basis.service) f.known label ≡ false
 
 -- labels are behind only where one doesn't fit
 abbrev pub StopsAt : Fitted → Option (ℕ × Misfit) → List Label → Type 0
 StopsAt f None behind = behind ≡ []
 StopsAt f (Some at) behind = IsStopped f behind
 
-pub record IsHistory (f : Fitted) (misfit : Option (ℕ × Misfit)) (behind : List Label) : Type 0 where
+pub record IsHistory (f : Fitted) (start : List ℕ) (misfit : Option (ℕ × Misfit)) (behind : List Label) : Type 0 where
   pub whole : IsWhole f
+  pub starts : f.basis.start.bytes ≡ code start
   pub stops : StopsAt f misfit behind

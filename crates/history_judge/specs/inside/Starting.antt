@@ -1,12 +1,13 @@
 -- What a sector may have had at the start.
-use Rattle.std.specs.Prelude.{◌≡◌, ◌<◌, ◌⊎◌, ℕ, Bool, true, false, List, [], ◌∷◌, All, Contains, length}
+use Rattle.std.specs.Prelude.{◌≡◌, ◌⊎◌, ℕ, Bool, true, false, List, [], ◌∷◌, ◌++◌, All, Contains, length}
+use Rattle.register.specs.Values.{code}
 use Rattle.register.specs.declared.Sight.{Sight}
 use Rattle.register.specs.declared.Sight.TheVariants.{Write, Read, Done, Failed}
 use Rattle.register.specs.Schedules.{HasSchedule}
-use Rattle.register_judge.specs.declared.Verdict.{Verdict}
-use Rattle.register_judge.specs.declared.Verdict.TheVariants.{Passed, Refused, Undecided}
-use Rattle.register_judge.specs.Verdicts.{IsRefusal}
-use Rattle.history_judge.specs.Values.{number_in, IsBelow}
+use Rattle.register_judge.specs.declared.observed.SoFar.{SoFar}
+use Rattle.register_judge.specs.declared.observed.SoFar.TheVariants.{Passed, Refused, Undecided}
+use Rattle.register_judge.specs.Observed.{IsSoFar}
+use Rattle.history_judge.specs.declared.trying.Starts.{Starts}
 
 -- a read of the value is called before anything succeeds
 abbrev pub IsEarly : ℕ → List Sight → Type 0
@@ -31,57 +32,62 @@ pub record HasStarts (first : ℕ) (sights : List Sight) (values : List ℕ) : T
   pub has_first : Contains values first
   pub early : (value : ℕ) → IsEarly value sights → Contains values value
 
--- a register that began with this value has a schedule, and its values are below the count
-pub record Stands (count start : ℕ) (sights : List Sight) : Type 0 where
-  pub low : start < count
-  pub below : All (IsBelow count) sights
-  pub schedule : HasSchedule start sights
-
-abbrev pub IsTriedWith : ℕ → ℕ → List Sight → Verdict → Type 0
-IsTriedWith count start sights Passed = Stands count start sights
-IsTriedWith count start sights (Refused left) = IsRefusal start sights left
-IsTriedWith count start sights Undecided = Unit {0}
-
--- the value is the number of a sector's bytes
-pub record IsFound (size : ℕ) (table : List (List ℕ)) (value : ℕ) : Type 0 where
+-- the value is that of so many bytes
+pub record IsSized (size value : ℕ) : Type 0 where
   pub bytes : List ℕ
   pub whole : length bytes ≡ size
-  pub numbered : value ≡ number_in table bytes
+  pub is : value ≡ code bytes
 
--- from some bytes on
-pub record StandsFrom (size : ℕ) (table : List (List ℕ)) (sights : List Sight) : Type 0 where
+-- a register that began with some bytes has a schedule
+pub record StandsFrom (size : ℕ) (sights : List Sight) : Type 0 where
   pub start : ℕ
-  pub found : IsFound size table start
-  pub stands : Stands (length table) start sights
+  pub sized : IsSized size start
+  pub schedule : HasSchedule start sights
 
-abbrev pub IsTriedOf : ℕ → List (List ℕ) → ℕ → List Sight → Verdict → Type 0
-IsTriedOf size table start sights Passed = StandsFrom size table sights
-IsTriedOf size table start sights (Refused left) = IsRefusal start sights left
-IsTriedOf size table start sights Undecided = Unit {0}
+-- where the register may have begun with any bytes, it began with so many
+abbrev pub Counts : Bool → ℕ → ℕ → Type 0
+Counts false size start = Unit {0}
+Counts true size start = IsSized size start
 
--- some bytes serve, or none of these values
-abbrev pub IsTriedAll : ℕ → List (List ℕ) → List ℕ → List Sight → Verdict → Type 0
-IsTriedAll size table values sights Passed = StandsFrom size table sights
-IsTriedAll size table values sights (Refused left) = All (λ start. HasSchedule start sights → ⊥) values
-IsTriedAll size table values sights Undecided = Unit {0}
+pub record Serves (any : Bool) (size start : ℕ) (sights : List Sight) : Type 0 where
+  pub counts : Counts any size start
+  pub schedule : HasSchedule start sights
 
--- or no value at all
-abbrev pub IsTriedAny : ℕ → List (List ℕ) → List Sight → Verdict → Type 0
-IsTriedAny size table sights Passed = StandsFrom size table sights
-IsTriedAny size table sights (Refused left) = (start : ℕ) → HasSchedule start sights → ⊥
-IsTriedAny size table sights Undecided = Unit {0}
+-- what is passed passes only if it counts
+abbrev pub so_far_if : Bool → SoFar → SoFar
+so_far_if true so_far = so_far
+so_far_if false Passed = Undecided
+so_far_if false Refused = Refused
+so_far_if false Undecided = Undecided
+
+abbrev pub IsTriedOf : Bool → ℕ → ℕ → List Sight → SoFar → Type 0
+IsTriedOf any size start sights Passed = Serves any size start sights
+IsTriedOf any size start sights Refused = HasSchedule start sights → ⊥
+IsTriedOf any size start sights Undecided = Unit {0}
+
+-- one of these values serves, or none
+abbrev pub IsTriedAll : Bool → ℕ → List ℕ → List Sight → SoFar → Type 0
+IsTriedAll any size values sights Passed = (start : ℕ) × Contains values start × Serves any size start sights
+IsTriedAll any size values sights Refused = All (λ start. HasSchedule start sights → ⊥) values
+IsTriedAll any size values sights Undecided = Unit {0}
+
+-- some bytes serve, or no value at all
+abbrev pub IsTriedAny : ℕ → List Sight → SoFar → Type 0
+IsTriedAny size sights Passed = StandsFrom size sights
+IsTriedAny size sights Refused = (start : ℕ) → HasSchedule start sights → ⊥
+IsTriedAny size sights Undecided = Unit {0}
 
 -- from any bytes, or from one value
-abbrev pub IsTriedBy : Bool → ℕ → List (List ℕ) → ℕ → List Sight → Verdict → Type 0
-IsTriedBy true size table start sights verdict = IsTriedAny size table sights verdict
-IsTriedBy false size table start sights verdict = IsTriedWith (length table) start sights verdict
+abbrev pub IsTriedBy : Bool → ℕ → ℕ → List Sight → SoFar → Type 0
+IsTriedBy true size start sights so_far = IsTriedAny size sights so_far
+IsTriedBy false size start sights so_far = IsSoFar start sights so_far
 
-abbrev pub IsRefused : Verdict → Type 0
-IsRefused (Refused left) = Unit {0}
-IsRefused Passed = ⊥
-IsRefused Undecided = ⊥
+-- the values, and whether what comes later adds none
+pub record StartsOf (first : ℕ) (given : List Sight) (starts : Starts) : Type 0 where
+  pub here : HasStarts first given starts.values.items
+  pub later : starts.over ≡ true → (more : List Sight) → HasStarts first (given ++ more) starts.values.items
 
--- what passes does so by one of two verdicts, and what is refused is so by both
-pub record IsBetter (a b verdict : Verdict) : Type 0 where
-  pub passes : verdict ≡ Passed → (a ≡ Passed) ⊎ (b ≡ Passed)
-  pub refused : IsRefused verdict → IsRefused a × IsRefused b
+-- what passes does so by one of two, and what is refused is so by both
+pub record IsBetter (a b best : SoFar) : Type 0 where
+  pub passes : best ≡ Passed → (a ≡ Passed) ⊎ (b ≡ Passed)
+  pub refused : best ≡ Refused → (a ≡ Refused) × (b ≡ Refused)

@@ -2,4 +2,4 @@ use Rattle.history_legal.proofs.Passing.{passed_explained}
 use Rattle.history_legal.proofs.passed_are_explained.Goals as goal
 
 pub returns : goal.returns
-returns c = passed_explained c.numbers_tell.ensures c.shown_are_explained.ensures
+returns c = passed_explained c.moved_are_explained.ensures

@@ -1,12 +1,12 @@
 -- What is said of a history, and of what service.
-use Rattle.std.specs.Prelude.{◌≡◌, ◌<◌, Bool}
+use Rattle.std.specs.Prelude.{◌≡◌, ◌<◌}
 use Rattle.settings.specs.declared.Config.{Config}
 use Rattle.startup.specs.Started.{rules_of}
 use Rattle.history_judge.specs.Histories.{HistoryView}
 use Rattle.history_judge.specs.declared.service.Service.{Service}
 use Rattle.history_judge.specs.declared.judging.Verdict.{Verdict}
 use Rattle.history_judge.specs.Services.{AreOf}
-use Rattle.judging.specs.Histories.{JudgedBy}
+use Rattle.history_judge.specs.Verdicts.{IsRightBy}
 use Rattle.judging.specs.declared.histories.Said.{Said}
 use Rattle.judging.specs.declared.histories.Said.TheVariants.{By, Busy}
 
@@ -16,9 +16,9 @@ pub record IsServiceOf (config : Config) (service : Service) : Type 0 where
   pub some : 0 < service.sector_size
 
 -- a verdict that is told is right
-abbrev pub IsSaid : Bool → HistoryView → Said → Type 0
-IsSaid any_start history (By verdict) = JudgedBy any_start history verdict
-IsSaid any_start history (Busy place) = Unit {0}
+abbrev pub IsSaid : HistoryView → Said → Type 0
+IsSaid history (By verdict) = IsRightBy history.any history.service history.start history.labels verdict
+IsSaid history (Busy place) = Unit {0}
 
 -- if a verdict is told, it is this one
 abbrev pub IsBy : Verdict → Said → Type 0

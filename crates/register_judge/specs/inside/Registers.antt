@@ -23,6 +23,12 @@ pub record Begins (start : ℕ) (register : Register) : Type 0 where
   pub last : register.last ≡ 0
   pub states : forms_of register.states.items ≡ record { value = start; waits = [] } ∷ []
 
+-- the same but for the memory that it takes
+pub record IsAlike (old new : Register) : Type 0 where
+  pub numbers : new.numbers.items ≡ old.numbers.items
+  pub last : new.last ≡ old.last
+  pub states : forms_of new.states.items ≡ forms_of old.states.items
+
 -- each state behind the call
 pub record EachCalled (o : Waiting) (old new : List State) : Type 0 where
   pub same_length : length new ≡ length old

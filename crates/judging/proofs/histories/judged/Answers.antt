@@ -5,6 +5,5 @@ use Rattle.judging.proofs.histories.judged.Goals as goal
 
 pub returns-in-Passed : goal.returns-in-Passed
 returns-in-Passed c =
-    let any = c.args.recorded.now.any_start in
     let history = c.args.recorded.now.history in
-    IfOk-weaker c.judged_idle.result (IsBy c.in_ok-verdict.verdict) (IsSaid any history) (λ said is. said_by any history c.in_ok-verdict.verdict said c.in_ok-verdict.ensures is) c.judged_idle.ensures
+    IfOk-weaker c.judged_idle.result (IsBy c.in_ok-verdict.verdict) (IsSaid history) (λ said is. said_by history c.in_ok-verdict.verdict said c.in_ok-verdict.ensures.right is) c.judged_idle.ensures

@@ -1,8 +1,13 @@
-use Rattle.std.proofs.Common.{refl}
-use Rattle.history_judge.proofs.Stopping.{whole_if_pushed}
+use Rattle.std.proofs.Common.{◌∙◌, ◌∷◌, ◌++◌, [], ap, sym, subst}
+use Rattle.history_judge.specs.Services.{rules_of}
+use Rattle.history_judge.specs.inside.Opened.{Takes}
+use Rattle.history_judge.proofs.Stopping.{whole_push}
 use Rattle.history_judge.proofs.recorded.Fitted.take.Goals as goal
 
 pub returns-clause-whole : goal.returns-clause-whole
 returns-clause-whole c =
-    whole_if_pushed c.push.result c.args.self.now _ c.args.label c.count-at.result c.requires.whole c.requires.fits c.count-at.ensures refl c.push.ensures.labels c.push.ensures.size c.take.ensures.some
-    c.in_ok-take.ensures.taken c.in_ok-take-2.ensures.asked c.in_ok-take-2.ensures.owed c.in_ok-add_moved.ensures
+    let f = c.args.self.now in
+    let label = c.args.label.now in
+    whole_push f label c.requires.whole c.requires.fits _ c.visit.ensures.basis (c.with-self.ensures ∙ ap (λ ls. ls ++ label ∷ []) c.visit.ensures.labels)
+    (subst (λ k. Takes (rules_of f.basis.service) k label c.take.new.self) c.visit.ensures.known
+    (subst (λ b. Takes (rules_of b.service) c.visit.new.self.known label c.take.new.self) c.visit.ensures.basis c.in_ok-take.ensures)) c.in_ok-visit.ensures.cells

@@ -1,5 +1,0 @@
-use Rattle.history_shown.proofs.Explaining.{shown_explained}
-use Rattle.history_shown.proofs.shown_are_explained.Goals as goal
-
-pub returns : goal.returns
-returns c = shown_explained
