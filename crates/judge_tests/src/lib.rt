@@ -13,3 +13,5 @@ mod histories;
 mod registers;
 #[cfg(test)]
 mod sectors;
+#[cfg(test)]
+mod sessions;

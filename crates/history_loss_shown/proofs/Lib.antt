@@ -1,0 +1,15 @@
+mod Fitting
+mod Owning
+mod Standing
+mod Settling
+mod Stuck
+mod Turning
+mod Calling
+mod Answering
+mod Following
+mod Sharing
+mod Merging
+mod Inserting
+mod Counting
+mod Explaining
+mod Working

@@ -1,0 +1,3 @@
+pub mod Steady
+pub mod Laws
+pub mod Worked

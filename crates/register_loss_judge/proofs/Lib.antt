@@ -1,0 +1,6 @@
+mod Listing
+mod Changing
+mod Inserting
+mod Growing
+mod Judging
+mod Checking

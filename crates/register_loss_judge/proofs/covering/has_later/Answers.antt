@@ -1,0 +1,5 @@
+use Rattle.register_loss_judge.proofs.Listing.{item_there}
+use Rattle.register_loss_judge.proofs.covering.has_later.Goals as goal
+
+pub returns-then-is_later : goal.returns-then-is_later
+returns-then-is_later c = λ _. (c.other-item.result, item_there c.args.others.now c.loop-other.other-index c.other-item.result c.loop-other-test.true c.other-item.is, c.is_later.ensures c.if-is_later.true)

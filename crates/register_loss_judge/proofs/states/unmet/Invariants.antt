@@ -1,0 +1,8 @@
+use Rattle.std.proofs.Common.{◌≡◌, take}
+use Rattle.std.specs.List.{filter}
+use Rattle.register_loss.specs.Schedules.{is_unmet}
+use Rattle.register_loss_judge.proofs.states.unmet.Given as goal
+
+-- those so far that stay are there
+abbrev pub invariant-loop-wait : goal.invariant-loop-wait
+invariant-loop-wait l = l.left.items ≡ filter (is_unmet l.now) (take l.wait-index l.waits)
