@@ -57,10 +57,12 @@ run_session() (
     [ ! -f disk ] || { cp disk "$scratch/found/$it.disk" && digits_of "$scratch/found/$it.disk"; }
 )
 
-# Kills sessions over a file below a cache that loses what was not synced (bench/loss), and prints whether no sector was wrong.
+# Kills sessions over a file below a cache that loses what was not synced (bench/loss), of a program with these further
+# words, and prints whether no sector was wrong.
+losing_words=()
 kill_sessions() {
     local status=0
-    timeout 150 python3 "$top/bench/loss/sessions.py" --first 1 "$@" L "$program" settings 0 --disk L/disk.img > said || status=$?
+    timeout 150 python3 "$top/bench/loss/sessions.py" --first 1 "$@" L "$program" settings 0 --disk L/disk.img "${losing_words[@]}" > said || status=$?
     grep -o ' 0 wrong$' said
     return "$status"
 }
@@ -75,15 +77,19 @@ run_losing() (
     note_run "$scratch/found/losing.$1" /dev/null kill_sessions "${@:2}"
 )
 
-# Nothing is lost that was synced, with one request out or sixteen, and where a sync fails; a disk that lies is caught.
+# Nothing is lost that was synced, with one request out or sixteen, also side by side, and where a sync fails; a disk that
+# lies is caught.
 run_losing_sessions() {
     local it
-    for it in one sixteen failing; do echo ' 0 wrong' | want "losing.$it" 0; done
+    for it in one sixteen failing beside; do echo ' 0 wrong' | want "losing.$it" 0; done
     want losing.lying 1 < /dev/null
     run_losing one --seed 1 20
     run_losing sixteen --out 16 --seed 2 20
     run_losing failing --out 16 --fail 2 --seed 3 20
     run_losing lying --lie --seed 5 5
+    losing_words=(--beside)
+    run_losing beside --out 16 --linger 3000 --seed 7 20
+    losing_words=()
 }
 
 # Runs all cases of the server, and compares them.

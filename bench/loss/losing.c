@@ -24,6 +24,7 @@
 
 #define SECTOR 512
 #define SECTORS (1 << 16)
+#define DESCRIPTORS 1024
 
 /* A sector that is in memory: its bytes, whether the file lacks them, and its place in the list of those. */
 static struct {
@@ -35,7 +36,9 @@ static unsigned held[SECTORS], count;
 
 static pthread_mutex_t lock = PTHREAD_MUTEX_INITIALIZER;
 static pthread_once_t once = PTHREAD_ONCE_INIT;
+/* The newest descriptor of the file by its path, and whether others are of it too. */
 static int file = -1;
+static bool ours[DESCRIPTORS];
 static unsigned long state = 88172645463325252ul, early = 300, delay, linger, failing, syncs;
 static bool lies, loses_nothing, failed_last;
 
@@ -44,6 +47,8 @@ static ssize_t (*real_pwrite)(int, const void *, size_t, off_t);
 static off_t (*real_lseek)(int, off_t, int);
 static int (*real_fdatasync)(int);
 static int (*real_open)(const char *, int, ...);
+static int (*real_fcntl)(int, int, ...);
+static int (*real_close)(int);
 
 static unsigned long
 setting(const char *name, unsigned long otherwise)
@@ -69,6 +74,8 @@ start(void)
 	real_lseek = dlsym(RTLD_NEXT, "lseek");
 	real_fdatasync = dlsym(RTLD_NEXT, "fdatasync");
 	real_open = dlsym(RTLD_NEXT, "open");
+	real_fcntl = dlsym(RTLD_NEXT, "fcntl");
+	real_close = dlsym(RTLD_NEXT, "close");
 	state += 2654435761ul * setting("LOSING_SEED", 0);
 	early = setting("LOSING_EARLY", early);
 	delay = setting("LOSING_DELAY", 0);
@@ -135,12 +142,25 @@ wait_a_little(void)
 	usleep(microseconds);
 }
 
+static bool
+is_of_file(int descriptor)
+{
+	return descriptor >= 0 && descriptor < DESCRIPTORS && ours[descriptor];
+}
+
+static void
+note(int descriptor, bool is)
+{
+	if (descriptor >= 0 && descriptor < DESCRIPTORS)
+		ours[descriptor] = is;
+}
+
 /* Is this call of the file, and to be kept off it? */
 static bool
 is_ours(int descriptor)
 {
 	pthread_once(&once, start);
-	if (descriptor != file || file < 0)
+	if (!is_of_file(descriptor))
 		return false;
 	if (delay != 0)
 		usleep(delay);
@@ -158,8 +178,31 @@ open(const char *path, int flags, ...)
 	int opened = real_open(path, flags, mode);
 	const char *end = getenv("LOSING_FILE");
 	if (opened >= 0 && end != NULL && strlen(path) >= strlen(end) && strcmp(path + strlen(path) - strlen(end), end) == 0)
-		file = opened;
+		note(file = opened, true);
 	return opened;
+}
+
+/* A second descriptor of the file, as a thread has. */
+int
+fcntl(int descriptor, int command, ...)
+{
+	va_list more;
+	va_start(more, command);
+	void *argument = va_arg(more, void *);
+	va_end(more);
+	pthread_once(&once, start);
+	int got = real_fcntl(descriptor, command, argument);
+	if ((command == F_DUPFD || command == F_DUPFD_CLOEXEC) && is_of_file(descriptor))
+		note(got, true);
+	return got;
+}
+
+int
+close(int descriptor)
+{
+	pthread_once(&once, start);
+	note(descriptor, false);
+	return real_close(descriptor);
 }
 
 ssize_t
@@ -244,6 +287,7 @@ fsync(int descriptor)
 }
 
 int open64(const char *path, int flags, ...) __attribute__((alias("open")));
+int fcntl64(int descriptor, int command, ...) __attribute__((alias("fcntl")));
 ssize_t pread64(int descriptor, void *buffer, size_t length, off_t offset) __attribute__((alias("pread")));
 ssize_t pwrite64(int descriptor, const void *buffer, size_t length, off_t offset) __attribute__((alias("pwrite")));
 off_t lseek64(int descriptor, off_t offset, int whence) __attribute__((alias("lseek")));

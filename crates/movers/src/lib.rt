@@ -1,7 +1,7 @@
 //! Threads that move the bytes of a stack's pieces, while another thread owns the stack.
 //!
 //! The owner notes each piece that it hands out ([`Asks`]). A [`Task`] carries a claim on the piece's place among them,
-//! and what comes back ([`Done`]) has it still. The program `nbd_disk` doesn't use it yet.
+//! and what comes back ([`Done`]) has it still.
 //!
 //! # Promises
 //!

@@ -100,7 +100,8 @@ impl<N: Naming> Movers<N> {
     /// Hands a piece to whichever thread is free first, and returns its place among all. It is not handed out where no
     /// thread is left.
     pub fn hand<H: Wait>(&mut self, rt: &H, ask: Ask) -> Option<usize>
-        ensures { IfSome result (λ at. (self.new ≡ record self.old { asks = self.old.asks ++ ask ∷ [] }) × (at ≡ length self.old.asks)) }
+        ensures handed { IfSome result (λ at. (self.new ≡ record self.old { asks = self.old.asks ++ ask ∷ [] }) × (at ≡ length self.old.asks)) }
+        ensures sizes { self.new.sizes ≡ self.old.sizes }
     {
         let task = self.asks.task(ask)?;
         let at = task.at();

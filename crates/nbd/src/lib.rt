@@ -11,8 +11,8 @@
 //! own relation (`Backing`, `IsSessionOver`). `parse_request`, `command_of`, `parse_option`, `write_reply`,
 //! `write_replies` are exact, with one spelling a request (`one_spelling`). `begin` is what comes before the requests
 //! (`Opens`, `EndsUnasked`), `serve_beside` just one reply to each request read, by its cookie, in the order of answers
-//! (`EndsSince`), for which `take_request` reads; together a whole session (`IsSessionBeside`, `makes_a_session`). No
-//! program calls these yet. Only tested: that a flush and a write past caches reach the array as such.
+//! (`EndsSince`), for which `take_request` reads; together a whole session (`IsSessionBeside`, `makes_a_session`).
+//! Only tested: that a flush and a write past caches reach the array as such.
 #![tactic(auto)]
 
 mod arrays;

@@ -19,13 +19,14 @@ ghost use Rattle.std.specs.Result.{result_err};
 ghost use Rattle.settings.specs.InRange.{AreInRange};
 ghost use Rattle.serving.specs.OnDisk.{IsFileSession};
 
+use chronicle::Opened;
 use file_disk::{DiskFile, Storage};
 use found::settings_in;
 use nbd::Ahead;
 use read_ahead::{Naming, ReadAhead};
 use serving::{
     Asked, DiskFault, Error, Filed, Inode, Pen, Silent, Trace, check_apart, command, disk_bytes,
-    open_file, put_table, read_only, serve_disk, serve_file,
+    disks_beside, open_file, put_table, read_only, serve_disk, serve_file, serve_file_beside,
 };
 use settings::Config;
 use startup::{Verdict, ended, fault_of, hold_standard, read_settings};
@@ -37,6 +38,7 @@ use std::os::unix::fs::MetadataExt;
 use std::process::ExitCode;
 use std::sync::Wait;
 use std::thread::Threads;
+use std::time::Clock;
 use std::{env, fs, io};
 
 /// How many bytes of output are written at once. The bytes of a longer read go past this buffer, and the bytes of a
@@ -63,7 +65,7 @@ struct Image {
 }
 
 /// Serves as the command line asks for.
-fn run<H: Threads + Wait + Copy + Send + 'static>(
+fn run<H: Threads + Wait + Clock + Copy + Drop + Send + 'static>(
     rt: &HostRuntime,
     handle: H,
 ) -> Result<Verdict, Error> {
@@ -84,7 +86,7 @@ fn run<H: Threads + Wait + Copy + Send + 'static>(
     };
     match asked.disk {
         Some(path) => in_file(rt, handle, path, asked, config),
-        None if asked.create || asked.trace.is_some() => Err(Error::Usage),
+        None if asked.create || asked.trace.is_some() || asked.beside => Err(Error::Usage),
         None => match config {
             Some(config) => {
                 let (mut input, mut out) = standard(rt)?;
@@ -109,13 +111,16 @@ fn standard(rt: &HostRuntime) -> Result<(BufReader<Stdin>, BufWriter<Stdout>), E
 }
 
 /// Serves a disk in a file, as the command line asks for.
-fn in_file<H: Threads + Wait + Copy + Send + 'static>(
+fn in_file<H: Threads + Wait + Clock + Copy + Drop + Send + 'static>(
     rt: &HostRuntime,
     handle: H,
     path: &str,
     asked: Asked<'_>,
     config: Option<File>,
 ) -> Result<Verdict, Error> {
+    if asked.beside {
+        return beside_in_file(rt, handle, path, asked, config);
+    }
     let Some(trace) = asked.trace else {
         let mut filed = filed(rt, path, asked, config, Silent)?;
         return session(rt, handle, &mut filed, asked.create);
@@ -137,6 +142,28 @@ fn in_file<H: Threads + Wait + Copy + Send + 'static>(
             Err(fault)
         }
     }
+}
+
+/// Serves a disk in a file with requests side by side, as the command line asks for. No trace is written of it.
+fn beside_in_file<H: Threads + Wait + Clock + Copy + Drop + Send + 'static>(
+    rt: &HostRuntime,
+    handle: H,
+    path: &str,
+    asked: Asked<'_>,
+    config: Option<File>,
+) -> Result<Verdict, Error> {
+    if asked.trace.is_some() {
+        return Err(Error::Usage);
+    }
+    let alloc = rt.alloc();
+    let filed = filed(rt, path, asked, config, Silent)?;
+    let threaded = disks_beside(alloc, filed)?;
+    let (input, mut out) = standard(rt)?;
+    let opened = Opened::new(alloc)?;
+    let (outcome, unread) = serve_file_beside::<Brand, Brand, _, _, _, _>(
+        handle, opened, threaded, input, &mut out,
+    );
+    served(outcome, asked.create && unread)
 }
 
 /// Serves a client on standard input and output over a disk in a file.

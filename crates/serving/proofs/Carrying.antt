@@ -47,7 +47,7 @@ pub files_append : (a b c : DiskView) (xs ys : List Deed) → Files a xs b → F
 files_append a b c [] ys h k = subst (λ (d : DiskView). Files d ys c) h k
 files_append a b c (x ∷ xs) ys h k = (h.0, h.1, files_append h.0 b c xs ys h.2 k)
 
-entries_append : (xs ys : List Deed) → entries_of (xs ++ ys) ≡ entries_of xs ++ entries_of ys
+pub entries_append : (xs ys : List Deed) → entries_of (xs ++ ys) ≡ entries_of xs ++ entries_of ys
 entries_append [] ys = refl
 entries_append (x ∷ xs) ys = ap (λ (es : List Entry). entry_in x.what ++ es) (entries_append xs ys) ∙ sym (append_assoc (entry_in x.what) (entries_of xs) (entries_of ys))
 
@@ -198,7 +198,7 @@ finish_quiet old new tag (Requested id) h = absurd h.replies
 finish_quiet old new tag (Answered answer) h = absurd h.replies
 finish_quiet old new tag (Refused reason bytes) h = absurd h.replies
 
-act_handles : (old new : ManagerView) (tag : ℕ) (reply : Reply) → IsRightCall (ActReplies old tag reply new) old new → new.handles ≡ old.handles
+pub act_handles : (old new : ManagerView) (tag : ℕ) (reply : Reply) → IsRightCall (ActReplies old tag reply new) old new → new.handles ≡ old.handles
 act_handles old new tag Done h = h.replies.1.handles
 act_handles old new tag Ignored h = h.replies.2.handles
 act_handles old new tag (HandleReply given) h = absurd h.replies
@@ -206,7 +206,7 @@ act_handles old new tag (Requested id) h = absurd h.replies
 act_handles old new tag (Answered answer) h = absurd h.replies
 act_handles old new tag (Refused reason bytes) h = absurd h.replies
 
-finish_handles : (old new : ManagerView) (tag : ℕ) (reply : Reply) → IsRightCall (FinishReplies old tag reply new) old new → new.handles ≡ old.handles
+pub finish_handles : (old new : ManagerView) (tag : ℕ) (reply : Reply) → IsRightCall (FinishReplies old tag reply new) old new → new.handles ≡ old.handles
 finish_handles old new tag Done h = h.replies.1.handles
 finish_handles old new tag Ignored h = h.replies.2.handles
 finish_handles old new tag (HandleReply given) h = absurd h.replies
@@ -288,13 +288,13 @@ module _ (idle : IdleActsKeepEntries) (adds : BookedActsAddEntries) (may : Armed
     state_is : booked.state ≡ old.state
     state_is = ap (λ (v : ManagerView). v.state) has.books.same
 
-    answers_are : booked.answers ≡ old.answers
+    pub answers_are : booked.answers ≡ old.answers
     answers_are = ap (λ (v : ManagerView). v.answers) has.books.same
 
     step_of : Run old.rules old.state new.labels new.state
     step_of = run_of old booked new by_act.reset by_act.told rules_are state_is by_act.by
 
-    new_rules : new.rules ≡ old.rules
+    pub new_rules : new.rules ≡ old.rules
     new_rules = by_act.by.same_rules ∙ rules_are
 
     suits_it : Suits old.adapter.sector_size (length old.adapter.sectors) has.srb has.what
@@ -331,7 +331,7 @@ module _ (idle : IdleActsKeepEntries) (adds : BookedActsAddEntries) (may : Armed
         subst (λ (ls : List Label). DeedRun old.rules old.state ls new.state (deed ∷ [])) (sym one)
         (did_by has.what refl (deed_is arrays trace deeds told) (subst (λ (ls : List Label). Run old.rules old.state ls new.state) one step_of))
 
-    booked_told : TellsOn old new.labels (deed ∷ []) (record new { labels = [] })
+    pub booked_told : TellsOn old new.labels (deed ∷ []) (record new { labels = [] })
     booked_told = relabelled old new new.labels (deed ∷ []) (λ arrays trace deeds told. record {
       apart = apart_on old new new_rules told.apart;
       whole = whole_on old new arrays new_rules told.whole;
@@ -408,12 +408,12 @@ module _ (idle : IdleActsKeepEntries) (adds : BookedActsAddEntries) (may : Armed
 -- A REQUEST
 
 -- answers that wait say nothing of what was told
-reanswered : (old new : ManagerView) (before after : List Answer) (ls : List Label) (es : List Deed) → TellsOn (record old { answers = before }) ls es new → TellsOn old ls es (record new { answers = after })
+pub reanswered : (old new : ManagerView) (before after : List Answer) (ls : List Label) (es : List Deed) → TellsOn (record old { answers = before }) ls es new → TellsOn old ls es (record new { answers = after })
 reanswered old new before after ls es h arrays trace was told =
     let it : IsTold arrays (trace ++ ls) (was ++ es) new = h arrays trace was (record { apart = told.apart; whole = told.whole; run = told.run; did = told.did; journaled = record { of_acts = told.journaled.of_acts; started = told.journaled.started } }) in
     record { apart = it.apart; whole = it.whole; run = it.run; did = it.did; journaled = record { of_acts = it.journaled.of_acts; started = it.journaled.started } }
 
-head_there : {X : Type 0} (x : X) (xs : List X) → Contains (x ∷ xs) x
+pub head_there : {X : Type 0} (x : X) (xs : List X) → Contains (x ∷ xs) x
 head_there x xs = All-head (Contains (x ∷ xs)) x xs (All-contains_itself (x ∷ xs))
 
 got_there : {X : Type 0} (xs : List X) (at : ℕ) (x : X) → slice_get xs at ≡ Some x → Contains xs x
@@ -441,7 +441,7 @@ all_there (RemovedLabel ∷ ls) = later RemovedLabel ls (all_there ls)
 answers_there : (labels : List Label) (label : Label) → Contains (answers_of labels) label → Contains labels label
 answers_there labels label h = All-contains (Contains labels) (answers_of labels) label (all_there labels) h
 
-no_act : (event : Event) → IsTransferEvent event → IsNoAct event
+pub no_act : (event : Event) → IsTransferEvent event → IsNoAct event
 no_act (Read handle offset buffer) h = tt
 no_act (Write handle offset bytes through) h = tt
 no_act (Flush handle) h = tt
@@ -457,7 +457,7 @@ no_act (Act tag) h = absurd h
 no_act (Finish tag) h = absurd h
 no_act Reset h = absurd h
 
-asked_by : (old : ManagerView) (event : Event) → IsTransferEvent event → (q : ClientRequest) × Asks old event q
+pub asked_by : (old : ManagerView) (event : Event) → IsTransferEvent event → (q : ClientRequest) × Asks old event q
 asked_by old (Read handle offset buffer) h = (call_on old handle ReadKind offset buffer false, refl)
 asked_by old (Write handle offset bytes through) h = (call_on old handle WriteKind offset bytes through, refl)
 asked_by old (Flush handle) h = (call_on old handle FlushKind 0 [] false, refl)
@@ -474,7 +474,7 @@ asked_by old (Finish tag) h = absurd h
 asked_by old Reset h = absurd h
 
 -- no handle is given or closed by them
-asked_handles : (old new : ManagerView) (event : Event) (reply : Reply) → IsTransferEvent event → IsRight old event reply new → new.handles ≡ old.handles
+pub asked_handles : (old new : ManagerView) (event : Event) (reply : Reply) → IsTransferEvent event → IsRight old event reply new → new.handles ≡ old.handles
 asked_handles old new (Read handle offset buffer) reply h right = right.replies.handles.handles
 asked_handles old new (Write handle offset bytes through) reply h right = right.replies.handles.handles
 asked_handles old new (Flush handle) reply h right = right.replies.handles.handles
@@ -597,7 +597,7 @@ all_front : {X : Type 0} (P : X → Type 0) (xs ys : List X) → All P (xs ++ ys
 all_front P [] ys h = All-nil P
 all_front P (x ∷ xs) ys h = All-cons P x xs (All-head P x (xs ++ ys) h) (all_front P xs ys (All-tail P x (xs ++ ys) h))
 
-all_behind : {X : Type 0} (P : X → Type 0) (xs ys : List X) → All P (xs ++ ys) → All P ys
+pub all_behind : {X : Type 0} (P : X → Type 0) (xs ys : List X) → All P (xs ++ ys) → All P ys
 all_behind P [] ys h = h
 all_behind P (x ∷ xs) ys h = all_behind P xs ys (All-tail P x (xs ++ ys) h)
 

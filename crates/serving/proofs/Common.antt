@@ -57,7 +57,7 @@ pub use Rattle.ntstatus.specs.declared.NtStatus.TheVariants.{Success}
 pub use Rattle.sector.specs.Extents.{sectors_in}
 pub use Rattle.sector.specs.declared.Extent.{Extent}
 pub use Rattle.serving.specs.Carried.{BooksArmed, CarriedView, Deed, Files, Goes, HasBooked, HasNoneToBook, IsAnsweredBy, IsRefusedAtOnce, IsTold, Requests, StandsIn, TellsOn, entries_of, entry_in, over}
-pub use Rattle.serving.specs.Traces.{StepsFor, TraceView, Wrote, lines_of, shown_lines, shown_to}
+pub use Rattle.serving.specs.Traces.{StepsFor, TraceView, Wrote, lines_of, quiet, shown_lines, shown_to}
 pub use Rattle.serving.specs.CommandLine.{IsFlag, SpellsPartition}
 pub use Rattle.serving.specs.Filed.{ComesTo, FiledKept, FiledView, HasCleared, IsAsked, IsDone, Writes}
 pub use Rattle.serving.specs.OnDisk.{Differs, DiffersFrom, IsFirstOther, IsStartedOver, StopsPutting}

@@ -15,6 +15,19 @@ pub mod Beginning
 pub mod Filing
 pub mod Failing
 pub mod Noting
+mod Booking
+mod Newest
+mod Siding
+mod Requesting
+mod Dealing
+pub mod Engines
+mod Lending
+mod Growing
+mod Ending
+mod Reading
+mod Slots
+pub mod Since
+pub mod Whole
 mod Common
 mod Asking
 mod Rounds

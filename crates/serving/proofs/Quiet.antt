@@ -1,5 +1,5 @@
 -- A stack whose labels are kept for who is told of them, or for nobody.
-use Rattle.serving.proofs.Common.{◌≡◌, ◌<◌, ℕ, Bool, true, false, [], inl, inr, Option, Some, None, refl, sym, ap, subst, ◌∙◌, All, Answer, Reply, ManagerView, FitsTogether, TakesAnswerOf, Event, Act, Finish, IsRight, StepsUntraced, led, DiskView, BooksArmed, State, IsReached, HasOtherTag, ActsOr, FinishesOr, acts_or, finishes_or, work, shown_to}
+use Rattle.serving.proofs.Common.{◌≡◌, ◌<◌, ℕ, Bool, true, false, [], inl, inr, Option, Some, None, refl, sym, ap, subst, ◌∙◌, All, Answer, Reply, ManagerView, FitsTogether, TakesAnswerOf, Event, Act, Finish, IsRight, StepsUntraced, led, DiskView, BooksArmed, State, IsReached, HasOtherTag, ActsOr, FinishesOr, acts_or, finishes_or, work, quiet, shown_to}
 use Rattle.io_manager.specs.declared.Reply.TheVariants.{Handle as HandleReply, Ok as Done, Request as Requested, Answered, Refused, Ignored}
 use Rattle.io_manager.specs.Right.{ActReplies, FinishReplies, HasNoneFresh, IsRightBy, IsUnmoved, SameHandles, TellsAct, TellsFinish, Told}
 use Rattle.volume.proofs.Steps.{IsActed}
@@ -37,6 +37,9 @@ module _ (keeps : Bool) where
   pub shown_takes : (v : ManagerView) (number : ℕ) (found : Option Answer) (w : ManagerView) → TakesAnswerOf v number found w → TakesAnswerOf (shown_to keeps v) number found (shown_to keeps w)
   shown_takes v number None w t = (t.0, ap (shown_to keeps) t.1)
   shown_takes v number (Some answer) w t = (t.0, t.1, t.2, ap (shown_to keeps) t.3)
+
+pub quiet_fits : (v : ManagerView) → FitsTogether v → FitsTogether (quiet v)
+quiet_fits v h = shown_fits false v h
 
 -- AN ACT AND A RETURN
 

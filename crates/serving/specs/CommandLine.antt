@@ -11,9 +11,9 @@ use Rattle.serving.specs.declared.words.asked.Asked.{Asked}
 abbrev pub words : App
 words = with_rule (with_rule (new_app (codes "nbd_disk")) (word_rule (codes "CONFIG") false)) (word_rule (codes "PARTITION") false)
 
--- nbd_disk [CONFIG [PARTITION]] [--disk FILE] [--create] [--trace TRACE]
+-- nbd_disk [CONFIG [PARTITION]] [--disk FILE] [--create] [--trace TRACE] [--beside]
 abbrev pub program : App
-program = with_rule (with_rule (with_rule words (option_rule (codes "disk"))) (flag_rule (codes "create"))) (option_rule (codes "trace"))
+program = with_rule (with_rule (with_rule (with_rule words (option_rule (codes "disk"))) (flag_rule (codes "create"))) (option_rule (codes "trace"))) (flag_rule (codes "beside"))
 
 pub is_simple_program : is_simple program ≡ true
 unfolding clap_on_literals
@@ -30,13 +30,14 @@ abbrev pub IsFlag : Option Text → Bool → Type 0
 IsFlag None flag = flag ≡ false
 IsFlag (Some text) flag = (text ≡ codes "true" → flag ≡ true) × (text ≡ codes "false" → flag ≡ false)
 
--- paths, partition and flag are what the parser found under their names. The partition is 0 where none is named
+-- paths, partition and flags are what the parser found under their names. The partition is 0 where none is named
 pub record IsFoundIn (rows : List Row) (asked : Asked) : Type 0 where
   pub config : first_of (codes "CONFIG") rows ≡ option_map (λ word. word.now) asked.config
   pub partition : MatchOption (first_of (codes "PARTITION") rows) (asked.partition ≡ 0) (λ word. SpellsPartition word asked.partition)
   pub disk : first_of (codes "disk") rows ≡ option_map (λ word. word.now) asked.disk
   pub create : IsFlag (one_of (codes "create") rows) asked.create
   pub trace : first_of (codes "trace") rows ≡ option_map (λ word. word.now) asked.trace
+  pub beside : IsFlag (one_of (codes "beside") rows) asked.beside
 
 -- what these words ask for
 abbrev pub IsAsked : List Text → Asked → Type 0

@@ -32,7 +32,7 @@ disk_text IsOutput = codes "FILE is standard output"
 
 -- the line of a fault, without its end
 abbrev pub line_of : Error → List ℕ
-line_of Usage = codes "usage: nbd_disk CONFIG [PARTITION] [--disk FILE [--create] [--trace TRACE]] | nbd_disk --disk FILE [--trace TRACE]"
+line_of Usage = codes "usage: nbd_disk CONFIG [PARTITION] [--disk FILE [--create] [--trace TRACE | --beside]] | nbd_disk --disk FILE [--trace TRACE | --beside]"
 line_of (Startup fault) = codes "nbd_disk: " ++ startup_text fault
 line_of NoPartition = codes "nbd_disk: no such partition"
 line_of (Disk fault) = codes "nbd_disk: " ++ disk_text fault

@@ -2,7 +2,10 @@ pub mod CommandLine
 pub mod Faults
 pub mod Serving
 pub mod Traces
+pub mod Beside
+pub mod BesideFile
 pub mod Carried
+pub mod Elsewhere
 pub mod Filed
 pub mod OnDisk
 pub mod Telling
@@ -10,3 +13,4 @@ pub mod Tracing
 pub mod Lasting
 pub mod Series
 pub mod Keeping
+pub mod inside

@@ -33,6 +33,10 @@ Wrote old labels new = IsTrue new.whole → IsTrue old.whole × Appends old.byte
 abbrev pub shown_to : Bool → ManagerView → ManagerView
 shown_to keeps stack = record stack { keeps = if keeps then stack.keeps else false }
 
+-- as one shows itself whose labels are kept for nobody
+abbrev pub quiet : ManagerView → ManagerView
+quiet stack = shown_to false stack
+
 -- a right step, whose labels were taken, and written where they have their bytes
 pub record StepsFor (keeps : Bool) (old : ManagerView) (was : TraceView) (event : Event) (reply : Reply) (new : ManagerView) (now : TraceView) : Type 0 where
   pub stepped : ManagerView

@@ -96,7 +96,7 @@ impl fmt::Display for Error {
     fn fmt<W: fmt::Write>(&self, f: &mut fmt::Formatter<W>) -> fmt::Result {
         match self {
             Error::Usage => f.write_str(
-                "usage: nbd_disk CONFIG [PARTITION] [--disk FILE [--create] [--trace TRACE]] | nbd_disk --disk FILE [--trace TRACE]",
+                "usage: nbd_disk CONFIG [PARTITION] [--disk FILE [--create] [--trace TRACE | --beside]] | nbd_disk --disk FILE [--trace TRACE | --beside]",
             ),
             Error::Startup(fault) => write!(f, "nbd_disk: {fault}"),
             Error::NoPartition => f.write_str("nbd_disk: no such partition"),

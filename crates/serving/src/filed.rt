@@ -20,7 +20,7 @@ use std::marker::Model;
 use std::mem;
 
 /// How many zeros are written at once: whole sectors of either size.
-const PIECE: u32 = 1_048_576;
+pub(crate) const PIECE: u32 = 1_048_576;
 
 /// A partition of a stack whose sectors stand in a storage, open for one user. Its pen is told of each step.
 #[derive(Drop)]
@@ -30,6 +30,8 @@ pub struct Filed<S: Storage + Drop, P: Pen + Drop> {
     pub(crate) pen: P,
     pub(crate) handle: Handle,
     pub(crate) sizes: Sizes,
+    /// How many requests may be open at once.
+    pub(crate) open_requests: u32,
     /// The memory for the bytes of the next request.
     pub(crate) kept: Vec<u8>,
 }
@@ -203,7 +205,7 @@ impl<S: Storage + Drop, P: Pen + Drop> Filed<S, P> {
 }
 
 /// Returns this many zeros, or nothing where memory was refused.
-fn zeros(alloc: Global, count: u32) -> Option<Vec<u8>>
+pub(crate) fn zeros(alloc: Global, count: u32) -> Option<Vec<u8>>
     ensures { IfSome result (λ bytes. bytes.items ≡ replicate count 0) }
 {
     vec![in alloc; 0; count as usize].ok()
@@ -211,7 +213,7 @@ fn zeros(alloc: Global, count: u32) -> Option<Vec<u8>>
 
 /// Returns the error of a request that failed. With `full` the storage had no room for the newest of the writes that it
 /// refused.
-fn status_error(full: bool, status: NtStatus) -> ReplyError
+pub(crate) fn status_error(full: bool, status: NtStatus) -> ReplyError
     ensures { result ≡ status_error full status }
 {
     match status {
@@ -225,7 +227,7 @@ fn status_error(full: bool, status: NtStatus) -> ReplyError
 }
 
 /// Returns the error of a request that was refused.
-fn refusal_error(reason: Refusal) -> ReplyError
+pub(crate) fn refusal_error(reason: Refusal) -> ReplyError
     ensures { result ≡ refusal_error reason }
 {
     match reason {

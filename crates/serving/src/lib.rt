@@ -18,19 +18,31 @@
 //! under way (`AnsweredIsKept`); and sessions in a row keep what one of them left (`StaysOverSessions`). A `Trace`, if its
 //! writer took all, has the lines of the labels that a session over a file told, in order, and no others
 //! (`traces_tell_sessions`). `command`: paths, partition and `--create` as found (`IsFoundIn`). All for readers and
-//! writers that tell their bytes.
+//! writers that tell their bytes. `serve_file_beside`: requests side by side (`IsFileSessionBeside`). Each that was read has
+//! just one reply, by its cookie, once the stack had answered it, and before another piece came back (`ToldInTurn`); acts
+//! and faults of the stack are pieces that were moved, each by its own calls (`GoesBeside`), and those that may not be moved
+//! side by side weren't at the storage at once (`Deals`). Of a loss of power nothing is promised there.
 #![tactic(auto)]
 
+mod beside;
+mod busy;
+mod doors;
+mod dues;
+mod elsewhere;
+mod engine;
 mod faults;
 mod filed;
+mod flying;
 mod moving;
 mod on_disk;
+mod pace;
 mod pens;
 mod same_file;
 mod served;
 mod serving;
 mod words;
 
+pub use beside::{Threaded, disks_beside, serve_file_beside};
 pub use faults::{Difference, DiskFault, Error};
 pub use filed::Filed;
 pub use on_disk::{

@@ -90,7 +90,7 @@ pub(crate) fn carry_out<S: Storage + Drop, P: Pen>(
 }
 
 /// Takes all answers that wait. Between two requests no answer waits.
-fn forget_answers(stack: &mut Stack<BookedAdapter>)
+pub(crate) fn forget_answers(stack: &mut Stack<BookedAdapter>)
     ensures { stack.new ≡ record stack.old { answers = [] } }
 {
     while let Some(answer) = stack.take_answer() {

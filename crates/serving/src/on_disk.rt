@@ -250,6 +250,7 @@ pub fn open_file<S: Storage + Drop, P: Pen + Drop>(
         pen,
         handle,
         sizes,
+        open_requests: config.open_requests,
         kept: Vec::new(alloc),
     })
 }

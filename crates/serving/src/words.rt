@@ -43,7 +43,8 @@ impl<'a> Parser<'a> for Asked<'a> {
             .arg(word(alloc, "PARTITION", false))?
             .arg(option(alloc, "disk"))?
             .arg(flag(alloc, "create"))?
-            .arg(option(alloc, "trace"))
+            .arg(option(alloc, "trace"))?
+            .arg(flag(alloc, "beside"))
     }
 
     fn found_in(matches: &ArgMatches<'a>) -> Option<Asked<'a>> {
@@ -54,12 +55,14 @@ impl<'a> Parser<'a> for Asked<'a> {
         let disk = matches.get_str("disk");
         let create = matches.get_flag("create");
         let trace = matches.get_str("trace");
+        let beside = matches.get_flag("beside");
         Some(Asked {
             config,
             partition,
             disk,
             create,
             trace,
+            beside,
         })
     }
 

@@ -14,4 +14,6 @@ pub struct Asked<'a> {
     pub create: bool,
     /// The path of the file that gets the trace of the session. Without `disk` that is for the caller to refuse.
     pub trace: Option<&'a str>,
+    /// Whether requests are to be served side by side. Without `disk`, or with `trace`, that is for the caller to refuse.
+    pub beside: bool,
 }

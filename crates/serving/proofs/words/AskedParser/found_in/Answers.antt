@@ -12,6 +12,7 @@ returns-clause-some c =
       disk = sym (c.get_str-disk.ensures ∙ first_value-rows found (codes "disk"));
       create = flag_is found (codes "create") c.get_flag-create.result c.get_flag-create.ensures.none c.get_flag-create.ensures.value c.get_flag-create.ensures.other;
       trace = sym (c.get_str-trace.ensures ∙ first_value-rows found (codes "trace"));
+      beside = flag_is found (codes "beside") c.get_flag-beside.result c.get_flag-beside.ensures.none c.get_flag-beside.ensures.value c.get_flag-beside.ensures.other;
     }
 
 pub returns-in_default-clause-none : goal.returns-in_default-clause-none

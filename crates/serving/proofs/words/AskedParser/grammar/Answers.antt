@@ -16,4 +16,7 @@ returns c =
     ∙ ap₂ with_rule (c.in_ok-arg.ensures.shape c.word.ensures.local ∙ ap₂ with_rule c.new.ensures.app config_is) partition_is in
     let created : app_of c.in_ok-arg-4.field-0 ≡ with_rule (with_rule words (option_rule (codes "disk"))) (flag_rule (codes "create")) =
     c.in_ok-arg-4.ensures.shape c.flag.ensures.local ∙ ap₂ with_rule (c.in_ok-arg-3.ensures.shape c.option.ensures.local ∙ ap₂ with_rule words_are disk_is) create_is in
-    IfOk-weaker c.arg-5.result _ _ (λ r h. h.shape c.option-2.ensures.local ∙ ap₂ with_rule created trace_is) c.arg-5.ensures
+    let traced : app_of c.in_ok-arg-5.field-0 ≡ with_rule (with_rule (with_rule words (option_rule (codes "disk"))) (flag_rule (codes "create"))) (option_rule (codes "trace")) =
+    c.in_ok-arg-5.ensures.shape c.option-2.ensures.local ∙ ap₂ with_rule created trace_is in
+    let beside_is : rule_of c.flag-2.result ≡ flag_rule (codes "beside") = c.flag-2.ensures.rule in
+    IfOk-weaker c.arg-6.result _ _ (λ r h. h.shape c.flag-2.ensures.local ∙ ap₂ with_rule traced beside_is) c.arg-6.ensures
