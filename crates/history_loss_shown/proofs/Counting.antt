@@ -12,7 +12,7 @@ use Rattle.history_laws.specs.declared.Asked.{Asked}
 use Rattle.history_laws.specs.Fitting.{asked_after, entry_of, fits, owed_after, refused, without}
 use Rattle.loss.specs.Sessions.{Line, Told, Lost, Ended}
 use Rattle.history_loss.specs.Histories.{seen_of}
-use Rattle.history_loss.specs.Schedules.{Event, Seen, IsNoFailure, IsOpen}
+use Rattle.history_loss.specs.Schedules.{Event, Seen, Effect, Fails, IsNoFailure, IsOpen, lines_of, shared_of}
 use Rattle.history_loss_runs.specs.Laws.{all_fit_over}
 use Rattle.history_loss_fits.specs.Laws.{labels_fit}
 use Rattle.register_loss.specs.declared.Sight.{Sight}
@@ -143,6 +143,12 @@ lines_serve rules (Told Resume ∷ lines) past asked owed shown fit known sound 
 lines_serve rules (Told Remove ∷ lines) past asked owed shown fit known sound = absurd shown.0
 lines_serve rules (Told Surprise ∷ lines) past asked owed shown fit known sound = absurd shown.0
 lines_serve rules (Told Removed ∷ lines) past asked owed shown fit known sound = absurd shown.0
+
+pub lines_shared : (events : List Event) → lines_of (shared_of events) ≡ lines_of events
+lines_shared [] = refl
+lines_shared (Effect number sector ∷ events) = lines_shared events
+lines_shared (Seen line ∷ events) = ap (λ xs. line ∷ xs) (lines_shared events)
+lines_shared (Fails number place ∷ events) = lines_shared events
 
 -- WHERE EACH SYNC SUCCEEDS
 

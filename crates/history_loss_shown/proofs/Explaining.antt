@@ -44,7 +44,7 @@ use Rattle.history_loss_shown.proofs.Sharing.{AllIn, Extends, Foreign, Is, Serve
 use Rattle.history_loss_shown.proofs.Merging.{Merged, in_weaker, merge, union_first}
 use Rattle.history_loss_shown.proofs.Inserting.{Inserted, insert, wide_first}
 use Rattle.history_loss_shown.proofs.Stuck.{AreShown}
-use Rattle.history_loss_shown.proofs.Counting.{are_counted, are_shown, counted_by, lines_serve, steady_same, told}
+use Rattle.history_loss_shown.proofs.Counting.{are_counted, are_shown, counted_by, lines_serve, lines_shared, steady_same, told}
 
 -- MORE FAILURES, AND MORE
 
@@ -294,12 +294,6 @@ told_lines (line ∷ lines) = ap (λ ls. line ∷ ls) (told_lines lines)
 told_shared : (lines : List Line) → shared_of (told lines) ≡ told lines
 told_shared [] = refl
 told_shared (line ∷ lines) = ap (λ es. Seen line ∷ es) (told_shared lines)
-
-lines_shared : (events : List Event) → lines_of (shared_of events) ≡ lines_of events
-lines_shared [] = refl
-lines_shared (Effect number sector ∷ events) = lines_shared events
-lines_shared (Seen line ∷ events) = ap (λ xs. line ∷ xs) (lines_shared events)
-lines_shared (Fails number place ∷ events) = lines_shared events
 
 told_in : (rules : Rules) (P : ℕ → Type 0) (lines : List Line) (past : List Event) → AllIn rules P past (told lines)
 told_in rules P [] past = tt

@@ -13,3 +13,4 @@ mod Inserting
 mod Counting
 mod Explaining
 mod Working
+mod Tying

@@ -1,3 +1,4 @@
 pub mod Steady
 pub mod Laws
 pub mod Worked
+pub mod Tied
