@@ -2,7 +2,7 @@
 
 use register::Contents;
 use register_loss::{Sight, What};
-use register_loss_judge::{Verdict, judge};
+use register_loss_judge::{Observed, SoFar, Verdict, judge};
 use std::alloc::{AllocError, Global};
 use std::test::Fail;
 
@@ -522,6 +522,23 @@ fn sights_of(alloc: Global, steps: &[Step]) -> Result<Vec<Sight>, AllocError> {
     Ok(sights)
 }
 
+/// What is known of a register behind these sights.
+fn so_far_of(alloc: Global, start: &Contents, sights: &[Sight]) -> Result<SoFar, AllocError> {
+    let mut observed = Observed::new(alloc, start)?;
+    for sight in sights {
+        observed.see(alloc, sight)?;
+    }
+    Ok(observed.so_far())
+}
+
+fn wanted_of(verdict: Verdict) -> SoFar {
+    match verdict {
+        Verdict::Passed => SoFar::Passed,
+        Verdict::Refused { .. } => SoFar::Refused,
+        Verdict::Undecided => SoFar::Undecided,
+    }
+}
+
 #[test]
 fn sessions_of_registers_are_judged(rt: HostRuntime) -> Result<(), Fail> {
     let alloc = rt.alloc();
@@ -530,6 +547,8 @@ fn sessions_of_registers_are_judged(rt: HostRuntime) -> Result<(), Fail> {
         let sights = sights_of(alloc, steps)?;
         let verdict = judge(alloc, &start, sights.as_slice())?;
         assert_eq!(&rt; verdict, wanted, "{name}");
+        let so_far = so_far_of(alloc, &start, sights.as_slice())?;
+        assert_eq!(&rt; so_far, wanted_of(wanted), "{name}");
     }
     Ok(())
 }

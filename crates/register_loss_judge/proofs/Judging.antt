@@ -23,11 +23,13 @@ exact_next start old new sights index d within x h =
     subst (λ xs. IsExact start xs new) (sym (take_more sights index d within)) (exact_more start (take index sights) old new (get_or sights index d) x h)
 
 -- one state, that of the start
+pub one_formed : (start : ℕ) (states before : List State) (first : State) → states ≡ before ++ first ∷ [] → before ≡ [] → form first ≡ opening start → forms states ≡ opening start ∷ []
+one_formed start states before first is none opens = ap forms (is ∙ ap (λ xs. xs ++ first ∷ []) none) ∙ ap (λ (f : Register). f ∷ []) opens
+
 pub begins : (start : ℕ) (states before : List State) (first : State) → states ≡ before ++ first ∷ [] → before ≡ [] → form first ≡ opening start → IsExact start [] (forms states) × (forms states ≡ [] → ⊥)
-begins start states before first is none opens = (exact_first start (forms states) one, λ empty. let e : opening start ∷ [] ≡ [] = sym one ∙ empty in cc (e))
-  where
-    one : forms states ≡ opening start ∷ []
-    one = ap forms (is ∙ ap (λ xs. xs ++ first ∷ []) none) ∙ ap (λ (f : Register). f ∷ []) opens
+begins start states before first is none opens =
+    let one : forms states ≡ opening start ∷ [] = one_formed start states before first is none opens in
+    (exact_first start (forms states) one, λ empty. let e : opening start ∷ [] ≡ [] = sym one ∙ empty in cc (e))
 
 pub none_formed : (states : List State) → forms states ≡ [] → states ≡ []
 none_formed [] e = refl

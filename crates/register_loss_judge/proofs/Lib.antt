@@ -4,3 +4,4 @@ mod Inserting
 mod Growing
 mod Judging
 mod Checking
+mod Watching

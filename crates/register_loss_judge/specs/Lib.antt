@@ -1,2 +1,3 @@
 pub mod Verdicts
+pub mod Observed
 pub mod inside

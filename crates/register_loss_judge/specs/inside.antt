@@ -1,2 +1,3 @@
 pub mod States
 pub mod Covering
+pub mod Following

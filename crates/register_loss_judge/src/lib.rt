@@ -8,10 +8,12 @@
 //!
 //! `judge` passes only what some schedule explains, refuses only what none does, and tells how many sights suffice
 //! (`right`). It is `Undecided` where the register may have 512 states or more: from five writes on that are open at once.
+//! An `Observed` takes sights one by one (`see`), and says the same of those so far (`so_far`).
 #![tactic(auto)]
 
 mod closing;
 mod covering;
+mod observed;
 mod states;
 mod turning;
 mod values;
@@ -20,6 +22,7 @@ ghost use Rattle.std.specs.Prelude.{IfOk};
 ghost use Rattle.register_loss_judge.specs.Verdicts.{IsRight};
 
 use closing::see;
+pub use observed::{Observed, SoFar};
 use register::Contents;
 use register_loss::Sight;
 use states::opening;
