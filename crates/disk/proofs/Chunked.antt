@@ -1,5 +1,5 @@
 -- Sectors in chunks: what stands in a chunk, and what becomes of it.
-use Rattle.std.proofs.Common.{◌≡◌, ℕ, zero, suc, ◌+◌, ◌-◌, ◌*◌, ◌/◌, ◌%◌, ◌≤◌, ◌⊎◌, inl, inr, List, ◌∷◌, ◌++◌, length, map, take, drop, replicate, Option, Some, None, IsSome, Result, Ok, Err, OnOk, OnErr, MatchOption, unwrap_or, arith, refl, sym, ap, ◌∙◌, mul-le-mul_right, zero-add, add-zero, suc-add}
+use Rattle.std.proofs.Common.{◌≡◌, nat_eq, ℕ, zero, suc, ◌+◌, ◌-◌, ◌*◌, ◌/◌, ◌%◌, ◌≤◌, ◌⊎◌, inl, inr, List, ◌∷◌, ◌++◌, length, map, take, drop, replicate, Option, Some, None, IsSome, Result, Ok, Err, OnOk, OnErr, MatchOption, unwrap_or, arith, refl, sym, ap, ◌∙◌, mul-le-mul_right, zero-add, add-zero, suc-add}
 use Rattle.std.proofs.lemmas.Bool.{cases_lt, cases_eq}
 use Rattle.std.proofs.lemmas.List.{length-replicate, length-drop, length-take-le, take-append-le, drop-append-le, drop-drop, take-replicate, drop-replicate}
 use Rattle.std.proofs.lemmas.List.Folds.{concat-append}
@@ -8,8 +8,7 @@ use Rattle.std.proofs.Math.Seq.{drop-append-add, take-add}
 use Rattle.std.specs.List.{concat, range_with_len}
 use Rattle.std.specs.Map.{lookup}
 use Rattle.std.specs.Option.{ForSome, option_map}
-use Rattle.std.specs.Ordering.{nat_cmp}
-use Rattle.std.specs.BTreeMap.{IsEmpty, is_at}
+use Rattle.std.specs.HashMap.{IsEmpty}
 use Rattle.sector.specs.declared.Extent.{Extent}
 use Rattle.sector.specs.Extents.{IsIn}
 use Rattle.sector.specs.Splice.{splice}
@@ -17,7 +16,7 @@ use Rattle.sector.proofs.Splicing.{length-splice, range_apart}
 use borrow.Rule.Slice.PartMut.{put_mid}
 use Rattle.disk.specs.inside.Chunks.{length-chunk_bytes}
 use Rattle.disk.specs.Sparse.{ByNumber, chunk_bytes, chunk_length, chunk_of, held, sector_at}
-use Rattle.disk.specs.inside.Sparse.{AreWhole, PutsBytes, PutsZeros}
+use Rattle.disk.specs.inside.Sparse.{AreWhole, HoldsSame, PutsBytes, PutsZeros}
 
 -- the bytes that stand in an option, or zeros, are as many as are asked for
 length_or_zeros : (found : Option (List ℕ)) (n : ℕ) → ForSome found (λ bytes. length bytes ≡ n) → length (unwrap_or found (replicate n 0)) ≡ n
@@ -44,16 +43,12 @@ pub on_each : {A E : Type 0} (result : Result A E) (P Q R : Type 0) → OnOk res
 on_each (Ok x) P Q R p q f g = f p
 on_each (Err e) P Q R p q f g = g q
 
--- a map with the same entries holds the same
-pub held-unchanged : (old new : ByNumber) → new.entries ≡ old.entries → (number : ℕ) → held new number ≡ held old number
-held-unchanged old new same number = ap (λ entries. option_map (λ bytes. bytes.items) (lookup (is_at (nat_cmp number)) entries)) same
-
 -- a map with no entries holds nothing
 pub held-empty : (chunks : ByNumber) → IsEmpty chunks → (number : ℕ) → held chunks number ≡ None
-held-empty chunks none number = ap (λ entries. option_map (λ bytes. bytes.items) (lookup (is_at (nat_cmp number)) entries)) none
+held-empty chunks none number = ap (λ entries. option_map (λ bytes. bytes.items) (lookup (nat_eq number) entries)) none
 
-pub whole_unchanged : (size sectors : ℕ) (old new : ByNumber) → AreWhole size sectors old → new.entries ≡ old.entries → AreWhole size sectors new
-whole_unchanged size sectors old new whole same number bytes there = whole number bytes (sym (held-unchanged old new same number) ∙ there)
+pub whole_unchanged : (size sectors : ℕ) (old new : ByNumber) → AreWhole size sectors old → HoldsSame old new → AreWhole size sectors new
+whole_unchanged size sectors old new whole same number bytes there = whole number bytes (sym (same number) ∙ there)
 
 -- A CHUNK IS READ
 

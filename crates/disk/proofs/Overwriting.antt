@@ -1,13 +1,11 @@
 -- Sectors that are written one part after the other.
-use Rattle.std.proofs.Common.{◌≡◌, ℕ, ◌+◌, ◌-◌, ◌*◌, ◌≤◌, ◌<◌, inl, inr, List, take, drop, slice_range, Option, Some, None, IsSome, arith, refl, sym, ap, ◌∙◌, mul-le-mul_right}
+use Rattle.std.proofs.Common.{◌≡◌, nat_eq, ℕ, ◌+◌, ◌-◌, ◌*◌, ◌≤◌, ◌<◌, inl, inr, List, take, drop, slice_range, Option, Some, None, IsSome, arith, refl, sym, ap, ◌∙◌, mul-le-mul_right}
 use Rattle.std.proofs.lemmas.Bool.{cases_lt}
 use Rattle.std.proofs.lemmas.List.{drop-drop, drop-take, take-take}
-use Rattle.std.proofs.lemmas.Map.Views.{btree_map_contains_key_iff}
-use Rattle.std.proofs.lemmas.Map.Lookups.{exact_unsigned}
-use Rattle.std.specs.Cmp.{nat_cmp_total}
+use Rattle.std.proofs.lemmas.Map.Views.{hash_map_contains_key_iff, exact_unsigned_eq}
+use Rattle.std.specs.Cmp.{nat_eq_equiv}
 use Rattle.std.specs.Option.{option_map}
-use Rattle.std.specs.Ordering.{nat_cmp}
-use Rattle.std.specs.BTreeMap.{get, keys}
+use Rattle.std.specs.HashMap.{get, keys}
 use Rattle.sector.specs.declared.Extent.{Extent}
 use Rattle.disk.specs.declared.chunks.Chunks.{Chunks}
 use Rattle.disk.specs.Sparse.{ByNumber, held}
@@ -65,6 +63,6 @@ some_found f (Some x) h = refl
 -- the same keys have the same chunks
 pub there_by_keys : (old new : ByNumber) → keys new ≡ keys old → (number : ℕ) → IsSome (held old number) → IsSome (held new number)
 there_by_keys old new same number there =
-    let has = (btree_map_contains_key_iff nat_cmp_total exact_unsigned old number).0 (some_found (λ bytes. bytes.items) (get nat_cmp old number) there) in
-    some_mapped (λ bytes. bytes.items) (get nat_cmp new number)
-    ((btree_map_contains_key_iff nat_cmp_total exact_unsigned new number).1 (rw same has))
+    let has = (hash_map_contains_key_iff nat_eq_equiv exact_unsigned_eq old number).0 (some_found (λ bytes. bytes.items) (get nat_eq old number) there) in
+    some_mapped (λ bytes. bytes.items) (get nat_eq new number)
+    ((hash_map_contains_key_iff nat_eq_equiv exact_unsigned_eq new number).1 (rw same has))

@@ -1,14 +1,14 @@
 -- What a reservation makes: the chunks of its extent, and no others.
 use Rattle.std.proofs.Common.{◌≡◌, ◌≢◌, ℕ, ◌/◌, ◌⊎◌, inl, inr, List, [], length, map, None, Option, Some, IsSome, Result, Ok, Err, IsOk, OnOk, OnErr, arith, refl, sym, ap, ◌∙◌, subst}
 use Rattle.std.proofs.lemmas.Bool.{cases_eq}
-use Rattle.std.specs.BTreeMap.{IsEmpty}
+use Rattle.std.specs.HashMap.{IsEmpty}
 use Rattle.sector.specs.declared.Extent.{Extent}
 use Rattle.sector.specs.Extents.{IsIn}
 use Rattle.disk.specs.declared.chunks.Chunks.{Chunks}
 use Rattle.disk.specs.Sparse.{ByNumber, held}
-use Rattle.disk.specs.inside.Sparse.{PutsZeros}
+use Rattle.disk.specs.inside.Sparse.{HoldsSame, PutsZeros}
 use Rattle.disk.specs.inside.SparseDisk.{AreThere, HasPartOf, IsThere, Makes, MakesOf, MakesOne}
-use Rattle.disk.proofs.Chunked.{held-empty, held-unchanged}
+use Rattle.disk.proofs.Chunked.{held-empty}
 
 -- zeros at one number make that chunk alone
 pub made_one : (size number : ℕ) (old new : ByNumber) → PutsZeros size number old new
@@ -19,9 +19,9 @@ made_one size number old new puts other there = elim (cases_eq other number) [
 ]
 
 -- and where nothing was put none
-pub made_none : (number : ℕ) (old new : ByNumber) → new.entries ≡ old.entries
+pub made_none : (number : ℕ) (old new : ByNumber) → HoldsSame old new
     → (other : ℕ) → IsSome (held new other) → IsSome (held old other) ⊎ (other ≡ number)
-made_none number old new same other there = inl (subst IsSome (held-unchanged old new same other) there)
+made_none number old new same other there = inl (subst IsSome (same other) there)
 
 -- one more chunk of the extent
 pub made_more : (extent : Extent) (first : ℕ) (old mid new : Chunks) → IsIn first extent → MakesOf extent old mid → MakesOne (first / 64) mid new

@@ -1,17 +1,15 @@
 -- What a sparse disk shows, and what its calls do to that.
-use Rattle.std.proofs.Common.{◌≡◌, ℕ, zero, suc, ◌+◌, ◌-◌, ◌*◌, ◌/◌, ◌%◌, ◌≤◌, ◌<◌, ◌⊎◌, inl, inr, min, List, [], ◌++◌, length, get_or, map, take, drop, replicate, slice_range, Contains, None, IsSome, unwrap_or, mul-le-mul_right, arith, refl, sym, ap, ◌∙◌, subst}
+use Rattle.std.proofs.Common.{◌≡◌, nat_eq, ℕ, zero, suc, ◌+◌, ◌-◌, ◌*◌, ◌/◌, ◌%◌, ◌≤◌, ◌<◌, ◌⊎◌, inl, inr, min, List, [], ◌++◌, length, get_or, map, take, drop, replicate, slice_range, Contains, None, IsSome, unwrap_or, mul-le-mul_right, arith, refl, sym, ap, ◌∙◌, subst}
 use Rattle.std.proofs.lemmas.List.{length-map, get_or-map, drop_at, drop-drop, take-replicate, drop-replicate, length-replicate}
 use Rattle.std.proofs.lemmas.List.Elements.{Contains-get_or}
 use Rattle.std.proofs.lemmas.List.Folds.{concat-append}
 use Rattle.std.proofs.lemmas.List.FromFn.{length-map-range_with_len, take-map-range_with_len}
-use Rattle.std.proofs.lemmas.Map.Views.{btree_map_contains_key_iff}
-use Rattle.std.proofs.lemmas.Map.Lookups.{exact_unsigned}
-use Rattle.std.specs.Cmp.{nat_cmp_total}
+use Rattle.std.proofs.lemmas.Map.Views.{hash_map_contains_key_iff, exact_unsigned_eq}
+use Rattle.std.specs.Cmp.{nat_eq_equiv}
 use Rattle.std.specs.List.{concat, range_with_len}
 use Rattle.std.specs.Map.{keys_of}
 use Rattle.std.specs.Simd.{first_chunks}
-use Rattle.std.specs.BTreeMap.{IsEmpty, get, keys}
-use Rattle.std.specs.Ordering.{nat_cmp}
+use Rattle.std.specs.HashMap.{IsEmpty, get, keys}
 use Rattle.sector.specs.declared.Extent.{Extent}
 use Rattle.sector.specs.Extents.{IsIn, IsInSome, IsNear}
 use Rattle.sector.specs.Splice.{splice}
@@ -145,11 +143,11 @@ from_mapped f xs y has =
 -- a chunk is there exactly if its number is a key
 key_of_chunk : (chunks : ByNumber) (number : ℕ) → IsSome (held chunks number) → Contains (keys chunks) number
 key_of_chunk chunks number there =
-    (btree_map_contains_key_iff nat_cmp_total exact_unsigned chunks number).0 (some_found (λ bytes. bytes.items) (get nat_cmp chunks number) there)
+    (hash_map_contains_key_iff nat_eq_equiv exact_unsigned_eq chunks number).0 (some_found (λ bytes. bytes.items) (get nat_eq chunks number) there)
 
 chunk_of_key : (chunks : ByNumber) (number : ℕ) → Contains (keys chunks) number → IsSome (held chunks number)
 chunk_of_key chunks number has =
-    some_mapped (λ bytes. bytes.items) (get nat_cmp chunks number) ((btree_map_contains_key_iff nat_cmp_total exact_unsigned chunks number).1 has)
+    some_mapped (λ bytes. bytes.items) (get nat_eq chunks number) ((hash_map_contains_key_iff nat_eq_equiv exact_unsigned_eq chunks number).1 has)
 
 -- a sector of the disk whose chunk is there is one of a reserved extent
 covered : (disk : SparseDisk) (sector : ℕ) → sector < disk.chunks.sectors → IsThere disk.chunks (sector / 64)

@@ -1,9 +1,10 @@
 -- The sectors of a disk in chunks of 64, of which only some are there.
-use Rattle.std.specs.Prelude.{ℕ, ◌-◌, ◌*◌, ◌/◌, ◌%◌, min, List, replicate, take, drop, Option, unwrap_or}
+use Rattle.std.specs.Prelude.{ℕ, nat_eq, ◌-◌, ◌*◌, ◌/◌, ◌%◌, min, List, replicate, take, drop, Option, unwrap_or}
 use Rattle.std.specs.Option.{option_map}
-use Rattle.std.specs.Ordering.{nat_cmp}
 use Rattle.std.specs.Global.{Vec}
-use Rattle.std.specs.BTreeMap.{BTreeMap, get}
+use Rattle.std.specs.declared.hash.BuildHasherDefault.{BuildHasherDefault}
+use Rattle.std.specs.declared.hash.FoldHasher.{FoldHasher}
+use Rattle.std.specs.HashMap.{HashMap, get}
 use Rattle.sector.specs.declared.Extent.{Extent}
 
 -- the sectors of a chunk: 64 of them, or what is left of the disk
@@ -12,11 +13,11 @@ chunk_of sectors number = record { first = number * 64; count = min 64 (sectors 
 
 -- the chunks that are there, by their numbers
 abbrev pub ByNumber : Type 0
-ByNumber = BTreeMap ℕ (Vec ℕ)
+ByNumber = HashMap ℕ (Vec ℕ) (BuildHasherDefault FoldHasher)
 
 -- the bytes of a chunk, if it is there
 abbrev pub held : ByNumber → ℕ → Option (List ℕ)
-held chunks number = option_map (λ bytes. bytes.items) (get nat_cmp chunks number)
+held chunks number = option_map (λ bytes. bytes.items) (get nat_eq chunks number)
 
 -- the number of bytes in a chunk
 abbrev pub chunk_length : ℕ → ℕ → ℕ → ℕ

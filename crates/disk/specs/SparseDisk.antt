@@ -1,7 +1,7 @@
 -- What a sparse disk shows, and what becomes of its chunks.
 use Rattle.std.specs.Prelude.{ℕ, List, map}
 use Rattle.std.specs.List.{range_with_len}
-use Rattle.std.specs.BTreeMap.{keys}
+use Rattle.std.specs.HashMap.{keys}
 use Rattle.sector.specs.declared.Extent.{Extent}
 use Rattle.disk.specs.declared.chunks.Chunks.{Chunks}
 use Rattle.disk.specs.declared.sparse_disk.SparseDisk.{SparseDisk}

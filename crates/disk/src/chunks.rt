@@ -2,15 +2,14 @@
 
 ghost use Rattle.std.specs.Prelude.{◌≡◌, ℕ, ◌+◌, ◌*◌, ◌/◌, ◌%◌, ◌≤◌, ◌<◌, ◌^◌, length, take, drop, replicate, IsSome, IfSome, IsOk, OnOk, OnErr, MatchOption};
 ghost use Rattle.std.specs.Option.{ForSome};
-ghost use Rattle.std.specs.Ordering.{nat_cmp};
-ghost use Rattle.std.specs.BTreeMap.{get, IsEmpty};
+ghost use Rattle.std.specs.HashMap.{IsEmpty};
 ghost use Rattle.disk.specs.Sparse.{chunk_of, held};
-ghost use Rattle.disk.specs.inside.Sparse.{AreWhole, PutsBytes, PutsZeros};
+ghost use Rattle.disk.specs.inside.Sparse.{AreWhole, HoldsSame, PutsBytes, PutsZeros};
 
 use crate::places::places;
 use sector::Extent;
 use std::alloc::{AllocError, Global};
-use std::collections::BTreeMap;
+use std::collections::HashMap;
 
 /// How many sectors a chunk has.
 const CHUNK: u64 = 64;
@@ -21,7 +20,7 @@ pub(crate) struct Chunks {
     alloc: Global,
     pub sector_size: u32,
     pub sectors: u64,
-    by_number: BTreeMap<u64, Vec<u8>>,
+    by_number: HashMap<u64, Vec<u8>>,
     ghost whole: { AreWhole sector_size sectors by_number },
 }
 
@@ -40,7 +39,7 @@ impl Chunks {
             alloc,
             sector_size,
             sectors,
-            by_number: BTreeMap::new(alloc),
+            by_number: HashMap::new(alloc),
         }
     }
 
@@ -154,13 +153,13 @@ impl Chunks {
 /// Puts this many zeros at a number, unless something is there.
 fn put_zeros(
     alloc: Global,
-    chunks: &mut BTreeMap<u64, Vec<u8>>,
+    chunks: &mut HashMap<u64, Vec<u8>>,
     number: u64,
     length: usize,
 ) -> Result<(), AllocError>
     ensures made { OnOk result (PutsZeros length number chunks.old chunks.new) }
     ensures ready { IsSome (held chunks.old number) → IsOk result }
-    ensures err { OnErr result (chunks.new.entries ≡ chunks.old.entries) }
+    ensures err { OnErr result (HoldsSame chunks.old chunks.new) }
 {
     chunks
         .entry(number)?
@@ -169,7 +168,7 @@ fn put_zeros(
 }
 
 /// Writes bytes over a part of those at a number, from a place on.
-fn put_bytes(chunks: &mut BTreeMap<u64, Vec<u8>>, number: u64, start: usize, bytes: &[u8])
+fn put_bytes(chunks: &mut HashMap<u64, Vec<u8>>, number: u64, start: usize, bytes: &[u8])
     requires { IfSome (held chunks.old number) (λ before. start + length bytes.now ≤ length before) }
     ensures { PutsBytes number start bytes.now chunks.old chunks.new }
 {
@@ -179,7 +178,7 @@ fn put_bytes(chunks: &mut BTreeMap<u64, Vec<u8>>, number: u64, start: usize, byt
 }
 
 /// Reads a part of the bytes at a number, from a place on, or zeros if nothing is there.
-fn get_bytes(chunks: &BTreeMap<u64, Vec<u8>>, number: u64, start: usize, bytes: &mut [u8])
+fn get_bytes(chunks: &HashMap<u64, Vec<u8>>, number: u64, start: usize, bytes: &mut [u8])
     requires { ForSome (held chunks.now number) (λ before. start + length bytes.old ≤ length before) }
     ensures { MatchOption (held chunks.now number) (bytes.new ≡ replicate (length bytes.old) 0) (λ before. bytes.new ≡ take (length bytes.old) (drop start before)) }
 {

@@ -1,13 +1,17 @@
 -- What the chunks of a sparse disk keep, and what its calls do to them.
 use Rattle.std.specs.Prelude.{◌≡◌, ◌≢◌, ℕ, List, length, replicate, Some, unwrap_or}
 use Rattle.std.specs.Option.{ForSome, option_map}
-use Rattle.std.specs.BTreeMap.{keys}
+use Rattle.std.specs.HashMap.{keys}
 use Rattle.sector.specs.Splice.{splice}
 use Rattle.disk.specs.Sparse.{ByNumber, held, chunk_length}
 
 -- a chunk that is there has the bytes of all its sectors
 abbrev pub AreWhole : ℕ → ℕ → ByNumber → Type 0
 AreWhole size sectors chunks = (number : ℕ) → ForSome (held chunks number) (λ bytes. length bytes ≡ chunk_length size sectors number)
+
+-- the same chunks are there
+abbrev pub HoldsSame : ByNumber → ByNumber → Type 0
+HoldsSame old new = (number : ℕ) → held new number ≡ held old number
 
 -- where nothing stood at the number, this many zeros stand there now; all else stays
 pub record PutsZeros (count number : ℕ) (old new : ByNumber) : Type 0 where

@@ -1,6 +1,6 @@
 -- What is kept of the chunks that are there, and how a reservation makes them.
 use Rattle.std.specs.Prelude.{◌≡◌, ◌⊎◌, ℕ, ◌-◌, ◌*◌, ◌/◌, List, take, drop, IsSome}
-use Rattle.std.specs.BTreeMap.{keys}
+use Rattle.std.specs.HashMap.{keys}
 use Rattle.sector.specs.declared.Extent.{Extent}
 use Rattle.sector.specs.Extents.{IsIn}
 use Rattle.disk.specs.declared.chunks.Chunks.{Chunks}
