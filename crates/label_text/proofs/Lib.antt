@@ -16,3 +16,4 @@ mod Spaced
 mod Names
 mod Written
 mod Understood
+mod Values

@@ -1,7 +1,7 @@
 //! Bytes as hexadecimal digits, many at once.
 
 ghost use Rattle.std.specs.Prelude.{◌≡◌, ◌*◌, IfOk, MatchBool, None, Some, length, option_map};
-ghost use Rattle.label_text.specs.inside.Reading.{bytes_in, decimal_in, digit_in, digit_told, digits_in};
+ghost use Rattle.label_text.specs.inside.Reading.{bytes_in, digit_in, digit_told, digits_in};
 
 use crate::runs::MOST_BYTES;
 use std::alloc::{AllocError, Global};
@@ -41,18 +41,24 @@ fn fill(bytes: &mut [u8], digits: &[u8]) -> bool
     all
 }
 
-/// The value of a hexadecimal digit in lower case; 16 where it is none. Of two comparisons, so that many are made at once.
+/// The value of a hexadecimal digit in lower case; 16 where it is none.
 fn value(c: u8) -> u8
     ensures { digit_told result ≡ digit_in c }
 {
-    let letter = c.wrapping_sub(b'a');
-    if letter < 6 { letter + 10 } else { decimal(c) }
+    VALUES[c as usize]
 }
 
-/// The value of a decimal digit; 16 where it is none.
-fn decimal(c: u8) -> u8
-    ensures { digit_told result ≡ decimal_in c }
-{
-    let value = c.wrapping_sub(b'0');
-    if value < 10 { value } else { 16 }
-}
+/// By its code, the value of each such digit; 16 where a code is none.
+const VALUES: [u8; 256] = [
+    16, 16, 16, 16, 16, 16, 16, 16, 16, 16, 16, 16, 16, 16, 16, 16, 16, 16, 16, 16, 16, 16, 16, 16,
+    16, 16, 16, 16, 16, 16, 16, 16, 16, 16, 16, 16, 16, 16, 16, 16, 16, 16, 16, 16, 16, 16, 16, 16,
+    0, 1, 2, 3, 4, 5, 6, 7, 8, 9, 16, 16, 16, 16, 16, 16, 16, 16, 16, 16, 16, 16, 16, 16, 16, 16,
+    16, 16, 16, 16, 16, 16, 16, 16, 16, 16, 16, 16, 16, 16, 16, 16, 16, 16, 16, 16, 16, 16, 16, 10,
+    11, 12, 13, 14, 15, 16, 16, 16, 16, 16, 16, 16, 16, 16, 16, 16, 16, 16, 16, 16, 16, 16, 16, 16,
+    16, 16, 16, 16, 16, 16, 16, 16, 16, 16, 16, 16, 16, 16, 16, 16, 16, 16, 16, 16, 16, 16, 16, 16,
+    16, 16, 16, 16, 16, 16, 16, 16, 16, 16, 16, 16, 16, 16, 16, 16, 16, 16, 16, 16, 16, 16, 16, 16,
+    16, 16, 16, 16, 16, 16, 16, 16, 16, 16, 16, 16, 16, 16, 16, 16, 16, 16, 16, 16, 16, 16, 16, 16,
+    16, 16, 16, 16, 16, 16, 16, 16, 16, 16, 16, 16, 16, 16, 16, 16, 16, 16, 16, 16, 16, 16, 16, 16,
+    16, 16, 16, 16, 16, 16, 16, 16, 16, 16, 16, 16, 16, 16, 16, 16, 16, 16, 16, 16, 16, 16, 16, 16,
+    16, 16, 16, 16, 16, 16, 16, 16, 16, 16, 16, 16, 16, 16,
+];

@@ -150,9 +150,6 @@ bytes_at words = elim (word_at words) [ Some word ↦ at_end (drop 1 words) (byt
 abbrev pub digit_told : ℕ → Option ℕ
 digit_told value = if nat_lt value 16 then Some value else None
 
-abbrev pub decimal_in : ℕ → Option ℕ
-decimal_in c = if nat_le 48 c && nat_le c 57 then Some (c - 48) else None
-
 -- what is left of a text, of which these are the parts: no digit and no letter parts them
 pub record HasLeft (words : Words) (text : List ℕ) : Type 0 where
   pub separator : ℕ
