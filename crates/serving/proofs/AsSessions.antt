@@ -1,5 +1,5 @@
 -- A session over a file, as a session of the table.
-use Rattle.serving.proofs.Common.{◌≡◌, ◌<◌, ℕ, Bool, List, [], ◌∷◌, ◌++◌, Option, refl, sym, subst, ap, ◌∙◌, Label, Rules, IsTold}
+use Rattle.serving.proofs.Common.{◌≡◌, ◌<◌, ℕ, Bool, List, [], ◌++◌, Option, refl, subst, ap, ◌∙◌, Label, Rules, IsTold}
 use Rattle.settings.specs.declared.Config.{Config as Settings}
 use Rattle.std.specs.Prelude.{false, true}
 use Rattle.machine.specs.State.{opening}
@@ -7,13 +7,12 @@ use Rattle.startup.specs.Started.{rules_over}
 use Rattle.file_sessions.specs.Deeds.{DeedRun}
 use Rattle.file_disk.specs.Calls.{Call}
 use Rattle.file_sessions.specs.Laws.{IsFiled, MomentsAreSessions, RunsAreSessions}
-use Rattle.file_sessions.specs.Stored.{Content, IsKept}
 use Rattle.serving.specs.declared.faults.Error.{Error}
 use Rattle.serving.specs.Filed.{FiledView}
-use Rattle.serving.specs.Lasting.{ServedAreSessions, ServedMomentsAreSessions, ServesFile, told_in}
+use Rattle.serving.specs.Lasting.{ServedAreSessions, ServedMomentsAreSessions, told_in}
 use Rattle.serving.specs.OnDisk.{IsFileSession, IsOpenedFor}
 use Rattle.serving.specs.Telling.{of_session}
-use Rattle.serving.specs.Tracing.{ServesTraced, TracedAreSessions, TracedMomentsAreSessions, told_traced}
+use Rattle.serving.specs.Tracing.{TracedAreSessions, TracedMomentsAreSessions, told_traced}
 use Rattle.serving.proofs.Lasting.{Lasts, session_lasts}
 
 module _ (keeps : Bool) (c : Settings) (p : ℕ) (opened : List Call) (old : FiledView) (input out : Option (List ℕ)) (fault : Option Error) (new : FiledView) (after : Option (List ℕ)) (calls : List Call)

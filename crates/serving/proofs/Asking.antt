@@ -1,11 +1,11 @@
 -- What was told of one request, as a round.
-use Rattle.serving.proofs.Common.{◌≡◌, inl, inr, ℕ, Bool, true, false, List, [], ◌∷◌, ◌++◌, Option, Some, None, Result, Ok, Err, map, refl, sym, ap, subst, ◌∙◌, arith, zero, suc, All, All-nil, All-cons, All-contains, All-weaker, Contains, MatchResult, Answer, ManagerView, ClientRequest, Handle, Refusal, Label, Event, Read, Write, Flush, Open, Close, CancelIoEx, Mark, QueryRemove, CancelRemove, Remove, SurpriseRemove, Act, Finish, Reset, Asks, IsQuiet, IsRight, IsTransferEvent, IsAnsweredBy, IsRefusedAtOnce, IsAsked, FiledView, CarriedView, ComesTo, without_bytes, status_of_refusal, NtStatus, Success, call_on}
-use Rattle.std.specs.Prelude.{◌⊎◌, length}
+use Rattle.serving.proofs.Common.{◌≡◌, inl, inr, ℕ, Bool, List, [], ◌∷◌, Result, Ok, Err, refl, ap, subst, ◌∙◌, arith, zero, suc, All-nil, All-cons, All-contains, All-weaker, Contains, MatchResult, Answer, ManagerView, ClientRequest, Handle, Refusal, Label, Event, Read, Write, Flush, Open, Close, CancelIoEx, Mark, QueryRemove, CancelRemove, Remove, SurpriseRemove, Act, Finish, Reset, Asks, IsQuiet, IsRight, IsTransferEvent, IsAnsweredBy, IsRefusedAtOnce, IsAsked, FiledView, CarriedView, ComesTo, without_bytes, status_of_refusal, NtStatus, Success}
+use Rattle.std.specs.Prelude.{◌⊎◌}
 use Rattle.machine.specs.declared.Label.TheVariants.{Call, Device, Answer as AnswerLabel, Cancel, Pause, Resume, Remove as RemoveLabel, Surprise, Removed}
 use Rattle.nbd.specs.declared.requests.ReplyError.{ReplyError}
 use Rattle.io_manager.specs.declared.Refusal.TheVariants.{InvalidHandle, InvalidParameter, DeletePending, DeviceBusy, InsufficientResources, InvalidDeviceRequest, NotFound}
 use Rattle.io_manager.specs.declared.Reply.TheVariants.{Refused}
-use Rattle.io_manager.specs.Right.{IsAnsweredAtOnce, IsTurnedAway, Told, TransferReplies, as_answer, labels_of as told_labels, tells_nothing}
+use Rattle.io_manager.specs.Right.{IsAnsweredAtOnce, IsTurnedAway, Told, TransferReplies, as_answer, labels_of as told_labels}
 use Rattle.file_sessions.specs.OneByOne.{IsOfOne, IsRound, Round, labels_of}
 
 -- the round calls this request, with its bytes or without

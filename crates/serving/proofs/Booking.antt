@@ -1,5 +1,5 @@
 -- What came of a piece is booked: of the piece itself, or of a copy of its SRB.
-use Rattle.serving.proofs.Common.{◌≡◌, ℕ, Bool, true, false, Ok, Err, Option, Some, Result, refl, sym, ap, subst, ◌∙◌, Entry, Srb, Completion, AdapterView, IsArmed, IsInOrder, Suits, entry_sent, handed, sent_of, srb_on_is, ManagerView, DiskView, Transfers, IsOfPiece, HasBooked, Moved, entry_moved, quiet}
+use Rattle.serving.proofs.Common.{◌≡◌, ℕ, Bool, Ok, Err, Result, refl, sym, ap, subst, ◌∙◌, Entry, Srb, Completion, AdapterView, IsArmed, IsInOrder, Suits, ManagerView, DiskView, Transfers, IsOfPiece, Moved, entry_moved, quiet}
 use Rattle.io_manager.specs.Right.{BooksPiece}
 use Rattle.file_disk.specs.Copies.{CopiesSend, CopiesSuit, CopiesTransfer, IsCopyOf}
 use Rattle.file_disk.specs.declared.file_disk.Moved.TheVariants.{Read as ReadMoved, Sent as SentMoved}

@@ -1,5 +1,5 @@
 -- What the owner of a stack does with pieces, one thing after the other.
-use Rattle.serving.proofs.Common.{◌≡◌, inl, inr, ℕ, Bool, List, [], ◌∷◌, ◌++◌, Option, Some, None, refl, sym, ap, subst, ◌∙◌, All, All-append, All-cons, All-nil, All-weaker, slice_get, Srb, Entry, Completion, Result, DiskView, Transfers}
+use Rattle.serving.proofs.Common.{◌≡◌, inl, inr, ℕ, Bool, List, [], ◌∷◌, ◌++◌, Some, None, refl, sym, ap, subst, ◌∙◌, All, All-append, All-cons, All-nil, All-weaker, slice_get, Srb, Entry, Completion, Result, DiskView, Transfers}
 use Rattle.std.specs.Prelude.{IsNone}
 use Rattle.cdb.specs.declared.Cdb.{Cdb}
 use Rattle.file_disk.specs.Transfers.{Fits}

@@ -1,5 +1,5 @@
 -- How a request ends by what the stack says to it.
-use Rattle.serving.proofs.Common.{◌≡◌, ◌≢◌, ◌<◌, ◌≤◌, ◌⊎◌, inl, inr, ℕ, zero, suc, ◌+◌, ◌==◌, Bool, true, false, List, [], ◌∷◌, ◌++◌, length, replicate, Option, Some, None, Result, Ok, Err, refl, sym, ap, subst, ◌∙◌, arith, Contains, MatchResult, nat_tests, slice_get, if◌then◌else◌, Success, NtStatus, Label, Answer, Handle, Refusal, ManagerView, Event, Sizes, Command, WriteZeroes, ReplyError, ComesTo}
+use Rattle.serving.proofs.Common.{◌≡◌, ◌≢◌, ◌⊎◌, inl, inr, ℕ, ◌+◌, ◌==◌, Bool, true, false, List, [], ◌∷◌, replicate, Some, None, Result, Ok, Err, refl, sym, ap, subst, ◌∙◌, arith, Contains, MatchResult, nat_tests, slice_get, if◌then◌else◌, Success, Answer, Handle, Refusal, ManagerView, Event, Sizes, Command, WriteZeroes, ReplyError}
 use Rattle.std.specs.Prelude.{IsTrue}
 use Rattle.machine.specs.declared.Label.TheVariants.{Call}
 use Rattle.compose.specs.declared.Event.TheVariants.{Write as WriteEvent}
@@ -9,15 +9,14 @@ use Rattle.nbd.specs.Requests.{command_in}
 use Rattle.nbd.specs.Replies.{Outcome, failure, outcome_of, success}
 use Rattle.nbd.specs.Beside.{Taken}
 use Rattle.io_manager.specs.Right.{as_answer}
-use Rattle.serving.specs.Beside.{CarriesIn, ClearsIn, EndsIn, FoundFull, Gone, HasAnswer, HasFailed, HasRefusal, HasResult, IsAskedIn, IsCalled, IsNewIn, IsServedIn, IsToldIn, LacksRoom}
+use Rattle.serving.specs.Beside.{ClearsIn, EndsIn, FoundFull, Gone, HasAnswer, HasFailed, HasRefusal, HasResult, IsAskedIn, IsCalled, IsNewIn, IsServedIn, IsToldIn}
 use Rattle.serving.specs.Filed.{refusal_error, status_error, total}
 use Rattle.serving.specs.declared.dues.Due.{Due}
-use Rattle.serving.specs.declared.dues.Ready.{Ready}
 use Rattle.serving.specs.declared.dues.Stage.{Stage}
 use Rattle.serving.specs.declared.dues.Stage.TheVariants.{Waits, Ready as IsReady}
 use Rattle.serving.specs.declared.elsewhere.Reached.{Reached}
 use Rattle.serving.specs.declared.elsewhere.Reached.TheVariants.{Called, Answered, Refused}
-use Rattle.serving.specs.inside.Dues.{AsksNow, BeginsBy, EndsAs, GoesOnBy, IsReadyIn, IsRefusedAs, IsStageOf, IsWaiting, ReadySo, command_success, zeros_at}
+use Rattle.serving.specs.inside.Dues.{AsksNow, BeginsBy, EndsAs, GoesOnBy, IsReadyIn, IsRefusedAs, IsStageOf, IsWaiting, ReadySo, command_success}
 use Rattle.serving.proofs.Newest.{newest_there}
 
 -- what became of an event

@@ -1,5 +1,5 @@
 -- An engine's stack goes on by its pieces.
-use Rattle.serving.proofs.Common.{◌≡◌, ◌⊎◌, inl, inr, ℕ, Bool, true, false, List, [], ◌∷◌, ◌++◌, Option, Some, None, refl, sym, ap, subst, ◌∙◌, append-nil, All, All-nil, All-head, Contains, Contains-append_right, Rules, slice_get, Answer, Deed, Label, ManagerView, DiskView, StandsIn}
+use Rattle.serving.proofs.Common.{◌≡◌, ◌⊎◌, inl, inr, ℕ, Bool, true, false, List, [], ◌∷◌, ◌++◌, Option, Some, None, refl, sym, ap, subst, ◌∙◌, All, All-nil, All-head, Contains, Contains-append_right, Rules, slice_get, Answer, ManagerView, DiskView, StandsIn}
 use Rattle.std.specs.Prelude.{IsNone, IsTrue, MatchOption, ◌&&◌, if◌then◌else◌, slice_set}
 use Rattle.file_disk.specs.Copies.{IsCopyOf}
 use Rattle.file_disk.specs.declared.file_disk.Sizes.{Sizes}
@@ -8,7 +8,7 @@ use Rattle.movers.specs.declared.ask.Ask.{Ask}
 use Rattle.movers.specs.declared.flight.Flown.{Flown}
 use Rattle.movers.specs.Flight.{AllBeside}
 use Rattle.movers.specs.Moving.{DoneView, IsMoved, MoversView}
-use Rattle.serving.specs.Beside.{Aloft, Brings, Deals, FoundFull, GoesBeside, Gone, Hands, HasFailed, IsFlown, IsNewIn, IsOwn, Moment, Moved, Moves, moves_in, nothing_gone, with_back}
+use Rattle.serving.specs.Beside.{Aloft, Brings, Deals, FoundFull, GoesBeside, Gone, Hands, IsFlown, IsNewIn, IsOwn, Moment, Moved, Moves, moves_in, nothing_gone, with_back}
 use Rattle.serving.specs.Elsewhere.{MovesOne}
 use Rattle.serving.specs.inside.Engines.{EngineGoes, EngineHands, EngineKept, EngineMoves, EngineView}
 use Rattle.serving.proofs.Carrying.{head_there}

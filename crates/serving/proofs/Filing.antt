@@ -1,5 +1,5 @@
 -- What a partition of a disk in a storage comes to by its requests.
-use Rattle.serving.proofs.Common.{◌≡◌, ◌≢◌, ◌≤◌, ◌<◌, ◌^◌, ℕ, ◌+◌, arith, List, [], ◌∷◌, Bool, None, Some, Option, Result, Ok, Err, IsFalse, replicate, refl, sym, ap, subst, ◌∙◌, result_err, Answer, Handle, Refusal, ManagerView, Event, Sizes, WriteZeroes, ReplyError, IsWithin, DiskView, Requests, StandsIn, over, ComesTo, FiledKept, FiledView, TraceView, HasCleared, IsAsked, IsDone, Writes}
+use Rattle.serving.proofs.Common.{◌≡◌, ◌≤◌, ◌<◌, ◌^◌, ℕ, ◌+◌, arith, List, [], ◌∷◌, Bool, None, Option, Result, IsFalse, replicate, refl, ap, subst, result_err, Answer, Handle, Refusal, ManagerView, Event, Sizes, WriteZeroes, ReplyError, IsWithin, DiskView, Requests, StandsIn, over, ComesTo, FiledKept, FiledView, TraceView, HasCleared, IsAsked, IsDone, Writes}
 
 -- ONE REQUEST
 

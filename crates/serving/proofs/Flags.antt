@@ -1,5 +1,5 @@
 -- What the parser says of a flag.
-use Rattle.serving.proofs.Common.{◌≡◌, Bool, true, false, List, Option, None, Some, ap, codes, refl, subst, Text, one_text, one_of, rows_of, Found, one_text-rows, IsFlag}
+use Rattle.serving.proofs.Common.{◌≡◌, Bool, true, false, Option, None, Some, ap, codes, refl, subst, Text, one_text, one_of, rows_of, Found, one_text-rows, IsFlag}
 
 by_text : (text : Option Text) (flag : Bool) → (◌≡◌ {A = Option Text} text None → flag ≡ false) → (◌≡◌ {A = Option Text} text (Some (codes "true")) → flag ≡ true)
     → (◌≡◌ {A = Option Text} text (Some (codes "false")) → flag ≡ false) → IsFlag text flag

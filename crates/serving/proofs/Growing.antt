@@ -1,11 +1,11 @@
 -- What was so in a session stays so when more happens.
-use Rattle.serving.proofs.Common.{◌≡◌, inl, inr, ℕ, zero, suc, Bool, List, [], ◌∷◌, ◌++◌, Option, Some, None, Result, Ok, Err, refl, sym, ap, subst, ◌∙◌, append_assoc, append-nil, All, All-contains, All-weaker, Contains, Contains-append_left, Contains-append_right, MatchResult, slice_get, Label, Answer, Handle, Refusal, ManagerView, Event, Sizes, Command, WriteZeroes, ReplyError}
+use Rattle.serving.proofs.Common.{◌≡◌, inl, inr, ℕ, zero, suc, Bool, List, [], ◌∷◌, ◌++◌, Option, Some, None, Result, Ok, Err, refl, sym, ap, subst, ◌∙◌, append_assoc, append-nil, All, All-weaker, Contains, Contains-append_left, slice_get, Label, Answer, Handle, Refusal, ManagerView, Event, Sizes, Command, WriteZeroes, ReplyError}
 use Rattle.machine.specs.declared.Label.TheVariants.{Call}
 use Rattle.nbd.specs.declared.requests.Command.TheVariants.{Read, Write, Flush}
 use Rattle.nbd.specs.Beside.{Taken, Told}
 use Rattle.serving.specs.Beside.{AreServedIn, ClearsIn, FoundFull, Gone, HasAnswer, HasFailed, HasRefusal, HasResult, IsAskedIn, IsBefore, IsCalled, IsDoneIn, IsToldIn, Moment, Moved, ToldInTurn, joined, moves_in, nothing_gone}
 use Rattle.serving.specs.declared.dues.Due.{Due}
-use Rattle.serving.specs.inside.Dues.{AsksNow, IsSlotIn, IsWaiting}
+use Rattle.serving.specs.inside.Dues.{AsksNow, IsSlotIn}
 use Rattle.serving.proofs.Dealing.{moves_append}
 
 pub grows : (a b : Gone) → IsBefore a (joined a b)

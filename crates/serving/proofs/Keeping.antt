@@ -1,11 +1,10 @@
 -- A write that a client was told as done, and what was told behind it: its bytes are kept.
-use Rattle.serving.proofs.Common.{◌≡◌, ◌<◌, ◌≤◌, inl, inr, ℕ, Bool, true, false, List, [], ◌∷◌, ◌++◌, Option, Some, None, Result, Ok, Err, refl, sym, ap, subst, ◌∙◌, arith, append-nil, append_assoc, length, All, All-nil, MatchResult, ClientRequest, Rules, Extent, Label, Read, Write, Flush, FiledView, without_bytes, call_on, slice_get, Success, extents_of, End, Sizes, rules_over}
+use Rattle.serving.proofs.Common.{◌≡◌, ◌<◌, inl, inr, ℕ, Bool, true, false, List, [], ◌∷◌, ◌++◌, Option, Some, None, Result, Ok, Err, refl, sym, ap, subst, ◌∙◌, arith, append-nil, append_assoc, length, All, All-nil, MatchResult, ClientRequest, Rules, Extent, Label, Write, Flush, FiledView, call_on, slice_get, Success, extents_of, Sizes, rules_over}
 use Rattle.std.specs.Prelude.{◌⊎◌, ◌+◌, ◌/◌}
 use Rattle.std.proofs.Math.Nat.{zero-div}
 use Rattle.std.proofs.lemmas.Option.{slice_get-get_or}
 use Rattle.settings.specs.declared.Config.{Config as Settings}
-use Rattle.srb.specs.declared.Kind.TheVariants.{Read as ReadKind, Write as WriteKind, Flush as FlushKind}
-use Rattle.machine.specs.Rules.{place_count}
+use Rattle.srb.specs.declared.Kind.TheVariants.{Write as WriteKind, Flush as FlushKind}
 use Rattle.machine_laws.specs.Reached.{AreWhole}
 use Rattle.volume.specs.Shown.{extent_at}
 use Rattle.file_disk.specs.Calls.{Call}
@@ -17,10 +16,10 @@ use Rattle.nbd.specs.declared.requests.Command.TheVariants.{Read as ReadCommand,
 use Rattle.nbd.specs.declared.requests.ReplyError.{ReplyError}
 use Rattle.nbd.specs.declared.requests.ReplyError.TheVariants.{Enomem}
 use Rattle.nbd.specs.Over.{CarriesOver, IsSessionOver, RunOver}
-use Rattle.nbd.specs.Replies.{Outcome, error_number, failure}
-use Rattle.nbd.specs.Requests.{command_in, payload_count, payload_of}
+use Rattle.nbd.specs.Replies.{Outcome, failure}
+use Rattle.nbd.specs.Requests.{command_in, payload_count}
 use Rattle.nbd.specs.Session.{Exchange}
-use Rattle.file_sessions.specs.OneByOne.{FlushedSurvives, IsAway, IsFlushed, IsRound, IsWritten, Round, SecuredSurvives, Stands, SyncsWell, UntouchedSurvives, labels_of, labels_of_all, AnsweredRemains, IsPlain, RemainsSurvive}
+use Rattle.file_sessions.specs.OneByOne.{FlushedSurvives, IsAway, IsRound, IsWritten, Round, SecuredSurvives, Stands, UntouchedSurvives, labels_of, labels_of_all, AnsweredRemains, IsPlain, RemainsSurvive}
 use Rattle.file_sessions.specs.Sessions.{IsSession}
 use Rattle.file_sessions.specs.Stored.{Content, IsKept, Survives, Remains}
 use Rattle.serving.specs.declared.faults.Error.{Error}
@@ -28,9 +27,9 @@ use Rattle.serving.specs.Filed.{CarriesBy}
 use Rattle.serving.specs.Lasting.{ServedAreSessions, ServesFile, told_in}
 use Rattle.serving.specs.OnDisk.{IsOpened}
 use Rattle.serving.specs.Telling.{of_found, of_run, of_session}
-use Rattle.serving.specs.Keeping.{FlushedIsKept, HasSynced, IsElsewhere, IsFlush, IsToldDone, IsWrite, SecuredIsKept, UntouchedIsKept, command_of, exchanges_of, sector_on, served_in, AnsweredIsKept, StaysOverSessions}
-use Rattle.serving.proofs.Asking.{AskedFor, IsCallOf, IsOne, IsOneOrNone, asked_for}
-use Rattle.serving.proofs.Rounds.{AreRounds, IsHeld, IsPut, IsSteady, done_plain, error_some, held_on, none_failed, payload_is, places_of, put_by, run_rounds, sector_at, steady_of}
+use Rattle.serving.specs.Keeping.{FlushedIsKept, HasSynced, IsElsewhere, IsFlush, IsToldDone, IsWrite, SecuredIsKept, UntouchedIsKept, exchanges_of, sector_on, served_in, AnsweredIsKept, StaysOverSessions}
+use Rattle.serving.proofs.Asking.{AskedFor, IsCallOf, IsOneOrNone, asked_for}
+use Rattle.serving.proofs.Rounds.{IsHeld, IsPut, done_plain, error_some, held_on, none_failed, payload_is, places_of, put_by, run_rounds, sector_at}
 
 -- RUNS IN PARTS
 

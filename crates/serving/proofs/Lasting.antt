@@ -4,18 +4,16 @@ use Rattle.std.specs.Prelude.{◌⊎◌, ◌+◌, replicate}
 use Rattle.nbd.specs.declared.requests.Command.{Command}
 use Rattle.nbd.specs.declared.requests.Command.TheVariants.{Read, Write, Flush, WriteZeroes}
 use Rattle.nbd.specs.declared.requests.ReplyError.{ReplyError}
-use Rattle.nbd.specs.declared.requests.Request.{Request}
 use Rattle.nbd.specs.declared.arrays.Sizes.{Sizes}
 use Rattle.nbd.specs.declared.End.{End}
 use Rattle.nbd.specs.Requests.{command_in}
 use Rattle.nbd.specs.Replies.{Outcome, failure}
 use Rattle.nbd.specs.Session.{Exchange}
-use Rattle.nbd.specs.Over.{CarriesOver, IsSessionOver, RunOver, ServesOver}
+use Rattle.nbd.specs.Over.{CarriesOver, IsSessionOver, RunOver}
 use Rattle.serving.specs.Carried.{Deed, Files, TellsOn, WroteOf}
 use Rattle.machine.specs.declared.Label.{Label}
-use Rattle.machine.specs.Rules.{Rules}
 use Rattle.serving.specs.Telling.{of_clears, of_cleared, of_command, of_found, of_read, of_run, of_session, of_stop}
-use Rattle.serving.specs.Filed.{CarriesBy, Clears, ClearsBy, FiledView, HasCleared, IsAsked, IsDone, LacksMemory, Reads, StopsClearing, Writes}
+use Rattle.serving.specs.Filed.{CarriesBy, Clears, ClearsBy, FiledView, IsAsked, LacksMemory, Reads, Writes}
 use Rattle.serving.proofs.Carrying.{files_append, keeps_on, tells_more, tells_nothing_more}
 use Rattle.serving.proofs.Writing.{wrote_more, wrote_none}
 

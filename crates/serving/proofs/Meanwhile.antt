@@ -1,5 +1,5 @@
 -- What a client was told as done is kept at each later moment of its session.
-use Rattle.serving.proofs.Common.{◌≡◌, ◌<◌, inl, inr, ℕ, Bool, true, false, List, [], ◌∷◌, ◌++◌, Option, Some, slice_get, refl, sym, ap, subst, ◌∙◌, append-nil, append_assoc, length, All, All-append, ClientRequest, Rules, Extent, Label, FiledView, call_on, extents_of, rules_over, opening, State, IsTold, All-weaker}
+use Rattle.serving.proofs.Common.{◌≡◌, ◌<◌, ℕ, true, false, List, [], ◌∷◌, ◌++◌, Some, slice_get, refl, sym, ap, subst, ◌∙◌, append_assoc, All, All-append, Rules, Extent, Label, FiledView, call_on, extents_of, rules_over, opening, IsTold, All-weaker}
 use Rattle.settings.specs.declared.Config.{Config as Settings}
 use Rattle.srb.specs.declared.Kind.TheVariants.{Write as WriteKind, Flush as FlushKind}
 use Rattle.machine_laws.specs.Reached.{AreWhole}
@@ -7,15 +7,13 @@ use Rattle.volume.specs.Shown.{extent_at}
 use Rattle.file_disk.specs.Calls.{Call}
 use Rattle.loss.specs.Held.{sector_in}
 use Rattle.loss.specs.Sessions.{Moment}
-use Rattle.nbd.specs.Over.{RunOver}
 use Rattle.nbd.specs.Requests.{command_in}
 use Rattle.nbd.specs.Session.{Exchange}
 use Rattle.file_sessions.specs.Behind.{IsFiledBehind, LaterMomentsAreSessions}
-use Rattle.file_sessions.specs.Deeds.{Deed, DeedRun}
+use Rattle.file_sessions.specs.Deeds.{DeedRun}
 use Rattle.file_sessions.specs.OneByOne.{FlushedSurvives, IsAway, IsRound, Round, SecuredSurvives, UntouchedSurvives, labels_of, labels_of_all, AnsweredRemains, RemainsSurvive}
 use Rattle.file_sessions.specs.Sessions.{IsSession}
 use Rattle.file_sessions.specs.Stored.{Content, IsKept, Survives, under_way, Remains}
-use Rattle.serving.specs.Filed.{CarriesBy}
 use Rattle.serving.specs.Telling.{of_found, of_run}
 use Rattle.serving.specs.Keeping.{FlushedIsKeptMeanwhile, HasSynced, IsElsewhere, IsFlush, IsMoment, IsWrite, SecuredIsKeptMeanwhile, UntouchedIsKeptMeanwhile, sector_on, AnsweredIsKeptMeanwhile, HasNoSync}
 use Rattle.serving.proofs.Keeping.{IsDoneRound, Parted, away_there, flush_kind, flushed, known_of, parted, put, there, written, wrote}

@@ -1,12 +1,12 @@
 -- Labels behind which no piece came back.
-use Rattle.serving.proofs.Common.{◌≡◌, ◌⊎◌, inl, inr, ℕ, Bool, true, false, List, [], ◌∷◌, ◌++◌, map, length, refl, sym, ap, subst, ◌∙◌, arith, append_assoc, All, All-append, All-cons, All-contains, All-contains_itself, All-head, All-nil, All-tail, All-weaker, Contains, Contains-append_cases, Contains-append_left, Contains-append_right, Contains-permutation, IsPermutation, ClientRequest, Label, DeviceLabel, Answer, Handle, Id, Refusal, Reply, ManagerView, Event, IsRight, IsTransferEvent, IsLed, there_mapped, as_label, DeletePending, DeviceBusy, InsufficientResources, InvalidDeviceRequest, InvalidHandle, InvalidParameter, NotFound}
+use Rattle.serving.proofs.Common.{◌≡◌, inl, inr, ℕ, Bool, true, false, List, [], ◌∷◌, ◌++◌, map, refl, sym, ap, subst, ◌∙◌, arith, append_assoc, All, All-append, All-cons, All-contains, All-contains_itself, All-head, All-nil, All-tail, All-weaker, Contains, Contains-append_cases, Contains-append_left, Contains-append_right, Contains-permutation, IsPermutation, ClientRequest, Label, DeviceLabel, Answer, Handle, Refusal, Reply, ManagerView, Event, IsRight, IsTransferEvent, IsLed, there_mapped, as_label, DeletePending, DeviceBusy, InsufficientResources, InvalidDeviceRequest, InvalidHandle, InvalidParameter, NotFound}
 use Rattle.srb.specs.declared.DeviceLabel.TheVariants.{Start, Act as ActLabel, Fault, Return}
 use Rattle.machine.specs.declared.Label.TheVariants.{Call, Device, Removed as RemovedLabel}
 use Rattle.machine.specs.Sending.{IsStart}
 use Rattle.io_manager.specs.declared.Reply.TheVariants.{Handle as HandleReply, Ok as Done, Request as Requested, Answered, Refused, Ignored}
-use Rattle.io_manager.specs.Right.{ActReplies, FinishReplies, IsRight as IsRightCall, IsTurnedAway, Told, TransferReplies, as_answer, end_labels}
+use Rattle.io_manager.specs.Right.{ActReplies, IsRight as IsRightCall, IsTurnedAway, Told, TransferReplies, as_answer, end_labels}
 use Rattle.std.proofs.lemmas.List.Sorted.{length_permutation}
-use Rattle.serving.specs.Beside.{IsNewest, IsNoReturn, WaitsOrTold}
+use Rattle.serving.specs.Beside.{IsNewest, IsNoReturn}
 use Rattle.serving.specs.Elsewhere.{AreNewest}
 use Rattle.serving.proofs.Called.{called}
 use Rattle.serving.proofs.Carrying.{all_behind, asked_by, head_there}

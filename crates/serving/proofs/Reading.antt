@@ -1,5 +1,5 @@
 -- A write has bytes behind it.
-use Rattle.serving.proofs.Common.{◌≡◌, ℕ, ◌+◌, ◌==◌, Bool, true, false, Option, Some, None, Result, Ok, Err, refl, sym, ap, subst, ◌∙◌, if◌then◌else◌, Command, WriteZeroes, ReplyError}
+use Rattle.serving.proofs.Common.{◌≡◌, ℕ, ◌==◌, Bool, true, false, Option, Some, None, Ok, Err, refl, sym, ap, subst, ◌∙◌, if◌then◌else◌, Command, WriteZeroes, ReplyError}
 use Rattle.std.specs.Prelude.{◌||◌}
 use Rattle.nbd.specs.declared.requests.Request.{Request}
 use Rattle.nbd.specs.declared.requests.Command.TheVariants.{Read, Write, Flush}

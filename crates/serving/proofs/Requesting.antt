@@ -1,11 +1,11 @@
 -- A stack is asked for a read, a write or a flush, while others are out.
-use Rattle.serving.proofs.Common.{◌≡◌, inl, inr, ℕ, List, [], ◌∷◌, ◌++◌, map, Option, Some, None, All, All-weaker, All-contains_itself, Contains, Contains-append_left, Contains-append_right, refl, sym, ap, subst, ◌∙◌, Success, Label, ManagerView, DiskView, StandsIn, quiet, IsTransferEvent, IsRight, as_label, without_bytes, Answer, Id, Refusal, Reply, Event}
+use Rattle.serving.proofs.Common.{◌≡◌, inr, ℕ, List, [], ◌∷◌, ◌++◌, map, Option, Some, None, All, All-weaker, All-contains_itself, Contains, Contains-append_left, Contains-append_right, sym, ap, subst, Success, Label, ManagerView, DiskView, StandsIn, quiet, IsTransferEvent, IsRight, as_label, without_bytes, Answer, Id, Refusal, Reply, Event}
 use Rattle.machine.specs.declared.Label.TheVariants.{Call, Answer as AnswerLabel}
 use Rattle.io_manager.specs.declared.Reply.TheVariants.{Request as Requested, Answered, Refused}
 use Rattle.io_manager.specs.Right.{TakesAnswer, Told, as_answer, end_labels}
 use Rattle.compose.specs.Journaled.{StepsKeepEntries, StepsStayApart}
-use Rattle.serving.specs.Beside.{GoesBeside, Gone, HasAnswer, IsCalled, IsNewIn, IsNoReturn}
-use Rattle.serving.specs.Elsewhere.{AsksBeside, GoesSo, TakesBeside, gone_by}
+use Rattle.serving.specs.Beside.{GoesBeside, HasAnswer, IsNewIn}
+use Rattle.serving.specs.Elsewhere.{AsksBeside, TakesBeside, gone_by}
 use Rattle.serving.specs.declared.elsewhere.Reached.TheVariants.{Called as ReachedCalled, Answered as ReachedAnswered, Refused as ReachedRefused}
 use Rattle.serving.proofs.Called.{called}
 use Rattle.serving.proofs.Carrying.{IsReplyToCall, asked_by, asked_handles, call_there, head_there, no_act, others_stand, replied}

@@ -1,5 +1,5 @@
 -- Exchanges of a session, as rounds.
-use Rattle.serving.proofs.Common.{◌≡◌, ◌≢◌, ◌<◌, ◌≤◌, inl, inr, ℕ, Bool, true, false, List, [], ◌∷◌, ◌++◌, Option, Some, None, Result, Ok, Err, map, refl, sym, ap, subst, ◌∙◌, arith, append-nil, append_assoc, length, replicate, nat_tests, All, All-nil, All-cons, All-append, All-head, All-tail, MatchResult, ManagerView, ClientRequest, Handle, Rules, Extent, Label, Event, Read, Write, Flush, IsAsked, IsDone, FiledView, Writes, without_bytes, call_on, partition_of, result_err, slice_get, NtStatus, Success}
+use Rattle.serving.proofs.Common.{◌≡◌, ◌<◌, ◌≤◌, inl, inr, ℕ, Bool, true, false, List, [], ◌∷◌, ◌++◌, Option, Some, None, Result, Ok, Err, refl, sym, ap, subst, ◌∙◌, arith, append-nil, append_assoc, length, replicate, nat_tests, All, All-nil, All-cons, All-append, All-head, All-tail, MatchResult, ClientRequest, Rules, Extent, Label, Event, Read, Write, Flush, IsAsked, FiledView, Writes, call_on, partition_of, result_err, slice_get, NtStatus, Success}
 use Rattle.std.specs.Prelude.{◌⊎◌, ◌+◌, ◌-◌, ◌*◌, ◌/◌, ◌==◌, if◌then◌else◌, IsTrue}
 use Rattle.std.proofs.lemmas.Bool.{eqb-true}
 use Rattle.std.proofs.lemmas.List.{length-replicate}
@@ -16,16 +16,16 @@ use Rattle.nbd.specs.declared.requests.Command.TheVariants.{Read as ReadCommand,
 use Rattle.nbd.specs.declared.requests.ReplyError.{ReplyError}
 use Rattle.nbd.specs.declared.requests.ReplyError.TheVariants.{Eperm, Eio, Enomem, Einval, Enospc, Eshutdown}
 use Rattle.nbd.specs.Over.{CarriesOver, RunOver}
-use Rattle.nbd.specs.Replies.{Outcome, error_number, failure, success}
+use Rattle.nbd.specs.Replies.{Outcome, error_number, failure}
 use Rattle.nbd.specs.declared.constants.TheConstants.{LONGEST}
 use Rattle.nbd.specs.declared.requests.Request.{Request}
 use Rattle.nbd.specs.Requests.{command_in, extent_fault, flags_fault, is_through, payload_count, payload_of, unless}
 use Rattle.nbd.specs.Session.{Exchange}
 use Rattle.file_sessions.specs.OneByOne.{IsAway, IsRound, Round, labels_of, labels_of_all, syncs as must_sync}
-use Rattle.serving.specs.Filed.{CarriesBy, Clears, ClearsBy, Flushes, Gets, HasCleared, LacksMemory, Reads, StopsClearing, plain_outcome, read_outcome, total}
+use Rattle.serving.specs.Filed.{CarriesBy, Clears, ClearsBy, Flushes, Gets, LacksMemory, Reads, plain_outcome, total}
 use Rattle.serving.specs.Telling.{of_clears, of_cleared, of_command, of_found, of_read, of_run, of_stop}
-use Rattle.serving.specs.Keeping.{IsElsewhere, IsToldDone, command_of, sectors_in, syncs, writes}
-use Rattle.serving.proofs.Asking.{AskedFor, IsCallOf, IsOne, IsOneOrNone, asked_for}
+use Rattle.serving.specs.Keeping.{IsElsewhere, command_of, sectors_in, syncs, writes}
+use Rattle.serving.proofs.Asking.{AskedFor, IsCallOf, IsOneOrNone, asked_for}
 
 -- OUTCOMES
 

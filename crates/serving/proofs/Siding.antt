@@ -1,6 +1,6 @@
 -- A stack whose pieces several threads move goes on by what each of them did.
-use Rattle.serving.proofs.Common.{◌≡◌, inl, inr, ℕ, Bool, true, false, List, [], None, ◌∷◌, ◌++◌, map, All, All-append, All-cons, All-contains, All-head, All-nil, All-contains_itself, All-weaker, Contains, Contains-append_cases, Contains-append_left, Contains-append_right, Contains-permutation, IsFalse, Rules, refl, sym, ap, subst, ◌∙◌, Label, ManagerView, DiskView, AdapterView, IsInOrder, IsReached, Transfers, Deed, HasBooked, IsTold, StandsIn, TellsOn, quiet, IsTransferEvent, IsRight, IsLed, led, there_mapped, as_label, Answer, Reply, Event, Act, Finish, FitsTogether, TraceView, Wrote}
-use Rattle.io_manager.specs.Right.{IsRightBy, Told, as_answer, end_labels}
+use Rattle.serving.proofs.Common.{◌≡◌, inl, inr, ℕ, Bool, true, false, List, [], None, ◌∷◌, ◌++◌, map, All, All-append, All-cons, All-contains, All-nil, All-contains_itself, All-weaker, Contains, Contains-append_cases, Contains-append_left, Contains-append_right, Contains-permutation, Rules, refl, sym, ap, subst, ◌∙◌, Label, ManagerView, DiskView, IsInOrder, IsReached, Deed, IsTold, StandsIn, TellsOn, quiet, IsRight, IsLed, led, there_mapped, as_label, Answer, Reply, Event, Act, Finish, FitsTogether, TraceView, Wrote}
+use Rattle.io_manager.specs.Right.{Told, as_answer, end_labels}
 use Rattle.compose.specs.Journaled.{ArmedMayBeBooked, BookedActsAddEntries, IdleActsKeepEntries, IsNoAct, StepsKeepEntries, StepsStayApart}
 use Rattle.compose.specs.Armed.{ArmedAskForPieces, BookedActsTell, IdleActsTellNothing}
 use Rattle.serving.proofs.Undone.{Undoes}

@@ -1,5 +1,5 @@
 -- What holds of a desk since its session began goes on to hold.
-use Rattle.serving.proofs.Common.{◌≡◌, ◌≢◌, ◌<◌, ◌≤◌, ◌⊎◌, inl, inr, ℕ, suc, ◌+◌, Bool, true, false, List, [], ◌∷◌, ◌++◌, length, Option, Some, None, Result, Ok, Err, refl, sym, ap, subst, ◌∙◌, arith, All, All-contains, All-nil, All-weaker, Contains, Contains-append_right, IsPermutation, IsPermutation-append_right, IsPermutation-refl, IsPermutation-trans, MatchResult, slice_get, if◌then◌else◌, Success, Label, Answer, DiskView, Handle, ManagerView, Event, Sizes, Command, WriteZeroes, ReplyError}
+use Rattle.serving.proofs.Common.{◌≡◌, ◌≢◌, ◌<◌, ◌⊎◌, inl, inr, ℕ, suc, ◌+◌, Bool, true, false, List, [], ◌∷◌, ◌++◌, length, Option, Some, None, Result, Ok, Err, refl, sym, ap, subst, ◌∙◌, arith, All, All-contains, All-nil, All-weaker, Contains, Contains-append_right, IsPermutation, IsPermutation-append_right, IsPermutation-refl, IsPermutation-trans, MatchResult, slice_get, if◌then◌else◌, Success, Label, Answer, DiskView, Handle, ManagerView, Event, Sizes, Command, WriteZeroes, ReplyError}
 use Rattle.std.specs.Prelude.{IsTrue, slice_set}
 use Rattle.machine.specs.declared.ClientRequest.{ClientRequest}
 use Rattle.machine.specs.declared.Label.TheVariants.{Call}
@@ -19,7 +19,7 @@ use Rattle.nbd.specs.declared.End.{End}
 use Rattle.nbd.specs.declared.requests.Request.{Request}
 use Rattle.nbd.specs.Session.{TakesLast}
 use Rattle.nbd.specs.Beside.{Account, IsTaken, Taken, Told}
-use Rattle.nbd.specs.Desks.{GoesFrom, Happens, Keeps, ReadsOne, TellsOne}
+use Rattle.nbd.specs.Desks.{GoesFrom, Happens, Keeps, ReadsOne}
 use Rattle.io_manager.specs.Right.{as_answer}
 use Rattle.volume.specs.Working.{Asks}
 use Rattle.serving.specs.Beside.{Deals, EndsIn, FoundFull, GoesBeside, Gone, HasAnswer, HasFailed, IsNewIn, IsNoReturn, IsServedIn, Moved, ToldInTurn, WaitsOrTold, joined, moves_in, nothing_gone}
@@ -33,10 +33,10 @@ use Rattle.serving.specs.declared.elsewhere.Reached.TheVariants.{Called, Answere
 use Rattle.serving.specs.inside.Busy.{AnswersBy, AsksFor, AsksWith, Calls, FailsWith, GoesOnAt, Hears, IsCalm, IsError, IsFreePlace, Steps, filled, left_of, next_due}
 use Rattle.serving.specs.inside.Dues.{AsksNow, BeginsBy, EndsAs, GoesOnBy, IsNextIn, IsReadyIn, IsSlotIn, IsWaiting, due_places, place_in, ready_of, ready_place, slot_of}
 use Rattle.serving.specs.inside.Engines.{EngineGoes, EngineHands, EngineView}
-use Rattle.serving.specs.inside.Since.{BusyView, SinceBy, SinceFirst, places_due}
+use Rattle.serving.specs.inside.Since.{BusyView, SinceBy, SinceFirst}
 use Rattle.serving.proofs.Dealing.{deals_more, deals_none, moves_append}
 use Rattle.serving.proofs.Ending.{ReachesIn, StandsSo, answers_called, ends_told, first_asks, next_zeros, place_reached, place_ready, ready_told, served_so, stage_place, stage_reached}
-use Rattle.serving.proofs.Growing.{asks_stays, failed_stays, full_stays, grows, grows_none, slots_read, slots_stay, told_one, told_reads, told_stays}
+use Rattle.serving.proofs.Growing.{asks_stays, failed_stays, full_stays, grows, slots_read, slots_stay, told_one, told_reads, told_stays}
 use Rattle.serving.proofs.Newest.{newest_behind, newest_more, newest_of}
 use Rattle.serving.proofs.Siding.{beside_more, beside_none}
 use Rattle.std.proofs.Common.{length-append}

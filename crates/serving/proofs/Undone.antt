@@ -1,5 +1,5 @@
 -- Steps that tell neither an act nor a fault.
-use Rattle.serving.proofs.Common.{◌≡◌, inl, inr, ℕ, true, false, List, [], ◌∷◌, ◌++◌, map, refl, sym, subst, ap, ◌∙◌, All, All-nil, All-cons, All-head, All-tail, All-append, Answer, ManagerView, ClientRequest, Handle, Reply, Refusal, Label, as_label, Event, Open, Close, Read, Write, Flush, CancelIoEx, Mark, QueryRemove, CancelRemove, Remove, SurpriseRemove, Act, Finish, Reset, IsRight, IsTransferEvent}
+use Rattle.serving.proofs.Common.{◌≡◌, inl, inr, ℕ, true, false, List, [], ◌∷◌, ◌++◌, map, refl, sym, subst, ap, All, All-nil, All-cons, All-head, All-tail, All-append, Answer, ManagerView, ClientRequest, Handle, Reply, Refusal, Label, as_label, Event, Open, Close, Read, Write, Flush, CancelIoEx, Mark, QueryRemove, CancelRemove, Remove, SurpriseRemove, Act, Finish, Reset, IsRight, IsTransferEvent}
 use Rattle.std.specs.Prelude.{Bool}
 use Rattle.srb.specs.declared.DeviceLabel.{DeviceLabel}
 use Rattle.srb.specs.declared.DeviceLabel.TheVariants.{Start, Act as ActLabel, Fault, Return}

@@ -1,21 +1,19 @@
 -- A whole session whose requests are served side by side.
-use Rattle.serving.proofs.Common.{◌≡◌, ◌<◌, inl, inr, ℕ, true, false, List, [], ◌++◌, Option, Some, None, refl, sym, ap, subst, ◌∙◌, arith, All, All-nil, All-weaker, IsPermutation, IsPermutation-refl, Answer, Handle, ManagerView, Sizes, End, Error, NoMemory, FiledView, fault_of_end}
-use Rattle.std.specs.Prelude.{IsTrue, drop}
-use Rattle.std.specs.Option.{option_map}
-use Rattle.nbd.specs.Beside.{Account, IsSessionBeside, nothing_said}
+use Rattle.serving.proofs.Common.{◌≡◌, inl, ℕ, false, List, [], ◌++◌, Option, Some, None, refl, sym, ap, subst, ◌∙◌, arith, All, All-nil, All-weaker, IsPermutation, IsPermutation-refl, Answer, Handle, ManagerView, Sizes, End, Error, FiledView, fault_of_end}
+use Rattle.nbd.specs.Beside.{IsSessionBeside, nothing_said}
 use Rattle.nbd.specs.Desks.{EndsSince}
 use Rattle.nbd.specs.Handshake.{EndsUnasked, Opens}
 use Rattle.nbd.specs.Laws.{MakesASession}
 use Rattle.read_ahead.specs.Standing.{behind}
 use Rattle.file_disk.specs.Transfers.{DiskView}
-use Rattle.serving.specs.Beside.{Aloft, Deals, GoesBeside, Gone, IsNewIn, ToldInTurn, moves_in, none_aloft, nothing_gone}
-use Rattle.serving.specs.BesideFile.{HasSessionBeside, IsFileSessionBeside, begun}
+use Rattle.serving.specs.Beside.{Aloft, Deals, GoesBeside, IsNewIn, ToldInTurn, moves_in, none_aloft, nothing_gone}
+use Rattle.serving.specs.BesideFile.{IsFileSessionBeside, begun}
 use Rattle.serving.specs.declared.dues.Due.{Due}
 use Rattle.serving.specs.declared.dues.Ready.{Ready}
 use Rattle.serving.specs.inside.Dues.{IsNextIn, IsSlotIn, due_places, ready_place}
 use Rattle.serving.specs.inside.Dues.{IsFree}
-use Rattle.serving.specs.inside.First.{HasSessionFrom, IsAtRest, IsFirst, IsSessionFrom}
-use Rattle.serving.specs.inside.Since.{BusyView, SinceBy, SinceFirst}
+use Rattle.serving.specs.inside.First.{IsAtRest, IsFirst, IsSessionFrom}
+use Rattle.serving.specs.inside.Since.{BusyView, SinceFirst}
 use Rattle.serving.proofs.Dealing.{deals_none}
 use Rattle.serving.proofs.Growing.{grows_none}
 use Rattle.serving.proofs.Siding.{beside_none}

@@ -1,5 +1,5 @@
 use Rattle.serving.proofs.Common.{quiet}
-use Rattle.serving.proofs.Requesting.{asks_stand, asks_answered, asks_called, asks_no_other, asks_refused}
+use Rattle.serving.proofs.Requesting.{asks_stand, asks_answered, asks_called, asks_refused}
 use Rattle.serving.proofs.Quiet.{quiet_after}
 use Rattle.serving.proofs.elsewhere.ask.Goals as goal
 

@@ -1,4 +1,4 @@
-use Rattle.serving.proofs.Common.{◌≡◌, ◌<◌, ℕ, [], refl, sym, ap, ◌∙◌, subst, All, IsPermutation, All-permutation, Rules, State, HasOtherTag, IsOnTag, tags_out, work, IsFrom, from_next, from_zero, none_left}
+use Rattle.serving.proofs.Common.{◌≡◌, ◌<◌, ℕ, refl, sym, ap, ◌∙◌, subst, All, IsPermutation, All-permutation, Rules, State, HasOtherTag, IsOnTag, tags_out, work, IsFrom, from_next, from_zero, none_left}
 use Rattle.serving.proofs.Carrying.{Goes-refl, Goes-trans}
 use Rattle.serving.proofs.moving.finish_one.Goals as goal
 

@@ -1,4 +1,4 @@
-use Rattle.serving.proofs.Common.{◌≡◌, [], None, ap, subst, ◌∙◌, rules}
+use Rattle.serving.proofs.Common.{◌≡◌, [], ap, subst, ◌∙◌, rules}
 use Rattle.nbd.specs.Desks.{GoesOn}
 use Rattle.nbd.specs.declared.beside.Happening.TheVariants.{Ended}
 use Rattle.serving.specs.inside.Busy.{left_of}

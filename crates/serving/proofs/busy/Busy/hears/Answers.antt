@@ -1,4 +1,4 @@
-use Rattle.serving.proofs.Common.{◌≡◌, ManagerView, None, Option, ap, subst, ◌∙◌}
+use Rattle.serving.proofs.Common.{◌≡◌, None, ap, subst, ◌∙◌}
 use Rattle.serving.specs.inside.Busy.{Steps}
 use Rattle.serving.specs.inside.Engines.{EngineView}
 use Rattle.serving.specs.inside.Since.{BusyView}

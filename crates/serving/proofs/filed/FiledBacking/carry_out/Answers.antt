@@ -1,4 +1,4 @@
-use Rattle.serving.proofs.Common.{arith, subst, Command, IsWithin}
+use Rattle.serving.proofs.Common.{subst, Command, IsWithin}
 use Rattle.serving.proofs.Filing.{clears_within}
 use Rattle.serving.proofs.filed.FiledBacking.carry_out.Goals as goal
 
