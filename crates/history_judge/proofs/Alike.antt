@@ -1,53 +1,17 @@
 -- What a history shows of a sector is so by sizes and partitions alone.
-use Rattle.std.proofs.Common.{◌≡◌, ℕ, ◌+◌, ◌/◌, ◌%◌, ◌==◌, ◌&&◌, Bool, true, false, not, List, [], ◌∷◌, ◌++◌, Option, Some, None, refl, ◌∙◌, ap, length}
-use Rattle.std.specs.Prelude.{is_none, nat_le, nat_lt, if◌then◌else◌}
-use Rattle.ntstatus.specs.declared.NtStatus.{NtStatus}
-use Rattle.ntstatus.specs.declared.NtStatus.TheVariants.{Success, InvalidHandle, InvalidParameter}
-use Rattle.ntstatus.specs.First.{when, first_some}
-use Rattle.sector.specs.declared.Extent.{Extent}
+use Rattle.std.proofs.Common.{◌≡◌, ℕ, ◌+◌, ◌/◌, ◌%◌, ◌==◌, ◌&&◌, List, [], ◌∷◌, Option, Some, None, refl, ◌∙◌, ap}
+use Rattle.std.specs.Prelude.{nat_le, nat_lt, if◌then◌else◌}
 use Rattle.srb.specs.declared.Kind.{Kind}
 use Rattle.srb.specs.declared.Kind.TheVariants.{Read, Write, Flush}
 use Rattle.machine.specs.declared.ClientRequest.{ClientRequest}
 use Rattle.machine.specs.declared.Label.{Label}
 use Rattle.machine.specs.declared.Label.TheVariants.{Call, Device, Answer, Cancel, Pause, Resume, Remove, Surprise, Removed}
-use Rattle.machine.specs.Rules.{Rules, is_transfer, is_in_bounds, first_sector, place_count, sectors_of}
-use Rattle.history_laws.specs.declared.Asked.{Asked}
-use Rattle.history_laws.specs.Fitting.{refused, carried, ends_by, entry_of, without, all_fit}
+use Rattle.machine.specs.Rules.{Rules, is_transfer, first_sector, place_count}
 use Rattle.register.specs.declared.Sight.{Sight}
 use Rattle.history.specs.Sights.{is_partition, has_sector, read_sight, call_sight, value_of, success_of, sight_of, with_sight, sights_of}
-use Rattle.history_judge.specs.declared.service.Service.{Service}
-use Rattle.history_judge.specs.Services.{rules_of, AreOf}
-
--- rules of these sizes and partitions
-abbrev sized : ℕ → List Extent → ℕ → Rules
-sized size partitions longest = record {
-  sector_size = size;
-  disk_sectors = 0;
-  partitions = partitions;
-  longest = longest;
-  max_transfer = 1;
-  depth = 1;
-  open_requests = None;
-  window = None;
-  one_piece = false;
-  busy_limit = 0;
-  any_cut = true;
-  faithful = true;
-  keeps_bytes = true;
-}
-
-abbrev of_sizes : Rules → Rules
-of_sizes rules = sized rules.sector_size rules.partitions rules.longest
-
-same_rules : (service : Service) (rules : Rules) → AreOf service rules → of_sizes rules ≡ rules_of service
-same_rules service rules of =
-    ap (λ n. sized n rules.partitions rules.longest) of.sector_size
-    ∙ ap (λ xs. sized service.sector_size xs rules.longest) of.partitions
-    ∙ ap (λ n. sized service.sector_size service.partitions.items n) of.longest
-
-same_sectors : (rules : Rules) (partition : Option ℕ) → sectors_of rules partition ≡ sectors_of (of_sizes rules) partition
-same_sectors rules None = refl
-same_sectors rules (Some p) = refl
+use Rattle.history_fitting.specs.declared.service.Service.{Service}
+use Rattle.history_fitting.specs.Services.{rules_of, AreOf}
+use Rattle.history_fitting.proofs.Sizes.{of_sizes, same_rules, same_sectors}
 
 same_has : (rules : Rules) (p i : ℕ) (q : ClientRequest) → has_sector rules p i q ≡ has_sector (of_sizes rules) p i q
 same_has rules p i q =
@@ -85,37 +49,3 @@ same_sights code rules p i sights (label ∷ labels) =
 
 pub shown_alike : (service : Service) (rules : Rules) → AreOf service rules → (code : List ℕ → ℕ) (p i : ℕ) (labels : List Label) → sights_of code rules p i [] labels ≡ sights_of code (rules_of service) p i [] labels
 shown_alike service rules of code p i labels = same_sights code rules p i [] labels ∙ ap (λ r. sights_of code r p i [] labels) (same_rules service rules of)
-
--- and so is how its labels fit
-same_bounds : (rules : Rules) (q : ClientRequest) → is_in_bounds rules q ≡ is_in_bounds (of_sizes rules) q
-same_bounds rules q =
-    ap (λ n. ((q.offset % rules.sector_size == 0) && (q.length % rules.sector_size == 0))
-    && (nat_le (first_sector rules q + q.length / rules.sector_size) n && nat_le (q.length / rules.sector_size) rules.longest)) (same_sectors rules q.partition)
-
-same_refused : (rules : Rules) (q : ClientRequest) → refused rules q ≡ refused (of_sizes rules) q
-same_refused rules q = ap (λ b. first_some (when (is_none q.partition) InvalidHandle ∷ when (is_transfer q.kind && not b) InvalidParameter ∷ when (is_transfer q.kind && (q.length == 0)) Success ∷ [])) (same_bounds rules q)
-
--- the rest, behind a call that is answered so at once
-abbrev called : Rules → List (Option Asked) → Option NtStatus → ℕ → ClientRequest → List Label → Option NtStatus → Bool
-called rules asked owed n q labels answer =
-    if is_none owed && ((n == length asked) && (length q.bytes == carried answer q)) then all_fit rules (asked ++ entry_of answer q ∷ []) answer labels else false
-
-same_fit : (rules : Rules) (asked : List (Option Asked)) (owed : Option NtStatus) (labels : List Label) → all_fit rules asked owed labels ≡ all_fit (of_sizes rules) asked owed labels
-same_fit rules asked owed [] = refl
-same_fit rules asked owed (Call n q ∷ labels) =
-    ap (λ answer. called rules asked owed n q labels answer) (same_refused rules q)
-    ∙ ap (λ b. if is_none owed && ((n == length asked) && (length q.bytes == carried (refused (of_sizes rules) q) q)) then b else false)
-    (same_fit rules (asked ++ entry_of (refused (of_sizes rules) q) q ∷ []) (refused (of_sizes rules) q) labels)
-same_fit rules asked owed (Answer n status informed bytes ∷ labels) =
-    ap (λ b. if ends_by asked owed n status informed (length bytes) then b else false) (same_fit rules (without asked owed n) None labels)
-same_fit rules asked owed (Device label ∷ labels) = same_fit rules asked owed labels
-same_fit rules asked owed (Cancel n ∷ labels) = same_fit rules asked owed labels
-same_fit rules asked owed (Pause ∷ labels) = same_fit rules asked owed labels
-same_fit rules asked owed (Resume ∷ labels) = same_fit rules asked owed labels
-same_fit rules asked owed (Remove ∷ labels) = same_fit rules asked owed labels
-same_fit rules asked owed (Surprise ∷ labels) = same_fit rules asked owed labels
-same_fit rules asked owed (Removed ∷ labels) = same_fit rules asked owed labels
-
-pub fits_alike : (service : Service) (rules : Rules) → AreOf service rules → (asked : List (Option Asked)) (owed : Option NtStatus) (labels : List Label)
-    → all_fit rules asked owed labels ≡ all_fit (rules_of service) asked owed labels
-fits_alike service rules of asked owed labels = same_fit rules asked owed labels ∙ ap (λ r. all_fit r asked owed labels) (same_rules service rules of)

@@ -22,13 +22,13 @@ use Rattle.history.specs.declared.Wait.{Wait}
 use Rattle.history.specs.declared.Wait.TheVariants.{Known as KnownWait, Awaits}
 use Rattle.history.specs.Sights.{is_partition, has_sector, success_bytes, is_call_of, end_of}
 use Rattle.history.specs.Waits.{fill, is_wait_of, ended, called, step, waits_of}
-use Rattle.history_judge.specs.declared.fitting.Known.{Known}
+use Rattle.history_fitting.specs.declared.fitting.Known.{Known}
 use Rattle.history_judge.specs.declared.cells.Span.{Span}
-use Rattle.history_judge.specs.inside.Opened.{opened_at, bare, ends_request, may_end, may_come, Puts, PutsCall, PutsAnswer, Takes, AreOpen}
+use Rattle.history_fitting.specs.Opened.{opened_at, bare, ends_request, may_end, may_come, Puts, PutsCall, PutsAnswer, Takes, AreOpen, first_fresh, IsFresh}
 use Rattle.history_judge.specs.inside.Cells.{is_write, is_read, is_awaited, in_span, AreToldOf, seen_of}
-use Rattle.history_judge.specs.inside.Histories.{writes_at, reads_at, first_fresh, IsFresh, ShowsCall, AreTold, IsSpanBy, IsSpanAt, IsSpan}
+use Rattle.history_judge.specs.inside.Histories.{writes_at, reads_at, ShowsCall, AreTold, IsSpanBy, IsSpanAt, IsSpan}
 use Rattle.history_judge.proofs.Filling.{apart, push_not, push_one, fill_none, others_called, others_awaited}
-use Rattle.history_judge.proofs.Opening.{call_is_next, opened_past}
+use Rattle.history_fitting.proofs.Opening.{call_is_next, opened_past}
 
 alike : (a b : ℕ) → (a ≡ b) ⊎ (a ≡ b → ⊥)
 alike a b = grind arith

@@ -18,18 +18,19 @@ use Rattle.history.specs.Sights.{sights_of}
 use Rattle.history.specs.Waits.{known, ShownByWaits}
 use Rattle.history.specs.Refusing.{RefusedAreUnexplained}
 use Rattle.history_shown.specs.Laws.{IsReadBelow, ShownAreScheduled}
-use Rattle.history_judge.specs.declared.service.Service.{Service}
-use Rattle.history_judge.specs.declared.service.Place.{Place}
+use Rattle.history_fitting.specs.declared.service.Service.{Service}
+use Rattle.history_fitting.specs.declared.service.Place.{Place}
 use Rattle.history_judge.specs.declared.cells.Cells.{Cells}
-use Rattle.history_judge.specs.declared.fitting.Misfit.{Misfit as MisfitWhy}
+use Rattle.history_fitting.specs.declared.fitting.Misfit.{Misfit as MisfitWhy}
 use Rattle.history_judge.specs.declared.judging.Verdict.{Verdict}
 use Rattle.history_judge.specs.declared.judging.Verdict.TheVariants.{Passed, Misfit, Refused, Undecided}
-use Rattle.history_judge.specs.Services.{rules_of}
+use Rattle.history_fitting.specs.Services.{rules_of}
 use Rattle.history_judge.specs.Verdicts.{IsTouched, Passes, PassesFromSome, IsUnexplained, IsUnfit, IsRightBy}
 use Rattle.history_judge.specs.inside.Starting.{StandsFrom, IsTriedAny, IsTriedBy}
 use Rattle.history_judge.specs.inside.Cells.{seen_of, index_at, cell_by, IsCellAt, HasCells}
 use Rattle.history_judge.specs.inside.Judging.{Shows, ShowsFromSome, ShowsBy, IsRightOf, IsOneOf, IsVerdictOf}
-use Rattle.history_judge.proofs.Alike.{shown_alike, fits_alike}
+use Rattle.history_fitting.proofs.Sizes.{fits_alike}
+use Rattle.history_judge.proofs.Alike.{shown_alike}
 
 -- a number above all that is read
 abbrev above : List Sight → ℕ

@@ -1,9 +1,7 @@
-mod Bounds
 mod Alike
 mod Begun
 mod Filling
 mod Celling
-mod Opening
 mod Fresh
 mod Visiting
 mod Judged

@@ -12,18 +12,18 @@ use Rattle.history_laws.specs.Laws.{ExplainedFit}
 use Rattle.register.specs.Values.{code}
 use Rattle.history.specs.declared.Wait.{Wait}
 use Rattle.history.specs.Waits.{step}
-use Rattle.history_judge.specs.declared.fitting.Known.{Known}
-use Rattle.history_judge.specs.declared.fitting.Misfit.{Misfit}
+use Rattle.history_fitting.specs.declared.fitting.Known.{Known}
+use Rattle.history_fitting.specs.declared.fitting.Misfit.{Misfit}
 use Rattle.history_judge.specs.declared.cells.Cells.{Cells}
 use Rattle.history_judge.specs.declared.cells.Span.{Span}
 use Rattle.history_judge.specs.declared.recorded.Fitted.{Fitted}
-use Rattle.history_judge.specs.Services.{rules_of}
+use Rattle.history_fitting.specs.Services.{rules_of}
 use Rattle.history_judge.specs.Verdicts.{IsUnfit}
-use Rattle.history_judge.specs.inside.Opened.{opened_at, may_come, Takes}
+use Rattle.history_fitting.specs.Opened.{opened_at, may_come, Takes}
 use Rattle.history_judge.specs.inside.Cells.{HasCells, AreToldOf, in_span, seen_in, seen_of}
 use Rattle.history_judge.specs.inside.Histories.{AreTold, IsSpan, IsWhole, IsStopped, StopsAt}
 use Rattle.history_judge.proofs.Judged.{unfit}
-use Rattle.history_judge.proofs.Opening.{comes_is, open_next, owed_next, open_first}
+use Rattle.history_fitting.proofs.Opening.{comes_is, open_next, owed_next, open_first}
 use Rattle.history_judge.proofs.Fresh.{seen_push, told_next, told_first, passed_over, told_of, span_fits}
 use Rattle.history_judge.proofs.Visiting.{cells_alike}
 

@@ -21,11 +21,11 @@ use Rattle.register.specs.Values.{code}
 use Rattle.history.specs.declared.Wait.{Wait}
 use Rattle.history.specs.Sights.{is_partition, has_sector}
 use Rattle.history.specs.Waits.{step}
-use Rattle.history_judge.specs.declared.service.Place.{Place}
+use Rattle.history_fitting.specs.declared.service.Place.{Place}
 use Rattle.history_judge.specs.declared.cell.Cell.{Cell}
 use Rattle.history_judge.specs.declared.cells.Cells.{Cells}
 use Rattle.history_judge.specs.declared.cells.Span.{Span}
-use Rattle.history_judge.specs.Services.{within, moved}
+use Rattle.history_fitting.specs.Services.{within, moved}
 use Rattle.history_judge.specs.inside.Cells.{IsCell, pair, key_cmp, index_at, cell_by, cell_at, IsCellAt, AreApart, HasCells, HasOneAt, in_range, in_span, seen_at, seen_in, IsToldOf, AreToldOf, IsSpanOf}
 
 -- KEYS

@@ -1,7 +1,7 @@
 -- A history that was taken label by label.
 use Rattle.std.specs.Prelude.{ℕ, Bool, List}
 use Rattle.machine.specs.declared.Label.{Label}
-use Rattle.history_judge.specs.declared.service.Service.{Service}
+use Rattle.history_fitting.specs.declared.service.Service.{Service}
 
 -- the labels so far, of a service whose sectors all had these bytes at the start, or any, each its own
 pub record HistoryView : Type 0 where

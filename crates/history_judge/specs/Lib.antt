@@ -1,4 +1,3 @@
 pub mod Histories
-pub mod Services
 pub mod Verdicts
 pub mod inside

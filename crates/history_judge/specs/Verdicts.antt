@@ -10,11 +10,11 @@ use Rattle.history_laws.specs.History.{IsExplained}
 use Rattle.history_laws.specs.Schedules.{IsScheduled}
 use Rattle.history_laws.specs.Fitting.{all_fit_at_first}
 use Rattle.history.specs.Sights.{has_sector}
-use Rattle.history_judge.specs.declared.service.Service.{Service}
-use Rattle.history_judge.specs.declared.service.Place.{Place}
+use Rattle.history_fitting.specs.declared.service.Service.{Service}
+use Rattle.history_fitting.specs.declared.service.Place.{Place}
 use Rattle.history_judge.specs.declared.judging.Verdict.{Verdict}
 use Rattle.history_judge.specs.declared.judging.Verdict.TheVariants.{Passed, Misfit, Refused, Undecided}
-use Rattle.history_judge.specs.Services.{rules_of, AreOf}
+use Rattle.history_fitting.specs.Services.{rules_of, AreOf}
 
 -- some call moves the sector
 pub record IsTouched (rules : Rules) (place : Place) (history : List Label) : Type 0 where

@@ -5,7 +5,7 @@ ghost use Rattle.history.specs.declared.Wait.{Wait};
 ghost use Rattle.history.specs.Sights.{success_bytes};
 ghost use Rattle.history.specs.Waits.{fill, known, step};
 ghost use Rattle.register.specs.Values.{code};
-ghost use Rattle.history_judge.specs.Services.{rules_of};
+ghost use Rattle.history_fitting.specs.Services.{rules_of};
 ghost use Rattle.history_judge.specs.inside.Cells.{
   answer_left,
   AllSee,
@@ -21,10 +21,10 @@ ghost use Rattle.history_judge.specs.inside.Cells.{
 ghost use Rattle.history_judge.specs.inside.Starting.{IsTriedBy};
 
 use crate::past::Past;
-use crate::service::{Place, Service};
 use crate::trying::{Start, Tried, Try, begun, each_sees, judge_all_starts, judge_tries};
 use crate::waits::{Given, Marked, end_of, filled_by, known_front, known_of, wait_of};
 use history::Wait;
+use history_fitting::{Place, Service};
 use machine::{Kind, Label};
 use noted::Noted;
 use ntstatus::NtStatus;

@@ -2,7 +2,7 @@
 
 ghost use Rattle.std.specs.Prelude.{◌≡◌, ◌+◌, ◌^◌, ◌<◌, ℕ, [], Bool, IfOk, List, OnOk, Some, option_copied};
 ghost use Rattle.history.specs.declared.Wait.{Wait};
-ghost use Rattle.history_judge.specs.Services.{rules_of};
+ghost use Rattle.history_fitting.specs.Services.{rules_of};
 ghost use Rattle.history_judge.specs.inside.Cells.{
   AreToldOf,
   cell_at,
@@ -16,7 +16,7 @@ ghost use Rattle.history_judge.specs.inside.Cells.{
 };
 
 use crate::cell::{Basis, Cell, Told};
-use crate::service::{Place, Service};
+use history_fitting::{Place, Service};
 use machine::ClientRequest;
 use sector::Extent;
 use std::alloc::{AllocError, Global};

@@ -8,11 +8,10 @@ ghost use Rattle.history_judge.specs.inside.Judging.{IsOneOf, IsRightOf, IsVerdi
 ghost use Rattle.register.specs.Values.{code};
 
 use crate::cell::Cell;
-use crate::fitting::Misfit;
 use crate::recorded::Fitted;
-use crate::service::Place;
 use crate::trying::Tried;
 use history::{refused_are_unexplained, shown_by_waits};
+use history_fitting::{Misfit, Place};
 use history_shown::shown_are_scheduled;
 use register::codes_tell;
 use register_judge::SoFar;

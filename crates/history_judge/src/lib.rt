@@ -18,18 +18,14 @@
 
 mod cell;
 mod cells;
-mod fitting;
 mod judging;
-mod parts;
 mod past;
 mod recorded;
-mod service;
 mod telling;
 mod trying;
 mod waits;
 
-pub use fitting::Misfit;
+pub use history_fitting::{Misfit, Place, Service};
 pub use judging::Verdict;
 pub use recorded::History;
-pub use service::{Place, Service};
 pub use telling::{Found, Refusal, Source};

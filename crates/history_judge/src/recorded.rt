@@ -1,19 +1,18 @@
 //! A history, taken label by label.
 
 ghost use Rattle.std.specs.Prelude.{◌≡◌, ◌<◌, ◌++◌, ◌∷◌, ℕ, [], Bool, false, IfOk, IfSome, OnOk, true};
-ghost use Rattle.history_judge.specs.Services.{rules_of};
+ghost use Rattle.history_fitting.specs.Services.{rules_of};
 ghost use Rattle.history_judge.specs.Verdicts.{IsRightBy, IsUnfit};
 ghost use Rattle.history_judge.specs.inside.Cells.{HasCells, seen_of};
 ghost use Rattle.history_judge.specs.inside.Histories.{IsSpan, IsSpanBy, IsWhole};
-ghost use Rattle.history_judge.specs.inside.Opened.{may_come};
+ghost use Rattle.history_fitting.specs.Opened.{may_come};
 
 use crate::cell::{Basis, Told};
 use crate::cells::{Cells, Span, span_of};
-use crate::fitting::{Known, Misfit};
 use crate::judging::{Verdict, judge_sectors};
-use crate::service::{Place, Service};
 use crate::telling::{Refusal, needs_busy, refusal_of};
 use crate::trying::Start;
+use history_fitting::{Known, Misfit, Place, Service};
 use history_laws::explained_fit;
 use machine::{ClientRequest, Kind, Label};
 use noted::Noted;
@@ -53,7 +52,7 @@ impl Fitted {
     {
         match label {
             Label::Call { request, .. } => span_by(&self.basis.service, request),
-            Label::Answer { number, .. } => match self.known.opened.get(number) {
+            Label::Answer { number, .. } => match self.known.request(*number) {
                 Some(request) => span_by(&self.basis.service, request),
                 None => None,
             },

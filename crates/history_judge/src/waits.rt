@@ -2,16 +2,14 @@
 
 ghost use Rattle.std.specs.Prelude.{◌≡◌, ◌<◌, ◌∷◌, ◌++◌, [], IfOk, OnOk, option_copied, option_map};
 ghost use Rattle.history.specs.declared.Wait.TheVariants.{Known};
-ghost use Rattle.machine_laws.specs.Sectors.{part_of};
 ghost use Rattle.register.specs.Values.{code};
 ghost use Rattle.history.specs.Sights.{end_of};
 ghost use Rattle.history.specs.Waits.{fill, filled_by, known, read_by, with_wait};
-ghost use Rattle.history_judge.specs.Services.{rules_of};
+ghost use Rattle.history_fitting.specs.Services.{rules_of};
 ghost use Rattle.history_judge.specs.inside.Cells.{IsFront, call_wait, is_known, plain, sights_in, wait_in};
 
-use crate::parts::part;
-use crate::service::{Place, Service};
 use history::Wait;
+use history_fitting::{Place, Service, contents_of};
 use machine::{ClientRequest, Kind};
 use ntstatus::NtStatus;
 use register::{Contents, Sight};
@@ -31,20 +29,6 @@ pub(crate) struct Given {
     pub sight: Sight,
 }
 
-/// The bytes of one sector of these.
-fn contents_of(
-    alloc: Global,
-    service: &Service,
-    bytes: &[u8],
-    place: u64,
-) -> Result<Contents, AllocError>
-    ensures { IfOk result (λ contents. contents ≡ code (part_of (rules_of service.now) bytes.now place)) }
-{
-    let size = service.sector_size as u128;
-    let place = place as u128;
-    Contents::new(alloc, part(bytes, place * size, (place + 1) * size))
-}
-
 /// What a call shows of one of its sectors.
 pub(crate) fn wait_of(
     alloc: Global,
@@ -60,7 +44,7 @@ pub(crate) fn wait_of(
     let at = place.sector.saturating_sub(first);
     match request.kind {
         Kind::Write => {
-            let value = contents_of(alloc, service, request.bytes.as_slice(), at)?;
+            let value = contents_of(alloc, service.sector_size, request.bytes.as_slice(), at)?;
             Ok(Some(Wait::Known(Sight::Write { number, value })))
         }
         Kind::Read => Ok(Some(Wait::Awaits { number, place: at })),
@@ -107,7 +91,7 @@ fn read_by(
 {
     match bytes {
         Some(bytes) => {
-            let value = contents_of(alloc, service, bytes, place)?;
+            let value = contents_of(alloc, service.sector_size, bytes, place)?;
             Ok(Some(Wait::Known(Sight::Read { number, value })))
         }
         None => Ok(None),

@@ -3,8 +3,8 @@ use Rattle.std.proofs.Common.{ℕ, List, sym, subst}
 use Rattle.machine.specs.declared.Label.{Label}
 use Rattle.history_laws.specs.Schedules.{IsScheduled}
 use Rattle.history_shown.specs.Laws.{IsMoved, MovedAreExplained}
-use Rattle.history_judge.specs.declared.service.Service.{Service}
-use Rattle.history_judge.specs.Services.{rules_of}
+use Rattle.history_fitting.specs.declared.service.Service.{Service}
+use Rattle.history_fitting.specs.Services.{rules_of}
 use Rattle.history_judge.specs.Verdicts.{IsTouched}
 use Rattle.history_legal.specs.Laws.{PassedAreExplained}
 

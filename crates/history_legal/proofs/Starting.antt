@@ -13,9 +13,9 @@ use Rattle.machine.specs.Sending.{array_at}
 use Rattle.history_laws.specs.Schedules.{IsScheduled}
 use Rattle.history.specs.Sights.{has_sector}
 use Rattle.history_shown.specs.Laws.{IsMoved, MovedAreExplained}
-use Rattle.history_judge.specs.declared.service.Service.{Service}
-use Rattle.history_judge.specs.declared.service.Place.{Place}
-use Rattle.history_judge.specs.Services.{rules_of}
+use Rattle.history_fitting.specs.declared.service.Service.{Service}
+use Rattle.history_fitting.specs.declared.service.Place.{Place}
+use Rattle.history_fitting.specs.Services.{rules_of}
 use Rattle.history_judge.specs.Verdicts.{IsTouched, IsPassedFromSome}
 use Rattle.history_legal.specs.Laws.{PassedFromSomeAreExplained}
 use Rattle.history_legal.proofs.Listing.{listed, listed_length, listed_gives, listed_at, listed_past}

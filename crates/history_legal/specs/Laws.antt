@@ -7,8 +7,8 @@ use Rattle.machine.specs.Sending.{array_at}
 use Rattle.machine_laws.specs.Reached.{AreWhole}
 use Rattle.history_laws.specs.History.{history_of, IsExplained}
 use Rattle.history_runs.specs.Laws.{IsAddressable, IsBusyWrite}
-use Rattle.history_judge.specs.declared.service.Service.{Service}
-use Rattle.history_judge.specs.Services.{rules_of}
+use Rattle.history_fitting.specs.declared.service.Service.{Service}
+use Rattle.history_fitting.specs.Services.{rules_of}
 use Rattle.history_judge.specs.Verdicts.{IsPassed, IsPassedFromSome}
 
 -- each sector of the arrays has these bytes

@@ -14,4 +14,8 @@ mod registers;
 #[cfg(test)]
 mod sectors;
 #[cfg(test)]
+mod seen_sectors;
+#[cfg(test)]
+mod session_histories;
+#[cfg(test)]
 mod sessions;

@@ -45,9 +45,11 @@ cut_words = judged_words (two_words (codes "cut") (codes "CONFIG") (codes "TRACE
 abbrev pub record_words : App
 record_words = two_words (codes "record") (codes "CONFIG") (codes "SCRIPT")
 
--- history [--any-start] [--progress] [--json] CONFIG HISTORY
+-- history [--any-start] [--progress] [--json] [--sessions] CONFIG HISTORY
 abbrev pub history_words : App
-history_words = with_flag (with_flag (with_flag (two_words (codes "history") (codes "CONFIG") (codes "HISTORY")) (codes "any-start")) (codes "progress")) (codes "json")
+history_words =
+    with_flag (with_flag (with_flag (with_flag (two_words (codes "history") (codes "CONFIG") (codes "HISTORY")) (codes "any-start")) (codes "progress")) (codes "json"))
+    (codes "sessions")
 
 -- picture, how it is judged, [--events] [--lines A-B] [CONFIG] TRACE: of two words the first is CONFIG
 abbrev pub picture_words : App
@@ -98,8 +100,9 @@ HasWords rows (Check config trace asked progress sessions) = (first_of (codes "C
     × HasFlags rows asked × IsRead rows (codes "progress") progress × IsRead rows (codes "sessions") sessions
 HasWords rows (Cut config trace asked) = (first_of (codes "CONFIG") rows ≡ Some config.now) × (first_of (codes "TRACE") rows ≡ Some trace.now) × HasFlags rows asked
 HasWords rows (Record config script) = (first_of (codes "CONFIG") rows ≡ Some config.now) × (first_of (codes "SCRIPT") rows ≡ Some script.now)
-HasWords rows (History config history any_start progress json) = (first_of (codes "CONFIG") rows ≡ Some config.now) × (first_of (codes "HISTORY") rows ≡ Some history.now)
+HasWords rows (History config history any_start progress json sessions) = (first_of (codes "CONFIG") rows ≡ Some config.now) × (first_of (codes "HISTORY") rows ≡ Some history.now)
     × IsRead rows (codes "any-start") any_start × IsRead rows (codes "progress") progress × IsRead rows (codes "json") json
+    × IsRead rows (codes "sessions") sessions
 HasWords rows (Picture config trace asked events lines) =
     AreFiles (first_of (codes "FIRST") rows) (first_of (codes "SECOND") rows) (option_map (λ c. c.now) config) trace.now × HasFlags rows asked
     × IsRead rows (codes "events") events × (option_map (λ l. l.now) lines ≡ first_of (codes "lines") rows)
@@ -109,7 +112,7 @@ abbrev pub name_of : Command → Text
 name_of (Check config trace asked progress sessions) = codes "check"
 name_of (Cut config trace asked) = codes "cut"
 name_of (Record config script) = codes "record"
-name_of (History config history any_start progress json) = codes "history"
+name_of (History config history any_start progress json sessions) = codes "history"
 name_of (Picture config trace asked events lines) = codes "picture"
 
 -- the subcommand that was found is the command's, with its words

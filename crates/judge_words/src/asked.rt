@@ -24,13 +24,15 @@ pub enum Command<'a> {
         script: &'a str,
     },
     /// Judges a history, given the paths of the settings and of the history. With `any_start` its sectors may begin with
-    /// anything, with `progress` it is told how many lines were read, with `json` the verdict is a JSON object.
+    /// anything, with `progress` it is told how many lines were read, with `json` the verdict is a JSON object, with
+    /// `sessions` the history is one of several sessions.
     History {
         config: &'a str,
         history: &'a str,
         any_start: bool,
         progress: bool,
         json: bool,
+        sessions: bool,
     },
     /// Draws the trace at a path, as an SVG, or as Trace Event JSON where `events` are asked for. Where the path of settings
     /// is given too the trace is judged by them, and by what is asked of it. With `lines` only some lines are drawn.

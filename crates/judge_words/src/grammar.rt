@@ -103,7 +103,8 @@ fn histories<'a>(alloc: Global) -> Result<Command<'a>, AllocError>
     let start = with_flag(alloc, command, "any-start")?;
     let progress = with_flag(alloc, start, "progress")?;
     let json = with_flag(alloc, progress, "json")?;
-    Ok(json)
+    let sessions = with_flag(alloc, json, "sessions")?;
+    Ok(sessions)
 }
 
 fn pictures<'a>(alloc: Global) -> Result<Command<'a>, AllocError>

@@ -141,12 +141,14 @@ fn history_of<'a>(words: &ArgMatches<'a>) -> Option<Command<'a>>
     let any_start = words.get_flag("any-start");
     let watched = words.get_flag("progress");
     let json = words.get_flag("json");
+    let sessions = words.get_flag("sessions");
     Some(Command::History {
         config,
         history,
         any_start,
         progress: watched,
         json,
+        sessions,
     })
 }
 

@@ -2,6 +2,7 @@ pub mod Checked
 pub mod Cutting
 pub mod Histories
 pub mod Recorded
+pub mod SessionHistories
 pub mod Sessions
 pub mod Standards
 pub mod Told

@@ -73,7 +73,7 @@ fn write_allowed<O: Write>(out: &mut O, allowed: &[Source]) -> io::Result<()> {
 }
 
 /// Why a label can't come where it stands.
-fn text_of(why: Misfit) -> &'static str {
+pub(crate) fn text_of(why: Misfit) -> &'static str {
     match why {
         Misfit::Number => "the call has not the next number",
         Misfit::Bytes =>
@@ -194,7 +194,7 @@ fn refused_fields(
 }
 
 /// Which line is refused, and why, with what more there is to tell.
-fn broken_object(
+pub(crate) fn broken_object(
     alloc: Global,
     line: u64,
     why: &str,

@@ -211,7 +211,7 @@ fn is_refused(alloc: Global, history: &History, next_look: &mut u64) -> Result<b
 }
 
 /// The service that some settings describe.
-fn service_of(alloc: Global, config: &Config) -> Result<Service, AllocError>
+pub(crate) fn service_of(alloc: Global, config: &Config) -> Result<Service, AllocError>
     requires { AreInRange config.now }
     ensures { IfOk result (IsServiceOf config.now) }
 {

@@ -11,8 +11,9 @@
 //! why (`fault`), and what was written before (`told`). `cut`: a text is written that is refused for the same as the
 //! trace, but for numbers, or only a remark where the trace is a run (`printed`); that it is small is only tested.
 //! `record_script`: the labels of a script's steps, or why not (`text`, `fault`). Inside: a history is judged as one of
-//! the settings' stack, from sectors of zeros, or where that is asked for of any bytes (`IsOfSettings`), and a trace of several
-//! sessions by the settings' rules, with its sectors apart (`AreJudged`). How `judge_history` and `check_sessions` read, and what they write, is only tested,
+//! the settings' stack, from sectors of zeros, or where that is asked for of any bytes (`IsOfSettings`), one over sessions so from
+//! zeros (`AreOfSettings`, `IsSaidOfSessions`), and a trace of several sessions by the settings' rules, with its sectors apart
+//! (`AreJudged`). How `judge_history`, `judge_session_history` and `check_sessions` read, and what they write, is only tested,
 //! and so is what stands behind a verdict's rule or numbers, and pictures and progress.
 #![tactic(auto)]
 
@@ -35,6 +36,7 @@ mod pruning;
 mod reading;
 mod renumbering;
 pub mod scripts;
+pub mod session_histories;
 pub mod sessions;
 mod told;
 

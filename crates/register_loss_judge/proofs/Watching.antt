@@ -62,3 +62,8 @@ module _ (start : ℕ) (old new : List Register) (sights : List Sight) (sight : 
   keeps_more prefixes Passed Undecided g h = tt
   keeps_more prefixes Refused after none e = subst (Keeps start new (sights ++ sight ∷ [])) (sym e) (refused_more prefixes none)
   keeps_more prefixes Undecided after h e = subst (Keeps start new (sights ++ sight ∷ [])) (sym e) tt
+
+-- ONCE MORE
+
+pub keeps_alike : (start : ℕ) (old new : List Register) (sights : List Sight) (so_far : SoFar) → new ≡ old → Keeps start old sights so_far → Keeps start new sights so_far
+keeps_alike start old new sights so_far same h = subst (λ states. Keeps start states sights so_far) (sym same) h

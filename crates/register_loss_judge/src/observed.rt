@@ -7,7 +7,7 @@ ghost use Rattle.register_loss_judge.specs.inside.Following.{Goes, GoesOn};
 ghost use Rattle.register_loss_judge.specs.inside.States.{forms};
 
 use crate::closing::see;
-use crate::states::{State, opening};
+use crate::states::{State, copies, opening};
 use noted::Noted;
 use register::Contents;
 use register_loss::{Sight, prefixes_are_scheduled};
@@ -120,6 +120,24 @@ impl Observed {
         self.so_far = goes_on(alloc, before, &mut self.states, sight)?;
         self.seen = self.seen.with(sight);
         Ok(())
+    }
+
+    /// The same once more.
+    ///
+    /// # Errors
+    ///
+    /// [`AllocError`] where memory was refused.
+    #[tactic(auto, using(crate::proofs::Watching::keeps_alike))]
+    pub fn copy(&self, alloc: Global) -> Result<Observed, AllocError>
+        ensures { IfOk result (λ observed. observed ≡ self.now) }
+    {
+        let states = copies(alloc, self.states.as_slice())?;
+        Ok(Observed {
+            start: self.start.share()?,
+            states,
+            so_far: self.so_far,
+            seen: self.seen.with(&self.so_far),
+        })
     }
 
     /// What is known of the sights so far.

@@ -76,6 +76,30 @@ pub(crate) fn share(wait: &Open) -> Result<Open, AllocError>
     })
 }
 
+/// The same state once more.
+fn share_state(alloc: Global, state: &State) -> Result<State, AllocError>
+    ensures { IfOk result (λ same. form same ≡ form state.now) }
+{
+    let values = state.values.copy(alloc)?;
+    let waits = shared(alloc, state.waits.as_slice())?;
+    Ok(State {
+        next: state.next,
+        values,
+        waits,
+    })
+}
+
+/// The same states once more.
+pub(crate) fn copies(alloc: Global, states: &[State]) -> Result<Vec<State>, AllocError>
+    ensures { IfOk result (λ all. forms all.items ≡ forms states.now) }
+{
+    let mut all = Vec::new(alloc);
+    for state in states {
+        all.push(share_state(alloc, state)?)?;
+    }
+    Ok(all)
+}
+
 /// Whether a read may be given its value.
 fn is_given(now: &[Contents], what: &What) -> bool
     ensures { result ≡ is_given now.now what.now }

@@ -17,6 +17,7 @@ use judging::histories::{Listeners, Terms, judge_history};
 use judging::opened::{Standard, read_standard};
 use judging::progress::Progress;
 use judging::scripts::record_script;
+use judging::session_histories::judge_session_history;
 use judging::sessions::check_sessions;
 use startup::{Verdict, ended, fault_of, hold_standard, open_input};
 use std::alloc::Global;
@@ -70,6 +71,7 @@ fn run(rt: &HostRuntime) -> Result<Verdict, Error> {
             any_start,
             progress,
             json,
+            sessions,
         } => {
             let mut listeners = Listeners {
                 out: rt.stdout(),
@@ -79,6 +81,9 @@ fn run(rt: &HostRuntime) -> Result<Verdict, Error> {
                 },
             };
             let terms = Terms { any_start, json };
+            if sessions {
+                return judge_session_history_at(rt, config, history, terms, &mut listeners);
+            }
             judge_history_at(rt, config, history, terms, &mut listeners)
         }
         Command::Picture {
@@ -194,6 +199,26 @@ fn judge_history_at<O: Write, W: Write>(
         return judge_history(alloc, config, rt.stdin(), terms, listeners);
     }
     judge_history(alloc, config, open_input(rt, history), terms, listeners)
+}
+
+/// Judges the history over several sessions at a path, or the one on standard input. Its sectors begin with zeros.
+fn judge_session_history_at<O: Write, W: Write>(
+    rt: &HostRuntime,
+    config: &str,
+    history: &str,
+    terms: Terms,
+    listeners: &mut Listeners<O, W>,
+) -> Result<Verdict, Error> {
+    let Terms { any_start, json } = terms;
+    if any_start {
+        return Err(Error::Usage);
+    }
+    let alloc = rt.alloc();
+    let config = open_input(rt, config);
+    if history == "-" {
+        return judge_session_history(alloc, config, rt.stdin(), json, listeners);
+    }
+    judge_session_history(alloc, config, open_input(rt, history), json, listeners)
 }
 
 /// Draws the trace at a path, or the one on standard input.

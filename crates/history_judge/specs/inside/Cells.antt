@@ -19,7 +19,7 @@ use Rattle.history.specs.declared.Wait.{Wait}
 use Rattle.history.specs.declared.Wait.TheVariants.{Known, Awaits}
 use Rattle.history.specs.Sights.{has_sector, bytes_at, success_bytes, end_of}
 use Rattle.history.specs.Waits.{fill, is_wait_of, step, waits_of}
-use Rattle.history_judge.specs.declared.service.Place.{Place}
+use Rattle.history_fitting.specs.declared.service.Place.{Place}
 use Rattle.history_judge.specs.declared.waits.Marked.{Marked}
 use Rattle.history_judge.specs.declared.waits.Given.{Given}
 use Rattle.history_judge.specs.declared.trying.Try.{Try}

@@ -1,8 +1,7 @@
 -- What holds of a history between two labels.
-use Rattle.std.specs.Prelude.{◌≡◌, ◌<◌, ◌≤◌, ◌+◌, ◌^◌, ℕ, suc, Bool, List, [], ◌∷◌, ◌++◌, Option, Some, None, false, if◌then◌else◌}
+use Rattle.std.specs.Prelude.{◌≡◌, ◌<◌, ◌+◌, ◌^◌, ℕ, Bool, List, [], ◌∷◌, ◌++◌, Option, Some, None, false, if◌then◌else◌}
 use Rattle.std.specs.List.{list_any}
 use Rattle.srb.specs.declared.Kind.{Kind}
-use Rattle.ntstatus.specs.declared.NtStatus.{NtStatus}
 use Rattle.machine.specs.declared.ClientRequest.{ClientRequest}
 use Rattle.machine.specs.declared.Label.{Label}
 use Rattle.machine.specs.declared.Label.TheVariants.{Call, Answer}
@@ -13,12 +12,12 @@ use Rattle.register.specs.Values.{code}
 use Rattle.history.specs.declared.Wait.{Wait}
 use Rattle.history.specs.Sights.{has_sector}
 use Rattle.history.specs.Waits.{is_wait_of}
-use Rattle.history_judge.specs.declared.fitting.Known.{Known}
-use Rattle.history_judge.specs.declared.fitting.Misfit.{Misfit}
+use Rattle.history_fitting.specs.declared.fitting.Known.{Known}
+use Rattle.history_fitting.specs.declared.fitting.Misfit.{Misfit}
 use Rattle.history_judge.specs.declared.cells.Span.{Span}
 use Rattle.history_judge.specs.declared.recorded.Fitted.{Fitted}
-use Rattle.history_judge.specs.Services.{rules_of}
-use Rattle.history_judge.specs.inside.Opened.{opened_at, may_come, AreOpen}
+use Rattle.history_fitting.specs.Services.{rules_of}
+use Rattle.history_fitting.specs.Opened.{opened_at, may_come, AreOpen, IsFresh}
 use Rattle.history_judge.specs.inside.Cells.{is_write, is_read, is_awaited, IsSpanOf, HasCells, seen_of}
 
 -- what an open request does to the sector
@@ -29,15 +28,6 @@ writes_at rules p i (Some q) = if has_sector rules p i q then is_write q.kind el
 abbrev pub reads_at : Rules → ℕ → ℕ → Option ClientRequest → Bool
 reads_at rules p i None = false
 reads_at rules p i (Some q) = if has_sector rules p i q then is_read q.kind else false
-
--- the first number that no request had which was taken in
-abbrev pub first_fresh : Option NtStatus → ℕ → ℕ
-first_fresh None calls = suc calls
-first_fresh (Some status) calls = calls
-
--- the request is open, or was never taken in
-abbrev pub IsFresh : Known → ℕ → Type 0
-IsFresh known n = opened_at known.opened n ≡ None → first_fresh known.owed known.calls ≤ n
 
 -- of a request of this number just that is seen which follows from its call
 pub record ShowsCall (rules : Rules) (p i n : ℕ) (request : Option ClientRequest) (waits : List Wait) : Type 0 where

@@ -6,11 +6,11 @@ use Rattle.register.specs.Schedules.{HasSchedule}
 use Rattle.register_judge.specs.declared.observed.SoFar.{SoFar}
 use Rattle.register_judge.specs.declared.observed.SoFar.TheVariants.{Passed as PassedSoFar, Refused as RefusedSoFar, Undecided as UndecidedSoFar}
 use Rattle.history.specs.Sights.{sights_of}
-use Rattle.history_judge.specs.declared.service.Service.{Service}
-use Rattle.history_judge.specs.declared.service.Place.{Place}
+use Rattle.history_fitting.specs.declared.service.Service.{Service}
+use Rattle.history_fitting.specs.declared.service.Place.{Place}
 use Rattle.history_judge.specs.declared.judging.Verdict.{Verdict}
 use Rattle.history_judge.specs.declared.judging.Verdict.TheVariants.{Passed, Misfit, Refused, Undecided}
-use Rattle.history_judge.specs.Services.{rules_of}
+use Rattle.history_fitting.specs.Services.{rules_of}
 use Rattle.history_judge.specs.Verdicts.{IsRightBy}
 
 -- the sector, which has these bytes at the start, has a schedule as a register

@@ -3,11 +3,15 @@ use Rattle.std.specs.Prelude.{◌≡◌, ◌<◌}
 use Rattle.settings.specs.declared.Config.{Config}
 use Rattle.startup.specs.Started.{rules_of}
 use Rattle.history_judge.specs.Histories.{HistoryView}
-use Rattle.history_judge.specs.declared.service.Service.{Service}
+use Rattle.history_fitting.specs.declared.service.Service.{Service}
 use Rattle.history_judge.specs.declared.judging.Verdict.{Verdict}
-use Rattle.history_judge.specs.Services.{AreOf}
+use Rattle.history_fitting.specs.Services.{AreOf}
 use Rattle.history_judge.specs.Verdicts.{IsRightBy}
+use Rattle.history_loss_judge.specs.Histories.{HistoryView as SessionsView}
+use Rattle.history_loss_judge.specs.Verdicts.{IsRight}
 use Rattle.judging.specs.declared.histories.Said.{Said}
+use Rattle.judging.specs.declared.session_histories.Said.{Said as SaidOfSessions}
+use Rattle.judging.specs.declared.session_histories.Said.TheVariants.{By as BySessions, Busy as BusySessions}
 use Rattle.judging.specs.declared.histories.Said.TheVariants.{By, Busy}
 
 -- a service with the sizes and partitions of the settings' stack
@@ -24,3 +28,8 @@ IsSaid history (Busy place) = Unit {0}
 abbrev pub IsBy : Verdict → Said → Type 0
 IsBy verdict (By told) = told ≡ verdict
 IsBy verdict (Busy place) = Unit {0}
+
+-- a verdict on a history over sessions that is told is right
+abbrev pub IsSaidOfSessions : SessionsView → SaidOfSessions → Type 0
+IsSaidOfSessions history (BySessions verdict) = IsRight history.service history.start history.lines verdict
+IsSaidOfSessions history BusySessions = Unit {0}

@@ -1,7 +1,7 @@
 use Rattle.std.proofs.Common.{◌≡◌, sym, ap, subst}
 use Rattle.std.specs.Prelude.{Some}
 use Rattle.history.specs.Waits.{known}
-use Rattle.history_judge.specs.Services.{rules_of}
+use Rattle.history_fitting.specs.Services.{rules_of}
 use Rattle.history_judge.specs.inside.Starting.{IsTriedBy}
 use Rattle.history_judge.specs.inside.Cells.{IsCellAt, seen_of}
 use Rattle.history_judge.proofs.Judged.{sector_right}

@@ -29,7 +29,7 @@ no_config rows (Cut config other asked) name none has = absurd (cc (name))
 no_config rows (Record config script) name none has =
     let both : ◌≡◌ {A = Option Text} None (Some config.now) = none ∙ has.0 in
     absurd (cc)
-no_config rows (History config history any_start progress json) name none has = absurd (cc (name))
+no_config rows (History config history any_start progress json sessions) name none has = absurd (cc (name))
 no_config rows (Picture config trace asked events lines) name none has = absurd (cc (name))
 
 no_trace : (rows : List Row) (command : Command) → name_of command ≡ codes "check" → ◌≡◌ {A = Option Text} None (first_of (codes "TRACE") rows) → HasWords rows command → ⊥
@@ -38,7 +38,7 @@ no_trace rows (Check config trace asked progress sessions) name none has =
     absurd (cc)
 no_trace rows (Cut config other asked) name none has = absurd (cc (name))
 no_trace rows (Record config other) name none has = absurd (cc (name))
-no_trace rows (History config other any_start progress json) name none has = absurd (cc (name))
+no_trace rows (History config other any_start progress json sessions) name none has = absurd (cc (name))
 no_trace rows (Picture config other asked events lines) name none has = absurd (cc (name))
 
 pub returns-in_default : goal.returns-in_default

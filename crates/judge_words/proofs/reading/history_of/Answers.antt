@@ -19,6 +19,7 @@ returns c =
         flag_is found (codes "any-start") c.get_flag-any_start.result c.get_flag-any_start.ensures.none c.get_flag-any_start.ensures.value c.get_flag-any_start.ensures.other,
         flag_is found (codes "progress") c.get_flag-watched.result c.get_flag-watched.ensures.none c.get_flag-watched.ensures.value c.get_flag-watched.ensures.other,
         flag_is found (codes "json") c.get_flag-json.result c.get_flag-json.ensures.none c.get_flag-json.ensures.value c.get_flag-json.ensures.other,
+        flag_is found (codes "sessions") c.get_flag-sessions.result c.get_flag-sessions.ensures.none c.get_flag-sessions.ensures.value c.get_flag-sessions.ensures.other,
       ),
     )
 
@@ -26,7 +27,7 @@ no_config : (rows : List Row) (command : Command) → name_of command ≡ codes 
 no_config rows (Check config trace asked progress sessions) name none has = absurd (cc (name))
 no_config rows (Cut config other asked) name none has = absurd (cc (name))
 no_config rows (Record config script) name none has = absurd (cc (name))
-no_config rows (History config history any_start progress json) name none has =
+no_config rows (History config history any_start progress json sessions) name none has =
     let both : ◌≡◌ {A = Option Text} None (Some config.now) = none ∙ has.0 in
     absurd (cc)
 no_config rows (Picture config trace asked events lines) name none has = history_is_no_picture (sym name)
@@ -35,7 +36,7 @@ no_history : (rows : List Row) (command : Command) → name_of command ≡ codes
 no_history rows (Check config other asked progress sessions) name none has = absurd (cc (name))
 no_history rows (Cut config other asked) name none has = absurd (cc (name))
 no_history rows (Record config other) name none has = absurd (cc (name))
-no_history rows (History config history any_start progress json) name none has =
+no_history rows (History config history any_start progress json sessions) name none has =
     let both : ◌≡◌ {A = Option Text} None (Some history.now) = none ∙ has.1 in
     absurd (cc)
 no_history rows (Picture config other asked events lines) name none has = history_is_no_picture (sym name)

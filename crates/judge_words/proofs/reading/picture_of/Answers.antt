@@ -32,7 +32,7 @@ no_first : (rows : List Row) (command : Command) → name_of command ≡ codes "
 no_first rows (Check config trace asked progress sessions) name none has = absurd (cc (name))
 no_first rows (Cut config trace asked) name none has = absurd (cc (name))
 no_first rows (Record config script) name none has = absurd (cc (name))
-no_first rows (History config history any_start progress json) name none has = history_is_no_picture name
+no_first rows (History config history any_start progress json sessions) name none has = history_is_no_picture name
 no_first rows (Picture config trace asked events lines) name none has = no_files _ _ _ _ none has.0
 
 pub returns-in_default : goal.returns-in_default

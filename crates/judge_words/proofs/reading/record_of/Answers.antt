@@ -22,12 +22,12 @@ no_config rows (Cut config other asked) name none has = absurd (cc (name))
 no_config rows (Record config script) name none has =
     let both : ◌≡◌ {A = Option Text} None (Some config.now) = none ∙ has.0 in
     absurd (cc)
-no_config rows (History config history any_start progress json) name none has = absurd (cc (name))
+no_config rows (History config history any_start progress json sessions) name none has = absurd (cc (name))
 no_config rows (Picture config trace asked events lines) name none has = absurd (cc (name))
 
 no_script : (rows : List Row) (command : Command) → name_of command ≡ codes "record" → ◌≡◌ {A = Option Text} None (first_of (codes "SCRIPT") rows) → HasWords rows command → ⊥
 no_script rows (Check config other asked progress sessions) name none has = absurd (cc (name))
-no_script rows (History config other any_start progress json) name none has = absurd (cc (name))
+no_script rows (History config other any_start progress json sessions) name none has = absurd (cc (name))
 no_script rows (Picture config other asked events lines) name none has = absurd (cc (name))
 no_script rows (Cut config other asked) name none has = absurd (cc (name))
 no_script rows (Record config script) name none has =

@@ -1,7 +1,6 @@
-use Rattle.std.proofs.Common.{◌≡◌, ◌<◌, ◌∙◌, ◌⊎◌, ap, inl, inr, map, refl, sym, subst, arith, rules}
-use Rattle.settings.specs.Medium.{extent_of, extents_of}
-use Rattle.history_judge.specs.declared.service.Service.{Service}
-use Rattle.judging.specs.inside.Saying.{IsServiceOf}
+use Rattle.std.proofs.Common.{◌≡◌, inl, inr, refl, arith, rules}
+use Rattle.settings.specs.Medium.{extents_of}
+use Rattle.history_fitting.specs.declared.service.Service.{Service}
 use Rattle.judging.proofs.histories.service_of.Goals as goal
 
 pub returns : goal.returns

@@ -2,7 +2,7 @@ use Rattle.std.proofs.Common.{subst}
 use Rattle.std.specs.Prelude.{OnOk, option_copied}
 use Rattle.register.specs.Values.{code}
 use Rattle.history.specs.Waits.{fill}
-use Rattle.history_judge.specs.Services.{rules_of}
+use Rattle.history_fitting.specs.Services.{rules_of}
 use Rattle.history_judge.specs.inside.Cells.{IsCell, read_end, with_last}
 use Rattle.history_judge.proofs.cell.Cell.answer_read.Goals as goal
 

@@ -2,7 +2,7 @@ use Rattle.std.proofs.Common.{◌≡◌, sym, ◌∙◌, ap}
 use Rattle.std.specs.Prelude.{option_copied}
 use Rattle.std.specs.Global.{Vec}
 use Rattle.history_judge.specs.declared.waits.Marked.{Marked}
-use Rattle.history_judge.specs.Services.{rules_of}
+use Rattle.history_fitting.specs.Services.{rules_of}
 use Rattle.history_judge.proofs.Celling.{fill_begins, fill_goes, fill_ends}
 use Rattle.history_judge.proofs.cell.Cell.fill.Goals as goal
 

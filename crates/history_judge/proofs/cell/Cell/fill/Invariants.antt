@@ -1,7 +1,7 @@
 use Rattle.std.proofs.Common.{ℕ, Bool, List}
 use Rattle.std.specs.Prelude.{option_copied}
 use Rattle.history.specs.declared.Wait.{Wait}
-use Rattle.history_judge.specs.Services.{rules_of}
+use Rattle.history_fitting.specs.Services.{rules_of}
 use Rattle.history_judge.specs.inside.Cells.{IsCell}
 use Rattle.history_judge.proofs.Celling.{IsFilling}
 use Rattle.history_judge.proofs.cell.Cell.fill.Given as goal

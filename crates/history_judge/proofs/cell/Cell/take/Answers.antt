@@ -1,7 +1,7 @@
 use Rattle.std.proofs.Common.{[], refl, subst}
 use Rattle.register.specs.Values.{code}
 use Rattle.history.specs.Waits.{step}
-use Rattle.history_judge.specs.Services.{rules_of}
+use Rattle.history_fitting.specs.Services.{rules_of}
 use Rattle.history_judge.specs.inside.Cells.{IsCell}
 use Rattle.history_judge.proofs.Celling.{cell_noted}
 use Rattle.history_judge.proofs.Filling.{label_step}

@@ -1,5 +1,5 @@
 use Rattle.std.proofs.Common.{◌≡◌, ◌<◌, refl, sym, subst}
-use Rattle.history_judge.specs.Services.{rules_of}
+use Rattle.history_fitting.specs.Services.{rules_of}
 use Rattle.history_judge.specs.inside.Cells.{IsCell}
 use Rattle.history_judge.proofs.Celling.{on_one}
 use Rattle.history_judge.proofs.Visiting.{one_is, put_back}

@@ -1,6 +1,6 @@
 use Rattle.std.proofs.Common.{◌≤◌, ℕ, List}
 use Rattle.history.specs.declared.Wait.{Wait}
-use Rattle.history_judge.specs.Services.{rules_of}
+use Rattle.history_fitting.specs.Services.{rules_of}
 use Rattle.history_judge.specs.inside.Cells.{AreToldOf, HasCells, seen_in}
 use Rattle.history_judge.proofs.cells.Cells.visit_all.Given as goal
 

@@ -1,6 +1,6 @@
 use Rattle.std.proofs.Common.{◌∙◌, ◌∷◌, ◌++◌, [], ap, sym, subst}
-use Rattle.history_judge.specs.Services.{rules_of}
-use Rattle.history_judge.specs.inside.Opened.{Takes}
+use Rattle.history_fitting.specs.Services.{rules_of}
+use Rattle.history_fitting.specs.Opened.{Takes}
 use Rattle.history_judge.proofs.Stopping.{whole_push}
 use Rattle.history_judge.proofs.recorded.Fitted.take.Goals as goal
 

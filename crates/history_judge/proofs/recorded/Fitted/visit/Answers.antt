@@ -1,6 +1,6 @@
 use Rattle.std.proofs.Common.{◌++◌, ◌∷◌, [], subst, sym, ◌∙◌}
 use Rattle.std.specs.Prelude.{OnOk, Some, None}
-use Rattle.history_judge.specs.Services.{rules_of}
+use Rattle.history_fitting.specs.Services.{rules_of}
 use Rattle.history_judge.specs.inside.Histories.{IsSpan}
 use Rattle.history_judge.specs.inside.Cells.{HasCells, seen_in, seen_of}
 use Rattle.history_judge.proofs.Stopping.{cells_visited, cells_passed, told_label, fits_label, on_ok}

@@ -1,0 +1,3 @@
+mod Bounds
+pub mod Opening
+pub mod Sizes

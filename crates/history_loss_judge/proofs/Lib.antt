@@ -1,0 +1,11 @@
+mod Alike
+mod Spanning
+mod Turning
+mod Visiting
+mod Labels
+mod Keeping
+mod Quiet
+mod Syncing
+mod Whole
+mod Judged
+mod Passing

@@ -1,0 +1,14 @@
+use Rattle.std.proofs.Common.{◌≡◌, sym, ◌∙◌, arith, length}
+use Rattle.history_loss_judge.specs.declared.cells.Cells.{Cells}
+use Rattle.history_loss_judge.proofs.Visiting.{one_there, one_new_at, not_at}
+use Rattle.history_loss_judge.proofs.cells.Cells.at.Goals as goal
+
+pub returns-in-Some : goal.returns-in-Some
+returns-in-Some c = λ kept h. one_there c.args.basis.now.start kept c.args.sector c.args.self.now c.in-Some.at h (sym c.found.ensures ∙ c.in-Some.is)
+
+pub returns : goal.returns
+returns c = λ kept h.
+    let new : Cells = record { index = c.insert.new.self; cells = c.push.new.self; sectors = c.push-2.new.self } in
+    let last : c.len-at.result ≡ length c.args.self.now.cells.items = grind (arith, c.len-at.ensures) in
+    one_new_at c.args.basis.now.start kept c.args.sector c.args.self.now new c.in_ok-new.field-0 c.len-at.result last h (sym c.found.ensures ∙ c.in_default.is) c.in_ok-insert.ensures.updates.1
+    (λ i differ. c.in_ok-insert.ensures.updates.2 i (not_at c.args.sector i differ)) c.in_ok-push.ensures.items c.in_ok-push-2.ensures.items c.in_ok-new.ensures

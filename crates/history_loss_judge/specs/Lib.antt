@@ -1,0 +1,4 @@
+pub mod Histories
+pub mod Verdicts
+pub mod Laws
+pub mod inside

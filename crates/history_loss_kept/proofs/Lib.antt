@@ -1,0 +1,17 @@
+mod Steps
+mod Waits
+mod Marks
+mod Nearing
+mod Seeing
+mod Trimming
+mod Stuck
+mod Beside
+mod Securing
+mod Idling
+mod Items
+mod Dues
+mod Fitting
+mod Marking
+mod Numbering
+mod Telling
+mod Working

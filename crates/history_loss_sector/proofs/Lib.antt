@@ -1,0 +1,4 @@
+mod Answering
+mod Gathering
+mod Viewing
+mod Once
