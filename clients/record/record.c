@@ -1,6 +1,6 @@
 /* An nbdkit filter that writes down what clients saw: each call and each answer, with their bytes.
  *
- *     nbdkit --filter=./record.so nbd socket=SERVER record=FILE [record-limit=BYTES]
+ *     nbdkit --filter=./record.so nbd socket=SERVER record=FILE [record-limit=BYTES] [record-behind=lost|ended]
  *
  * A call's line is written before the request goes to the server, an answer's before it goes to the client: so the
  * server did what it did between the two lines, and the client saw no less time between them. The lines are those of
@@ -11,7 +11,9 @@
  *
  * BYTES are runs, a5*512,00*2, or, where that is shorter, x and two hexadecimal digits a byte. A request to write zeros
  * is a write of them, and none to trim is offered, since what that leaves nobody can judge. A broken connection is no
- * answer, and a remark says so. A file that is there is gone on with, and its numbers too. A request that can't be
+ * answer, and a remark says so. A file that is there is gone on with, and its numbers too; with record-behind it is a
+ * history over sessions: that line is written first, unless the file is new or empty, and numbers begin anew: `lost` where
+ * the server lost its power, or what it had not on its medium, `ended` where its process ended. A request that can't be
  * written down is not made, or has no answer in the file and fails. Whole lines are written, as soon as they have more
  * than BYTES (262,144) together, and when a client leaves: with a limit of 0 the file has them all, also where this is
  * killed. */
@@ -24,6 +26,7 @@
 #include <stdio.h>
 #include <stdlib.h>
 #include <string.h>
+#include <sys/stat.h>
 #include <unistd.h>
 
 #define NBDKIT_API_VERSION 2
@@ -34,6 +37,8 @@
 #define RUN 32
 
 static char *path;
+/* The line that says how the session before ended, if that is told. */
+static const char *behind;
 static int file = -1;
 static uint32_t limit = 1 << 18;
 static pthread_mutex_t lock = PTHREAD_MUTEX_INITIALIZER;
@@ -48,6 +53,13 @@ config(nbdkit_next_config *next, nbdkit_backend *backend, const char *key, const
 {
 	if (strcmp(key, "record-limit") == 0)
 		return nbdkit_parse_uint32_t(key, value, &limit);
+	if (strcmp(key, "record-behind") == 0) {
+		behind = strcmp(value, "lost") == 0 ? "lost\n" : strcmp(value, "ended") == 0 ? "ended\n" : NULL;
+		if (behind != NULL)
+			return 0;
+		nbdkit_error("record-behind is lost or ended");
+		return -1;
+	}
 	if (strcmp(key, "record") != 0)
 		return next(backend, key, value);
 	free(path);
@@ -65,22 +77,39 @@ config_complete(nbdkit_next_config_complete *next, nbdkit_backend *backend)
 }
 
 /* Goes on behind the numbers of a file that is there. */
-static int
-get_ready(int model)
+static void
+take_numbers(void)
 {
 	char *line = NULL;
 	size_t line_room = 0;
 	uint64_t number;
 	FILE *old = fopen(path, "r");
-	(void) model;
 	while (old != NULL && getline(&line, &line_room, old) > 0)
 		if (sscanf(line, "call %" SCNu64, &number) == 1 && number >= next_number)
 			next_number = number + 1;
 	free(line);
 	if (old != NULL)
 		fclose(old);
+}
+
+/* Begins a session behind what a file has. */
+static bool
+turn(void)
+{
+	struct stat now;
+	if (fstat(file, &now) != 0)
+		return false;
+	return now.st_size == 0 || write(file, behind, strlen(behind)) == (ssize_t) strlen(behind);
+}
+
+static int
+get_ready(int model)
+{
+	(void) model;
+	if (behind == NULL)
+		take_numbers();
 	file = open(path, O_WRONLY | O_APPEND | O_CREAT | O_CLOEXEC, 0666);
-	if (file >= 0)
+	if (file >= 0 && (behind == NULL || turn()))
 		return 0;
 	nbdkit_error("%s: %m", path);
 	return -1;
