@@ -1,18 +1,18 @@
 //! What goes on beside a thread that is held: at its turnstile, or within the transfer of its piece.
 
-ghost use Rattle.std.specs.Prelude.{◌≡◌, ◌<◌, IfOk};
+ghost use Rattle.std.specs.Prelude.{◌≡◌, IfOk};
 
-use crate::desk::Bench;
+use crate::desk::{Company, Keeps};
 use crate::disks::disk;
 use crate::holding::Holding;
 use crate::opening::ready_over;
-use crate::orders::bytes;
 use crate::scenes::{Held, Setting, Want, play_scene};
 use crate::texts;
+use crate::user::{Caller, read, told_of};
 use cancel_marks::Marking;
-use compose::Refusal as Why;
 use disk::{BadSector, Medium, NoMemory};
-use host::{Answered, Call, Client, HostNaming, Reason, Ticket};
+use host::Answered;
+use script::Order;
 use sector::Extent;
 use std::alloc::{AllocError, Global};
 use std::marker::Brand;
@@ -76,51 +76,34 @@ impl<'a, M: Medium, C: Clock, W: Wait> Medium for HoldsReads<'a, M, C, W> {
 }
 
 // A client reads the sector at an offset.
-pub(crate) fn read_at<M: Medium, N: HostNaming, R: Wait>(
-    bench: &Bench<M, N, R>,
-    client: &mut Client<N>,
+pub(crate) fn read_at<C: Caller>(
+    alloc: Global,
+    client: &mut C,
     offset: u64,
-) -> Result<Ticket<N>, AllocError>
-    ensures client { client.new.client ≡ client.old.client }
-    ensures ticket { IfOk result (λ t. t.client ≡ client.new.client) }
-    ensures held { IfOk result (λ _. 0 < client.new.pass.holds) }
+) -> Result<C::Ticket, AllocError>
+    ensures client { C.number client.new ≡ C.number client.old }
+    ensures ticket { IfOk result (λ t. C.owner t ≡ C.number client.new) }
 {
-    let buffer = bytes(bench.alloc, 0, 512)?;
-    match client.issue(bench.rt, bench.host, Call::Read { offset, buffer }) {
+    let call = read(alloc, offset, 512)?;
+    match client.issue(call) {
         Ok(ticket) => Ok(ticket),
         Err(_) => Err(AllocError),
     }
 }
 
 // A client reads a sector that lies past its partition. Returns why it may not.
-fn read_past<M: Medium, N: HostNaming, R: Wait>(
-    bench: &Bench<M, N, R>,
-    client: &mut Client<N>,
-) -> Result<String, AllocError>
-    ensures { client.new.client ≡ client.old.client }
-{
-    let call = Call::Read {
-        offset: 524_288,
-        buffer: bytes(bench.alloc, 0, 512)?,
-    };
-    match client.issue(bench.rt, bench.host, call) {
+fn read_past<C: Caller>(alloc: Global, client: &mut C) -> Result<String, AllocError> {
+    let call = read(alloc, 524_288, 512)?;
+    match client.issue(call) {
         Ok(_) => Err(AllocError),
-        Err(refusal) => match refusal.reason {
-            Reason::Refused(Why::InsufficientResources) => Err(AllocError),
-            _ => texts::refusal(bench.alloc, &refusal),
-        },
+        Err(refusal) => told_of(alloc, &refusal),
     }
 }
 
 // A client reads the first sector, and waits for the answer.
-fn read_and_wait<M: Medium, N: HostNaming, R: Wait>(
-    bench: &Bench<M, N, R>,
-    client: &mut Client<N>,
-) -> Result<String, AllocError>
-    ensures { client.new.client ≡ client.old.client }
-{
-    let ticket = read_at(bench, client, 0)?;
-    texts::answered(bench.alloc, client.wait(bench.rt, bench.host, ticket))
+fn read_and_wait<C: Caller>(alloc: Global, client: &mut C) -> Result<String, AllocError> {
+    let ticket = read_at(alloc, client, 0)?;
+    texts::answered(alloc, client.wait(ticket))
 }
 
 // What was seen, one after the other.
@@ -137,22 +120,19 @@ fn seen(
     Ok(text)
 }
 
-fn beside_transfer<M: Medium, N: HostNaming, R: Wait, C: Clock>(
-    bench: &Bench<M, N, R>,
-    holding: &Holding<'_, C>,
-    first: &mut Client<N>,
-    second: &mut Client<N>,
-) -> Result<String, AllocError>
-    ensures first { first.new.client ≡ first.old.client }
-    ensures second { second.new.client ≡ second.old.client }
-{
-    let (rt, alloc, host) = (bench.rt, bench.alloc, bench.host);
-    let ticket = read_at(bench, first, 0)?;
+fn beside_transfer<C: Caller, R: Wait, T: Clock>(
+    rt: &R,
+    alloc: Global,
+    holding: &Holding<'_, T>,
+    first: &mut C,
+    second: &mut C,
+) -> Result<String, AllocError> {
+    let ticket = read_at(alloc, first, 0)?;
     holding.await_held(rt);
-    let marking = first.mark_cancel(host, &ticket);
-    let refused = read_past(bench, second);
+    let marking = first.mark(&ticket);
+    let refused = read_past(alloc, second);
     holding.let_go(rt);
-    let answered = first.wait(rt, host, ticket);
+    let answered = first.wait(ticket);
     let marked = if marking == Marking::Marked {
         "marked"
     } else {
@@ -161,92 +141,85 @@ fn beside_transfer<M: Medium, N: HostNaming, R: Wait, C: Clock>(
     seen(alloc, marked, refused, answered)
 }
 
-fn beside_reset<M: Medium, N: HostNaming, R: Wait, C: Clock>(
-    bench: &Bench<M, N, R>,
-    holding: &Holding<'_, C>,
-    first: &mut Client<N>,
-) -> Result<String, AllocError>
-    ensures { first.new.client ≡ first.old.client }
-{
-    let (rt, alloc, host) = (bench.rt, bench.alloc, bench.host);
-    let ticket = read_at(bench, first, 0)?;
+fn beside_reset<C: Caller, K: Keeps, R: Wait, T: Clock>(
+    rt: &R,
+    alloc: Global,
+    holding: &Holding<'_, T>,
+    keeper: &mut K,
+    first: &mut C,
+) -> Result<String, AllocError> {
+    let ticket = read_at(alloc, first, 0)?;
     holding.await_held(rt);
-    let reply = host.reset(rt);
+    let reply = keeper.take(Order::Reset);
     holding.let_go(rt);
-    let answered = first.wait(rt, host, ticket);
+    let answered = first.wait(ticket);
     seen(alloc, "reset", texts::reply(alloc, &reply), answered)
 }
 
-fn beside_turnstile<M: Medium, N: HostNaming, R: Wait, C: Clock>(
-    bench: &Bench<M, N, R>,
-    holding: &Holding<'_, C>,
-    first: &mut Client<N>,
-    second: &mut Client<N>,
-) -> Result<String, AllocError>
-    ensures first { first.new.client ≡ first.old.client }
-    ensures second { second.new.client ≡ second.old.client }
-{
-    let (rt, alloc, host) = (bench.rt, bench.alloc, bench.host);
-    let ticket = read_at(bench, first, 0)?;
+fn beside_turnstile<C: Caller, R: Wait, T: Clock>(
+    rt: &R,
+    alloc: Global,
+    holding: &Holding<'_, T>,
+    first: &mut C,
+    second: &mut C,
+) -> Result<String, AllocError> {
+    let ticket = read_at(alloc, first, 0)?;
     holding.await_held(rt);
-    let free = read_and_wait(bench, second);
+    let free = read_and_wait(alloc, second);
     holding.let_go(rt);
-    let answered = first.wait(rt, host, ticket);
+    let answered = first.wait(ticket);
     seen(alloc, "held", free, answered)
 }
 
 // Waits for the answer to a read, where it was issued.
-pub(crate) fn answer_to<M: Medium, N: HostNaming, R: Wait>(
-    bench: &Bench<M, N, R>,
-    client: &mut Client<N>,
-    issued: Result<Ticket<N>, AllocError>,
+pub(crate) fn answer_to<C: Caller>(
+    alloc: Global,
+    client: &mut C,
+    issued: Result<C::Ticket, AllocError>,
 ) -> Result<String, AllocError>
-    requires { IfOk issued (λ t. t.client ≡ client.old.client) }
-    ensures { client.new.client ≡ client.old.client }
+    requires { IfOk issued (λ t. C.owner t ≡ C.number client.old) }
+    ensures { C.number client.new ≡ C.number client.old }
 {
-    let answered = client.wait(bench.rt, bench.host, issued?);
-    texts::answer(bench.alloc, answered.answer)
+    let answered = client.wait(issued?);
+    texts::answer(alloc, answered.answer)
 }
 
 // A client reads four sectors at once, and is told of each. Nobody is held where a read can't be issued.
-fn read_four<M: Medium, N: HostNaming, R: Wait, C: Clock>(
-    bench: &Bench<M, N, R>,
-    holding: &Holding<'_, C>,
-    client: &mut Client<N>,
-) -> Result<String, AllocError>
-    ensures { client.new.client ≡ client.old.client }
-{
-    let one = read_at(bench, client, 0);
-    let two = read_at(bench, client, 512);
-    let three = read_at(bench, client, 1024);
-    let four = read_at(bench, client, 1536);
+fn read_four<C: Caller, R: Wait, T: Clock>(
+    rt: &R,
+    alloc: Global,
+    holding: &Holding<'_, T>,
+    client: &mut C,
+) -> Result<String, AllocError> {
+    let one = read_at(alloc, client, 0);
+    let two = read_at(alloc, client, 512);
+    let three = read_at(alloc, client, 1024);
+    let four = read_at(alloc, client, 1536);
     if one.is_err() | two.is_err() | three.is_err() | four.is_err() {
-        holding.let_go(bench.rt);
+        holding.let_go(rt);
     }
-    let one = answer_to(bench, client, one);
-    let two = answer_to(bench, client, two);
-    let three = answer_to(bench, client, three);
-    let four = answer_to(bench, client, four);
+    let one = answer_to(alloc, client, one);
+    let two = answer_to(alloc, client, two);
+    let three = answer_to(alloc, client, three);
+    let four = answer_to(alloc, client, four);
     let (one, two, three, four) = (one?, two?, three?, four?);
-    format!(in bench.alloc; "{one} / {two} / {three} / {four}")
+    format!(in alloc; "{one} / {two} / {three} / {four}")
 }
 
 /// Plays the scene of a setting.
-pub(crate) fn play<M: Medium, N: HostNaming, R: Wait, C: Clock>(
-    bench: &Bench<M, N, R>,
-    setting: &Setting<'_, C>,
-    first: &mut Client<N>,
-    second: &mut Client<N>,
-) -> Result<String, AllocError>
-    ensures first { first.new.client ≡ first.old.client }
-    ensures second { second.new.client ≡ second.old.client }
-{
+pub(crate) fn play<C: Caller, K: Keeps, R: Wait, T: Clock>(
+    rt: &R,
+    alloc: Global,
+    setting: &Setting<'_, T>,
+    company: &mut Company<K, C>,
+) -> Result<String, AllocError> {
     let holding = setting.holding;
+    let (first, second) = (&mut company.first, &mut company.second);
     match setting.scene {
-        Scene::Transfer => beside_transfer(bench, holding, first, second),
-        Scene::Reset => beside_reset(bench, holding, first),
-        Scene::Turnstile => beside_turnstile(bench, holding, first, second),
-        Scene::FullQueue => read_four(bench, holding, first),
+        Scene::Transfer => beside_transfer(rt, alloc, holding, first, second),
+        Scene::Reset => beside_reset(rt, alloc, holding, &mut company.keeper, first),
+        Scene::Turnstile => beside_turnstile(rt, alloc, holding, first, second),
+        Scene::FullQueue => read_four(rt, alloc, holding, first),
     }
 }
 

@@ -13,14 +13,16 @@ ghost use Rattle.traced.specs.Sound.{IsNamed};
 
 use crate::expect::same;
 use crate::opened::OpenStack;
-use crate::orders::{bytes, client_of, order_of, tag_of};
+use crate::orders::{client_of, order_of, tag_of};
 use crate::replaying::{compare_acts, compare_rows, places_of, replay};
 use crate::texts;
+use crate::user::call_of;
 use book::{Beside, Book, BookNaming, Records};
 use cancel_marks::{Marks, Seat};
 use chronicle::{History, Opened};
 use compose::{Event, Handle, Id, Refusal, Reply};
 use disk::Medium;
+use host::Call;
 use machine::Label;
 use miniport::BookedAdapter;
 use script::Order;
@@ -47,18 +49,98 @@ pub(crate) enum Row<'a> {
     Room(usize),
 }
 
+/// A book beside its journal, whatever their types: what plays a test is proved over this alone.
+trait Clerk {
+    type Share;
+
+    /// A read, a write or a flush on a client's handle.
+    fn call(&mut self, share: &mut Self::Share, call: Call) -> Reply;
+
+    /// Any other event.
+    fn other(&mut self, event: Event) -> Reply
+        requires no_handle { is_handle_event event ≡ false }
+        requires no_call { call_handle event ≡ None };
+
+    /// A client's handle.
+    fn handle(share: &Self::Share) -> Handle;
+
+    /// The piece of a tag acts in the journal, under its lock alone.
+    fn act(&mut self, tag: u8) -> Result<u64, Completion>
+        ensures bad { IfErr result (λ completion. class_of completion ≡ Bad completion) };
+
+    /// The act of a tag whose piece failed in the journal.
+    fn act_failed(&mut self, tag: u8, completion: Completion) -> Reply
+        requires bad { class_of completion ≡ Bad completion };
+
+    /// Checks that no piece of the tag may act in the journal, this one neither.
+    fn rests(&mut self, tag: u8, piece: u128);
+
+    /// Of how many requests the journal has room for the acts.
+    fn reservations(&self) -> usize;
+
+    /// How many labels the trace has.
+    fn len(&self) -> usize;
+}
+
 /// A book, and what stands beside it.
 #[derive(Drop)]
-pub(crate) struct Desk<'a, M: Medium, N: BookNaming>
+struct Desk<'r, 'a, M: Medium, N: BookNaming, R>
 where
     OfArmings<N>: chronicle::Naming,
     OfEntries<N>: chronicle::Naming,
 {
-    pub alloc: Global,
-    pub book: Book<N>,
-    pub beside: Beside<'a, M, N>,
+    rt: &'r R,
+    book: Book<N>,
+    beside: Beside<'a, M, N>,
     /// The history of the journal.
-    pub words: &'a sector_journal::History<N>,
+    words: &'a sector_journal::History<N>,
+}
+
+impl<'r, 'a, M: Medium, N: BookNaming, R: Wait + Abort> Clerk for Desk<'r, 'a, M, N, R> {
+    type Share = Share<N>;
+
+    fn call(&mut self, share: &mut Share<N>, call: Call) -> Reply {
+        let event = event_of(share.handle(), call);
+        self.book.step(self.rt, &self.beside, Some(share), event)
+    }
+
+    fn other(&mut self, event: Event) -> Reply {
+        self.book.step(self.rt, &self.beside, Share::none(), event)
+    }
+
+    fn handle(share: &Share<N>) -> Handle {
+        share.handle()
+    }
+
+    fn act(&mut self, tag: u8) -> Result<u64, Completion> {
+        let mut journal = self.beside.journal.lock(self.rt);
+        let Some(piece) = armed_piece(&journal, tag) else {
+            panic!(self.rt; "nothing may act on tag {tag}")
+        };
+        match journal.act(self.words, tag, piece) {
+            Some(done) => done,
+            None => panic!(self.rt; "the piece of tag {tag} didn't act"),
+        }
+    }
+
+    fn act_failed(&mut self, tag: u8, completion: Completion) -> Reply {
+        self.book.act_failed(self.rt, &self.beside, tag, completion)
+    }
+
+    fn rests(&mut self, tag: u8, piece: u128) {
+        let mut journal = self.beside.journal.lock(self.rt);
+        assert!(self.rt; journal.armed(tag).is_none(), "tag {tag}");
+        assert!(self.rt; journal.act(self.words, tag, piece).is_none(), "tag {tag}");
+    }
+
+    fn reservations(&self) -> usize {
+        let journal = self.beside.journal.lock(self.rt);
+        journal.reservations()
+    }
+
+    fn len(&self) -> usize {
+        self.book.len()
+    }
 }
 
 // The piece that may act in the journal on a tag.
@@ -67,39 +149,29 @@ fn armed_piece<M: Medium, N: BookNaming>(journal: &Journal<M, N>, tag: u8) -> Op
     Some(armed.piece)
 }
 
-// The piece of a tag acts in the journal, under its lock alone.
-fn act<M: Medium, N: BookNaming, R: Wait + Abort>(
-    rt: &R,
-    desk: &Desk<M, N>,
-    tag: u8,
-) -> Result<u64, Completion>
-    ensures bad { IfErr result (λ completion. class_of completion ≡ Bad completion) }
+// The event of a call on a handle.
+fn event_of(handle: Handle, call: Call) -> Event
+    ensures no_handle { is_handle_event result ≡ false }
+    ensures call { call_handle result ≡ Some handle }
 {
-    let mut journal = desk.beside.journal.lock(rt);
-    let Some(piece) = armed_piece(&journal, tag) else {
-        panic!(rt; "nothing may act on tag {tag}")
-    };
-    match journal.act(desk.words, tag, piece) {
-        Some(done) => done,
-        None => panic!(rt; "the piece of tag {tag} didn't act"),
+    match call {
+        Call::Read { offset, buffer } => Event::Read {
+            handle,
+            offset,
+            buffer,
+        },
+        Call::Write {
+            offset,
+            bytes,
+            through,
+        } => Event::Write {
+            handle,
+            offset,
+            bytes,
+            through,
+        },
+        Call::Flush => Event::Flush { handle },
     }
-}
-
-fn rests<M: Medium, N: BookNaming, R: Wait + Abort>(
-    rt: &R,
-    desk: &Desk<M, N>,
-    tag: u8,
-    piece: u128,
-) {
-    let mut journal = desk.beside.journal.lock(rt);
-    assert!(rt; journal.armed(tag).is_none(), "tag {tag}");
-    assert!(rt; journal.act(desk.words, tag, piece).is_none(), "tag {tag}");
-}
-
-// Of how many requests the journal has room for the acts.
-fn reservations<M: Medium, N: BookNaming, R: Wait>(rt: &R, desk: &Desk<M, N>) -> usize {
-    let journal = desk.beside.journal.lock(rt);
-    journal.reservations()
 }
 
 // Whether memory was refused.
@@ -113,145 +185,117 @@ fn is_refused_for_memory(reply: &Reply) -> bool {
     )
 }
 
-// A read, a write or a flush on a client's handle.
-fn call<M: Medium, N: BookNaming, R: Wait>(
-    rt: &R,
-    desk: &mut Desk<M, N>,
-    share: &mut Share<N>,
-    event: Event,
-) -> Reply
-    requires no_handle { is_handle_event event ≡ false }
-    requires call { call_handle event ≡ Some share.old.handle }
-{
-    desk.book.step(rt, &desk.beside, Some(share), event)
-}
-
-// Any other event.
-fn other<M: Medium, N: BookNaming, R: Wait>(rt: &R, desk: &mut Desk<M, N>, event: Event) -> Reply
-    requires no_handle { is_handle_event event ≡ false }
-    requires no_call { call_handle event ≡ None }
-{
-    desk.book.step(rt, &desk.beside, Share::none(), event)
-}
-
 // A step on a client's handle.
-fn step<M: Medium, N: BookNaming, R: Wait + Abort>(
-    rt: &R,
-    desk: &mut Desk<M, N>,
-    share: &mut Share<N>,
+fn step<C: Clerk>(
+    rt: &impl Abort,
+    alloc: Global,
+    clerk: &mut C,
+    share: &mut C::Share,
     order: Order,
 ) -> Result<Reply, AllocError> {
-    let alloc = desk.alloc;
-    let handle = share.handle();
+    if client_of(order).is_some() {
+        let call = call_of(rt, alloc, order)?;
+        return Ok(clerk.call(share, call));
+    }
+    let handle = C::handle(share);
     Ok(match order {
-        Order::Read { offset, length, .. } => {
-            let buffer = bytes(alloc, 0, length)?;
-            let event = Event::Read {
-                handle,
-                offset,
-                buffer,
-            };
-            call(rt, desk, share, event)
-        }
-        Order::Write {
-            offset,
-            length,
-            byte,
-            through,
-            ..
-        } => {
-            let bytes = bytes(alloc, byte, length)?;
-            let event = Event::Write {
-                handle,
-                offset,
-                bytes,
-                through,
-            };
-            call(rt, desk, share, event)
-        }
-        Order::Flush { .. } => call(rt, desk, share, Event::Flush { handle }),
-        order => other_step(rt, desk, handle, order),
+        Order::Cancel { request, .. } => cancel(rt, clerk, handle, request),
+        _ => other(rt, clerk, other_event(rt, order)),
     })
 }
 
-// A step that is no call.
-fn other_step<M: Medium, N: BookNaming, R: Wait + Abort>(
-    rt: &R,
-    desk: &mut Desk<M, N>,
-    handle: Handle,
-    order: Order,
-) -> Reply {
+// Cancels a request of a handle, or all.
+fn cancel<C: Clerk>(rt: &impl Abort, desk: &mut C, handle: Handle, request: Option<u64>) -> Reply {
+    let target = request.map(|number| Id { slot: 0, number });
+    other(rt, desk, Event::CancelIoEx { handle, target })
+}
+
+// Any other event. The trace loses no label by it.
+fn other<C: Clerk>(rt: &impl Abort, desk: &mut C, event: Event) -> Reply
+    requires no_handle { is_handle_event event ≡ false }
+    requires no_call { call_handle event ≡ None }
+{
+    let before = desk.len();
+    let reply = desk.other(event);
+    assert!(rt; before <= desk.len());
+    reply
+}
+
+// The event of an order that is neither a call nor a cancel.
+fn other_event(rt: &impl Abort, order: Order) -> Event
+    ensures no_handle { is_handle_event result ≡ false }
+    ensures no_call { call_handle result ≡ None }
+{
     match order {
-        Order::Cancel { request, .. } => {
-            let target = request.map(|number| Id { slot: 0, number });
-            other(rt, desk, Event::CancelIoEx { handle, target })
-        }
-        Order::Act { tag } => other(rt, desk, Event::Act { tag: tag_of(tag) }),
-        Order::Finish { tag } => other(rt, desk, Event::Finish { tag: tag_of(tag) }),
-        Order::Reset => other(rt, desk, Event::Reset),
+        Order::Act { tag } => Event::Act { tag: tag_of(tag) },
+        Order::Finish { tag } => Event::Finish { tag: tag_of(tag) },
+        Order::Reset => Event::Reset,
         _ => panic!(rt; "no order of a book's client"),
     }
 }
 
-// Checks that a step has just this reply. Where it was refused for want of memory, the trace has not grown, and what
-// was reserved for it was given back.
-fn go<M: Medium, N: BookNaming, R: Wait + Abort>(
-    rt: &R,
-    desk: &mut Desk<M, N>,
-    share: &mut Share<N>,
-    order: Order,
-    want: &str,
+// Checks that the step of a line has just this reply. Where it was refused for want of memory, the trace has not grown,
+// and what was reserved for it was given back.
+fn go<C: Clerk>(
+    rt: &impl Abort,
+    alloc: Global,
+    clerk: &mut C,
+    share: &mut C::Share,
+    line: (Order, &str),
 ) -> Result<(), AllocError> {
-    let before = (desk.book.len(), reservations(rt, desk));
-    let reply = step(rt, desk, share, order)?;
+    let (order, want) = line;
+    let before = (clerk.len(), clerk.reservations());
+    let reply = step(rt, alloc, clerk, share, order)?;
     if is_refused_for_memory(&reply) {
-        assert!(rt; (desk.book.len(), reservations(rt, desk)) == before);
+        assert!(rt; (clerk.len(), clerk.reservations()) == before);
         return Err(AllocError);
     }
-    same(rt, &texts::reply(desk.alloc, &reply)?.as_str(), &want);
+    same(rt, &texts::reply(alloc, &reply)?.as_str(), &want);
     Ok(())
 }
 
 // The piece of a tag fails in the journal, and then in the book.
-fn fail<M: Medium, N: BookNaming, R: Wait + Abort>(
-    rt: &R,
-    desk: &mut Desk<M, N>,
+fn fail<C: Clerk>(
+    rt: &impl Abort,
+    alloc: Global,
+    clerk: &mut C,
     tag: u8,
     want: &str,
 ) -> Result<(), AllocError> {
-    let Err(completion) = act(rt, desk, tag) else {
+    let Err(completion) = clerk.act(tag) else {
         panic!(rt; "the piece of tag {tag} didn't fail")
     };
-    let reply = desk.book.act_failed(rt, &desk.beside, tag, completion);
-    same(rt, &texts::reply(desk.alloc, &reply)?.as_str(), &want);
+    let reply = clerk.act_failed(tag, completion);
+    same(rt, &texts::reply(alloc, &reply)?.as_str(), &want);
     Ok(())
 }
 
-/// The rows of a test one by one.
-pub(crate) fn play<M: Medium, N: BookNaming, R: Wait + Abort>(
-    rt: &R,
-    desk: &mut Desk<M, N>,
-    shares: (&mut Share<N>, &mut Share<N>),
+// Carries the rows of a test out one by one.
+fn play<C: Clerk>(
+    rt: &impl Abort,
+    alloc: Global,
+    clerk: &mut C,
+    shares: (&mut C::Share, &mut C::Share),
     rows: &[Row],
 ) -> Result<(), AllocError> {
     let (first, second) = shares;
     for row in rows {
         match *row {
             Row::Line(line, want) => {
-                let order = order_of(rt, desk.alloc, line)?;
+                let order = order_of(rt, alloc, line)?;
                 if client_of(order) == Some(1) {
-                    go(rt, desk, second, order, want)?;
+                    go(rt, alloc, clerk, second, (order, want))?;
                 } else {
-                    go(rt, desk, first, order, want)?;
+                    go(rt, alloc, clerk, first, (order, want))?;
                 }
             }
             Row::Lane(tag, number) => {
-                assert!(rt; act(rt, desk, tag) == Ok(number), "tag {tag}");
+                assert!(rt; clerk.act(tag) == Ok(number), "tag {tag}");
             }
-            Row::LaneFails(tag, want) => fail(rt, desk, tag, want)?,
-            Row::Rests(tag, piece) => rests(rt, desk, tag, piece),
+            Row::LaneFails(tag, want) => fail(rt, alloc, clerk, tag, want)?,
+            Row::Rests(tag, piece) => clerk.rests(tag, piece),
             Row::Room(requests) => {
-                assert!(rt; reservations(rt, desk) == requests);
+                assert!(rt; clerk.reservations() == requests);
             }
         }
     }
@@ -275,8 +319,8 @@ fn claim_first<N: BookNaming>(book: &mut Book<N>, history: &History<TraceEntry, 
 }
 
 // Books what is left of the entries.
-fn book_rest<M: Medium, N: BookNaming, R: Wait>(rt: &R, desk: &mut Desk<M, N>) {
-    let mut journal = desk.beside.journal.lock(rt);
+fn book_rest<M: Medium, N: BookNaming, R: Wait>(desk: &mut Desk<M, N, R>) {
+    let mut journal = desk.beside.journal.lock(desk.rt);
     desk.book.book_rest(&desk.beside.records, &mut journal);
 }
 
@@ -341,7 +385,7 @@ pub(crate) fn carry_out<M: Medium, N: BookNaming, R: Wait + Abort>(
     let book = Book::new(alloc, traced, &mut journal, &words)?;
     let journal = Mutex::new(journal);
     let mut desk = Desk {
-        alloc,
+        rt,
         book,
         beside: Beside {
             records: Records::new(Context::new(alloc, &history, &marks), &words),
@@ -349,8 +393,8 @@ pub(crate) fn carry_out<M: Medium, N: BookNaming, R: Wait + Abort>(
         },
         words: &words,
     };
-    play(rt, &mut desk, (&mut first, &mut second), run.rows)?;
-    book_rest(rt, &mut desk);
+    play(rt, alloc, &mut desk, (&mut first, &mut second), run.rows)?;
+    book_rest(&mut desk);
     let Desk { mut book, .. } = desk;
     claim_first(&mut book, &history);
     all.merge(first.into_part());

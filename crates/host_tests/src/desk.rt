@@ -1,6 +1,6 @@
 //! A host of two clients, and what is asked of it.
 
-ghost use Rattle.std.specs.Prelude.{◌≡◌, ◌≤◌, ◌∷◌, [], IfOk, length, vec_capacity};
+ghost use Rattle.std.specs.Prelude.{◌≡◌, ◌≤◌, [], length, vec_capacity};
 ghost use Rattle.host.specs.Clients.{AreNumbered};
 ghost use Rattle.host.specs.Opening.{IsDiskFor};
 
@@ -9,12 +9,13 @@ use crate::opening::{Ready, open_host};
 use crate::orders::{client_of, order_of, tag_of};
 use crate::replaying::{compare_acts, compare_rows, places_of, replay};
 use crate::texts;
-use crate::user::{Deed, User};
+use crate::user::{Caller, Deed, Hosted, Told, User};
 use compose::{Refusal as Why, Reply};
 use disk::Medium;
 use host::{Client, Closed, Host, HostNaming, Keeper};
 use lanes::{Desk, Step};
 use machine::Label;
+use rounds::remove;
 use script::Order;
 use sector_journal::{OfArmings, OfEntries};
 use std::alloc::{AllocError, Global};
@@ -22,16 +23,53 @@ use std::process::Abort;
 use std::sync::Wait;
 use traced::TraceEntry;
 
-/// A host, with what each call of it is passed.
+/// A host with its keeper, whatever its types: steps that are no client's.
+pub(crate) trait Keeps {
+    /// Takes a step.
+    fn take(&mut self, order: Order) -> Reply;
+
+    /// Removes the device, or pulls it out where a query is refused.
+    fn end(&mut self);
+}
+
+/// A host with its keeper.
 #[derive(Drop)]
-pub(crate) struct Bench<'a, M: Medium, N: HostNaming, R>
+pub(crate) struct Kept<'r, 'h, M: Medium, N: HostNaming, R>
 where
     OfArmings<N>: chronicle::Naming,
     OfEntries<N>: chronicle::Naming,
 {
+    pub rt: &'r R,
+    pub host: &'h Host<M, N>,
+    pub keeper: Keeper<N>,
+}
+
+impl<'r, 'h, M: Medium, N: HostNaming, R: Wait + Abort> Keeps for Kept<'r, 'h, M, N, R> {
+    fn take(&mut self, order: Order) -> Reply {
+        let (rt, host) = (self.rt, self.host);
+        match order {
+            Order::Act { tag } => host.act(rt, tag_of(tag)),
+            Order::Finish { tag } => host.finish(rt, tag_of(tag)),
+            Order::Reset => host.reset(rt),
+            Order::QueryRemove => host.query_remove(rt, &mut self.keeper),
+            Order::CancelRemove => host.cancel_remove(rt, &mut self.keeper),
+            Order::Remove => host.remove(rt, &mut self.keeper),
+            Order::SurpriseRemove => host.surprise_remove(rt, &mut self.keeper),
+            _ => panic!(rt; "no step of a host"),
+        }
+    }
+
+    fn end(&mut self) {
+        remove(self.rt, self.host, &mut self.keeper);
+    }
+}
+
+/// What a test runs in, and the desk of its lanes.
+#[derive(Drop)]
+pub(crate) struct Bench<'a, R, D> {
     pub rt: &'a R,
     pub alloc: Global,
-    pub host: &'a Host<M, N>,
+    pub desk: &'a D,
 }
 
 /// One row of a test, with its outcome.
@@ -45,11 +83,12 @@ pub(crate) enum Row<'a> {
     Lane(u8, Step),
 }
 
-/// Both clients of a test.
+/// The keeper and both clients of a test.
 #[derive(Drop)]
-struct Users<N: HostNaming> {
-    first: User<N>,
-    second: User<N>,
+struct Users<K: Keeps, C: Caller> {
+    keeper: K,
+    first: User<C>,
+    second: User<C>,
 }
 
 /// The rows of a test, and the whole trace.
@@ -59,35 +98,9 @@ pub(crate) struct Run<'a> {
     pub trace: &'a str,
 }
 
-/// What a client told of itself: its number, and the places of its calls and of the answers that it was told of.
-type Told = (usize, Vec<usize>, Vec<usize>);
-
-// Takes a step that is no client's.
-fn step<M: Medium, N: HostNaming, R: Wait + Abort>(
-    rt: &R,
-    host: &Host<M, N>,
-    keeper: &mut Keeper<N>,
-    order: Order,
-) -> Reply {
-    match order {
-        Order::Act { tag } => host.act(rt, tag_of(tag)),
-        Order::Finish { tag } => host.finish(rt, tag_of(tag)),
-        Order::Reset => host.reset(rt),
-        Order::QueryRemove => host.query_remove(rt, keeper),
-        Order::CancelRemove => host.cancel_remove(rt, keeper),
-        Order::Remove => host.remove(rt, keeper),
-        Order::SurpriseRemove => host.surprise_remove(rt, keeper),
-        _ => panic!(rt; "no step of a host"),
-    }
-}
-
-// Takes such a step, and returns its reply as text.
-fn drive<M: Medium, N: HostNaming, R: Wait + Abort>(
-    bench: &Bench<M, N, R>,
-    keeper: &mut Keeper<N>,
-    order: Order,
-) -> Result<String, AllocError> {
-    let reply = step(bench.rt, bench.host, keeper, order);
+// Takes a step that is no client's, and returns its reply as text.
+fn drive<K: Keeps>(alloc: Global, keeper: &mut K, order: Order) -> Result<String, AllocError> {
+    let reply = keeper.take(order);
     if let Reply::Refused {
         refusal: Why::InsufficientResources,
         ..
@@ -95,7 +108,7 @@ fn drive<M: Medium, N: HostNaming, R: Wait + Abort>(
     {
         return Err(AllocError);
     }
-    texts::reply(bench.alloc, &reply)
+    texts::reply(alloc, &reply)
 }
 
 // Takes a lane's step.
@@ -112,62 +125,53 @@ fn serve<D: Desk, R: Wait + Abort>(rt: &R, desk: &D, tag: u8, want: Step) {
 }
 
 // Has a client do something.
-fn act<M: Medium, N: HostNaming, R: Wait + Abort>(
-    bench: &Bench<M, N, R>,
-    users: &mut Users<N>,
+fn act<K: Keeps, C: Caller>(
+    rt: &impl Abort,
+    alloc: Global,
+    users: &mut Users<K, C>,
     client: usize,
     deed: Deed,
-) -> Result<String, AllocError>
-    ensures first { users.new.first.client ≡ users.old.first.client }
-    ensures second { users.new.second.client ≡ users.old.second.client }
-{
+) -> Result<String, AllocError> {
     if client == 0 {
-        users.first.act(bench, deed)
+        users.first.act(rt, alloc, deed)
     } else {
-        users.second.act(bench, deed)
+        users.second.act(rt, alloc, deed)
     }
 }
 
 // Carries a row out, and checks its outcome.
-fn go<M: Medium, N: HostNaming, R: Wait + Abort>(
-    bench: &Bench<M, N, R>,
-    keeper: &mut Keeper<N>,
-    users: &mut Users<N>,
+fn go<K: Keeps, C: Caller, D: Desk, R: Wait + Abort>(
+    bench: &Bench<R, D>,
+    users: &mut Users<K, C>,
     row: Row<'_>,
-) -> Result<(), AllocError>
-    ensures first { users.new.first.client ≡ users.old.first.client }
-    ensures second { users.new.second.client ≡ users.old.second.client }
-{
+) -> Result<(), AllocError> {
+    let (rt, alloc) = (bench.rt, bench.alloc);
     let (text, want) = match row {
         Row::Line(line, want) => {
-            let order = order_of(bench.rt, bench.alloc, line)?;
+            let order = order_of(rt, alloc, line)?;
             match client_of(order) {
-                Some(client) => (act(bench, users, client, Deed::Call(order))?, want),
-                None => (drive(bench, keeper, order)?, want),
+                Some(client) => (act(rt, alloc, users, client, Deed::Call(order))?, want),
+                None => (drive(alloc, &mut users.keeper, order)?, want),
             }
         }
-        Row::By(client, deed, want) => (act(bench, users, client, deed)?, want),
+        Row::By(client, deed, want) => (act(rt, alloc, users, client, deed)?, want),
         Row::Lane(tag, want) => {
-            serve(bench.rt, bench.host, tag, want);
+            serve(rt, bench.desk, tag, want);
             return Ok(());
         }
     };
-    same(bench.rt, &text.as_str(), &want);
+    same(rt, &text.as_str(), &want);
     Ok(())
 }
 
 // Carries the rows of a test out one by one. Returns what both clients were told.
-fn play<M: Medium, N: HostNaming, R: Wait + Abort>(
-    bench: &Bench<M, N, R>,
-    keeper: &mut Keeper<N>,
-    users: &mut Users<N>,
+fn play<K: Keeps, C: Caller, D: Desk, R: Wait + Abort>(
+    bench: &Bench<R, D>,
+    users: &mut Users<K, C>,
     rows: &[Row],
-) -> Result<[Told; 2], AllocError>
-    ensures first { users.new.first.client ≡ users.old.first.client }
-    ensures second { users.new.second.client ≡ users.old.second.client }
-{
+) -> Result<[Told; 2], AllocError> {
     for row in rows {
-        go(bench, keeper, users, *row)?;
+        go(bench, users, *row)?;
     }
     Ok([
         users.first.told(bench.alloc)?,
@@ -175,60 +179,98 @@ fn play<M: Medium, N: HostNaming, R: Wait + Abort>(
     ])
 }
 
-/// Two clients, in order.
-pub(crate) fn two_of<N: HostNaming>(
-    rt: &impl Abort,
+// The keeper and two clients play the rows, and come back.
+fn play_by_two<K: Keeps, C: Caller, D: Desk, R: Wait + Abort>(
+    bench: &Bench<R, D>,
+    company: Company<K, C>,
+    rows: &[Row],
+) -> (Company<K, C>, Result<[Told; 2], AllocError>) {
+    let Company {
+        keeper,
+        first,
+        second,
+    } = company;
+    let mut users = Users {
+        keeper,
+        first: User::new(first),
+        second: User::new(second),
+    };
+    let played = play(bench, &mut users, rows);
+    let Users {
+        keeper,
+        first,
+        second,
+    } = users;
+    let company = Company {
+        keeper,
+        first: first.into_client(),
+        second: second.into_client(),
+    };
+    (company, played)
+}
+
+/// A host's keeper and both its clients.
+#[derive(Drop)]
+pub(crate) struct Company<K, C> {
+    pub keeper: K,
+    pub first: C,
+    pub second: C,
+}
+
+/// The keeper and the clients of a host, in order.
+pub(crate) fn company_of<'r, 'h, M: Medium, N: HostNaming, R: Abort>(
+    rt: &'r R,
+    host: &'h Host<M, N>,
+    keeper: Keeper<N>,
     clients: Vec<Client<N>>,
-) -> (Client<N>, Client<N>)
-    requires two { AreNumbered 2 clients.items }
-    ensures first { result.0.client ≡ 0 }
-    ensures second { result.1.client ≡ 1 }
-{
+) -> Company<Kept<'r, 'h, M, N, R>, Hosted<'r, 'h, M, N, R>> {
     let mut clients = clients;
     let second = clients.pop();
     let first = clients.pop();
-    match (first, second) {
-        (Some(first), Some(second)) => (first, second),
-        _ => panic!(rt; "not two clients"),
+    let (Some(first), Some(second)) = (first, second) else {
+        panic!(rt; "not two clients")
+    };
+    Company {
+        keeper: Kept { rt, host, keeper },
+        first: Hosted {
+            rt,
+            host,
+            client: first,
+        },
+        second: Hosted {
+            rt,
+            host,
+            client: second,
+        },
     }
 }
 
-/// Both clients, at places that were made for them.
+/// The keeper and the clients, apart from their host.
+pub(crate) fn parted<M: Medium, N: HostNaming, R>(
+    company: Company<Kept<'_, '_, M, N, R>, Hosted<'_, '_, M, N, R>>,
+) -> (Keeper<N>, Client<N>, Client<N>) {
+    (
+        company.keeper.keeper,
+        company.first.client,
+        company.second.client,
+    )
+}
+
+/// Both clients, in order, at places that were made for them.
 pub(crate) fn given_back<N: HostNaming>(
+    rt: &impl Abort,
     mut back: Vec<Client<N>>,
     first: Client<N>,
     second: Client<N>,
 ) -> Vec<Client<N>>
     requires places { (back.items ≡ []) × (2 ≤ vec_capacity back) }
-    requires first { first.client ≡ 0 }
-    requires second { second.client ≡ 1 }
     ensures { AreNumbered 2 result.items }
 {
+    let (one, two) = (first.client(), second.client());
+    assert!(rt; one == 0 && two == 1);
     back.push_reserved(first);
     back.push_reserved(second);
     back
-}
-
-// Two clients play the rows, and come back.
-fn play_by_two<M: Medium, N: HostNaming, R: Wait + Abort>(
-    bench: &Bench<M, N, R>,
-    keeper: &mut Keeper<N>,
-    clients: Vec<Client<N>>,
-    run: &Run,
-) -> Result<(Vec<Client<N>>, [Told; 2]), AllocError>
-    requires two { AreNumbered 2 clients.items }
-    ensures two { IfOk result (λ r. AreNumbered 2 r.0.items) }
-{
-    let back = Vec::with_capacity(bench.alloc, 2)?;
-    let (first, second) = two_of(bench.rt, clients);
-    let mut users = Users {
-        first: User::new(first),
-        second: User::new(second),
-    };
-    let played = play(bench, keeper, &mut users, run.rows);
-    let Users { first, second } = users;
-    let back = given_back(back, first.into_client(), second.into_client());
-    Ok((back, played?))
 }
 
 // Plays the rows on a host of two clients, and closes it.
@@ -247,14 +289,17 @@ fn play_and_close<M: Medium, N: HostNaming, R: Wait + Abort>(
     requires partitions { length N.partitions ≡ 2 }
 {
     let (host, keeper, clients) = open_host::<M, N>(alloc, ready, 2)?;
-    let mut keeper = keeper;
+    let back = Vec::with_capacity(alloc, 2)?;
     let bench = Bench {
         rt,
         alloc,
-        host: &host,
+        desk: &host,
     };
-    let (back, told) = play_by_two(&bench, &mut keeper, clients, run)?;
-    Ok((host.close(keeper, back), told))
+    let company = company_of(rt, &host, keeper, clients);
+    let (company, told) = play_by_two(&bench, company, run.rows);
+    let (keeper, first, second) = parted(company);
+    let back = given_back(rt, back, first, second);
+    Ok((host.close(keeper, back), told?))
 }
 
 // The places of the calls in a trace that a client made, and of the answers to them.

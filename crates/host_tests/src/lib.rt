@@ -35,6 +35,8 @@ mod rows;
 #[cfg(test)]
 mod scenes;
 #[cfg(test)]
+mod shown;
+#[cfg(test)]
 mod texts;
 #[cfg(test)]
 mod user;

@@ -4,13 +4,15 @@ ghost use Rattle.std.specs.Prelude.{◌≡◌, length};
 ghost use Rattle.host.specs.Opening.{IsDiskFor};
 
 use crate::beside::{answer_to, read_at};
-use crate::desk::{Bench, two_of};
+use crate::desk::{Company, Keeps, company_of};
 use crate::disks::disk;
 use crate::expect::same;
 use crate::opening::{Ready, open_host, ready_over};
+use crate::user::Caller;
 use compose::Reply;
 use disk::Medium;
-use host::{Client, Host, HostNaming, Keeper, Ticket};
+use host::HostNaming;
+use script::Order;
 use std::alloc::{AllocError, Global};
 use std::marker::Brand;
 use std::process::Abort;
@@ -26,37 +28,64 @@ enum Going {
 }
 
 // Takes the device away. It returns once no ticket is out.
-fn take_away<M: Medium, N: HostNaming, R: Wait>(
-    rt: &R,
-    host: &Host<M, N>,
-    keeper: Keeper<N>,
-    going: Going,
-) -> Reply {
-    let mut keeper = keeper;
-    match going {
-        Going::InOrder => host.remove(rt, &mut keeper),
-        Going::PulledOut => host.surprise_remove(rt, &mut keeper),
-    }
+fn take_away<K: Keeps + Drop>(mut keeper: K, going: Going) -> Reply {
+    keeper.take(match going {
+        Going::InOrder => Order::Remove,
+        Going::PulledOut => Order::SurpriseRemove,
+    })
 }
 
 // The second client reads, and both wait for their answers.
-fn read_on<M: Medium, N: HostNaming, R: Wait>(
-    bench: &Bench<M, N, R>,
-    first: Client<N>,
-    held: Ticket<N>,
-    second: Client<N>,
+fn read_on<C: Caller + Drop>(
+    alloc: Global,
+    mut first: C,
+    held: C::Ticket,
+    mut second: C,
 ) -> (Result<String, AllocError>, Result<String, AllocError>)
-    requires { held.client ≡ first.client }
+    requires { C.owner held ≡ C.number first }
 {
-    let (mut first, mut second) = (first, second);
-    let meanwhile = read_at(bench, &mut second, 0);
-    let one = answer_to(bench, &mut first, Ok(held));
-    let two = answer_to(bench, &mut second, meanwhile);
+    let meanwhile = read_at(alloc, &mut second, 0);
+    let one = answer_to(alloc, &mut first, Ok(held));
+    let two = answer_to(alloc, &mut second, meanwhile);
     (one, two)
 }
 
 // The device goes beside two clients on one partition, of which the first has a read that is held.
-fn go_beside<M: Medium + Send, N: HostNaming + Send + Sync, R: Threads + Wait + Sync + Abort>(
+fn go_beside<K: Keeps + Send + Drop, C: Caller + Send + Drop, R: Threads + Wait + Sync + Abort>(
+    rt: &R,
+    alloc: Global,
+    company: Company<K, C>,
+    going: Going,
+) -> Result<(), AllocError>
+where
+    C::Ticket: Send,
+{
+    let Company {
+        mut keeper,
+        mut first,
+        second,
+    } = company;
+    let Reply::Ok = keeper.take(Order::QueryRemove) else {
+        return Err(AllocError);
+    };
+    let held = read_at(alloc, &mut first, 0)?;
+    let (reply, (one, two)) = join(
+        rt,
+        || take_away(keeper, going),
+        || -> (Result<String, AllocError>, Result<String, AllocError>)
+            requires { C.owner held ≡ C.number first }
+        { read_on(alloc, first, held, second) },
+    );
+    assert!(rt; matches!(reply, Reply::Ok));
+    same(rt, &one?.as_str(), &"answer 1 DELETE_PENDING 0");
+    if let Ok(two) = two {
+        same(rt, &two.as_str(), &"answer 2 DELETE_PENDING 0");
+    }
+    Ok(())
+}
+
+// A host of two clients, whose device goes.
+fn open_and_go<M: Medium + Send, N: HostNaming + Send + Sync, R: Threads + Wait + Sync + Abort>(
     rt: &R,
     alloc: Global,
     ready: Ready<M>,
@@ -70,30 +99,8 @@ fn go_beside<M: Medium + Send, N: HostNaming + Send + Sync, R: Threads + Wait + 
     requires depth { N.rules.depth ≡ 2 }
     requires partitions { length N.partitions ≡ 2 }
 {
-    let (host, mut keeper, clients) = open_host::<M, N>(alloc, ready, 2)?;
-    let (mut first, second) = two_of(rt, clients);
-    let bench = Bench {
-        rt,
-        alloc,
-        host: &host,
-    };
-    let Reply::Ok = host.query_remove(rt, &mut keeper) else {
-        return Err(AllocError);
-    };
-    let held = read_at(&bench, &mut first, 0)?;
-    let (reply, (one, two)) = join(
-        rt,
-        || take_away(rt, &host, keeper, going),
-        || -> (Result<String, AllocError>, Result<String, AllocError>)
-            requires { held.client ≡ first.client }
-        { read_on(&bench, first, held, second) },
-    );
-    assert!(rt; matches!(reply, Reply::Ok));
-    same(rt, &one?.as_str(), &"answer 1 DELETE_PENDING 0");
-    if let Ok(two) = two {
-        same(rt, &two.as_str(), &"answer 2 DELETE_PENDING 0");
-    }
-    Ok(())
+    let (host, keeper, clients) = open_host::<M, N>(alloc, ready, 2)?;
+    go_beside(rt, alloc, company_of(rt, &host, keeper, clients), going)
 }
 
 fn run_over<M: Medium + Send, R: Threads + Wait + Sync + Abort>(
@@ -103,7 +110,7 @@ fn run_over<M: Medium + Send, R: Threads + Wait + Sync + Abort>(
     going: Going,
 ) -> Result<(), AllocError> {
     let ready = ready_over(rt, alloc, medium, 2, &[0, 0])?;
-    go_beside::<M, Brand, R>(rt, alloc, ready, going)
+    open_and_go::<M, Brand, R>(rt, alloc, ready, going)
 }
 
 #[test]

@@ -1,22 +1,21 @@
 //! A host of two clients on one partition, over lanes and a worker of their own.
 
-ghost use Rattle.std.specs.Prelude.{◌≡◌, ◌≤◌, IfOk, length};
+ghost use Rattle.std.specs.Prelude.{◌≡◌, length};
 ghost use Rattle.lanes.specs.Queue.{issued};
-ghost use Rattle.host.specs.Clients.{AreNumbered};
 ghost use Rattle.host.specs.Opening.{IsDiskFor};
 
 use crate::beside::{Scene, play};
-use crate::desk::{Bench, given_back, two_of};
+use crate::desk::{Bench, Company, Keeps, company_of, given_back, parted};
 use crate::expect::same;
 use crate::holding::Holding;
 use crate::opening::{Ready, open_host};
 use crate::replaying::{compare_acts, replay};
 use crate::texts;
+use crate::user::Caller;
 use disk::Medium;
 use host::{Client, Closed, Host, HostNaming, Keeper};
 use lanes::{Completions, Desk, Pass, Signals, Step, Turn, Turnstile};
-use rounds::{Lanes, remove, start_lanes};
-use sector_journal::{OfArmings, OfEntries};
+use rounds::{Lanes, start_lanes};
 use std::alloc::{AllocError, Global};
 use std::process::Abort;
 use std::sync::Wait;
@@ -24,14 +23,6 @@ use std::thread;
 use std::thread::Threads;
 use std::time::Clock;
 use traced::TraceEntry;
-
-/// The keeper of a host and both its clients.
-#[derive(Drop)]
-struct Company<N: HostNaming> {
-    keeper: Keeper<N>,
-    first: Client<N>,
-    second: Client<N>,
-}
 
 /// What is held of a thread that comes to a turnstile.
 #[derive(Clone, Copy)]
@@ -67,30 +58,26 @@ pub(crate) struct Setting<'a, C: Clock> {
     pub at_worker: Held,
 }
 
-/// A host as the desk of its lanes and of a worker. Where the worker is to be held, so is a lane that has the turn; the finish
-/// of a piece that was handed over lets go who is held.
+/// A desk of lanes and of a worker. Where the worker is to be held, so is a lane that has the turn; the finish of a piece
+/// that was handed over lets go who is held.
 #[derive(Drop)]
-struct LetsGo<'a, 'b, M: Medium, N: HostNaming, C: Clock>
-where
-    OfArmings<N>: chronicle::Naming,
-    OfEntries<N>: chronicle::Naming,
-{
-    host: &'a Host<M, N>,
+struct LetsGo<'a, 'b, D, C: Clock> {
+    desk: &'a D,
     holding: &'b Holding<'b, C>,
     at_worker: Held,
 }
 
-impl<'a, 'b, M: Medium, N: HostNaming, C: Clock> Desk for LetsGo<'a, 'b, M, N, C> {
+impl<'a, 'b, D: Desk, C: Clock> Desk for LetsGo<'a, 'b, D, C> {
     fn next<R: Wait>(&self, rt: &R, tag: u8) -> Step {
-        Desk::next(self.host, rt, tag)
+        self.desk.next(rt, tag)
     }
 
     fn act<R: Wait>(&self, rt: &R, tag: u8) {
-        Desk::act(self.host, rt, tag);
+        self.desk.act(rt, tag);
     }
 
     fn finish<R: Wait>(&self, rt: &R, tag: u8) {
-        Desk::finish(self.host, rt, tag);
+        self.desk.finish(rt, tag);
         if let Held::Anyone = self.at_worker {
             self.holding.let_go(rt);
         }
@@ -98,21 +85,21 @@ impl<'a, 'b, M: Medium, N: HostNaming, C: Clock> Desk for LetsGo<'a, 'b, M, N, C
 
     fn act_in_turn<R: Wait>(&self, rt: &R, tag: u8, turn: &Turn) -> bool {
         let Held::Anyone = self.at_worker else {
-            return Desk::act_in_turn(self.host, rt, tag, turn);
+            return self.desk.act_in_turn(rt, tag, turn);
         };
         let taken = turn.try_take();
         if taken.is_some() {
             self.holding.hold(rt);
         }
-        Desk::act_in_turn(self.host, rt, tag, turn)
+        self.desk.act_in_turn(rt, tag, turn)
     }
 
     fn signal<R: Wait>(&self, rt: &R) {
-        Desk::signal(self.host, rt);
+        self.desk.signal(rt);
     }
 
     fn wait_for_signal<R: Wait>(&self, rt: &R, seen: u64) -> Signals {
-        Desk::wait_for_signal(self.host, rt, seen)
+        self.desk.wait_for_signal(rt, seen)
     }
 }
 
@@ -123,47 +110,44 @@ struct Queue<'a> {
 }
 
 // Plays the scene, and removes the device. Nobody is held any more then.
-fn play_and_remove<M: Medium, N: HostNaming, R: Wait, C: Clock>(
-    bench: &Bench<M, N, R>,
-    company: &mut Company<N>,
-    setting: &Setting<'_, C>,
+fn play_and_remove<K: Keeps, C: Caller, R: Wait, T: Clock>(
+    rt: &R,
+    alloc: Global,
+    company: &mut Company<K, C>,
+    setting: &Setting<'_, T>,
     has_lanes: bool,
-) -> Result<String, AllocError>
-    ensures first { company.new.first.client ≡ company.old.first.client }
-    ensures second { company.new.second.client ≡ company.old.second.client }
-{
+) -> Result<String, AllocError> {
     let seen = if has_lanes {
-        play(bench, setting, &mut company.first, &mut company.second)
+        play(rt, alloc, setting, company)
     } else {
         Err(AllocError)
     };
-    setting.holding.let_go(bench.rt);
-    remove(bench.rt, bench.host, &mut company.keeper);
+    setting.holding.let_go(rt);
+    company.keeper.end();
     seen
 }
 
 // Four lanes and the worker, the two clients, and the removal.
 fn run_threads<
-    M: Medium + Send,
-    N: HostNaming + Send + Sync,
+    D: Desk + Sync,
+    K: Keeps + Drop,
+    C: Caller + Drop,
     R: Threads + Wait + Sync,
-    C: Clock + Sync,
+    T: Clock + Sync,
 >(
-    bench: &Bench<M, N, R>,
+    bench: &Bench<R, D>,
     queue: Queue<'_>,
-    company: Company<N>,
-    setting: &Setting<'_, C>,
-) -> (Company<N>, Result<String, AllocError>)
+    company: Company<K, C>,
+    setting: &Setting<'_, T>,
+) -> (Company<K, C>, Result<String, AllocError>)
     requires { queue.passes.items ≡ issued queue.completions.now.id 4 }
-    ensures first { result.0.first.client ≡ company.first.client }
-    ensures second { result.0.second.client ≡ company.second.client }
 {
     let Queue {
         completions,
         passes,
     } = queue;
     let desk = LetsGo {
-        host: bench.host,
+        desk: bench.desk,
         holding: setting.holding,
         at_worker: setting.at_worker,
     };
@@ -180,10 +164,8 @@ fn run_threads<
     thread::scope(
         thread::scope_env(),
         bench.rt,
-        |scope| -> (Company<N>, Result<String, AllocError>)
+        |scope| -> (Company<K, C>, Result<String, AllocError>)
             requires { passes.items ≡ issued completions.now.id 4 }
-            ensures first { result.0.first.client ≡ company.first.client }
-            ensures second { result.0.second.client ≡ company.second.client }
         {
             let mut company = company;
             let lanes = Lanes {
@@ -193,7 +175,7 @@ fn run_threads<
                 at_worker: &at_worker,
             };
             let has_lanes = start_lanes(bench.rt, scope, lanes, passes, 4);
-            let seen = play_and_remove(bench, &mut company, setting, has_lanes);
+            let seen = play_and_remove(bench.rt, bench.alloc, &mut company, setting, has_lanes);
             (company, seen)
         },
     )
@@ -208,34 +190,29 @@ fn play_and_close<
 >(
     rt: &R,
     alloc: Global,
-    host: Host<M, N>,
-    company: Company<N>,
+    opened: (Host<M, N>, Keeper<N>, Vec<Client<N>>),
     setting: &Setting<'_, C>,
 ) -> Result<(String, Closed<M, N>), AllocError>
-    requires first { company.first.client ≡ 0 }
-    requires second { company.second.client ≡ 1 }
     requires partitions { length N.partitions ≡ 2 }
 {
     let back = Vec::with_capacity(alloc, 2)?;
     let Ok((completions, passes)) = Completions::new(alloc, 1, 4) else {
         return Err(AllocError);
     };
+    let (host, keeper, clients) = opened;
     let bench = Bench {
         rt,
         alloc,
-        host: &host,
+        desk: &host,
     };
     let queue = Queue {
         completions: &completions,
         passes,
     };
+    let company = company_of(rt, &host, keeper, clients);
     let (company, seen) = run_threads(&bench, queue, company, setting);
-    let Company {
-        keeper,
-        first,
-        second,
-    } = company;
-    let back = given_back(back, first, second);
+    let (keeper, first, second) = parted(company);
+    let back = given_back(rt, back, first, second);
     let closed = host.close(keeper, back);
     Ok((seen?, closed))
 }
@@ -278,14 +255,8 @@ pub(crate) fn play_scene<
     requires depth { N.rules.depth ≡ 4 }
     requires partitions { length N.partitions ≡ 2 }
 {
-    let (host, keeper, clients) = open_host::<M, N>(alloc, ready, 4)?;
-    let (first, second) = two_of(rt, clients);
-    let company = Company {
-        keeper,
-        first,
-        second,
-    };
-    let (seen, closed) = play_and_close(rt, alloc, host, company, setting)?;
+    let opened = open_host::<M, N>(alloc, ready, 4)?;
+    let (seen, closed) = play_and_close(rt, alloc, opened, setting)?;
     let trace = trace_of(alloc, closed.trace.as_slice())?;
     same(rt, &seen.as_str(), &want.seen);
     if let Some(wanted) = want.trace {

@@ -1,4 +1,4 @@
-use Rattle.std.proofs.Common.{◌≡◌, ◌≤◌, ℕ, length, sym, ap, subst, ◌∙◌, rules}
+use Rattle.std.proofs.Common.{◌≡◌, ◌≤◌, ℕ, sym, ap, subst, ◌∙◌, rules}
 use Rattle.traced.specs.declared.sizes.StackSizes.{StackSizes}
 use Rattle.host_tests.proofs.disks.start_for.Goals as goal
 
