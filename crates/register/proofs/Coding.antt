@@ -1,7 +1,7 @@
 -- Different bytes have different numbers.
-use Rattle.std.proofs.Common.{◌≡◌, inl, inr, ℕ, zero, suc, ◌+◌, ◌*◌, ◌==◌, Bool, true, false, List, [], ◌∷◌, refl, sym, ◌∙◌, ap, arith, eq-eqb}
+use Rattle.std.proofs.Common.{◌≡◌, inl, inr, ℕ, zero, suc, ◌+◌, ◌*◌, ◌==◌, Bool, true, false, List, [], ◌∷◌, refl, sym, ◌∙◌, ap, arith, eq-eqb, length}
 use Rattle.std.specs.Str.{bytes_eq}
-use Rattle.std.proofs.lemmas.Bool.{cases_Bool, eqb-true}
+use Rattle.std.proofs.lemmas.Bool.{cases_Bool, eqb-true, ne_eqb}
 use Rattle.std.proofs.lemmas.Slice.Eq.{bytes_eq-Decides}
 use Rattle.register.specs.Values.{doubled, code, CodesTell}
 
@@ -41,3 +41,9 @@ is_same a b false e = elim (cases_Bool (code a == code b)) [
 
 pub same_by : (a b : List ℕ) (x y : ℕ) (same : Bool) → same ≡ bytes_eq a b → x ≡ code a → y ≡ code b → same ≡ (x == y)
 same_by a b x y same is e f = rw e (rw f (is_same a b same is))
+
+-- only no bytes have it
+pub is_none_by : (bytes : List ℕ) (none : Bool) (n : ℕ) → n ≡ code bytes → none ≡ (length bytes == 0) → none ≡ (n == 0)
+unfolding code
+is_none_by [] none n is h = h ∙ sym (eq-eqb n 0 is)
+is_none_by (byte ∷ bytes) none n is h = h ∙ ne_eqb (length (byte ∷ bytes)) 0 (λ e. absurd (omega (arith, e))) ∙ sym (ne_eqb n 0 (λ e. some_doubled byte (code bytes) (sym is ∙ e)))

@@ -30,10 +30,21 @@ abbrev pub IsNoEffect : ℕ → Event → Type 0
 IsNoEffect n (Effect number value) = number ≢ n
 IsNoEffect n (Seen sight) = Unit {0}
 
+-- bytes that were not recorded, in whose place none stand: they may have been any
+abbrev pub unrecorded : ℕ
+unrecorded = 0
+
+-- a write of the value was called, or one whose bytes were not recorded
+abbrev pub IsWritten : List Event → ℕ → ℕ → Type 0
+IsWritten past number value = Contains past (Seen (Write number value)) ⊎ Contains past (Seen (Write number unrecorded))
+
+-- the same of a read
+abbrev pub IsRead : List Event → ℕ → ℕ → Type 0
+IsRead past number value = Contains past (Seen (Read number value)) ⊎ Contains past (Seen (Read number unrecorded))
+
 -- a write of the value was called, or a read of it while the register has it
 abbrev pub IsCalledFor : ℕ → List Event → ℕ → ℕ → Type 0
-IsCalledFor start past number value =
-    Contains past (Seen (Write number value)) ⊎ (Contains past (Seen (Read number value)) × (value ≡ value_after start past))
+IsCalledFor start past number value = IsWritten past number value ⊎ (IsRead past number value × (value ≡ value_after start past))
 
 -- an operation takes effect once, behind its call and before its end
 pub record TakesEffect (start : ℕ) (past : List Event) (number value : ℕ) : Type 0 where

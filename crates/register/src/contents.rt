@@ -59,6 +59,14 @@ impl Contents {
         Contents::new(alloc, &[])
     }
 
+    /// Whether these are no bytes.
+    #[tactic(auto, using(crate::proofs::Coding::is_none_by))]
+    pub fn is_none(&self) -> bool
+        ensures { result ≡ (self.now == 0) }
+    {
+        self.as_slice().is_empty()
+    }
+
     /// The same bytes, for one more holder.
     ///
     /// # Errors

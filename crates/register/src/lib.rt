@@ -5,7 +5,8 @@
 //!
 //! # Promises
 //!
-//! Values are bytes (`Contents`), of which contracts see a number that differs where they do (`codes_tell`).
+//! Values are bytes (`Contents`), of which contracts see a number that differs where they do (`codes_tell`). No bytes, whose
+//! number is 0, stand for those that were not recorded.
 #![tactic(auto)]
 
 mod contents;
@@ -15,7 +16,8 @@ ghost use Rattle.register.specs.Values.{CodesTell};
 
 pub use contents::Contents;
 
-/// What is seen of a register.
+/// What is seen of a register. Where a value is no bytes, its bytes were not recorded: such a write may take effect with
+/// any, and such a read may have had any.
 #[derive(Drop)]
 pub enum Sight {
     /// A write of this value is called.

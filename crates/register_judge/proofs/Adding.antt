@@ -1,12 +1,12 @@
 -- States added one by one.
-use Rattle.std.proofs.Common.{◌≡◌, ◌<◌, ◌⊎◌, inl, inr, ℕ, ◌+◌, ◌==◌, ◌||◌, Bool, true, false, List, [], ◌∷◌, ◌++◌, Some, None, refl, sym, ◌∙◌, ap, subst, append-nil, append_assoc, map, length, get_or, drop}
-use Rattle.std.specs.Prelude.{Contains, Result, Ok, Err, OnOk, find, if◌then◌else◌}
+use Rattle.std.proofs.Common.{◌≡◌, ◌<◌, ◌⊎◌, inl, inr, ℕ, ◌+◌, ◌==◌, ◌||◌, Bool, true, false, List, [], ◌∷◌, ◌++◌, Some, None, refl, sym, ◌∙◌, ap, subst, append-nil, append_assoc, length, get_or, drop}
+use Rattle.std.specs.Prelude.{Result, Ok, Err, OnOk, find, if◌then◌else◌}
 use Rattle.std.proofs.lemmas.List.{at_drop_more}
 use Rattle.register_judge.specs.declared.states.State.{State}
 use Rattle.register_judge.specs.declared.states.Turn.{Turn}
 use Rattle.register_judge.specs.declared.states.Waiting.{Waiting}
 use Rattle.register_judge.specs.inside.States.{Form, form_of, forms_of, with_some, lefts, leave, is_number, Adds, turned, Ends, turns_for, turns_of, EndsAll}
-use Rattle.register_judge.proofs.Listing.{Has, has_left, has_right, has_either, has_new, has_last, contains_has}
+use Rattle.register_judge.proofs.Listing.{Has, has_left, has_new, has_last, contains_has}
 
 pub forms_more : (states : List State) (s : State) → forms_of (states ++ s ∷ []) ≡ forms_of states ++ form_of s ∷ []
 forms_more [] s = refl
@@ -43,7 +43,7 @@ lefts_alike n (o ∷ waits) none left = lefts_next n o waits (o.number == n) non
 ends_alike : (must : Bool) (n : ℕ) (f : Form) (old new : List Form) → find (is_number n) f.waits ≡ None → Adds old f new → Ends f (turns_of must n f.waits) old new
 ends_alike must n f old new none adds =
     subst (λ o. Ends f (turns_for must n f.waits o) old new) (sym none)
-    (new, subst (λ ws. Adds old (record { value = f.value; waits = ws }) new) (sym (lefts_alike n f.waits none [])) adds, refl)
+    (new, subst (λ ws. Adds old (record { any = f.any; value = f.value; waits = ws }) new) (sym (lefts_alike n f.waits none [])) adds, refl)
 
 pub ends_still : {T E : Type 0} (must : Bool) (n : ℕ) (f g : Form) (old new : List Form) (r : Result T E) → find (is_number n) f.waits ≡ None → g ≡ f → OnOk r (Adds old g new) → OnOk r (Ends f (turns_of must n f.waits) old new)
 ends_still must n f g old new (Ok x) none is adds = ends_alike must n f old new none (subst (λ h. Adds old h new) is adds)

@@ -1,20 +1,20 @@
 -- What is known of a register that is watched.
-use Rattle.std.proofs.Common.{◌≡◌, inl, ℕ, zero, suc, Bool, true, false, List, [], ◌∷◌, ◌++◌, refl, sym, ◌∙◌, ap, subst, arith, length, get_or, take}
+use Rattle.std.proofs.Common.{◌≡◌, inl, inr, ℕ, Bool, true, false, List, [], ◌∷◌, ◌++◌, refl, sym, ◌∙◌, ap, subst, arith, length, take}
 use Rattle.std.proofs.lemmas.List.{take-append-le, take_all}
 use Rattle.register.specs.declared.Sight.{Sight}
 use Rattle.register.specs.declared.Sight.TheVariants.{Write, Read, Done, Failed}
-use Rattle.register.specs.Schedules.{HasSchedule, PrefixesAreScheduled, seen_of}
+use Rattle.register.specs.Schedules.{HasSchedule, PrefixesAreScheduled}
 use Rattle.register_judge.specs.declared.states.State.{State}
 use Rattle.register_judge.specs.declared.keeping.Register.{Register}
 use Rattle.register_judge.specs.declared.observed.SoFar.{SoFar}
 use Rattle.register_judge.specs.declared.observed.SoFar.TheVariants.{Passed, Refused, Undecided}
 use Rattle.register_judge.specs.Observed.{IsSoFar}
-use Rattle.register_judge.specs.inside.States.{forms_of, form_of}
+use Rattle.register_judge.specs.inside.States.{forms_of, form_of, bound}
 use Rattle.register_judge.specs.inside.Registers.{Begins, IsAlike, Calls, Left, EndsAt, Sees}
-use Rattle.register_judge.specs.inside.Following.{in_order, Follows, IsGoing, Keeps, Goes, GoesOn}
+use Rattle.register_judge.specs.inside.Following.{in_order, Follows, IsGoing, Keeps, GoesOn}
 use Rattle.register_judge.proofs.Listing.{Has}
 use Rattle.register_judge.proofs.Reaching.{IsReal}
-use Rattle.register_judge.proofs.Judging.{IsExact, Covered, Covers, exact_first, covers_more, exact_more}
+use Rattle.register_judge.proofs.Judging.{IsExact, Covered, exact_first, covers_more, exact_more}
 
 -- a register that took some sights, and has a state, has those after their schedules
 exact_after : (start : ℕ) (past : List Sight) (register : Register) → Follows start past register → (register.states.items ≡ [] → ⊥) → IsExact start register (in_order past)
@@ -36,7 +36,7 @@ going_passes start register sights g = by_states register.states.items refl
     by_states : (states : List State) → register.states.items ≡ states → HasSchedule start sights
     by_states [] e = absurd (g.some e)
     by_states (s ∷ states) e =
-        let r : IsReal start register.last register.numbers.items sights (form_of s) = x.reals (form_of s) (subst (λ xs. Has (forms_of xs) (form_of s)) (sym e) (inl refl)) in
+        let r : IsReal start register.last register.numbers.items sights (bound s.value (form_of s)) = x.reals (form_of s) (subst (λ xs. Has (forms_of xs) (form_of s)) (sym e) (inl refl)) s.value (inr refl) in
         record { events = r.events; in_turn = r.stands.in_turn; seen = r.seen }
 
 pub keeps_right : (start : ℕ) (register : Register) (sights : List Sight) (so_far : SoFar) → Keeps start register sights so_far → IsSoFar start sights so_far
@@ -75,29 +75,13 @@ module _ (start : ℕ) (old new : Register) (sights : List Sight) (sight : Sight
 
 -- ONCE MORE
 
-form_at : (xs ys : List State) → forms_of xs ≡ forms_of ys → (k : ℕ) (d : State) → form_of (get_or xs k d) ≡ form_of (get_or ys k d)
-form_at [] [] e k d = refl
-form_at [] (y ∷ ys) e k d = absurd (cc (e))
-form_at (x ∷ xs) [] e k d = absurd (cc (e))
-form_at (x ∷ xs) (y ∷ ys) e zero d = cc (e)
-form_at (x ∷ xs) (y ∷ ys) e (suc k) d = form_at xs ys (cc (e)) k d
-
-long_as : (xs ys : List State) → forms_of xs ≡ forms_of ys → length xs ≡ length ys
-long_as [] [] e = refl
-long_as [] (y ∷ ys) e = absurd (cc (e))
-long_as (x ∷ xs) [] e = absurd (cc (e))
-long_as (x ∷ xs) (y ∷ ys) e = ap suc (long_as xs ys (cc (e)))
-
 module _ (old r s : Register) (a : IsAlike r s) where
   calls_alike : (n : ℕ) (writes : Bool) (v : ℕ) → Calls old n writes v r → Calls old n writes v s
   calls_alike n writes v h = record {
     newer = h.newer;
     last = a.last ∙ h.last;
     numbers = a.numbers ∙ h.numbers;
-    states = record {
-      same_length = long_as s.states.items r.states.items a.states ∙ h.states.same_length;
-      calls = λ k d low. form_at s.states.items r.states.items a.states k d ∙ h.states.calls k d low;
-    };
+    states = record { each = h.states.each; called = h.states.called; all = a.states ∙ h.states.all };
   }
 
   ends_alike : (n : ℕ) (must : Bool) → EndsAt old n must r → EndsAt old n must s

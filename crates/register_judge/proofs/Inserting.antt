@@ -1,11 +1,10 @@
 -- Effects just before the last effect of a write, where nobody sees them.
-use Rattle.std.proofs.Common.{◌≡◌, ◌⊎◌, inl, inr, ℕ, zero, suc, List, [], ◌∷◌, ◌++◌, refl, sym, ◌∙◌, ap, subst}
+use Rattle.std.proofs.Common.{◌≡◌, inl, inr, ℕ, List, [], ◌∷◌, ◌++◌, refl, sym, ◌∙◌, ap, subst}
 use Rattle.std.specs.Prelude.{All, Contains}
-use Rattle.std.proofs.lemmas.List.Elements.{All-nil, All-head, All-tail, All-cons, All-contains}
-use Rattle.register.specs.declared.Sight.{Sight}
+use Rattle.std.proofs.lemmas.List.Elements.{All-head, All-tail, All-cons}
 use Rattle.register.specs.declared.Sight.TheVariants.{Write, Read, Done, Failed}
-use Rattle.register.specs.Schedules.{Event, Seen, Effect, seen_of, value_after, IsNoEnd, IsNoEffect, IsCalledFor, TakesEffect, May, IsSchedule}
-use Rattle.register_judge.proofs.Matching.{further, newest, first_or_behind}
+use Rattle.register.specs.Schedules.{Event, Seen, Effect, seen_of, value_after, IsNoEnd, IsNoEffect, IsWritten, TakesEffect, May, IsSchedule}
+use Rattle.register_judge.proofs.Events.{further, newest, first_or_behind, written_more, read_more}
 
 -- LISTS
 
@@ -44,7 +43,7 @@ value_insert start (Effect m w ∷ late) n v e early = refl
 
 -- A SCHEDULE
 
-module _ (start n v k u : ℕ) (early : List Event) (written : Contains early (Seen (Write n v))) (may : May start early (Effect k u)) where
+module _ (start n v k u : ℕ) (early : List Event) (written : IsWritten early n v) (may : May start early (Effect k u)) where
   abbrev old : List Event → List Event
   old late = late ++ Effect n v ∷ early
 
@@ -54,8 +53,8 @@ module _ (start n v k u : ℕ) (early : List Event) (written : Contains early (S
   effect_still : (late : List Event) (m w : ℕ) → (m ≡ k → ⊥) → TakesEffect start (old late) m w → TakesEffect start (new late) m w
   effect_still late m w other h = record {
     called = elim h.called [
-      | inl wrote ↦ inl (contains_insert late (Effect n v) (Effect k u) early (Seen (Write m w)) wrote)
-      | inr read ↦ inr (contains_insert late (Effect n v) (Effect k u) early (Seen (Read m w)) read.0, read.1 ∙ sym (value_insert start late n v (Effect k u) early))
+      | inl wrote ↦ inl (written_more (old late) (new late) (contains_insert late (Effect n v) (Effect k u) early) m w wrote)
+      | inr read ↦ inr (read_more (old late) (new late) (contains_insert late (Effect n v) (Effect k u) early) m w read.0, read.1 ∙ sym (value_insert start late n v (Effect k u) early))
     ];
     awaits = all_insert (IsNoEnd m) late (Effect n v) (Effect k u) early tt h.awaits;
     once = all_insert (IsNoEffect m) late (Effect n v) (Effect k u) early (λ e. other (sym e)) h.once;
@@ -71,7 +70,7 @@ module _ (start n v k u : ℕ) (early : List Event) (written : Contains early (S
   pub schedule_insert : (late : List Event) → All (IsNoEffect k) (old late) → IsSchedule start (old late) → IsSchedule start (new late)
   schedule_insert [] fresh s = (
     record {
-      called = inl (further (Effect k u) early (Seen (Write n v)) written);
+      called = inl (written_more early (Effect k u ∷ early) (further (Effect k u) early) n v written);
       awaits = All-cons (IsNoEnd n) (Effect k u) early tt s.0.awaits;
       once = All-cons (IsNoEffect n) (Effect k u) early (λ e. All-head (IsNoEffect k) (Effect n v) early fresh (sym e)) s.0.once;
     },

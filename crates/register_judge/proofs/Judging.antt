@@ -1,30 +1,29 @@
 -- From the start of a register to a verdict.
-use Rattle.std.proofs.Common.{◌≡◌, ◌<◌, ◌≤◌, ◌⊎◌, inl, inr, ℕ, zero, suc, ◌+◌, ◌==◌, ◌&&◌, ◌||◌, Bool, true, false, not, List, [], ◌∷◌, ◌++◌, Option, Some, None, refl, sym, ◌∙◌, ap, subst, arith, map, length, get_or, take, eq-eqb}
-use Rattle.std.specs.Prelude.{All, Contains, slice_index_or, if◌then◌else◌}
+use Rattle.std.proofs.Common.{◌≡◌, ◌<◌, ◌≤◌, ◌⊎◌, inl, inr, ℕ, ◌+◌, ◌==◌, Bool, true, false, List, [], ◌∷◌, ◌++◌, Some, refl, sym, ◌∙◌, ap, subst, arith, length, get_or, take, eq-eqb}
+use Rattle.std.specs.Prelude.{All, Contains, if◌then◌else◌}
 use Rattle.std.specs.List.{list_any}
-use Rattle.std.proofs.lemmas.Bool.{cases_eq, cases_Bool, and_parts, eqb-true}
+use Rattle.std.proofs.lemmas.Bool.{cases_Bool, eqb-true}
 use Rattle.std.proofs.lemmas.List.{take_more, take_all}
-use Rattle.std.proofs.lemmas.List.Elements.{All-nil, All-head, All-tail, All-cons, All-weaker, All-contains}
+use Rattle.std.proofs.lemmas.List.Elements.{All-nil, All-cons, All-weaker, All-contains}
 use Rattle.register.specs.declared.Sight.{Sight}
 use Rattle.register.specs.declared.Sight.TheVariants.{Write, Read, Done, Failed}
-use Rattle.register.specs.Schedules.{Event, Seen, Effect, seen_of, value_after, IsNoEnd, IsNoEffect, TakesEffect, May, IsSchedule, HasSchedule}
+use Rattle.register.specs.Schedules.{Event, Seen, Effect, seen_of, unrecorded, IsWritten, IsRead, TakesEffect, May, IsSchedule, HasSchedule}
 use Rattle.register_judge.specs.Verdicts.{IsRefusal}
 use Rattle.register_judge.specs.declared.states.Waiting.{Waiting}
 use Rattle.register_judge.specs.declared.states.State.{State}
-use Rattle.register_judge.specs.declared.states.Turn.{Turn}
-use Rattle.register_judge.specs.declared.states.How.TheVariants.{Act, Hide, Leave}
 use Rattle.register_judge.specs.declared.keeping.Register.{Register}
-use Rattle.register_judge.specs.inside.States.{Form, form_of, forms_of, is_met, meets, lefts, is_source, may_turn, turned, turns_of, leave, called, EndsAll}
-use Rattle.register_judge.specs.inside.Covering.{Covers as CoversForm, Prunes}
-use Rattle.register_judge.specs.inside.Registers.{is_this, without, Begins, EachCalled, Calls, EndsAt, Sees}
-use Rattle.register_judge.proofs.Listing.{Has, has_left, has_new, has_last, contains_has}
-use Rattle.register_judge.proofs.Turning.{Stays, stays, turn_from, Comes, Leaves, turns_from, read_unmet}
-use Rattle.register_judge.proofs.Matching.{IsAtMost, HasEffect, call_of, further, newest, first_or_behind, behind, effect_or_not, IsMatch, Settled, match_effect, hide_unmet, IsEndOf}
-use Rattle.register_judge.proofs.Calling.{call_low, no_end_above, no_effect_above, call_quiet, match_call, Turns, turns_acted, turns_free}
+use Rattle.register_judge.specs.inside.States.{Form, form_of, forms_of, Means, turned, called, bound, bound_of}
+use Rattle.register_judge.specs.inside.Covering.{MayHave, Covers as CoversForm, Prunes}
+use Rattle.register_judge.specs.inside.Registers.{is_this, without, Begins, Calls, EndsAt, Sees}
+use Rattle.register_judge.proofs.Listing.{Has, has_last, contains_has}
+use Rattle.register_judge.proofs.Bounding.{called_there, called_only}
+use Rattle.register_judge.proofs.Events.{IsAtMost, call_of, effect_or_not, effects_none}
+use Rattle.register_judge.proofs.Matching.{IsMatch, match_effect, IsEndOf}
+use Rattle.register_judge.proofs.Calling.{at_most_call, at_most_more, Called, match_call, Turns, turns_acted, turns_free}
+use Rattle.register_judge.proofs.Sounding.{AreReal, seen_end, real_turn, real_call}
 use Rattle.register_judge.proofs.Adding.{all_there, all_only}
-use Rattle.register_judge.proofs.Reaching.{IsFresh, Split, Room, Stands, IsReal, call_read}
+use Rattle.register_judge.proofs.Reaching.{IsReal}
 use Rattle.register_judge.proofs.Pruning.{has_contains, IsTidy, tidy_first, tidy_call, tidy_end, done_no_call, failed_no_call, match_covered}
-use Rattle.register_judge.proofs.Standing.{fewer, stands_leave, stands_act, seen_act, acted_past, stands_hide, seen_hide, hidden_past, stands_end}
 
 -- LISTS
 
@@ -49,52 +48,15 @@ not_empty : {X : Type 0} (xs : List X) (x : X) → [] ≡ xs ++ x ∷ [] → ⊥
 not_empty [] x e = cc (e)
 not_empty (a ∷ xs) x e = cc (e)
 
-forms_at : (states : List State) (g : Form) → Has (forms_of states) g → (k : ℕ) × (k < length states) × ((d : State) → form_of (get_or states k d) ≡ g)
-forms_at [] g h = absurd h
-forms_at (s ∷ states) g (inl e) = (0, omega arith, λ d. e)
-forms_at (s ∷ states) g (inr h) = let at : (k : ℕ) × (k < length states) × ((d : State) → form_of (get_or states k d) ≡ g) = forms_at states g h in (suc at.0, more at.1, at.2)
-  where
-    more : {k n : ℕ} → k < n → suc k < suc n
-    more h = omega arith
-
-forms_has : (states : List State) (k : ℕ) (d : State) → k < length states → Has (forms_of states) (form_of (get_or states k d))
-forms_has [] k d low = absurd (omega arith)
-forms_has (s ∷ states) zero d low = inl refl
-forms_has (s ∷ states) (suc k) d low = inr (forms_has states k d (fewer' low))
-  where
-    fewer' : suc k < length (s ∷ states) → k < length states
-    fewer' h = omega arith
-
-called_there : (o : Waiting) (old new : List State) (f : Form) → EachCalled o old new → Has (forms_of old) f → Has (forms_of new) (called o f)
-called_there o old new f c h =
-    let at : (k : ℕ) × (k < length old) × ((d : State) → form_of (get_or old k d) ≡ f) = forms_at old f h in
-    by old new c at.0 at.1 at.2
-  where
-    by : (old new : List State) → EachCalled o old new → (k : ℕ) → k < length old → ((d : State) → form_of (get_or old k d) ≡ f) → Has (forms_of new) (called o f)
-    by [] new c k low e = absurd (omega arith)
-    by (d ∷ old) new c k low e =
-        let n = c.same_length in
-        let e' : form_of (get_or new k d) ≡ called o f = c.calls k d low ∙ ap (called o) (e d) in
-        subst (Has (forms_of new)) e' (forms_has new k d (omega arith))
-
-called_only : (o : Waiting) (old new : List State) (g : Form) → EachCalled o old new → Has (forms_of new) g → (f : Form) × Has (forms_of old) f × (called o f ≡ g)
-called_only o old new g c h =
-    let at : (k : ℕ) × (k < length new) × ((d : State) → form_of (get_or new k d) ≡ g) = forms_at new g h in
-    by old new c at.0 at.1 at.2
-  where
-    by : (old new : List State) → EachCalled o old new → (k : ℕ) → k < length new → ((d : State) → form_of (get_or new k d) ≡ g) → (f : Form) × Has (forms_of old) f × (called o f ≡ g)
-    by [] new c k low e = let n = c.same_length in absurd (omega arith)
-    by (d ∷ old) new c k low e =
-        let n = c.same_length in
-        let low' : k < length (d ∷ old) = omega arith in
-        (form_of (get_or (d ∷ old) k d), forms_has (d ∷ old) k d low', sym (c.calls k d low') ∙ e d)
-
 -- COMPLETE
 
+-- one of the forms matches, with a value that it means
 pub record Covered (start last : ℕ) (forms : List Form) (past : List Event) : Type 0 where
   pub form : Form
   pub has : Has forms form
-  pub match : IsMatch start past form
+  pub value : ℕ
+  pub means : Means form value
+  pub match : IsMatch start past (bound value form)
   pub below : All (IsAtMost last) past
 
 abbrev pub Covers : ℕ → ℕ → List Form → List Sight → Type 0
@@ -104,40 +66,41 @@ covered_effect : (start last : ℕ) (forms : List Form) (past : List Event) (n v
 covered_effect start last forms past n v h c = record {
   form = c.form;
   has = c.has;
-  match = match_effect start past c.form n v c.match h;
-  below = All-cons (IsAtMost last) (Effect n v) past (elim h.called [
-    | inl wrote ↦ All-contains (IsAtMost last) past (Seen (Write n v)) c.below wrote
-    | inr read ↦ All-contains (IsAtMost last) past (Seen (Read n v)) c.below read.0
-  ]) c.below;
+  value = c.value;
+  means = c.means;
+  match = match_effect start past (bound c.value c.form) n v c.match h;
+  below = All-cons (IsAtMost last) (Effect n v) past (elim h.called [ inl wrote ↦ low_write wrote | inr read ↦ low_read read.0 ]) c.below;
 }
+  where
+    low_write : IsWritten past n v → n ≤ last
+    low_write (inl wrote) = All-contains (IsAtMost last) past (Seen (Write n v)) c.below wrote
+    low_write (inr wrote) = All-contains (IsAtMost last) past (Seen (Write n unrecorded)) c.below wrote
 
-at_most_call : (writes : Bool) (n v : ℕ) → IsAtMost n (Seen (call_of writes n v))
-at_most_call true n v = omega arith
-at_most_call false n v = omega arith
-
-at_most_more : (n last : ℕ) → last < n → (e : Event) → IsAtMost last e → IsAtMost n e
-at_most_more n last newer (Seen (Write number value)) h = omega arith
-at_most_more n last newer (Seen (Read number value)) h = omega arith
-at_most_more n last newer (Seen (Done number)) h = omega arith
-at_most_more n last newer (Seen (Failed number)) h = omega arith
-at_most_more n last newer (Effect number value) h = omega arith
+    low_read : IsRead past n v → n ≤ last
+    low_read (inl read) = All-contains (IsAtMost last) past (Seen (Read n v)) c.below read
+    low_read (inr read) = All-contains (IsAtMost last) past (Seen (Read n unrecorded)) c.below read
 
 module _ (start : ℕ) (old : Register) (new : Register) (past : List Event) where
   call_covered : (n : ℕ) (writes : Bool) (v : ℕ) → Calls old n writes v new → Covered start old.last (forms_of old.states.items) past → Covered start new.last (forms_of new.states.items) (Seen (call_of writes n v) ∷ past)
   call_covered n writes v h c =
-      let o : Waiting = record { number = n; writes = writes; value = v; is_old = false } in record {
-        form = called o c.form;
-        has = called_there o old.states.items new.states.items c.form h.states c.has;
-        match = match_call start old.last past c.form c.match c.below o h.newer;
+      let o : Waiting = record { number = n; writes = writes; value = v; is_old = false } in
+      let g : Called start (Seen (call_of writes n v) ∷ past) o c.form = match_call start old.last past c.form c.value c.means c.match c.below o h.newer in record {
+        form = g.form;
+        has = called_there o old.states.items new.states.items c.form g.form h.states c.has g.of;
+        value = g.value;
+        means = g.means;
+        match = g.match;
         below = rw h.last (All-cons (IsAtMost n) (Seen (call_of writes n v)) past (at_most_call writes n v) (All-weaker (IsAtMost old.last) (IsAtMost n) (at_most_more n old.last h.newer) past c.below));
       }
 
   end_covered : (n : ℕ) (must : Bool) (x : Sight) → IsEndOf n x → n ≤ old.last → (h : EndsAt old n must new) → (c : Covered start old.last (forms_of old.states.items) past) → Turns start past c.form must n
       → Covered start new.last h.states.ended (Seen x ∷ past)
   end_covered n must x ends low h c t = record {
-    form = turned t.0 c.form;
-    has = all_there must n (forms_of old.states.items) [] h.states.ended c.form t.0 h.states.ends c.has t.1;
-    match = t.2 x ends;
+    form = turned t.turn c.form;
+    has = all_there must n (forms_of old.states.items) [] h.states.ended c.form t.turn h.states.ends c.has t.there;
+    value = t.value;
+    means = t.means;
+    match = t.match x ends;
     below = rw h.last (All-cons (IsAtMost old.last) (Seen x) past (end_low n x ends low) c.below);
   }
     where
@@ -147,17 +110,24 @@ module _ (start : ℕ) (old : Register) (new : Register) (past : List Event) whe
       end_low n (Write k v) e low = absurd e
       end_low n (Read k v) e low = absurd e
 
+have_means : (f g : Form) (u : ℕ) → MayHave f g → Means g u → Means f u
+have_means f g u (inl any) means = inl any
+have_means f g u (inr one) (inl any) = absurd (cc (one.0, any))
+have_means f g u (inr one) (inr is) = inr (one.1 ∙ is)
+
 -- a form that is needless is covered
-covered_left : (start last : ℕ) (numbers : List ℕ) (sights : List Sight) (old new : List Form) → Prunes old new → ((f : Form) → Has old f → IsReal start last numbers sights f) → IsTidy last sights
+covered_left : (start last : ℕ) (numbers : List ℕ) (sights : List Sight) (old new : List Form) → Prunes old new → AreReal start last numbers sights old → IsTidy last sights
     → (past : List Event) → seen_of past ≡ sights → Covered start last old past → Covered start last new past
 covered_left start last numbers sights old new prunes reals tidy past seen c =
     by (prunes.covered c.form (has_contains old c.form c.has))
   where
     by : (f : Form) × Contains new f × CoversForm f c.form → Covered start last new past
-    by (f, there, covers) = record {
+    by (f, there, covers) = let means' : Means f c.value = have_means f c.form c.value covers.value c.means in record {
       form = f;
       has = contains_has new f there;
-      match = match_covered start last numbers sights f c.form (reals f (contains_has old f (prunes.among f there))) tidy covers past seen c.match;
+      value = c.value;
+      means = means';
+      match = match_covered start last numbers sights (bound c.value f) (bound c.value c.form) (reals f (contains_has old f (prunes.among f there)) c.value means') tidy refl covers.wait covers.there past seen c.match;
       below = c.below;
     }
 
@@ -188,239 +158,29 @@ without_from n left (other ∷ numbers) k h = by (λ more there. without_from n 
       | inr x ↦ inr (inr x.0, x.1)
     ]
 
--- SOUND
-
-may_end : (start n : ℕ) (past : List Event) (x : Sight) → IsEndOf n x → HasEffect n past → May start past (Seen x)
-may_end start n past (Done k) e h = (h.0, subst (λ j. Contains past (Effect j h.0)) (sym e) h.1)
-may_end start n past (Failed k) e h = tt
-may_end start n past (Write k v) e h = absurd e
-may_end start n past (Read k v) e h = absurd e
-
-may_call : (start : ℕ) (past : List Event) (writes : Bool) (n v : ℕ) → May start past (Seen (call_of writes n v))
-may_call start past true n v = tt
-may_call start past false n v = tt
-
-seen_end : (past : List Event) (sights : List Sight) (x : Sight) → seen_of past ≡ sights → seen_of (Seen x ∷ past) ≡ sights ++ x ∷ []
-seen_end past sights x e = ap (λ xs. xs ++ x ∷ []) e
-
--- the write, or the one of the value that is read
-source_parts : (of w : Waiting) → is_source of w ≡ true → (w.writes ≡ true) × (((of.writes ≡ true) × (w.number ≡ of.number)) ⊎ ((of.writes ≡ false) × (w.value ≡ of.value)))
-source_parts of w e = by w.writes of.writes refl refl e
-  where
-    by : (a b : Bool) → w.writes ≡ a → of.writes ≡ b → (if a then (if b then w.number == of.number else w.value == of.value) else false) ≡ true
-        → (w.writes ≡ true) × (((of.writes ≡ true) × (w.number ≡ of.number)) ⊎ ((of.writes ≡ false) × (w.value ≡ of.value)))
-    by true true a b t = (a, inl (b, eqb-true w.number of.number t))
-    by true false a b t = (a, inr (b, eqb-true w.value of.value t))
-    by false b' a b t = absurd (cc (t))
-
-module _ (start last : ℕ) (numbers numbers' : List ℕ) (sights : List Sight) (f : Form) (r : IsReal start last numbers sights f) (n : ℕ) (must : Bool) (x : Sight) (ends : IsEndOf n x)
-    (may : must ≡ false → (past : List Event) → May start past (Seen x)) (has_n : Has numbers n) (low : n ≤ last) (less : (k : ℕ) → Has numbers' k → Has numbers k × (k ≡ n → ⊥)) where
-  abbrev past : List Event
-  past = r.events
-
-  -- what is left of a turn that has acted has no such number
-  real_after : (g : Form) (events : List Event) → seen_of events ≡ seen_of past → Stands start last numbers events g → ((o : Waiting) → Has g.waits o → o.number ≡ n → ⊥) → IsReal start last numbers' (sights ++ x ∷ []) g
-  real_after g events seen s none = record {
-    events = Seen x ∷ events;
-    seen = seen_end events sights x (seen ∙ r.seen);
-    stands = fewer start last numbers numbers' (Seen x ∷ events) g (λ k h. (less k h).0) (stands_end start last numbers events g s n x ends (may_end start n events x ends (s.acted n has_n none)) low none);
-  }
-
-  real_act : (c : Turn) → Comes must n f.waits Act c → IsReal start last numbers' (sights ++ x ∷ []) (turned c f)
-  real_act t c =
-      let w : Waiting = c.write in
-      let parts = source_parts c.of w c.may in
-      subst (λ u. IsReal start last numbers' (sights ++ x ∷ []) (turned u f)) (sym c.is)
-      (real_after (turned (turn_from Act w) f) (acted_past start last numbers past f r.stands w c.has_write parts.0) (seen_act start last numbers past f r.stands w c.has_write parts.0)
-      (stands_act start last numbers past f r.stands w c.has_write parts.0) (none w parts.1))
-    where
-      none : (w : Waiting) → ((c.of.writes ≡ true) × (w.number ≡ c.of.number)) ⊎ ((c.of.writes ≡ false) × (w.value ≡ c.of.value)) → (o : Waiting) → Has (lefts (turn_from Act w) [] f.waits) o → o.number ≡ n → ⊥
-      none w which o h e =
-          let s : Stays (turn_from Act w) f.waits o = stays (turn_from Act w) f.waits o h in
-          let number : s.before.number ≡ n = ap (λ (y : Waiting). y.number) s.is ∙ e in
-          elim which [
-            | inl own ↦ s.other (number ∙ sym c.is_of ∙ sym own.1)
-            | inr read ↦ let is : s.before ≡ c.of = r.stands.apart s.before c.of s.has c.has_of (number ∙ sym c.is_of) in
-                read_unmet w.value s.before (ap (λ (y : Waiting). y.writes) is ∙ read.0) s.unmet (ap (λ (y : Waiting). y.value) is ∙ sym read.1)
-          ]
-
-  real_hide : (c : Turn) → Comes must n f.waits Hide c → IsReal start last numbers' (sights ++ x ∷ []) (turned c f)
-  real_hide t c =
-      let w : Waiting = c.write in
-      let olds : _ × (w.is_old ≡ true) = and_parts _ w.is_old c.may in
-      let sources : (is_source c.of w ≡ true) × (c.of.is_old ≡ true) = and_parts (is_source c.of w) c.of.is_old olds.0 in
-      let parts = source_parts c.of w sources.0 in
-      subst (λ u. IsReal start last numbers' (sights ++ x ∷ []) (turned u f)) (sym c.is) (elim r.stands.room [
-        | inl no_old ↦ absurd (no_old w c.has_write olds.1)
-        | inr split ↦
-            real_after (turned (turn_from Hide w) f) (hidden_past start last numbers past f r.stands w c.has_write parts.0 olds.1 split) (seen_hide start last numbers past f r.stands w c.has_write parts.0 olds.1 split)
-            (stands_hide start last numbers past f r.stands w c.has_write parts.0 olds.1 split) (none w sources.1 parts.1)
-      ])
-    where
-      none : (w : Waiting) → c.of.is_old ≡ true → ((c.of.writes ≡ true) × (w.number ≡ c.of.number)) ⊎ ((c.of.writes ≡ false) × (w.value ≡ c.of.value)) → (o : Waiting) → Has (lefts (turn_from Hide w) [] f.waits) o → o.number ≡ n → ⊥
-      none w old which o h e =
-          let s : Stays (turn_from Hide w) f.waits o = stays (turn_from Hide w) f.waits o h in
-          let number : s.before.number ≡ n = ap (λ (y : Waiting). y.number) s.is ∙ e in
-          elim which [
-            | inl own ↦ s.other (number ∙ sym c.is_of ∙ sym own.1)
-            | inr read ↦ let is : s.before ≡ c.of = r.stands.apart s.before c.of s.has c.has_of (number ∙ sym c.is_of) in
-                hide_unmet w.value s.before (ap (λ (y : Waiting). y.is_old) is ∙ old) (ap (λ (y : Waiting). y.writes) is ∙ read.0) s.unmet (ap (λ (y : Waiting). y.value) is ∙ sym read.1)
-          ]
-
-  real_leave : (t : Turn) → Leaves must n f.waits t → IsReal start last numbers' (sights ++ x ∷ []) (turned t f)
-  real_leave t l = subst (λ u. IsReal start last numbers' (sights ++ x ∷ []) (turned u f)) (sym l.is) (record {
-    events = Seen x ∷ past;
-    seen = seen_end past sights x r.seen;
-    stands = stands_end start last numbers' past (turned (leave n) f) (stands_leave start last numbers past f r.stands n numbers' less) n x ends may' low none;
-  })
-    where
-      may' : May start past (Seen x)
-      may' = elim (cases_Bool must) [
-        | inl need ↦ may_end start n past x ends (r.stands.acted n has_n (l.may need))
-        | inr free ↦ may free past
-      ]
-
-      none : (o : Waiting) → Has (lefts (leave n) [] f.waits) o → o.number ≡ n → ⊥
-      none o h e = let s : Stays (leave n) f.waits o = stays (leave n) f.waits o h in s.other (ap (λ (y : Waiting). y.number) s.is ∙ e)
-
-  real_turn : (t : Turn) → Has (turns_of must n f.waits) t → IsReal start last numbers' (sights ++ x ∷ []) (turned t f)
-  real_turn t h = elim (turns_from must n f.waits t h) [
-    | inl c ↦ real_act t c
-    | inr rest ↦ elim rest [ inl c ↦ real_hide t c | inr l ↦ real_leave t l ]
-  ]
-
-module _ (start last : ℕ) (numbers : List ℕ) (sights : List Sight) (f : Form) (r : IsReal start last numbers sights f) (o : Waiting) (newer : last < o.number) (new_o : o.is_old ≡ false) where
-  abbrev sight : Sight
-  sight = call_of o.writes o.number o.value
-
-  abbrev before : List Event
-  before = r.events
-
-  apart_from : (x : Waiting) → Has f.waits x → o.number ≡ x.number → ⊥
-  apart_from x h e = let low : x.number ≤ last = call_low last before r.stands.below x.writes x.number x.value (r.stands.fresh x h).called in over low e
-    where
-      over : x.number ≤ last → o.number ≡ x.number → ⊥
-      over a b = let newer' = newer in absurd (omega arith)
-
-  fresh_more : (x : Waiting) → Has f.waits x → IsFresh (Seen sight ∷ before) x
-  fresh_more x h = let k = r.stands.fresh x h in record {
-    called = further (Seen sight) before (Seen (call_of x.writes x.number x.value)) k.called;
-    awaits = All-cons (IsNoEnd x.number) (Seen sight) before (call_quiet o.writes o.number o.value x.number) k.awaits;
-    none = All-cons (IsNoEffect x.number) (Seen sight) before tt k.none;
-  }
-
-  fresh_own : IsFresh (Seen sight ∷ before) o
-  fresh_own = record {
-    called = newest (Seen sight) before;
-    awaits = All-cons (IsNoEnd o.number) (Seen sight) before (call_quiet o.writes o.number o.value o.number) (All-weaker (IsAtMost last) (IsNoEnd o.number) (no_end_above o.number last newer) before r.stands.below);
-    none = All-cons (IsNoEffect o.number) (Seen sight) before tt (All-weaker (IsAtMost last) (IsNoEffect o.number) (no_effect_above o.number last newer) before r.stands.below);
-  }
-
-  below_more : All (IsAtMost o.number) (Seen sight ∷ before)
-  below_more = All-cons (IsAtMost o.number) (Seen sight) before (at_most_call o.writes o.number o.value) (All-weaker (IsAtMost last) (IsAtMost o.number) (at_most_more o.number last newer) before r.stands.below)
-
-  real_pushed : IsReal start o.number (numbers ++ o.number ∷ []) (sights ++ sight ∷ []) (record f { waits = f.waits ++ o ∷ [] })
-  real_pushed = record {
-    events = Seen sight ∷ before;
-    seen = seen_end before sights sight r.seen;
-    stands = record {
-      in_turn = (may_call start before o.writes o.number o.value, r.stands.in_turn);
-      value = r.stands.value;
-      fresh = λ x h. elim (has_last f.waits o x h) [ inl old ↦ fresh_more x old | inr is ↦ subst (IsFresh (Seen sight ∷ before)) is fresh_own ];
-      apart = λ a b has_a has_b e. elim (has_last f.waits o a has_a) [
-        | inl old_a ↦ elim (has_last f.waits o b has_b) [
-          | inl old_b ↦ r.stands.apart a b old_a old_b e
-          | inr is_b ↦ absurd (apart_from a old_a (ap (λ (y : Waiting). y.number) is_b ∙ sym e))
-        ]
-        | inr is_a ↦ elim (has_last f.waits o b has_b) [
-          | inl old_b ↦ absurd (apart_from b old_b (ap (λ (y : Waiting). y.number) is_a ∙ e))
-          | inr is_b ↦ sym is_a ∙ is_b
-        ]
-      ];
-      acted = λ k h none. elim (has_last numbers o.number k h) [
-        | inl old ↦ let e = r.stands.acted k old (λ x has same. none x (has_left f.waits (o ∷ []) x has) same) in (e.0, further (Seen sight) before (Effect k e.0) e.1)
-        | inr is ↦ absurd (none o (has_new f.waits o) is)
-      ];
-      room = elim r.stands.room [
-        | inl no_old ↦ inl (λ x h old. elim (has_last f.waits o x h) [ inl there ↦ no_old x there old | inr is ↦ let old' : o.is_old ≡ true = ap (λ (y : Waiting). y.is_old) is ∙ old in cc (old', new_o) ])
-        | inr split ↦ inr (record {
-          late = Seen sight ∷ split.late;
-          early = split.early;
-          number = split.number;
-          value = split.value;
-          is = ap (λ p. Seen sight ∷ p) split.is;
-          written = split.written;
-          olds = λ x h old. elim (has_last f.waits o x h) [ inl there ↦ split.olds x there old | inr is ↦ let old' : o.is_old ≡ true = ap (λ (y : Waiting). y.is_old) is ∙ old in absurd (cc (old', new_o)) ];
-        })
-      ];
-      below = below_more;
-    };
-  }
-
-  abbrev event : Event
-  event = Effect o.number o.value
-
-  real_met : o.writes ≡ false → o.value ≡ f.value → IsReal start o.number (numbers ++ o.number ∷ []) (sights ++ sight ∷ []) f
-  real_met reads same = record {
-    events = event ∷ Seen sight ∷ before;
-    seen = seen_end before sights sight r.seen;
-    stands = record {
-      in_turn = (
-        record { called = inr (call_read o (Seen sight ∷ before) reads fresh_own.called, same ∙ sym r.stands.value); awaits = fresh_own.awaits; once = fresh_own.none },
-        (may_call start before o.writes o.number o.value, r.stands.in_turn),
-      );
-      value = same;
-      fresh = λ x h. let k = fresh_more x h in record {
-        called = further event (Seen sight ∷ before) (Seen (call_of x.writes x.number x.value)) k.called;
-        awaits = All-cons (IsNoEnd x.number) event (Seen sight ∷ before) tt k.awaits;
-        none = All-cons (IsNoEffect x.number) event (Seen sight ∷ before) (apart_from x h) k.none;
-      };
-      apart = r.stands.apart;
-      acted = λ k h none. elim (has_last numbers o.number k h) [
-        | inl old ↦ let e = r.stands.acted k old none in (e.0, further event (Seen sight ∷ before) (Effect k e.0) (further (Seen sight) before (Effect k e.0) e.1))
-        | inr is ↦ (o.value, subst (λ j. Contains (event ∷ Seen sight ∷ before) (Effect j o.value)) is (newest event (Seen sight ∷ before)))
-      ];
-      room = elim r.stands.room [
-        | inl no_old ↦ inl no_old
-        | inr split ↦ inr (record {
-          late = event ∷ Seen sight ∷ split.late;
-          early = split.early;
-          number = split.number;
-          value = split.value;
-          is = ap (λ p. event ∷ Seen sight ∷ p) split.is;
-          written = split.written;
-          olds = split.olds;
-        })
-      ];
-      below = All-cons (IsAtMost o.number) event (Seen sight ∷ before) (omega arith) below_more;
-    };
-  }
-
-  real_call : IsReal start o.number (numbers ++ o.number ∷ []) (sights ++ sight ∷ []) (called o f)
-  real_call = by o.writes (o.value == f.value) refl refl
-    where
-      by : (w same : Bool) → o.writes ≡ w → (o.value == f.value) ≡ same → IsReal start o.number (numbers ++ o.number ∷ []) (sights ++ sight ∷ []) (if w || not same then record f { waits = f.waits ++ o ∷ [] } else f)
-      by true same e e' = real_pushed
-      by false true e e' = real_met e (eqb-true o.value f.value e')
-      by false false e e' = real_pushed
-
 -- EXACTLY
 
 -- the forms are those after the schedules of these sights, and there is one
 pub record IsExact (start : ℕ) (register : Register) (sights : List Sight) : Type 0 where
   pub covers : Covers start register.last (forms_of register.states.items) sights
-  pub reals : (f : Form) → Has (forms_of register.states.items) f → IsReal start register.last register.numbers.items sights f
+  pub reals : AreReal start register.last register.numbers.items sights (forms_of register.states.items)
   pub low : are_low register.last register.numbers.items
   pub tidy : IsTidy register.last sights
   pub some : register.states.items ≡ [] → ⊥
 
 abbrev first_form : ℕ → Form
-first_form start = record { value = start; waits = [] }
+first_form start = record { any = false; value = start; waits = [] }
 
 pub exact_first : (start : ℕ) (register : Register) → Begins start register → IsExact start register []
 exact_first start register b = record {
   covers = covers;
-  reals = λ f h. elim (subst (λ fs. Has fs f) b.states h) [ inl is ↦ subst (IsReal start register.last register.numbers.items []) is first_real | inr none ↦ absurd none ];
+  reals = λ f h u means. elim (subst (λ fs. Has fs f) b.states h) [
+    | inl is ↦ elim (subst (λ g. Means g u) (sym is) means) [
+      | inl none ↦ absurd (cc (none))
+      | inr same ↦ subst (λ g. IsReal start register.last register.numbers.items [] (bound u g)) is (subst (λ v. IsReal start register.last register.numbers.items [] (bound v (first_form start))) same first_real)
+    ]
+    | inr none ↦ absurd none
+  ];
   low = λ k h. absurd (subst (λ xs. Has xs k) b.numbers h);
   tidy = tidy_first register.last;
   some = λ e. not_none (ap forms_of (sym e) ∙ b.states);
@@ -433,12 +193,16 @@ exact_first start register b = record {
     covers [] s e = record {
       form = first_form start;
       has = subst (λ fs. Has fs (first_form start)) (sym b.states) (inl refl);
+      value = start;
+      means = inr refl;
       match = record {
         known = λ o h. absurd h;
         there = λ n v c awaits fresh. let low = c.1 in absurd (omega arith);
         apart = λ a c h h' e'. absurd h;
         kinds = λ o h writes v c. absurd h;
         greedy = λ o h r e'. h;
+        told = λ o h r e'. h;
+        effects = effects_none;
         place = inl (record { value = refl; writes = λ o h w acted. absurd h; reads = λ o h r acted. absurd h });
       };
       below = All-nil (IsAtMost register.last);
@@ -472,17 +236,17 @@ module _ (start : ℕ) (old new : Register) (sights : List Sight) where
 
   -- what an end leaves of each form
   reals_ended : (n : ℕ) (must : Bool) (sight : Sight) → IsEndOf n sight → (must ≡ false → (past : List Event) → May start past (Seen sight)) → (h : EndsAt old n must new) → IsExact start old sights
-      → (f : Form) → Has h.states.ended f → IsReal start new.last new.numbers.items (sights ++ sight ∷ []) f
-  reals_ended n must sight ends may h x f there =
+      → AreReal start new.last new.numbers.items (sights ++ sight ∷ []) h.states.ended
+  reals_ended n must sight ends may h x f there u means =
       let has_n : Has old.numbers.items n = any_has n old.numbers.items h.was_open in
       elim (all_only must n (forms_of old.states.items) [] h.states.ended f h.states.ends there) [
         | inl none ↦ absurd none
         | inr (g, has, (t, in_turns, is)) ↦
-            subst (λ l. IsReal start l new.numbers.items (sights ++ sight ∷ []) f) (sym h.last)
-            (subst (λ xs. IsReal start old.last xs (sights ++ sight ∷ []) f) (sym h.numbers)
-            (subst (IsReal start old.last (without n [] old.numbers.items) (sights ++ sight ∷ [])) is
-            (real_turn start old.last old.numbers.items (without n [] old.numbers.items) sights g (x.reals g has) n must sight ends may has_n (x.low n has_n)
-            (λ k h'. elim (without_from n [] old.numbers.items k h') [ inl none ↦ absurd none | inr y ↦ y ]) t in_turns)))
+            subst (λ l. IsReal start l new.numbers.items (sights ++ sight ∷ []) (bound u f)) (sym h.last)
+            (subst (λ xs. IsReal start old.last xs (sights ++ sight ∷ []) (bound u f)) (sym h.numbers)
+            (subst (λ y. IsReal start old.last (without n [] old.numbers.items) (sights ++ sight ∷ []) (bound u y)) is
+            (real_turn start old.last old.numbers.items (without n [] old.numbers.items) sights g n must sight ends may has_n (x.low n has_n)
+            (λ k h'. elim (without_from n [] old.numbers.items k h') [ inl none ↦ absurd none | inr y ↦ y ]) (x.reals g has) t in_turns u (subst (λ y. Means y u) (sym is) means))))
       ]
 
   among_mid : (n : ℕ) (must : Bool) (h : EndsAt old n must new) (f : Form) → Has h.states.mid f → Has h.states.ended f
@@ -509,15 +273,15 @@ module _ (start : ℕ) (old new : Register) (sights : List Sight) where
       → Covered start new.last (forms_of new.states.items) (Seen (Done n) ∷ past)
   covered_done x n h past seen may c =
       covered_end n true (Done n) refl (may_done n) h x (tidy_more (Done n) h x.tidy) past seen
-      (end_covered start old new past n true (Done n) refl (x.low n (any_has n old.numbers.items h.was_open)) h c (turns_acted start past c.form c.match true n may))
+      (end_covered start old new past n true (Done n) refl (x.low n (any_has n old.numbers.items h.was_open)) h c (turns_acted start past c.form c.value c.means c.match true n may))
 
   covered_failed : (x : IsExact start old sights) (n : ℕ) → EndsAt old n false new → (past : List Event) → seen_of past ≡ sights → Covered start old.last (forms_of old.states.items) past
       → Covered start new.last (forms_of new.states.items) (Seen (Failed n) ∷ past)
   covered_failed x n h past seen c =
       covered_end n false (Failed n) refl (may_failed n) h x (tidy_more (Failed n) h x.tidy) past seen
       (end_covered start old new past n false (Failed n) refl (x.low n (any_has n old.numbers.items h.was_open)) h c (elim (effect_or_not n past) [
-        | inl acted ↦ turns_acted start past c.form c.match false n acted
-        | inr none ↦ turns_free start past c.form c.match n none
+        | inl acted ↦ turns_acted start past c.form c.value c.means c.match false n acted
+        | inr none ↦ turns_free start past c.form c.value c.means c.match n none
       ]))
 
   covered_sight : IsExact start old sights → (x : Sight) → Sees old x new → (past : List Event) → seen_of past ≡ sights → May start past (Seen x) → Covered start old.last (forms_of old.states.items) past
@@ -535,24 +299,23 @@ module _ (start : ℕ) (old new : Register) (sights : List Sight) where
       let may : May start past (Seen sight) = subst (λ z. May start past (Seen z)) both.1 s.0 in
       subst (λ z. Covered start new.last (forms_of new.states.items) (Seen z ∷ past)) (sym both.1) (covered_sight x sight h past both.0 may (x.covers past s.1 both.0))
 
-  reals_call : (n : ℕ) (writes : Bool) (v : ℕ) → Calls old n writes v new → IsExact start old sights → (f : Form) → Has (forms_of new.states.items) f → IsReal start new.last new.numbers.items (sights ++ call_of writes n v ∷ []) f
-  reals_call n writes v h x f there =
+  reals_call : (n : ℕ) (writes : Bool) (v : ℕ) → Calls old n writes v new → IsExact start old sights → AreReal start new.last new.numbers.items (sights ++ call_of writes n v ∷ []) (forms_of new.states.items)
+  reals_call n writes v h x f there u means =
       let o : Waiting = record { number = n; writes = writes; value = v; is_old = false } in
-      let came : (g : Form) × Has (forms_of old.states.items) g × (called o g ≡ f) = called_only o old.states.items new.states.items f h.states there in
-      subst (λ l. IsReal start l new.numbers.items (sights ++ call_of writes n v ∷ []) f) (sym h.last)
-      (subst (λ xs. IsReal start n xs (sights ++ call_of writes n v ∷ []) f) (sym h.numbers)
-      (subst (IsReal start n (old.numbers.items ++ n ∷ []) (sights ++ call_of writes n v ∷ [])) came.2
-      (real_call start old.last old.numbers.items sights came.0 (x.reals came.0 came.1) o h.newer refl)))
+      let came : (g : Form) × Has (forms_of old.states.items) g × ((called o g ≡ f) ⊎ (bound_of o g ≡ Some f)) = called_only o old.states.items new.states.items f h.states there in
+      subst (λ l. IsReal start l new.numbers.items (sights ++ call_of writes n v ∷ []) (bound u f)) (sym h.last)
+      (subst (λ xs. IsReal start n xs (sights ++ call_of writes n v ∷ []) (bound u f)) (sym h.numbers)
+      (real_call start old.last old.numbers.items sights came.0 (x.reals came.0 came.1) o h.newer refl f came.2 u means))
 
   reals_end : (n : ℕ) (must : Bool) (sight : Sight) → IsEndOf n sight → (must ≡ false → (past : List Event) → May start past (Seen sight)) → EndsAt old n must new → IsExact start old sights
-      → (f : Form) → Has (forms_of new.states.items) f → IsReal start new.last new.numbers.items (sights ++ sight ∷ []) f
+      → AreReal start new.last new.numbers.items (sights ++ sight ∷ []) (forms_of new.states.items)
   reals_end n must sight ends may h x f there = reals_ended n must sight ends may h x f (among_mid n must h f (among_new n must h f there))
 
-  pub reals_more : (sight : Sight) → Sees old sight new → IsExact start old sights → (f : Form) → Has (forms_of new.states.items) f → IsReal start new.last new.numbers.items (sights ++ sight ∷ []) f
-  reals_more (Write n v) h x f there = reals_call n true v h x f there
-  reals_more (Read n v) h x f there = reals_call n false v h x f there
-  reals_more (Done n) h x f there = reals_end n true (Done n) refl (may_done n) h x f there
-  reals_more (Failed n) h x f there = reals_end n false (Failed n) refl (may_failed n) h x f there
+  pub reals_more : (sight : Sight) → Sees old sight new → IsExact start old sights → AreReal start new.last new.numbers.items (sights ++ sight ∷ []) (forms_of new.states.items)
+  reals_more (Write n v) h x = reals_call n true v h x
+  reals_more (Read n v) h x = reals_call n false v h x
+  reals_more (Done n) h x = reals_end n true (Done n) refl (may_done n) h x
+  reals_more (Failed n) h x = reals_end n false (Failed n) refl (may_failed n) h x
 
   low_call : (n : ℕ) (writes : Bool) (v : ℕ) → Calls old n writes v new → IsExact start old sights → are_low new.last new.numbers.items
   low_call n writes v h x k there = rw h.last (elim (has_last old.numbers.items n k (subst (λ xs. Has xs k) h.numbers there)) [
@@ -596,7 +359,7 @@ passes start register sights index past x = by_states register.states.items refl
     by_states : (states : List State) → register.states.items ≡ states → HasSchedule start sights
     by_states [] e = absurd (x.some e)
     by_states (s ∷ states) e =
-        let r : IsReal start register.last register.numbers.items (take index sights) (form_of s) = x.reals (form_of s) (subst (λ xs. Has (forms_of xs) (form_of s)) (sym e) (inl refl)) in
+        let r : IsReal start register.last register.numbers.items (take index sights) (bound s.value (form_of s)) = x.reals (form_of s) (subst (λ xs. Has (forms_of xs) (form_of s)) (sym e) (inl refl)) s.value (inr refl) in
         record { events = r.events; in_turn = r.stands.in_turn; seen = r.seen ∙ take_all index sights past }
 
 -- A REFUSAL

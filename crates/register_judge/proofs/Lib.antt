@@ -1,11 +1,15 @@
 pub mod Listing
 pub mod Turning
+pub mod Events
 pub mod Matching
 pub mod Calling
 pub mod Adding
 pub mod Inserting
 pub mod Reaching
 pub mod Standing
+pub mod Acting
+pub mod Bounding
 pub mod Pruning
+pub mod Sounding
 pub mod Judging
 pub mod Following

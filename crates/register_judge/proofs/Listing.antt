@@ -1,6 +1,6 @@
 -- Membership of lists.
-use Rattle.std.proofs.Common.{◌≡◌, ◌<◌, ◌⊎◌, inl, inr, ℕ, zero, suc, ◌+◌, ◌==◌, ◌&&◌, ◌||◌, Bool, true, false, cond, not, List, [], ◌∷◌, ◌++◌, Option, Some, None, refl, sym, ◌∙◌, ap, subst, arith, length}
-use Rattle.std.specs.Prelude.{Contains, find}
+use Rattle.std.proofs.Common.{◌≡◌, ◌<◌, ◌⊎◌, inl, inr, ℕ, zero, suc, ◌==◌, ◌||◌, Bool, true, false, cond, List, [], ◌∷◌, ◌++◌, Option, Some, None, refl, ◌∙◌, ap, subst, arith, length}
+use Rattle.std.specs.Prelude.{Contains, find, if◌then◌else◌}
 use Rattle.std.proofs.lemmas.Bool.{eqb-true}
 use Rattle.register_judge.specs.inside.States.{with_some, gather}
 
@@ -40,17 +40,24 @@ contains_has (y ∷ xs) x (suc k, low, is) = inr (contains_has xs x (k, fewer lo
 
 -- GATHERED
 
+pub some_kept : {Y : Type 0} (ys : List Y) (m : Option Y) (y : Y) → Has ys y → Has (with_some ys m) y
+some_kept ys None y h = h
+some_kept ys (Some z) y h = has_left ys (z ∷ []) y h
+
+pub some_new : {Y : Type 0} (ys : List Y) (m : Option Y) (y : Y) → m ≡ Some y → Has (with_some ys m) y
+some_new ys m y e = rw e (has_new ys y)
+
+pub some_from : {Y : Type 0} (ys : List Y) (m : Option Y) (y : Y) → Has (with_some ys m) y → Has ys y ⊎ (m ≡ Some y)
+some_from ys None y h = inl h
+some_from ys (Some z) y h = elim (has_last ys z y h) [ inl a ↦ inl a | inr same ↦ inr (ap Some same) ]
+
+pub some_if : {Y : Type 0} (b : Bool) (y : Y) → b ≡ true → (if b then Some y else None) ≡ Some y
+some_if b y e = rw e refl
+
 module _ {X Y : Type 0} (f : X → Option Y) where
   -- what an item gives
   abbrev pub Gives : List X → Y → Type 0
   Gives xs y = (x : X) × Has xs x × (f x ≡ Some y)
-
-  some_kept : (ys : List Y) (m : Option Y) (y : Y) → Has ys y → Has (with_some ys m) y
-  some_kept ys None y h = h
-  some_kept ys (Some z) y h = has_left ys (z ∷ []) y h
-
-  some_new : (ys : List Y) (m : Option Y) (y : Y) → m ≡ Some y → Has (with_some ys m) y
-  some_new ys m y e = rw e (has_new ys y)
 
   pub gather_kept : (ys : List Y) (xs : List X) (y : Y) → Has ys y → Has (gather f ys xs) y
   gather_kept ys [] y h = h
@@ -61,14 +68,10 @@ module _ {X Y : Type 0} (f : X → Option Y) where
   gather_there ys (z ∷ xs) x y (inl same) e = gather_kept (with_some ys (f z)) xs y (some_new ys (f z) y (ap f same ∙ e))
   gather_there ys (z ∷ xs) x y (inr h) e = gather_there (with_some ys (f z)) xs x y h e
 
-  from_some : (ys : List Y) (x : X) (xs : List X) (m : Option Y) (y : Y) → f x ≡ m → Has (with_some ys m) y → Has ys y ⊎ Gives (x ∷ xs) y
-  from_some ys x xs None y e h = inl h
-  from_some ys x xs (Some z) y e h = elim (has_last ys z y h) [ inl a ↦ inl a | inr same ↦ inr (x, inl refl, e ∙ ap Some same) ]
-
   pub gather_from : (ys : List Y) (xs : List X) (y : Y) → Has (gather f ys xs) y → Has ys y ⊎ Gives xs y
   gather_from ys [] y h = inl h
   gather_from ys (x ∷ xs) y h = elim (gather_from (with_some ys (f x)) xs y h) [
-    | inl there ↦ from_some ys x xs (f x) y refl there
+    | inl there ↦ elim (some_from ys (f x) y there) [ inl a ↦ inl a | inr e ↦ inr (x, inl refl, e) ]
     | inr given ↦ inr (given.0, inr given.1, given.2)
   ]
 

@@ -1,76 +1,17 @@
 -- A form that a schedule may have led to: acts that it has not made may still be made.
-use Rattle.std.proofs.Common.{◌≡◌, ◌≢◌, ◌<◌, ◌≤◌, ◌⊎◌, inl, inr, ℕ, zero, suc, ◌+◌, ◌==◌, ◌&&◌, ◌||◌, Bool, true, false, not, List, [], ◌∷◌, ◌++◌, Option, Some, None, refl, sym, ◌∙◌, ap, subst, arith, length, eq-eqb}
-use Rattle.std.specs.Prelude.{All, Contains, find, if◌then◌else◌}
-use Rattle.std.proofs.lemmas.Bool.{cases_eq, and_parts, and_from, eqb-true}
-use Rattle.std.proofs.lemmas.List.Elements.{All-nil, All-head, All-tail, All-cons, All-weaker, All-contains}
+use Rattle.std.proofs.Common.{◌≡◌, ◌⊎◌, inl, inr, ℕ, Bool, true, false, List, [], ◌∷◌, refl, sym, ◌∙◌, ap, subst, eq-eqb}
+use Rattle.std.specs.Prelude.{All, Contains}
+use Rattle.std.proofs.lemmas.Bool.{cases_eq}
+use Rattle.std.proofs.lemmas.List.Elements.{All-head, All-tail, All-cons}
 use Rattle.register.specs.declared.Sight.{Sight}
 use Rattle.register.specs.declared.Sight.TheVariants.{Write, Read, Done, Failed}
-use Rattle.register.specs.Schedules.{Event, Seen, Effect, value_after, IsNoEnd, IsNoEffect, IsCalledFor, TakesEffect}
+use Rattle.register.specs.Schedules.{Event, Seen, Effect, value_after, IsNoEnd, IsNoEffect, unrecorded, IsWritten, IsRead, TakesEffect}
 use Rattle.register_judge.specs.declared.states.Waiting.{Waiting}
-use Rattle.register_judge.specs.declared.states.Turn.{Turn}
-use Rattle.register_judge.specs.declared.states.How.{How}
-use Rattle.register_judge.specs.declared.states.How.TheVariants.{Act, Hide, Leave}
-use Rattle.register_judge.specs.inside.States.{Form, is_met, meets, ages, lefts, turned, leave, called}
-use Rattle.register_judge.proofs.Listing.{Has, has_left, has_new, has_last}
+use Rattle.register_judge.specs.declared.states.How.TheVariants.{Act, Hide}
+use Rattle.register_judge.specs.inside.States.{Form, is_met, meets, lefts, turned, leave}
+use Rattle.register_judge.proofs.Listing.{Has}
 use Rattle.register_judge.proofs.Turning.{Stays, stays, stays_there, write_unmet, read_unmet, turn_from}
-
--- EVENTS
-
-abbrev pub IsAtMost : ℕ → Event → Type 0
-IsAtMost last (Seen (Write number value)) = number ≤ last
-IsAtMost last (Seen (Read number value)) = number ≤ last
-IsAtMost last (Seen (Done number)) = number ≤ last
-IsAtMost last (Seen (Failed number)) = number ≤ last
-IsAtMost last (Effect number value) = number ≤ last
-
-abbrev pub HasEffect : ℕ → List Event → Type 0
-HasEffect n past = (v : ℕ) × Contains past (Effect n v)
-
-abbrev pub call_of : Bool → ℕ → ℕ → Sight
-call_of true n v = Write n v
-call_of false n v = Read n v
-
-pub further : {X : Type 0} (y : X) (xs : List X) (x : X) → Contains xs x → Contains (y ∷ xs) x
-further y xs x (k, low, is) = (suc k, omega arith, is)
-
-pub newest : {X : Type 0} (x : X) (xs : List X) → Contains (x ∷ xs) x
-newest x xs = (0, omega arith, refl)
-
-pub first_or_behind : {X : Type 0} (y : X) (xs : List X) (x : X) → Contains (y ∷ xs) x → (y ≡ x) ⊎ Contains xs x
-first_or_behind y xs x (zero, low, is) = inl is
-first_or_behind y xs x (suc k, low, is) = inr (k, omega arith, is)
-
-pub behind : {X : Type 0} (y : X) (xs : List X) (x : X) → (y ≡ x → ⊥) → Contains (y ∷ xs) x → Contains xs x
-behind y xs x other h = elim (first_or_behind y xs x h) [ inl e ↦ absurd (other e) | inr there ↦ there ]
-
-pub effect_or_not : (n : ℕ) (past : List Event) → HasEffect n past ⊎ All (IsNoEffect n) past
-effect_or_not n [] = inr (All-nil (IsNoEffect n))
-effect_or_not n (Seen x ∷ past) = elim (effect_or_not n past) [
-  | inl h ↦ inl (h.0, further (Seen x) past (Effect n h.0) h.1)
-  | inr none ↦ inr (All-cons (IsNoEffect n) (Seen x) past tt none)
-]
-effect_or_not n (Effect m v ∷ past) = elim (cases_eq m n) [
-  | inl same ↦ inl (v, subst (λ k. Contains (Effect m v ∷ past) (Effect k v)) same (newest (Effect m v) past))
-  | inr other ↦ elim (effect_or_not n past) [
-    | inl h ↦ inl (h.0, further (Effect m v) past (Effect n h.0) h.1)
-    | inr none ↦ inr (All-cons (IsNoEffect n) (Effect m v) past other none)
-  ]
-]
-
-pub none_and_some : (n : ℕ) (past : List Event) → All (IsNoEffect n) past → HasEffect n past → ⊥
-none_and_some n past none some = All-contains (IsNoEffect n) past (Effect n some.0) none some.1 refl
-
-pub more_effect : (n : ℕ) (e : Event) (past : List Event) → HasEffect n past → HasEffect n (e ∷ past)
-more_effect n e past h = (h.0, further e past (Effect n h.0) h.1)
-
-pub behind_effect : (n : ℕ) (x : Sight) (past : List Event) → HasEffect n (Seen x ∷ past) → HasEffect n past
-behind_effect n x past h = (h.0, behind (Seen x) past (Effect n h.0) (λ e. cc (e)) h.1)
-
-pub which_effect : (n m v : ℕ) (past : List Event) → HasEffect m (Effect n v ∷ past) → (n ≡ m) ⊎ HasEffect m past
-which_effect n m v past h = elim (first_or_behind (Effect n v) past (Effect m h.0) h.1) [ inl e ↦ inl (cc (e)) | inr there ↦ inr (h.0, there) ]
-
-pub behind_call : (n v : ℕ) (past : List Event) (writes : Bool) (m u : ℕ) → Contains (Effect n v ∷ past) (Seen (call_of writes m u)) → Contains past (Seen (call_of writes m u))
-behind_call n v past writes m u h = behind (Effect n v) past (Seen (call_of writes m u)) (λ e. cc (e)) h
+use Rattle.register_judge.proofs.Events.{Effects, HasEffect, behind, behind_call, behind_effect, call_of, effects_more, effects_seen, further, newest, none_and_some, which_effect}
 
 -- WHAT MATCHES
 
@@ -78,13 +19,12 @@ pub record IsKnown (past : List Event) (o : Waiting) : Type 0 where
   pub called : Contains past (Seen (call_of o.writes o.number o.value))
   pub awaits : All (IsNoEnd o.number) past
 
--- a write of the value that it reads took effect and waits
+-- a write took effect with the value that it reads, and waits
 pub record Source (past : List Event) (os : List Waiting) (o : Waiting) : Type 0 where
   pub write : Waiting
   pub has : Has os write
   pub writes : write.writes ≡ true
-  pub value : write.value ≡ o.value
-  pub acted : HasEffect write.number past
+  pub acted : Contains past (Effect write.number o.value)
 
 -- what took effect and waits may have done so before the last act
 pub record Settled (start : ℕ) (past : List Event) (f : Form) : Type 0 where
@@ -97,8 +37,7 @@ pub record Pending (start : ℕ) (past : List Event) (f : Form) : Type 0 where
   pub write : Waiting
   pub has : Has f.waits write
   pub writes : write.writes ≡ true
-  pub acted : HasEffect write.number past
-  pub value : write.value ≡ value_after start past
+  pub acted : Contains past (Effect write.number (value_after start past))
   pub reads : (o : Waiting) → Has f.waits o → o.writes ≡ false → HasEffect o.number past → Source past f.waits o
 
 pub record IsMatch (start : ℕ) (past : List Event) (f : Form) : Type 0 where
@@ -107,10 +46,12 @@ pub record IsMatch (start : ℕ) (past : List Event) (f : Form) : Type 0 where
   pub apart : (a b : Waiting) → Has f.waits a → Has f.waits b → a.number ≡ b.number → a ≡ b
   pub kinds : (o : Waiting) → Has f.waits o → (writes : Bool) (v : ℕ) → Contains past (Seen (call_of writes o.number v)) → (o.writes ≡ writes) × (o.value ≡ v)
   pub greedy : (o : Waiting) → Has f.waits o → o.writes ≡ false → o.value ≡ f.value → ⊥
+  pub told : (o : Waiting) → Has f.waits o → o.writes ≡ false → o.value ≡ unrecorded → ⊥
+  pub effects : Effects past
   pub place : Settled start past f ⊎ Pending start past f
 
 source_more : (e : Event) (past : List Event) (os : List Waiting) (o : Waiting) → Source past os o → Source (e ∷ past) os o
-source_more e past os o s = record { write = s.write; has = s.has; writes = s.writes; value = s.value; acted = more_effect s.write.number e past s.acted }
+source_more e past os o s = record { write = s.write; has = s.has; writes = s.writes; acted = further e past (Effect s.write.number o.value) s.acted }
 
 source_of : (start : ℕ) (past : List Event) (f : Form) → Settled start past f ⊎ Pending start past f → (o : Waiting) → Has f.waits o → o.writes ≡ false → HasEffect o.number past → Source past f.waits o
 source_of start past f (inl s) o has r acted = (s.reads o has r acted).1
@@ -122,17 +63,19 @@ module _ (start : ℕ) (past : List Event) (f : Form) (n v : ℕ) (m : IsMatch s
   abbrev event : Event
   event = Effect n v
 
-  place_written : Contains past (Seen (Write n v)) → Settled start (event ∷ past) f ⊎ Pending start (event ∷ past) f
+  writer : IsWritten past n v → (o : Waiting) × Has f.waits o × (o.number ≡ n) × (o.writes ≡ true)
+  writer (inl wrote) = m.there n v wrote h.awaits h.once
+  writer (inr wrote) = m.there n unrecorded wrote h.awaits h.once
+
+  place_written : IsWritten past n v → Settled start (event ∷ past) f ⊎ Pending start (event ∷ past) f
   place_written wrote =
-      let at : (o : Waiting) × Has f.waits o × (o.number ≡ n) × (o.writes ≡ true) = m.there n v wrote h.awaits h.once in
+      let at : (o : Waiting) × Has f.waits o × (o.number ≡ n) × (o.writes ≡ true) = writer wrote in
       let o : Waiting = at.0 in
-      let its : (o.writes ≡ true) × (o.value ≡ v) = m.kinds o at.1 true v (subst (λ k. Contains past (Seen (Write k v))) (sym at.2) wrote) in
       inr (record {
         write = o;
         has = at.1;
         writes = at.3;
-        acted = (v, subst (λ k. Contains (event ∷ past) (Effect k v)) (sym at.2) (newest event past));
-        value = its.1;
+        acted = subst (λ k. Contains (event ∷ past) (Effect k v)) (sym at.2) (newest event past);
         reads = λ x has r acted. elim (which_effect n x.number v past acted) [
           | inl same ↦ let is : o ≡ x = m.apart o x at.1 has (at.2 ∙ same) in let w : x.writes ≡ true = subst (λ y. y.writes ≡ true) is at.3 in absurd (cc (w, r))
           | inr before ↦ source_more event past f.waits x (source_of start past f m.place x has r before)
@@ -140,10 +83,11 @@ module _ (start : ℕ) (past : List Event) (f : Form) (n v : ℕ) (m : IsMatch s
       })
 
   -- the read of this number, if it waits
-  its_read : Contains past (Seen (Read n v)) → (x : Waiting) → Has f.waits x → n ≡ x.number → (x.writes ≡ false) × (x.value ≡ v)
-  its_read read x has same = m.kinds x has false v (subst (λ k. Contains past (Seen (Read k v))) same read)
+  its_read : IsRead past n v → (x : Waiting) → Has f.waits x → n ≡ x.number → (x.writes ≡ false) × (x.value ≡ v)
+  its_read (inl read) x has same = m.kinds x has false v (subst (λ k. Contains past (Seen (Read k v))) same read)
+  its_read (inr read) x has same = let its = m.kinds x has false unrecorded (subst (λ k. Contains past (Seen (Read k unrecorded))) same read) in absurd (m.told x has its.0 its.1)
 
-  place_read : Contains past (Seen (Read n v)) → v ≡ value_after start past → Settled start past f ⊎ Pending start past f → Settled start (event ∷ past) f ⊎ Pending start (event ∷ past) f
+  place_read : IsRead past n v → v ≡ value_after start past → Settled start past f ⊎ Pending start past f → Settled start (event ∷ past) f ⊎ Pending start (event ∷ past) f
   place_read read same (inl s) = inl (record {
     value = same ∙ s.value;
     writes = λ x has w acted. elim (which_effect n x.number v past acted) [
@@ -159,11 +103,14 @@ module _ (start : ℕ) (past : List Event) (f : Form) (n v : ℕ) (m : IsMatch s
     write = p.write;
     has = p.has;
     writes = p.writes;
-    acted = more_effect p.write.number event past p.acted;
-    value = p.value ∙ sym same;
+    acted = further event past (Effect p.write.number v) (subst (λ u. Contains past (Effect p.write.number u)) (sym same) p.acted);
     reads = λ x has r acted. elim (which_effect n x.number v past acted) [
-      | inl e ↦ let its = its_read read x has e in
-          record { write = p.write; has = p.has; writes = p.writes; value = p.value ∙ sym same ∙ sym its.1; acted = more_effect p.write.number event past p.acted }
+      | inl e ↦ let its = its_read read x has e in record {
+        write = p.write;
+        has = p.has;
+        writes = p.writes;
+        acted = further event past (Effect p.write.number x.value) (subst (λ u. Contains past (Effect p.write.number u)) (sym same ∙ sym its.1) p.acted);
+      }
       | inr before ↦ source_more event past f.waits x (p.reads x has r before)
     ];
   })
@@ -175,6 +122,8 @@ module _ (start : ℕ) (past : List Event) (f : Form) (n v : ℕ) (m : IsMatch s
     apart = m.apart;
     kinds = λ o has writes u c. m.kinds o has writes u (behind_call n v past writes o.number u c);
     greedy = m.greedy;
+    told = m.told;
+    effects = effects_more start past n v h m.effects;
     place = elim h.called [ inl wrote ↦ place_written wrote | inr read ↦ place_read read.0 read.1 m.place ];
   }
 
@@ -217,6 +166,8 @@ module _ (start : ℕ) (past : List Event) (n : ℕ) (x : Sight) (ends : IsEndOf
     apart = m.apart;
     kinds = λ o has writes u c. m.kinds o has writes u (behind (Seen x) past (Seen (call_of writes o.number u)) (no_call n x ends writes o.number u) c);
     greedy = m.greedy;
+    told = m.told;
+    effects = effects_seen x past m.effects;
     place = elim m.place [
       | inl s ↦ inl (record {
         value = s.value;
@@ -227,8 +178,7 @@ module _ (start : ℕ) (past : List Event) (n : ℕ) (x : Sight) (ends : IsEndOf
         write = p.write;
         has = p.has;
         writes = p.writes;
-        acted = more_effect p.write.number (Seen x) past p.acted;
-        value = p.value;
+        acted = further (Seen x) past (Effect p.write.number (value_after start past)) p.acted;
         reads = λ o has r acted. source_more (Seen x) past f.waits o (p.reads o has r (behind_effect o.number x past acted));
       })
     ];
@@ -244,10 +194,9 @@ module _ (start : ℕ) (past : List Event) (n : ℕ) (x : Sight) (ends : IsEndOf
     kept_source : (o : Waiting) → Source past f.waits o → Source (Seen x ∷ past) (lefts (leave n) [] f.waits) o
     kept_source o s = record {
       write = s.write;
-      has = stands s.write s.has (λ e. idle s.write s.has e (subst (λ k. HasEffect k past) e s.acted));
+      has = stands s.write s.has (λ e. idle s.write s.has e (subst (λ k. HasEffect k past) e (o.value, s.acted)));
       writes = s.writes;
-      value = s.value;
-      acted = more_effect s.write.number (Seen x) past s.acted;
+      acted = further (Seen x) past (Effect s.write.number o.value) s.acted;
     }
 
     -- what took no effect leaves
@@ -264,6 +213,8 @@ module _ (start : ℕ) (past : List Event) (n : ℕ) (x : Sight) (ends : IsEndOf
       apart = λ a b has_a has_b e. m.apart a b (stood a has_a).0 (stood b has_b).0 e;
       kinds = λ o has writes u c. m.kinds o (stood o has).0 writes u (behind (Seen x) past (Seen (call_of writes o.number u)) (no_call n x ends writes o.number u) c);
       greedy = λ o has r e. m.greedy o (stood o has).0 r e;
+      told = λ o has r e. m.told o (stood o has).0 r e;
+      effects = effects_seen x past m.effects;
       place = elim m.place [
         | inl s ↦ inl (record {
           value = s.value;
@@ -272,10 +223,9 @@ module _ (start : ℕ) (past : List Event) (n : ℕ) (x : Sight) (ends : IsEndOf
         })
         | inr p ↦ inr (record {
           write = p.write;
-          has = stands p.write p.has (λ e. idle p.write p.has e (subst (λ k. HasEffect k past) e p.acted));
+          has = stands p.write p.has (λ e. idle p.write p.has e (subst (λ k. HasEffect k past) e (value_after start past, p.acted)));
           writes = p.writes;
-          acted = more_effect p.write.number (Seen x) past p.acted;
-          value = p.value;
+          acted = further (Seen x) past (Effect p.write.number (value_after start past)) p.acted;
           reads = λ o has r acted. kept_source o (p.reads o (stood o has).0 r (behind_effect o.number x past acted));
         })
       ];
@@ -289,19 +239,23 @@ hide_unmet value o old r unmet same = cc (met, unmet)
     met : meets Hide value o ≡ true
     met = rw (old, r, eq-eqb o.value value same) refl
 
-module _ (start : ℕ) (past : List Event) (f : Form) (m : IsMatch start past f) (w : Waiting) (has_w : Has f.waits w) (writes_w : w.writes ≡ true) (acted_w : HasEffect w.number past) where
+module _ (start : ℕ) (past : List Event) (f : Form) (m : IsMatch start past f) (w : Waiting) (has_w : Has f.waits w) (v : ℕ) (acted_w : Contains past (Effect w.number v)) where
   -- a fresh write is another
   fresh_other : (o : Waiting) (k : ℕ) → o.number ≡ k → All (IsNoEffect k) past → o.number ≡ w.number → ⊥
-  fresh_other o k is fresh e = none_and_some k past fresh (subst (λ j. HasEffect j past) (sym e ∙ is) acted_w)
+  fresh_other o k is fresh e = none_and_some k past fresh (subst (λ j. HasEffect j past) (sym e ∙ is) (v, acted_w))
 
-  pub hidden : (o' : Waiting) → Has (lefts (turn_from Hide w) [] f.waits) o' → Has f.waits o' × (o'.number ≡ w.number → ⊥) × (meets Hide w.value o' ≡ false)
-  hidden o' h = let s : Stays (turn_from Hide w) f.waits o' = stays (turn_from Hide w) f.waits o' h in
-      subst (λ y. Has f.waits y × (y.number ≡ w.number → ⊥) × (meets Hide w.value y ≡ false)) s.is (s.has, s.other, s.unmet)
+  -- a write that took effect with another value is another
+  value_other : (o : Waiting) (u : ℕ) → Contains past (Effect o.number u) → o.number ≡ w.number → u ≡ v
+  value_other o u acted e = m.effects.single w.number u v (subst (λ k. Contains past (Effect k u)) e acted) acted_w
 
-  stands_hidden : (o : Waiting) → Has f.waits o → o.writes ≡ true → (o.number ≡ w.number → ⊥) → Has (lefts (turn_from Hide w) [] f.waits) o
-  stands_hidden o has writes other = stays_there (turn_from Hide w) f.waits o has other (write_unmet Hide w.value o writes)
+  pub hidden : (o' : Waiting) → Has (lefts (turn_from Hide w.number v) [] f.waits) o' → Has f.waits o' × (o'.number ≡ w.number → ⊥) × (meets Hide v o' ≡ false)
+  hidden o' h = let s : Stays (turn_from Hide w.number v) f.waits o' = stays (turn_from Hide w.number v) f.waits o' h in
+      subst (λ y. Has f.waits y × (y.number ≡ w.number → ⊥) × (meets Hide v y ≡ false)) s.is (s.has, s.other, s.unmet)
 
-  pub match_hide : Settled start past f → IsMatch start past (turned (turn_from Hide w) f)
+  stands_hidden : (o : Waiting) → Has f.waits o → o.writes ≡ true → (o.number ≡ w.number → ⊥) → Has (lefts (turn_from Hide w.number v) [] f.waits) o
+  stands_hidden o has writes other = stays_there (turn_from Hide w.number v) f.waits o has other (write_unmet Hide v o writes)
+
+  pub match_hide : Settled start past f → IsMatch start past (turned (turn_from Hide w.number v) f)
   match_hide s = record {
     known = λ o has. m.known o (hidden o has).0;
     there = λ k u c awaits fresh.
@@ -310,6 +264,8 @@ module _ (start : ℕ) (past : List Event) (f : Form) (m : IsMatch start past f)
     apart = λ a b has_a has_b e. m.apart a b (hidden a has_a).0 (hidden b has_b).0 e;
     kinds = λ o has writes u c. m.kinds o (hidden o has).0 writes u c;
     greedy = λ o has r e. m.greedy o (hidden o has).0 r e;
+    told = λ o has r e. m.told o (hidden o has).0 r e;
+    effects = m.effects;
     place = inl (record {
       value = s.value;
       writes = λ o has writes acted. s.writes o (hidden o has).0 writes acted;
@@ -320,10 +276,8 @@ module _ (start : ℕ) (past : List Event) (f : Form) (m : IsMatch start past f)
             old.0,
             record {
               write = src.write;
-              has = stands_hidden src.write src.has src.writes (λ e. let is : src.write ≡ w = m.apart src.write w src.has has_w e in
-                  hide_unmet w.value o old.0 r was.2 (sym src.value ∙ ap (λ y. y.value) is));
+              has = stands_hidden src.write src.has src.writes (λ e. hide_unmet v o old.0 r was.2 (value_other src.write o.value src.acted e));
               writes = src.writes;
-              value = src.value;
               acted = src.acted;
             },
           );
@@ -335,25 +289,24 @@ module _ (start : ℕ) (past : List Event) (f : Form) (m : IsMatch start past f)
     pub before : Waiting
     pub has : Has f.waits before
     pub other : before.number ≡ w.number → ⊥
-    pub unmet : is_met w.value before ≡ false
+    pub unmet : is_met v before ≡ false
     pub is : record before { is_old = true } ≡ o'
 
-  pub aged : (o' : Waiting) → Has (lefts (turn_from Act w) [] f.waits) o' → Aged o'
-  aged o' h = let s : Stays (turn_from Act w) f.waits o' = stays (turn_from Act w) f.waits o' h in record { before = s.before; has = s.has; other = s.other; unmet = s.unmet; is = s.is }
+  pub aged : (o' : Waiting) → Has (lefts (turn_from Act w.number v) [] f.waits) o' → Aged o'
+  aged o' h = let s : Stays (turn_from Act w.number v) f.waits o' = stays (turn_from Act w.number v) f.waits o' h in record { before = s.before; has = s.has; other = s.other; unmet = s.unmet; is = s.is }
 
-  stands_aged : (o : Waiting) → Has f.waits o → o.writes ≡ true → (o.number ≡ w.number → ⊥) → Has (lefts (turn_from Act w) [] f.waits) (record o { is_old = true })
-  stands_aged o has writes other = stays_there (turn_from Act w) f.waits o has other (write_unmet Act w.value o writes)
+  stands_aged : (o : Waiting) → Has f.waits o → o.writes ≡ true → (o.number ≡ w.number → ⊥) → Has (lefts (turn_from Act w.number v) [] f.waits) (record o { is_old = true })
+  stands_aged o has writes other = stays_there (turn_from Act w.number v) f.waits o has other (write_unmet Act v o writes)
 
-  aged_source : (o' : Waiting) (a : Aged o') → a.before.writes ≡ false → Source past f.waits a.before → Source past (lefts (turn_from Act w) [] f.waits) o'
+  aged_source : (o' : Waiting) (a : Aged o') → a.before.writes ≡ false → Source past f.waits a.before → Source past (lefts (turn_from Act w.number v) [] f.waits) o'
   aged_source o' a r src = record {
     write = record (src.write) { is_old = true };
-    has = stands_aged src.write src.has src.writes (λ e. let is : src.write ≡ w = m.apart src.write w src.has has_w e in read_unmet w.value a.before r a.unmet (sym src.value ∙ ap (λ y. y.value) is));
+    has = stands_aged src.write src.has src.writes (λ e. read_unmet v a.before r a.unmet (value_other src.write a.before.value src.acted e));
     writes = src.writes;
-    value = src.value ∙ ap (λ y. y.value) a.is;
-    acted = src.acted;
+    acted = subst (λ u. Contains past (Effect src.write.number u)) (ap (λ y. y.value) a.is) src.acted;
   }
 
-  pub match_act : Pending start past f → IsMatch start past (turned (turn_from Act w) f)
+  pub match_act : Pending start past f → IsMatch start past (turned (turn_from Act w.number v) f)
   match_act p = record {
     known = λ o has. let a = aged o has in let k = m.known a.before a.has in subst (IsKnown past) a.is (record { called = k.called; awaits = k.awaits });
     there = λ k u c awaits fresh.
@@ -367,10 +320,12 @@ module _ (start : ℕ) (past : List Event) (f : Form) (m : IsMatch start past f)
         let a = aged o has in
         let its = m.kinds a.before a.has writes u (subst (λ j. Contains past (Seen (call_of writes j u))) (sym (ap (λ y. y.number) a.is)) c) in
         (sym (ap (λ y. y.writes) a.is) ∙ its.0, sym (ap (λ y. y.value) a.is) ∙ its.1);
-    greedy = λ o has r e. let a = aged o has in read_unmet w.value a.before (ap (λ y. y.writes) a.is ∙ r) a.unmet (ap (λ y. y.value) a.is ∙ e);
+    told = λ o has r e. let a = aged o has in m.told a.before a.has (ap (λ y. y.writes) a.is ∙ r) (ap (λ y. y.value) a.is ∙ e);
+    effects = m.effects;
+    greedy = λ o has r e. let a = aged o has in read_unmet v a.before (ap (λ y. y.writes) a.is ∙ r) a.unmet (ap (λ y. y.value) a.is ∙ e);
     place = elim (cases_eq p.write.number w.number) [
-      | inl e ↦ let is : p.write ≡ w = m.apart p.write w p.has has_w e in inl (record {
-        value = sym p.value ∙ ap (λ y. y.value) is;
+      | inl e ↦ inl (record {
+        value = value_other p.write (value_after start past) p.acted e;
         writes = λ o has writes acted. let a = aged o has in sym (ap (λ y. y.is_old) a.is);
         reads = λ o has r acted. let a = aged o has in (sym (ap (λ y. y.is_old) a.is), source o has r acted);
       })
@@ -379,13 +334,12 @@ module _ (start : ℕ) (past : List Event) (f : Form) (m : IsMatch start past f)
         has = stands_aged p.write p.has p.writes other;
         writes = p.writes;
         acted = p.acted;
-        value = p.value;
         reads = source;
       })
     ];
   }
     where
-      source : (o : Waiting) → Has (lefts (turn_from Act w) [] f.waits) o → o.writes ≡ false → HasEffect o.number past → Source past (lefts (turn_from Act w) [] f.waits) o
+      source : (o : Waiting) → Has (lefts (turn_from Act w.number v) [] f.waits) o → o.writes ≡ false → HasEffect o.number past → Source past (lefts (turn_from Act w.number v) [] f.waits) o
       source o has r acted =
           let a = aged o has in
           let r' : a.before.writes ≡ false = ap (λ y. y.writes) a.is ∙ r in

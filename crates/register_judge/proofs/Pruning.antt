@@ -6,14 +6,15 @@ use Rattle.std.proofs.lemmas.Bool.{cases_Bool, and_parts, and_from, eqb-true}
 use Rattle.std.proofs.lemmas.List.{take_more, take_all}
 use Rattle.std.proofs.lemmas.List.Elements.{All-nil, All-append, All-cons, All-contains, Contains-append_left, Contains-push, Contains-push_cases}
 use Rattle.register.specs.declared.Sight.{Sight}
-use Rattle.register.specs.declared.Sight.TheVariants.{Write, Read, Done, Failed}
+use Rattle.register.specs.declared.Sight.TheVariants.{Done, Failed}
 use Rattle.register.specs.Schedules.{Event, Seen, Effect, seen_of, value_after, IsNoEnd}
 use Rattle.register_judge.specs.declared.states.Waiting.{Waiting}
 use Rattle.register_judge.specs.declared.states.State.{State}
 use Rattle.register_judge.specs.inside.States.{Form, form_of, forms_of, is_number}
-use Rattle.register_judge.specs.inside.Covering.{is_later, may_wait, is_there, Covers, IsCovered, Prunes}
+use Rattle.register_judge.specs.inside.Covering.{is_later, may_wait, is_there, MayHave, Covers, IsCovered, Prunes}
 use Rattle.register_judge.proofs.Listing.{Has, has_left, has_new, has_last, contains_has}
-use Rattle.register_judge.proofs.Matching.{HasEffect, call_of, further, newest, first_or_behind, behind, IsKnown, Source, Settled, Pending, IsMatch}
+use Rattle.register_judge.proofs.Events.{HasEffect, call_of, further, newest, first_or_behind, behind}
+use Rattle.register_judge.proofs.Matching.{IsKnown, Source, Settled, Pending, IsMatch}
 use Rattle.register_judge.proofs.Reaching.{IsReal}
 use Rattle.register_judge.proofs.Adding.{forms_more}
 
@@ -85,9 +86,12 @@ later_self o = and_from _ _ (eq-eqb o.number o.number refl) (own o.is_old)
     own true = refl
     own false = refl
 
+have_self : (f : Form) → MayHave f f
+have_self f = elim (cases_Bool f.any) [ inl any ↦ inl any | inr one ↦ inr (one, refl) ]
+
 covers_self : (f : Form) → Covers f f
 covers_self f = record {
-  value = refl;
+  value = have_self f;
   wait = all_of (λ o. may_wait f.waits o ≡ true) f.waits (λ o h. or_right (o.writes && o.is_old) (list_any (is_later o) f.waits) (any_of (is_later o) f.waits o h (later_self o)));
   there = all_of (λ x. is_there f.waits x ≡ true) f.waits (λ x h. or_right (not x.writes) (list_any (is_number x.number) f.waits) (any_of (is_number x.number) f.waits x h (eq-eqb x.number x.number refl)));
 }
@@ -244,7 +248,8 @@ failed_no_call m false n v e = cc (e)
 
 -- WHAT COVERS A FORM MATCHES WHAT THAT MATCHES
 
-module _ (start last : ℕ) (numbers : List ℕ) (sights : List Sight) (f g : Form) (r : IsReal start last numbers sights f) (tidy : IsTidy last sights) (c : Covers f g) (past : List Event)
+module _ (start last : ℕ) (numbers : List ℕ) (sights : List Sight) (f g : Form) (r : IsReal start last numbers sights f) (tidy : IsTidy last sights) (same_value : f.value ≡ g.value)
+    (waits_are : All (λ o. may_wait g.waits o ≡ true) f.waits) (there_are : All (λ x. is_there f.waits x ≡ true) g.waits) (past : List Event)
     (seen : seen_of past ≡ sights) (m : IsMatch start past g) where
   alike_seen : seen_of r.events ≡ seen_of past
   alike_seen = r.seen ∙ sym seen
@@ -269,7 +274,7 @@ module _ (start last : ℕ) (numbers : List ℕ) (sights : List Sight) (f g : Fo
   IsHere o = (x : Waiting) × Has g.waits x × (x.number ≡ o.number) × (o.is_old ≡ false → x.is_old ≡ false)
 
   wait_at : (o : Waiting) → Has f.waits o → may_wait g.waits o ≡ true
-  wait_at o h = All-contains (λ y. may_wait g.waits y ≡ true) f.waits o c.wait (has_contains f.waits o h)
+  wait_at o h = All-contains (λ y. may_wait g.waits y ≡ true) f.waits o waits_are (has_contains f.waits o h)
 
   wait_cases : (o : Waiting) → Has f.waits o → ((o.writes ≡ true) × (o.is_old ≡ true)) ⊎ IsHere o
   wait_cases o h = elim (or_cases (o.writes && o.is_old) (list_any (is_later o) g.waits) (wait_at o h)) [
@@ -283,7 +288,7 @@ module _ (start last : ℕ) (numbers : List ℕ) (sights : List Sight) (f g : Fo
           (x, has, eqb-true x.number o.number parts.0, λ new. elim (or_cases o.is_old (not x.is_old) parts.1) [ inl old ↦ absurd (no_both o.is_old old new) | inr not_old ↦ not_true x.is_old not_old ])
 
   there_at : (x : Waiting) → Has g.waits x → x.writes ≡ true → (o : Waiting) × Has f.waits o × (o.number ≡ x.number)
-  there_at x h w = elim (or_cases (not x.writes) (list_any (is_number x.number) f.waits) (All-contains (λ y. is_there f.waits y ≡ true) g.waits x c.there (has_contains g.waits x h))) [
+  there_at x h w = elim (or_cases (not x.writes) (list_any (is_number x.number) f.waits) (All-contains (λ y. is_there f.waits y ≡ true) g.waits x there_are (has_contains g.waits x h))) [
     | inl reads ↦ absurd (no_both x.writes w (not_true x.writes reads))
     | inr any ↦ let found : (o : Waiting) × Has f.waits o × (is_number x.number o ≡ true) = any_from (is_number x.number) f.waits any in (found.0, found.1, eqb-true found.0.number x.number found.2)
   ]
@@ -295,8 +300,7 @@ module _ (start last : ℕ) (numbers : List ℕ) (sights : List Sight) (f g : Fo
         write = at.0;
         has = at.1;
         writes = one.0 ∙ s.writes;
-        value = one.1 ∙ s.value ∙ sym (alike o x h h' e).1;
-        acted = subst (λ n. HasEffect n past) (sym at.2) s.acted;
+        acted = subst (λ u. Contains past (Effect at.0.number u)) (sym (alike o x h h' e).1) (subst (λ n. Contains past (Effect n x.value)) (sym at.2) s.acted);
       }
 
   -- an operation that is old where it waits in the other form is so here
@@ -305,7 +309,7 @@ module _ (start last : ℕ) (numbers : List ℕ) (sights : List Sight) (f g : Fo
 
   settled : Settled start past g → Settled start past f
   settled s = record {
-    value = s.value ∙ sym c.value;
+    value = s.value ∙ sym same_value;
     writes = λ o h w acted. elim (wait_cases o h) [
       | inl free ↦ free.1
       | inr (x, h', e, later) ↦ old_too o x later (s.writes x h' (sym (alike o x h h' e).0 ∙ w) (subst (λ n. HasEffect n past) (sym e) acted))
@@ -325,8 +329,7 @@ module _ (start last : ℕ) (numbers : List ℕ) (sights : List Sight) (f g : Fo
         write = at.0;
         has = at.1;
         writes = one.0 ∙ p.writes;
-        acted = subst (λ n. HasEffect n past) (sym at.2) p.acted;
-        value = one.1 ∙ p.value;
+        acted = subst (λ n. Contains past (Effect n (value_after start past))) (sym at.2) p.acted;
         reads = λ o h reads acted. elim (wait_cases o h) [
           | inl free ↦ absurd (no_both o.writes free.0 reads)
           | inr (x, h', e, later) ↦ source o x h h' e (p.reads x h' (sym (alike o x h h' e).0 ∙ reads) (subst (λ n. HasEffect n past) (sym e) acted))
@@ -344,7 +347,12 @@ module _ (start last : ℕ) (numbers : List ℕ) (sights : List Sight) (f g : Fo
     kinds = kinds_f;
     greedy = λ o h reads same. elim (wait_cases o h) [
       | inl free ↦ no_both o.writes free.0 reads
-      | inr (x, h', e, later) ↦ m.greedy x h' (sym (alike o x h h' e).0 ∙ reads) (sym (alike o x h h' e).1 ∙ same ∙ c.value)
+      | inr (x, h', e, later) ↦ m.greedy x h' (sym (alike o x h h' e).0 ∙ reads) (sym (alike o x h h' e).1 ∙ same ∙ same_value)
     ];
+    told = λ o h reads none. elim (wait_cases o h) [
+      | inl free ↦ no_both o.writes free.0 reads
+      | inr (x, h', e, later) ↦ m.told x h' (sym (alike o x h h' e).0 ∙ reads) (sym (alike o x h h' e).1 ∙ none)
+    ];
+    effects = m.effects;
     place = elim m.place [ inl s ↦ inl (settled s) | inr p ↦ inr (pending p) ];
   }

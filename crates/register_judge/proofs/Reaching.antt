@@ -1,18 +1,16 @@
 -- Each form of the judge is that after some schedule.
-use Rattle.std.proofs.Common.{◌≡◌, ◌<◌, ◌≤◌, ◌⊎◌, inl, inr, ℕ, ◌+◌, ◌==◌, ◌&&◌, ◌||◌, Bool, true, false, not, List, [], ◌∷◌, ◌++◌, Option, Some, None, refl, sym, ◌∙◌, ap, subst, arith, eq-eqb}
-use Rattle.std.specs.Prelude.{All, Contains, if◌then◌else◌}
-use Rattle.std.proofs.lemmas.Bool.{cases_eq, cases_Bool, and_parts, eqb-true}
-use Rattle.std.proofs.lemmas.List.Elements.{All-nil, All-head, All-tail, All-cons, All-weaker, All-contains}
+use Rattle.std.proofs.Common.{◌≡◌, ◌≤◌, ◌⊎◌, inl, inr, ℕ, true, false, List, [], ◌∷◌, ◌++◌, refl, sym, ◌∙◌, subst}
+use Rattle.std.specs.Prelude.{All, Contains}
+use Rattle.std.proofs.lemmas.Bool.{cases_Bool}
+use Rattle.std.proofs.lemmas.List.Elements.{All-cons}
 use Rattle.register.specs.declared.Sight.{Sight}
-use Rattle.register.specs.declared.Sight.TheVariants.{Write, Read, Done, Failed}
-use Rattle.register.specs.Schedules.{Event, Seen, Effect, seen_of, value_after, IsNoEnd, IsNoEffect, IsCalledFor, TakesEffect, May, IsSchedule}
+use Rattle.register.specs.declared.Sight.TheVariants.{Write, Read}
+use Rattle.register.specs.Schedules.{Event, Seen, Effect, seen_of, value_after, IsNoEnd, IsNoEffect, IsWritten, IsRead, IsSchedule}
 use Rattle.register_judge.specs.declared.states.Waiting.{Waiting}
-use Rattle.register_judge.specs.declared.states.Turn.{Turn}
-use Rattle.register_judge.specs.declared.states.How.TheVariants.{Act, Hide, Leave}
-use Rattle.register_judge.specs.inside.States.{Form, is_met, meets, lefts, turned, leave, called}
-use Rattle.register_judge.proofs.Listing.{Has, has_left, has_new, has_last}
-use Rattle.register_judge.proofs.Turning.{Stays, stays, turn_from}
-use Rattle.register_judge.proofs.Matching.{IsAtMost, HasEffect, call_of, further, newest, first_or_behind, behind, effect_or_not, none_and_some, more_effect, IsEndOf}
+use Rattle.register_judge.specs.inside.States.{Form, is_met}
+use Rattle.register_judge.proofs.Listing.{Has}
+use Rattle.register_judge.proofs.Turning.{met_read, Fits}
+use Rattle.register_judge.proofs.Events.{IsAtMost, HasEffect, call_of, further, newest, effect_or_not, more_effect, written_more}
 use Rattle.register_judge.proofs.Inserting.{contains_insert, inserted, all_insert, all_late, seen_insert, value_insert, schedule_insert}
 
 -- an operation that waits was called, has not ended and has not acted
@@ -28,7 +26,7 @@ pub record Split (past : List Event) (os : List Waiting) : Type 0 where
   pub number : ℕ
   pub value : ℕ
   pub is : past ≡ late ++ Effect number value ∷ early
-  pub written : Contains early (Seen (Write number value))
+  pub written : IsWritten early number value
   pub olds : (o : Waiting) → Has os o → o.is_old ≡ true → Contains early (Seen (call_of o.writes o.number o.value))
 
 abbrev pub Room : List Event → List Waiting → Type 0
@@ -61,18 +59,20 @@ pub record Adds (start value : ℕ) (os : List Waiting) (old new : List Event) :
   pub awaits : (k : ℕ) → All (IsNoEnd k) old → All (IsNoEnd k) new
   pub below : (last : ℕ) → ((o : Waiting) → Has os o → o.number ≤ last) → All (IsAtMost last) old → All (IsAtMost last) new
 
-pub met_read : (value : ℕ) (o : Waiting) → is_met value o ≡ true → (o.writes ≡ false) × (o.value ≡ value)
-met_read value o met = by o.writes refl (and_parts (not o.writes) (o.value == value) met)
-  where
-    by : (w : Bool) → o.writes ≡ w → (not o.writes ≡ true) × ((o.value == value) ≡ true) → (o.writes ≡ false) × (o.value ≡ value)
-    by true e parts = let n : not o.writes ≡ false = ap not e in absurd (cc (n, parts.0))
-    by false e parts = (e, eqb-true o.value value parts.1)
-
 pub call_read : (o : Waiting) (past : List Event) → o.writes ≡ false → Contains past (Seen (call_of o.writes o.number o.value)) → Contains past (Seen (Read o.number o.value))
 call_read o past r c = subst (λ w. Contains past (Seen (call_of w o.number o.value))) r c
 
 pub call_write : (o : Waiting) (past : List Event) → o.writes ≡ true → Contains past (Seen (call_of o.writes o.number o.value)) → Contains past (Seen (Write o.number o.value))
 call_write o past w c = subst (λ x. Contains past (Seen (call_of x o.number o.value))) w c
+
+-- a write may take effect with what fits
+pub may_written : (o : Waiting) (past : List Event) (v : ℕ) → o.writes ≡ true → Fits o v → Contains past (Seen (call_of o.writes o.number o.value)) → IsWritten past o.number v
+may_written o past v w (inl same) c = inl (subst (λ u. Contains past (Seen (Write o.number u))) same (call_write o past w c))
+may_written o past v w (inr none) c = inr (subst (λ u. Contains past (Seen (Write o.number u))) none (call_write o past w c))
+
+pub may_read : (o : Waiting) (past : List Event) (v : ℕ) → o.writes ≡ false → Fits o v → Contains past (Seen (call_of o.writes o.number o.value)) → IsRead past o.number v
+may_read o past v r (inl same) c = inl (subst (λ u. Contains past (Seen (Read o.number u))) same (call_read o past r c))
+may_read o past v r (inr none) c = inr (subst (λ u. Contains past (Seen (Read o.number u))) none (call_read o past r c))
 
 -- now
 pub record AddsNow (start value : ℕ) (os : List Waiting) (past : List Event) : Type 0 where
@@ -113,7 +113,7 @@ module _ (start value : ℕ) (past : List Event) (now : value_after start past �
         adds = record {
           in_turn = λ s. (
             record {
-              called = inr (call_read o (a.more ++ past) r.0 (a.adds.keeps (Seen (call_of o.writes o.number o.value)) c), r.1 ∙ sym a.value_is);
+              called = inr (inl (call_read o (a.more ++ past) r.0 (a.adds.keeps (Seen (call_of o.writes o.number o.value)) c)), r.1 ∙ sym a.value_is);
               awaits = a.adds.awaits o.number awaits;
               once = none;
             },
@@ -155,7 +155,7 @@ pub record AddsBefore (start value : ℕ) (os : List Waiting) (late : List Event
   pub quiet : (k : ℕ) → All (IsNoEnd k) early → All (IsNoEnd k) (more ++ early)
   pub alone : (k : ℕ) → All (IsNoEffect k) (late ++ Effect n v ∷ (more ++ early)) → All (IsNoEffect k) (more ++ early)
 
-module _ (start value : ℕ) (late : List Event) (n v : ℕ) (early : List Event) (written : Contains early (Seen (Write n v))) (now : value_after start early ≡ value) where
+module _ (start value : ℕ) (late : List Event) (n v : ℕ) (early : List Event) (written : IsWritten early n v) (now : value_after start early ≡ value) where
   abbrev whole : List Event → List Event
   whole more = late ++ Effect n v ∷ (more ++ early)
 
@@ -178,8 +178,8 @@ module _ (start value : ℕ) (late : List Event) (n v : ℕ) (early : List Event
       record {
         more = event ∷ a.more;
         adds = record {
-          in_turn = λ s. schedule_insert start n v o.number o.value (a.more ++ early) (a.earlier (Seen (Write n v)) written) (record {
-            called = inr (call_read o (a.more ++ early) r.0 (a.earlier (Seen (call_of o.writes o.number o.value)) c), r.1 ∙ sym a.value_is);
+          in_turn = λ s. schedule_insert start n v o.number o.value (a.more ++ early) (written_more early (a.more ++ early) a.earlier n v written) (record {
+            called = inr (inl (call_read o (a.more ++ early) r.0 (a.earlier (Seen (call_of o.writes o.number o.value)) c)), r.1 ∙ sym a.value_is);
             awaits = a.quiet o.number awaits;
             once = a.alone o.number none;
           }) late none (a.adds.in_turn s);

@@ -2,7 +2,7 @@
 
 ghost use Rattle.std.specs.Prelude.{◌≡◌, ◌&&◌, All, IfOk, IfSome, true};
 ghost use Rattle.std.specs.List.{list_any};
-ghost use Rattle.register_judge.specs.inside.Covering.{Covers, is_later, is_there, IsCovered, may_wait, Prunes};
+ghost use Rattle.register_judge.specs.inside.Covering.{Covers, is_later, is_there, IsCovered, may_wait, MayHave, Prunes};
 ghost use Rattle.register_judge.specs.inside.States.{form_of, forms_of, is_number};
 
 use crate::states::{State, Waiting, is_number};
@@ -90,6 +90,19 @@ fn all_are_there(waits: &[Waiting], others: &[Waiting]) -> bool
     true
 }
 
+/// Whether a state may have each value that another one may.
+fn may_have(state: &State, other: &State) -> bool
+    ensures { result ≡ true → MayHave (form_of state.now) (form_of other.now) }
+{
+    if state.any {
+        return true;
+    }
+    if !state.value.is(&other.value) {
+        return false;
+    }
+    !other.any
+}
+
 /// Whether a state makes another one needless.
 fn does_cover(state: &State, other: &State) -> bool
     ensures { result ≡ true → Covers (form_of state.now) (form_of other.now) }
@@ -97,7 +110,7 @@ fn does_cover(state: &State, other: &State) -> bool
     if !all_may_wait(other.waits.as_slice(), state.waits.as_slice()) {
         return false;
     }
-    if !state.value.is(&other.value) {
+    if !may_have(state, other) {
         return false;
     }
     all_are_there(state.waits.as_slice(), other.waits.as_slice())

@@ -2,8 +2,16 @@
 
 ghost use Rattle.std.specs.Prelude.{◌≡◌, true, [], ◌∷◌, ◌++◌, ◌↔◌, IfOk, IsTrue, OnOk};
 ghost use Rattle.std.specs.List.{list_any};
-ghost use Rattle.register_judge.specs.inside.States.{called, form_of};
+ghost use Rattle.register_judge.specs.inside.States.{
+  bounds_of,
+  called,
+  form_of,
+  forms_of,
+  is_bound,
+  is_met_by,
+};
 ghost use Rattle.register_judge.specs.inside.Registers.{
+  AllCalled,
   Begins,
   Calls,
   EachCalled,
@@ -68,22 +76,67 @@ fn take_out(alloc: Global, number: u64, numbers: &mut Vec<u64>) -> Result<(), Al
     Ok(())
 }
 
-/// Lets a called operation wait, unless it is a read of the value that the register has.
+/// Whether a called operation takes effect at once: a read of the value that the register has, or of one not recorded.
+fn is_met_by(state: &State, wait: &Waiting) -> bool
+    ensures { result ≡ is_met_by (form_of state.now) wait.now }
+{
+    if wait.value.is_none() {
+        return !wait.writes;
+    }
+    if wait.writes || !wait.value.is(&state.value) {
+        return false;
+    }
+    !state.any
+}
+
+/// Lets a called operation wait, unless it takes effect at once.
 fn call_one(state: &mut State, wait: &Waiting) -> Result<(), AllocError>
     ensures { OnOk result (form_of state.new ≡ called wait.now (form_of state.old)) }
 {
-    if wait.writes || !wait.value.is(&state.value) {
+    if !is_met_by(state, wait) {
         state.waits.push(wait.share()?)?;
     }
     Ok(())
 }
 
 /// The same in each state.
-fn call_all(states: &mut Vec<State>, wait: &Waiting) -> Result<(), AllocError>
+fn call_each(states: &mut Vec<State>, wait: &Waiting) -> Result<(), AllocError>
     ensures { OnOk result (EachCalled wait.now states.old.items states.new.items) }
 {
     for state in states.iter_mut() {
         call_one(state, wait)?;
+    }
+    Ok(())
+}
+
+/// Whether a called operation may tell what the register has, which may be any value.
+fn is_bound(state: &State, wait: &Waiting) -> bool
+    ensures { result ≡ is_bound wait.now (form_of state.now) }
+{
+    state.any && !wait.writes && !wait.value.is_none()
+}
+
+/// The states where it does.
+fn bounds_of(alloc: Global, states: &[State], wait: &Waiting) -> Result<Vec<State>, AllocError>
+    ensures { IfOk result (λ bounds. forms_of bounds.items ≡ bounds_of wait.now (forms_of states.now)) }
+{
+    let mut bounds = Vec::new(alloc);
+    for state in states {
+        if is_bound(state, wait) {
+            bounds.push(state.bound(alloc, &wait.value)?)?;
+        }
+    }
+    Ok(bounds)
+}
+
+/// What a call makes of the states: it waits in each, or takes effect there.
+fn call_all(alloc: Global, states: &mut Vec<State>, wait: &Waiting) -> Result<(), AllocError>
+    ensures { OnOk result (AllCalled wait.now states.old.items states.new.items) }
+{
+    let bounds = bounds_of(alloc, states.as_slice(), wait)?;
+    call_each(states, wait)?;
+    for bound in bounds {
+        states.push(bound)?;
     }
     Ok(())
 }
@@ -96,7 +149,11 @@ impl Register {
         let value = start.share()?;
         let waits = Vec::new(alloc);
         let mut states = Vec::new(alloc);
-        states.push(State { value, waits })?;
+        states.push(State {
+            any: false,
+            value,
+            waits,
+        })?;
         Ok(Register {
             numbers: Vec::new(alloc),
             last: 0,
@@ -127,14 +184,20 @@ impl Register {
         ensures { IfOk result (λ seen. seen ≡ true → Sees self.old sight.now self.new) }
     {
         match sight {
-            Sight::Write { number, value } => self.call(*number, true, value),
-            Sight::Read { number, value } => self.call(*number, false, value),
+            Sight::Write { number, value } => self.call(alloc, *number, true, value),
+            Sight::Read { number, value } => self.call(alloc, *number, false, value),
             Sight::Done { number } => self.end(alloc, *number, true),
             Sight::Failed { number } => self.end(alloc, *number, false),
         }
     }
 
-    fn call(&mut self, number: u64, writes: bool, value: &Contents) -> Result<bool, AllocError>
+    fn call(
+        &mut self,
+        alloc: Global,
+        number: u64,
+        writes: bool,
+        value: &Contents,
+    ) -> Result<bool, AllocError>
         ensures { IfOk result (λ seen. seen ≡ true → Calls self.old number writes value.now self.new) }
     {
         if number <= self.last {
@@ -148,8 +211,8 @@ impl Register {
         };
         self.numbers.push(number)?;
         self.last = number;
-        call_all(&mut self.states, &wait)?;
-        Ok(true)
+        call_all(alloc, &mut self.states, &wait)?;
+        Ok(self.states.len() <= MOST)
     }
 
     fn end(&mut self, alloc: Global, number: u64, must: bool) -> Result<bool, AllocError>

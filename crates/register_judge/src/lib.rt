@@ -1,7 +1,8 @@
 //! A judge of one register: it says of what was seen of it, calls and answers, whether some schedule explains them.
 //!
 //! It lets no operation take effect before an end asks for it, and keeps of each state that the register may have what may
-//! have taken effect unseen (`specs/inside/States`): so many open writes are one state.
+//! have taken effect unseen (`specs/inside/States`): so many open writes are one state. Where the bytes of a write were not
+//! recorded, the state that it leaves has any value until a read tells it.
 //!
 //! # Promises
 //!

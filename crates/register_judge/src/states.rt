@@ -4,10 +4,14 @@ ghost use Rattle.std.specs.Prelude.{◌≡◌, ◌⊎◌, true, [], find, length
 ghost use Rattle.register_judge.specs.inside.States.{
   ages,
   Adds,
+  any_by,
+  any_write,
+  bound,
   Ends,
   EndsAll,
   form_of,
   forms_of,
+  is_any_write,
   is_gone,
   is_met,
   is_number,
@@ -15,12 +19,17 @@ ghost use Rattle.register_judge.specs.inside.States.{
   left_of,
   leave,
   lefts,
+  may_leave,
+  may_tell,
   may_turn,
+  may_write,
   meets,
+  take_any,
   turn_by,
   turned,
   turns_of,
   turns_onto,
+  untold,
   value_by,
 };
 
@@ -53,6 +62,8 @@ impl Waiting {
 /// A value that the register may have, and the operations that wait.
 #[derive(Drop)]
 pub(crate) struct State {
+    /// It has what a write left whose bytes were not recorded, and no read told them: any value.
+    pub any: bool,
     pub value: Contents,
     pub waits: Vec<Waiting>,
 }
@@ -74,7 +85,24 @@ impl State {
     {
         let value = self.value.share()?;
         let waits = shared(alloc, self.waits.as_slice())?;
-        Ok(State { value, waits })
+        Ok(State {
+            any: self.any,
+            value,
+            waits,
+        })
+    }
+
+    /// The same, where a read tells the value.
+    pub fn bound(&self, alloc: Global, value: &Contents) -> Result<State, AllocError>
+        ensures { IfOk result (λ state. form_of state ≡ bound value.now (form_of self.now)) }
+    {
+        let value = value.share()?;
+        let waits = shared(alloc, self.waits.as_slice())?;
+        Ok(State {
+            any: false,
+            value,
+            waits,
+        })
     }
 }
 
@@ -94,6 +122,8 @@ pub(crate) fn copies(alloc: Global, states: &[State]) -> Result<Vec<State>, Allo
 pub(crate) enum How {
     /// It takes effect now.
     Act,
+    /// So does a write whose bytes were not recorded, with a value that no read waits for.
+    Any,
     /// It took effect just before the last effect of a write.
     Hide,
     /// It never does.
@@ -121,7 +151,7 @@ fn meets(how: How, value: &Contents, wait: &Waiting) -> bool
     match how {
         How::Act => is_met(value, wait),
         How::Hide => wait.is_old && is_met(value, wait),
-        How::Leave => false,
+        How::Any | How::Leave => false,
     }
 }
 
@@ -137,7 +167,7 @@ fn ages(how: How, wait: &Waiting) -> Result<Waiting, AllocError>
 {
     let next = wait.share()?;
     match how {
-        How::Act => Ok(Waiting {
+        How::Act | How::Any => Ok(Waiting {
             is_old: true,
             ..next
         }),
@@ -173,7 +203,19 @@ fn value_by(turn: &Turn, value: &Contents) -> Result<Contents, AllocError>
 {
     match turn.how {
         How::Act => turn.value.share(),
+        How::Any => turn.value.share(),
         How::Hide | How::Leave => value.share(),
+    }
+}
+
+/// Whether the register has any value behind a turn.
+fn any_by(how: How, before: bool) -> bool
+    ensures { result ≡ any_by how before }
+{
+    match how {
+        How::Act => false,
+        How::Any => true,
+        How::Hide | How::Leave => before,
     }
 }
 
@@ -183,20 +225,45 @@ fn turned(alloc: Global, turn: &Turn, state: &State) -> Result<State, AllocError
 {
     let value = value_by(turn, &state.value)?;
     let waits = lefts(alloc, turn, state.waits.as_slice())?;
-    Ok(State { value, waits })
+    Ok(State {
+        any: any_by(turn.how, state.any),
+        value,
+        waits,
+    })
 }
 
-/// Whether an operation can take effect by that of a write: the write itself, or a read of its value.
+/// Whether this is a write whose bytes were not recorded.
+fn is_any_write(wait: &Waiting) -> bool
+    ensures { result ≡ is_any_write wait.now }
+{
+    wait.writes && wait.value.is_none()
+}
+
+/// Whether this is a write of the value, or one whose bytes were not recorded.
+fn may_write(value: &Contents, wait: &Waiting) -> bool
+    ensures { result ≡ may_write value.now wait.now }
+{
+    wait.writes && (wait.value.is_none() || wait.value.is(value))
+}
+
+/// Whether this tells the value of a write that ends: it is the write, if its bytes were recorded, or else a read.
+fn may_tell(of: &Waiting, wait: &Waiting) -> bool
+    ensures { result ≡ may_tell of.now wait.now }
+{
+    if of.value.is_none() {
+        return !wait.writes;
+    }
+    wait.number == of.number
+}
+
+/// Whether an operation can take effect by that of a write: the write itself, with this value, or a read of this write.
 fn is_source(of: &Waiting, wait: &Waiting) -> bool
     ensures { result ≡ is_source of.now wait.now }
 {
-    if !wait.writes {
-        return false;
-    }
     if of.writes {
-        wait.number == of.number
+        may_tell(of, wait)
     } else {
-        wait.value.is(&of.value)
+        may_write(&of.value, wait)
     }
 }
 
@@ -206,7 +273,7 @@ fn may_turn(how: How, of: &Waiting, wait: &Waiting) -> bool
     match how {
         How::Act => is_source(of, wait),
         How::Hide => is_source(of, wait) && of.is_old && wait.is_old,
-        How::Leave => false,
+        How::Any | How::Leave => false,
     }
 }
 
@@ -216,11 +283,17 @@ fn turn_by(how: How, of: &Waiting, wait: &Waiting) -> Result<Option<Turn>, Alloc
     if !may_turn(how, of, wait) {
         return Ok(None);
     }
-    let value = wait.value.share()?;
+    if of.writes {
+        return Ok(Some(Turn {
+            how,
+            number: of.number,
+            value: wait.value.share()?,
+        }));
+    }
     Ok(Some(Turn {
         how,
         number: wait.number,
-        value,
+        value: of.value.share()?,
     }))
 }
 
@@ -271,6 +344,57 @@ fn leave(alloc: Global, number: u64) -> Result<Turn, AllocError>
     })
 }
 
+/// That a write takes effect whose bytes were not recorded, and no read that waits is of its value.
+fn take_any(alloc: Global, number: u64) -> Result<Turn, AllocError>
+    ensures { IfOk result (λ turn. turn ≡ take_any number) }
+{
+    let value = Contents::none(alloc)?;
+    Ok(Turn {
+        how: How::Any,
+        number,
+        value,
+    })
+}
+
+/// The same, of an operation that may.
+fn any_write(alloc: Global, of: &Waiting) -> Result<Option<Turn>, AllocError>
+    ensures { IfOk result (λ turn. turn ≡ any_write of.now) }
+{
+    if !is_any_write(of) {
+        return Ok(None);
+    }
+    Ok(Some(take_any(alloc, of.number)?))
+}
+
+/// Whether an operation may go with no trace: it need not take effect, or may have left any value unseen.
+fn may_leave(must: bool, of: &Waiting) -> bool
+    ensures { result ≡ may_leave must of.now }
+{
+    if !must {
+        return true;
+    }
+    is_any_write(of) && of.is_old
+}
+
+/// Adds what an end may mean where no read tells of its operation's effect.
+fn add_untold(
+    alloc: Global,
+    turns: &mut Vec<Turn>,
+    must: bool,
+    of: &Waiting,
+) -> Result<(), AllocError>
+    ensures { OnOk result (turns.new.items ≡ untold must of.now turns.old.items) }
+{
+    if let Some(turn) = any_write(alloc, of)? {
+        turns.push(turn)?;
+    }
+    if may_leave(must, of) {
+        let never = leave(alloc, of.number)?;
+        turns.push(never)?;
+    }
+    Ok(())
+}
+
 /// What an end may mean: how its operation took effect, or that it need not have.
 fn turns_of(
     alloc: Global,
@@ -288,10 +412,7 @@ fn turns_of(
     };
     add_turns(&mut turns, How::Act, of, waits)?;
     add_turns(&mut turns, How::Hide, of, waits)?;
-    if !must {
-        let never = leave(alloc, number)?;
-        turns.push(never)?;
-    }
+    add_untold(alloc, &mut turns, must, of)?;
     Ok(turns)
 }
 
@@ -335,6 +456,9 @@ fn is_same(a: &State, b: &State) -> bool
         return false;
     }
     if !are_alike(a.waits.as_slice(), b.waits.as_slice()) {
+        return false;
+    }
+    if a.any != b.any {
         return false;
     }
     a.value.is(&b.value) && are_equal(a.waits.as_slice(), b.waits.as_slice())

@@ -1,5 +1,5 @@
 -- Forms that another one makes needless.
-use Rattle.std.specs.Prelude.{◌≡◌, ℕ, ◌==◌, ◌&&◌, ◌||◌, Bool, true, not, List, All, Contains}
+use Rattle.std.specs.Prelude.{◌≡◌, ◌⊎◌, ◌==◌, ◌&&◌, ◌||◌, Bool, true, false, not, List, All, Contains}
 use Rattle.std.specs.List.{list_any}
 use Rattle.register_judge.specs.declared.states.Waiting.{Waiting}
 use Rattle.register_judge.specs.inside.States.{Form, is_number}
@@ -16,9 +16,13 @@ may_wait xs o = (o.writes && o.is_old) || list_any (is_later o) xs
 abbrev pub is_there : List Waiting → Waiting → Bool
 is_there os x = not x.writes || list_any (is_number x.number) os
 
+-- the first form may have each value that the second may
+abbrev pub MayHave : Form → Form → Type 0
+MayHave f g = (f.any ≡ true) ⊎ ((g.any ≡ false) × (f.value ≡ g.value))
+
 -- whatever may still come of the second form may come of the first
 pub record Covers (f g : Form) : Type 0 where
-  pub value : f.value ≡ g.value
+  pub value : MayHave f g
   pub wait : All (λ o. may_wait g.waits o ≡ true) f.waits
   pub there : All (λ x. is_there f.waits x ≡ true) g.waits
 

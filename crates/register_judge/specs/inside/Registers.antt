@@ -6,7 +6,7 @@ use Rattle.register.specs.declared.Sight.TheVariants.{Write, Read, Done, Failed}
 use Rattle.register_judge.specs.declared.states.Waiting.{Waiting}
 use Rattle.register_judge.specs.declared.states.State.{State}
 use Rattle.register_judge.specs.declared.keeping.Register.{Register}
-use Rattle.register_judge.specs.inside.States.{Form, form_of, forms_of, called, EndsAll}
+use Rattle.register_judge.specs.inside.States.{Form, form_of, forms_of, called, bounds_of, EndsAll}
 use Rattle.register_judge.specs.inside.Covering.{Prunes}
 
 abbrev pub is_this : ℕ → ℕ → Bool
@@ -21,7 +21,7 @@ without n left (other ∷ others) = if is_this n other then without n left other
 pub record Begins (start : ℕ) (register : Register) : Type 0 where
   pub numbers : register.numbers.items ≡ []
   pub last : register.last ≡ 0
-  pub states : forms_of register.states.items ≡ record { value = start; waits = [] } ∷ []
+  pub states : forms_of register.states.items ≡ record { any = false; value = start; waits = [] } ∷ []
 
 -- the same but for the memory that it takes
 pub record IsAlike (old new : Register) : Type 0 where
@@ -40,12 +40,18 @@ pub record CalledBelow (o : Waiting) (index : ℕ) (old new : List State) : Type
   pub below : (k : ℕ) (d : State) → k < index → k < length old → form_of (slice_index_or new k d) ≡ called o (form_of (slice_index_or old k d))
   pub above : (k : ℕ) (d : State) → index ≤ k → k < length old → slice_index_or new k d ≡ slice_index_or old k d
 
--- an operation is open, and waits in each state
+-- each state behind the call, and those where it tells what the register has
+pub record AllCalled (o : Waiting) (old new : List State) : Type 0 where
+  pub each : List State
+  pub called : EachCalled o old each
+  pub all : forms_of new ≡ forms_of each ++ bounds_of o (forms_of old)
+
+-- an operation is open, and waits or has taken effect in each state
 pub record Calls (old : Register) (number : ℕ) (writes : Bool) (value : ℕ) (new : Register) : Type 0 where
   pub newer : old.last < number
   pub last : new.last ≡ number
   pub numbers : new.numbers.items ≡ old.numbers.items ++ number ∷ []
-  pub states : EachCalled (record { number = number; writes = writes; value = value; is_old = false }) old.states.items new.states.items
+  pub states : AllCalled (record { number = number; writes = writes; value = value; is_old = false }) old.states.items new.states.items
 
 -- what an end leaves, without what is needless
 pub record Left (must : Bool) (number : ℕ) (old new : List Form) : Type 0 where

@@ -1,8 +1,6 @@
 use Rattle.std.proofs.Common.{◌∙◌, ap}
 use Rattle.register_judge.specs.inside.States.{form_of, forms_of, turned}
 use Rattle.register_judge.proofs.Adding.{ends_next}
-use Rattle.register_judge.proofs.Calling.{turns_acted}
-use Rattle.register_judge.proofs.Standing.{stands_end}
 use Rattle.register_judge.proofs.states.end_one.Goals as goal
 
 pub loop-turn-preserved : goal.loop-turn-preserved
