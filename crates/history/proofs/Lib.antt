@@ -1,2 +1,4 @@
 pub mod Telling
 pub mod Waiting
+pub mod Blanking
+pub mod Fitting

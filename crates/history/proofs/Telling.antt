@@ -483,7 +483,7 @@ module _ (code : List ℕ → ℕ) (rules : Rules) (p i : ℕ) (start : List ℕ
           handed_over rules p i start events (Effect n sector ∷ past) next h.1 (tidy_effect rules p i start next past n sector t h.0) from n sector h.0.request h.0.place found.0
           (newest (Effect n sector) past) (further (Effect n sector) past _ h.0.is_open.called) is h.0.there found.1 in
           let value : v ≡ code sector = found.2 ∙ ap (λ q. code (bytes_at rules i q found.0)) same ∙ ap code (bytes_are found.0 ∙ over) in
-          inr (subst (λ w. Contains told (register.Seen (ReadSight n w))) value there, ap code met ∙ sym k.value)
+          inr (inl (subst (λ w. Contains told (register.Seen (ReadSight n w))) value there), ap code met ∙ sym k.value)
 
       by_seen : GoesOn (Effect n sector ∷ past) (labels_of events) → h.0.request.kind ≡ Read → sector ≡ value_after start past → (b : Bool) → list_any (is_call_of n) (register.seen_of told) ≡ b
           → HasSchedule (code start) (sights_of code rules p i (register.seen_of told) (labels_of events))
@@ -504,7 +504,7 @@ module _ (code : List ℕ → ℕ) (rules : Rules) (p i : ℕ) (start : List ℕ
           let value : bytes_at rules i h.0.request h.0.request.bytes ≡ sector = bytes_are h.0.request.bytes ∙ sym own in
           let there : Contains told (register.Seen (WriteSight n (code (bytes_at rules i h.0.request h.0.request.bytes)))) =
           k.writes n h.0.request h.0.is_open.called is (at_has rules p i h.0.request h.0.place h.0.there) in
-          go_on rest (inl (subst (λ b. Contains told (register.Seen (WriteSight n (code b)))) value there))
+          go_on rest (inl (inl (subst (λ b. Contains told (register.Seen (WriteSight n (code b)))) value there)))
       by_kind rest Flush is none = absurd none
   tells (Seen (Call n q) ∷ events) past next h t from told k s =
       by_sector (λ told' k' s'. tells events (Seen (Call n q) ∷ past) (next + 1) h.1 (tidy_call next past n q t from.0) from.1 told' k' s') (has_sector rules p i q) refl

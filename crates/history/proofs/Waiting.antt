@@ -11,7 +11,7 @@ use Rattle.machine.specs.declared.Label.{Label}
 use Rattle.machine.specs.declared.Label.TheVariants.{Call, Device, Answer, Cancel, Pause, Resume, Remove, Surprise, Removed}
 use Rattle.machine.specs.Rules.{Rules, first_sector}
 use Rattle.register.specs.declared.Sight.{Sight}
-use Rattle.register.specs.declared.Sight.TheVariants.{Write as WriteSight, Read as ReadSight}
+use Rattle.register.specs.declared.Sight.TheVariants.{Write as WriteSight}
 use Rattle.history.specs.Sights.{has_sector, bytes_at, success_bytes, success_of, is_call_of, end_of, read_sight, value_of, call_sight, sight_of, with_sight, sights_of}
 use Rattle.history.specs.declared.Wait.{Wait}
 use Rattle.history.specs.declared.Wait.TheVariants.{Known, Awaits}

@@ -4,8 +4,18 @@
 //!
 //! If what some sector shows (`sights_of`) has no schedule, no run explains the history (`refused_are_unexplained`). What it
 //! shows can be kept label by label (`waits_of`), where reads wait for their answers (`shown_by_waits`).
+//!
+//! Of labels whose bytes were not recorded, none stand in their place. If a run explains a history with some bytes there
+//! (`IsExplainedBySome`), its labels fit (`explained_by_some_fit`), and what each sector shows has a schedule in which such
+//! bytes are any (`refused_are_unexplained_by_any`).
 #![tactic(auto)]
 
+ghost use Rattle.history.specs.Filling.{
+  BlanksAreScheduled,
+  ExplainedBySomeFit,
+  FilledFit,
+  RefusedAreUnexplainedByAny,
+};
 ghost use Rattle.history.specs.Refusing.{RefusedAreUnexplained, SightsAreScheduled};
 ghost use Rattle.history.specs.Waits.{ShownByWaits};
 
@@ -33,4 +43,24 @@ pub fn refused_are_unexplained()
 /// What a sector shows, by a look ahead to answers, is what is known in the end where each label is taken by itself.
 pub fn shown_by_waits()
     ensures { ShownByWaits }
+{}
+
+/// Where what a sector shows with some bytes has a schedule, it has one without those that were not recorded.
+pub fn blanks_are_scheduled()
+    ensures { BlanksAreScheduled }
+{}
+
+/// Labels that fit with some bytes do without those that were not recorded.
+pub fn filled_fit()
+    ensures { FilledFit }
+{}
+
+/// A history of which some sector has no schedule is explained by no run, whatever the bytes were that were not recorded.
+pub fn refused_are_unexplained_by_any()
+    ensures { RefusedAreUnexplainedByAny }
+{}
+
+/// Each label of a history that a run explains with some bytes may come behind those before it.
+pub fn explained_by_some_fit()
+    ensures { ExplainedBySomeFit }
 {}

@@ -11,6 +11,7 @@ use Rattle.std.proofs.lemmas.Bool.{and_parts, eqb-true}
 use Rattle.std.proofs.lemmas.Option.{slice_get_past}
 use Rattle.std.proofs.lemmas.List.{length-set}
 use Rattle.ntstatus.specs.declared.NtStatus.{NtStatus}
+use Rattle.ntstatus.specs.declared.NtStatus.TheVariants.{Success}
 use Rattle.ntstatus.specs.Codes.{value_of}
 use Rattle.machine.specs.declared.ClientRequest.{ClientRequest}
 use Rattle.machine.specs.declared.Label.{Label}
@@ -18,8 +19,9 @@ use Rattle.machine.specs.declared.Label.TheVariants.{Call, Device, Answer, Cance
 use Rattle.machine.specs.Rules.{Rules}
 use Rattle.history_laws.specs.declared.Asked.{Asked}
 use Rattle.history_laws.specs.Fitting.{asked_of, carried, ends, ends_open, ends_by, fits, refused, entry_of, without, asked_after, owed_after}
+use Rattle.history.specs.Gaps.{has_none, brought_by, due_by, fits_blank, fits_by}
 use Rattle.history_fitting.specs.declared.fitting.Known.{Known}
-use Rattle.history_fitting.specs.Opened.{opened_at, ends_request, may_end, may_come, Puts, PutsCall, PutsAnswer, Takes, flat, AreOpen}
+use Rattle.history_fitting.specs.Opened.{opened_at, ends_request, may_end, may_come, brought_to, due, may_come_blank, may_come_by, Puts, PutsCall, PutsAnswer, Takes, flat, AreOpen}
 
 -- LISTS
 
@@ -86,6 +88,24 @@ open_is None status informed count = refl
 open_is (Some None) status informed count = refl
 open_is (Some (Some asked)) status informed count = refl
 
+-- and as many bytes are due
+abbrev brought_flat : Option Asked → NtStatus → ℕ
+brought_flat None status = 0
+brought_flat (Some asked) status = brought_by (Some (Some asked)) status
+
+brought_request : (q : Option ClientRequest) (status : NtStatus) → brought_to q status ≡ brought_flat (option_map asked_of q) status
+brought_request None status = refl
+brought_request (Some q) Success = refl
+brought_request (Some q) _ = refl
+
+brought_open : (asked : Option (Option Asked)) (status : NtStatus) → brought_by asked status ≡ brought_flat (flat asked) status
+brought_open None status = refl
+brought_open (Some None) status = refl
+brought_open (Some (Some asked)) status = refl
+
+brought_is : (q : Option ClientRequest) (asked : Option (Option Asked)) (status : NtStatus) → option_map asked_of q ≡ flat asked → brought_to q status ≡ brought_by asked status
+brought_is q asked status same = brought_request q status ∙ ap (λ x. brought_flat x status) same ∙ sym (brought_open asked status)
+
 module _ (rules : Rules) (asked : List (Option Asked)) (known : Known) (a : AreOpen asked known) where
   end_is : (owed : Option NtStatus) (n : ℕ) (status : NtStatus) (informed count : ℕ) → may_end known owed n status informed count ≡ ends_by asked owed n status informed count
   end_is None n status informed count =
@@ -107,6 +127,29 @@ module _ (rules : Rules) (asked : List (Option Asked)) (known : Known) (a : AreO
   comes_is Surprise = refl
   comes_is Removed = refl
 
+  due_is : (owed : Option NtStatus) (n : ℕ) (status : NtStatus) → due known owed n status ≡ due_by asked owed n status
+  due_is None n status = brought_is (opened_at known.opened n) (slice_get asked n) status (sym (a.is n))
+  due_is (Some owed) n status = refl
+
+  blank_is : (label : Label) → may_come_blank known label ≡ has_none label && fits_blank rules asked known.owed label
+  blank_is (Call n q) =
+      let e : known.calls + 1 ≡ length asked = (let c = a.count in omega arith) in
+      ap (λ k. (length q.bytes == 0) && (is_none known.owed && (n == k))) e
+  blank_is (Answer n status informed bytes) =
+      ap (λ count. (length bytes == 0) && may_end known known.owed n status informed count) (due_is known.owed n status)
+      ∙ ap (λ b. (length bytes == 0) && b) (end_is known.owed n status informed (due_by asked known.owed n status))
+  blank_is (Device label) = refl
+  blank_is (Cancel n) = refl
+  blank_is Pause = refl
+  blank_is Resume = refl
+  blank_is Remove = refl
+  blank_is Surprise = refl
+  blank_is Removed = refl
+
+  pub comes_by : (gap : Bool) (label : Label) → may_come_by gap rules known label ≡ fits_by gap rules asked known.owed label
+  comes_by false label = comes_is label
+  comes_by true label = blank_is label
+
 -- no request that is to come is open
 pub opened_past : (known : Known) (asked : List (Option Asked)) → AreOpen asked known → (n : ℕ) → known.calls < n → opened_at known.opened n ≡ None
 opened_past known asked a n high = none_of asked_of (opened_at known.opened n) (sym (a.is n) ∙ ap flat (slice_get_past asked n (let c = a.count in omega (arith, c, high))))
@@ -115,6 +158,33 @@ opened_past known asked a n high = none_of asked_of (opened_at known.opened n) (
 
 pub call_is_next : (rules : Rules) (known : Known) (n : ℕ) (q : ClientRequest) → may_come rules known (Call n q) ≡ true → n ≡ known.calls + 1
 call_is_next rules known n q can = eqb-true n (known.calls + 1) (and_parts _ _ (and_parts _ _ can).1).0
+
+-- a call has the next number
+abbrev IsNext : Known → Label → Type 0
+IsNext known (Call n q) = n ≡ known.calls + 1
+IsNext known _ = Unit {0}
+
+comes_next : (rules : Rules) (known : Known) (label : Label) → may_come rules known label ≡ true → IsNext known label
+comes_next rules known (Call n q) can = call_is_next rules known n q can
+comes_next rules known (Answer n status informed bytes) can = tt
+comes_next rules known (Device label) can = tt
+comes_next rules known (Cancel n) can = tt
+comes_next rules known Pause can = tt
+comes_next rules known Resume can = tt
+comes_next rules known Remove can = tt
+comes_next rules known Surprise can = tt
+comes_next rules known Removed can = tt
+
+blank_comes_next : (known : Known) (label : Label) → may_come_blank known label ≡ true → IsNext known label
+blank_comes_next known (Call n q) can = eqb-true n (known.calls + 1) (and_parts _ _ (and_parts _ _ can).1).1
+blank_comes_next known (Answer n status informed bytes) can = tt
+blank_comes_next known (Device label) can = tt
+blank_comes_next known (Cancel n) can = tt
+blank_comes_next known Pause can = tt
+blank_comes_next known Resume can = tt
+blank_comes_next known Remove can = tt
+blank_comes_next known Surprise can = tt
+blank_comes_next known Removed can = tt
 
 module _ (rules : Rules) (asked : List (Option Asked)) (old new : Known) (a : AreOpen asked old) where
   call_open : (n : ℕ) (q : ClientRequest) (r : Option NtStatus) → n ≡ old.calls + 1 → new.calls ≡ n → new.owed ≡ r → PutsCall r old.opened n q new.opened → AreOpen (asked ++ entry_of r q ∷ []) new
@@ -168,16 +238,23 @@ module _ (rules : Rules) (asked : List (Option Asked)) (old new : Known) (a : Ar
     owing = λ status is. absurd (cc (sym none ∙ is));
   }
 
+  open_behind : (label : Label) → IsNext old label → Takes rules old label new → AreOpen (asked_after rules asked old.owed label) new
+  open_behind (Call n q) next takes = call_open n q (refused rules q) next takes.0 takes.1 takes.2
+  open_behind (Answer n status informed bytes) next takes = answer_open n old.owed takes.0 takes.1 takes.2
+  open_behind (Device label) next is = subst (AreOpen asked) (sym is) a
+  open_behind (Cancel n) next is = subst (AreOpen asked) (sym is) a
+  open_behind Pause next is = subst (AreOpen asked) (sym is) a
+  open_behind Resume next is = subst (AreOpen asked) (sym is) a
+  open_behind Remove next is = subst (AreOpen asked) (sym is) a
+  open_behind Surprise next is = subst (AreOpen asked) (sym is) a
+  open_behind Removed next is = subst (AreOpen asked) (sym is) a
+
   pub open_next : (label : Label) → may_come rules old label ≡ true → Takes rules old label new → AreOpen (asked_after rules asked old.owed label) new
-  open_next (Call n q) can takes = call_open n q (refused rules q) (call_is_next rules old n q can) takes.0 takes.1 takes.2
-  open_next (Answer n status informed bytes) can takes = answer_open n old.owed takes.0 takes.1 takes.2
-  open_next (Device label) can is = subst (AreOpen asked) (sym is) a
-  open_next (Cancel n) can is = subst (AreOpen asked) (sym is) a
-  open_next Pause can is = subst (AreOpen asked) (sym is) a
-  open_next Resume can is = subst (AreOpen asked) (sym is) a
-  open_next Remove can is = subst (AreOpen asked) (sym is) a
-  open_next Surprise can is = subst (AreOpen asked) (sym is) a
-  open_next Removed can is = subst (AreOpen asked) (sym is) a
+  open_next label can takes = open_behind label (comes_next rules old label can) takes
+
+  pub open_next_by : (gap : Bool) (label : Label) → may_come_by gap rules old label ≡ true → Takes rules old label new → AreOpen (asked_after rules asked old.owed label) new
+  open_next_by false label can takes = open_next label can takes
+  open_next_by true label can takes = open_behind label (blank_comes_next old label can) takes
 
 pub owed_next : (rules : Rules) (old new : Known) (label : Label) → Takes rules old label new → new.owed ≡ owed_after rules old.owed label
 owed_next rules old new (Call n q) takes = takes.1

@@ -10,7 +10,8 @@ use Rattle.machine.specs.declared.Label.{Label}
 use Rattle.machine.specs.declared.Label.TheVariants.{Call, Device, Answer, Cancel, Pause, Resume, Remove, Surprise, Removed}
 use Rattle.machine.specs.Rules.{Rules, is_transfer, is_in_bounds, first_sector, sectors_of}
 use Rattle.history_laws.specs.declared.Asked.{Asked}
-use Rattle.history_laws.specs.Fitting.{refused, carried, ends_by, entry_of, without, all_fit}
+use Rattle.history_laws.specs.Fitting.{refused, carried, ends_by, entry_of, without, asked_after, owed_after, all_fit}
+use Rattle.history.specs.Gaps.{fits_by, all_fit_by}
 use Rattle.history_fitting.specs.declared.service.Service.{Service}
 use Rattle.history_fitting.specs.Services.{rules_of, AreOf}
 
@@ -79,3 +80,62 @@ same_fit rules asked owed (Removed ∷ labels) = same_fit rules asked owed label
 pub fits_alike : (service : Service) (rules : Rules) → AreOf service rules → (asked : List (Option Asked)) (owed : Option NtStatus) (labels : List Label)
     → all_fit rules asked owed labels ≡ all_fit (rules_of service) asked owed labels
 fits_alike service rules of asked owed labels = same_fit rules asked owed labels ∙ ap (λ r. all_fit r asked owed labels) (same_rules service rules of)
+
+-- and labels of which some have no bytes, since these were not recorded
+module _ (rules : Rules) (asked : List (Option Asked)) (owed : Option NtStatus) where
+  same_label : (gap : Bool) (label : Label) → fits_by gap rules asked owed label ≡ fits_by gap (of_sizes rules) asked owed label
+  same_label true (Call n q) = refl
+  same_label false (Call n q) = ap (λ answer. is_none owed && ((n == length asked) && (length q.bytes == carried answer q))) (same_refused rules q)
+  same_label true (Answer n status informed bytes) = refl
+  same_label false (Answer n status informed bytes) = refl
+  same_label true (Device label) = refl
+  same_label false (Device label) = refl
+  same_label true (Cancel n) = refl
+  same_label false (Cancel n) = refl
+  same_label true Pause = refl
+  same_label false Pause = refl
+  same_label true Resume = refl
+  same_label false Resume = refl
+  same_label true Remove = refl
+  same_label false Remove = refl
+  same_label true Surprise = refl
+  same_label false Surprise = refl
+  same_label true Removed = refl
+  same_label false Removed = refl
+
+  same_asked : (label : Label) → asked_after rules asked owed label ≡ asked_after (of_sizes rules) asked owed label
+  same_asked (Call n q) = ap (λ answer. asked ++ entry_of answer q ∷ []) (same_refused rules q)
+  same_asked (Answer n status informed bytes) = refl
+  same_asked (Device label) = refl
+  same_asked (Cancel n) = refl
+  same_asked Pause = refl
+  same_asked Resume = refl
+  same_asked Remove = refl
+  same_asked Surprise = refl
+  same_asked Removed = refl
+
+  same_owed : (label : Label) → owed_after rules owed label ≡ owed_after (of_sizes rules) owed label
+  same_owed (Call n q) = same_refused rules q
+  same_owed (Answer n status informed bytes) = refl
+  same_owed (Device label) = refl
+  same_owed (Cancel n) = refl
+  same_owed Pause = refl
+  same_owed Resume = refl
+  same_owed Remove = refl
+  same_owed Surprise = refl
+  same_owed Removed = refl
+
+same_fit_by : (rules : Rules) (asked : List (Option Asked)) (owed : Option NtStatus) (gaps : List Bool) (labels : List Label) → all_fit_by rules asked owed gaps labels ≡ all_fit_by (of_sizes rules) asked owed gaps labels
+same_fit_by rules asked owed [] [] = refl
+same_fit_by rules asked owed [] (label ∷ labels) = refl
+same_fit_by rules asked owed (gap ∷ gaps) [] = refl
+same_fit_by rules asked owed (gap ∷ gaps) (label ∷ labels) =
+    ap (λ b. if b then all_fit_by rules (asked_after rules asked owed label) (owed_after rules owed label) gaps labels else false) (same_label rules asked owed gap label)
+    ∙ ap (λ b. if fits_by gap (of_sizes rules) asked owed label then b else false)
+    (same_fit_by rules (asked_after rules asked owed label) (owed_after rules owed label) gaps labels
+    ∙ ap (λ a. all_fit_by (of_sizes rules) a (owed_after rules owed label) gaps labels) (same_asked rules asked owed label)
+    ∙ ap (λ o. all_fit_by (of_sizes rules) (asked_after (of_sizes rules) asked owed label) o gaps labels) (same_owed rules asked owed label))
+
+pub fits_alike_by : (service : Service) (rules : Rules) → AreOf service rules → (asked : List (Option Asked)) (owed : Option NtStatus) (gaps : List Bool) (labels : List Label)
+    → all_fit_by rules asked owed gaps labels ≡ all_fit_by (rules_of service) asked owed gaps labels
+fits_alike_by service rules of asked owed gaps labels = same_fit_by rules asked owed gaps labels ∙ ap (λ r. all_fit_by r asked owed gaps labels) (same_rules service rules of)

@@ -3,13 +3,14 @@ use Rattle.std.specs.Prelude.{◌≡◌, ◌≤◌, ℕ, suc, ◌+◌, ◌==◌,
 use Rattle.std.specs.Ordering.{nat_cmp}
 use Rattle.std.specs.BTreeMap.{BTreeMap, get}
 use Rattle.ntstatus.specs.declared.NtStatus.{NtStatus}
+use Rattle.ntstatus.specs.declared.NtStatus.TheVariants.{Success}
 use Rattle.ntstatus.specs.Codes.{value_of}
 use Rattle.machine.specs.declared.ClientRequest.{ClientRequest}
 use Rattle.machine.specs.declared.Label.{Label}
 use Rattle.machine.specs.declared.Label.TheVariants.{Call, Answer}
 use Rattle.machine.specs.Rules.{Rules}
 use Rattle.history_laws.specs.declared.Asked.{Asked}
-use Rattle.history_laws.specs.Fitting.{asked_of, carried, ends, refused}
+use Rattle.history_laws.specs.Fitting.{asked_of, brought, carried, ends, refused}
 use Rattle.history_fitting.specs.declared.fitting.Known.{Known}
 
 -- the open request of a number
@@ -37,6 +38,25 @@ abbrev pub may_come : Rules → Known → Label → Bool
 may_come rules known (Call n q) = is_none known.owed && ((n == known.calls + 1) && (length q.bytes == carried (refused rules q) q))
 may_come rules known (Answer n status informed bytes) = may_end known known.owed n status informed (length bytes)
 may_come rules known _ = true
+
+-- the number of bytes that an answer owes
+abbrev pub brought_to : Option ClientRequest → NtStatus → ℕ
+brought_to (Some q) Success = brought q.kind q.length
+brought_to _ _ = 0
+
+abbrev pub due : Known → Option NtStatus → ℕ → NtStatus → ℕ
+due known None n status = brought_to (opened_at known.opened n) status
+due known (Some owed) n status = 0
+
+-- a label whose bytes were not recorded may come behind these calls, with as many as are due
+abbrev pub may_come_blank : Known → Label → Bool
+may_come_blank known (Call n q) = (length q.bytes == 0) && (is_none known.owed && (n == known.calls + 1))
+may_come_blank known (Answer n status informed bytes) = (length bytes == 0) && may_end known known.owed n status informed (due known known.owed n status)
+may_come_blank known _ = true
+
+abbrev pub may_come_by : Bool → Rules → Known → Label → Bool
+may_come_by false rules known label = may_come rules known label
+may_come_by true rules known label = may_come_blank known label
 
 -- there is something else at one number
 pub record Puts (old : BTreeMap ℕ ClientRequest) (n : ℕ) (found : Option ClientRequest) (new : BTreeMap ℕ ClientRequest) : Type 0 where

@@ -11,7 +11,7 @@ ghost use Rattle.history_laws.specs.Fitting.{
   refused,
 };
 ghost use Rattle.history_fitting.specs.Services.{rules_of};
-ghost use Rattle.history_fitting.specs.Opened.{bare, ends_request, may_come, may_end, opened_at, Puts, PutsAnswer, PutsCall, Takes};
+ghost use Rattle.history_fitting.specs.Opened.{bare, brought_to, due, ends_request, may_come, may_come_blank, may_end, opened_at, Puts, PutsAnswer, PutsCall, Takes};
 
 use crate::service::Service;
 use history_laws::Asked;
@@ -154,6 +154,19 @@ fn ends_request(
     ends(asked, status, informed, count)
 }
 
+/// The number of bytes that the answer to a request brings, if it is open.
+fn brought_to(request: Option<&ClientRequest>, status: NtStatus) -> u64
+    ensures { result ≡ brought_to (option_copied request.entry) status }
+{
+    match (request, status) {
+        (Some(request), NtStatus::Success) => brought(Asked {
+            kind: request.kind,
+            length: request.length,
+        }),
+        _ => 0,
+    }
+}
+
 /// Whether a number is the next.
 fn is_next(calls: u64, number: u64) -> bool
     ensures { result ≡ (number == calls + 1) }
@@ -272,6 +285,39 @@ impl Known {
                 *information,
                 bytes.as_slice().len() as u64,
             ),
+            _ => true,
+        }
+    }
+
+    /// The number of bytes that an answer owes.
+    fn due(&self, number: u64, status: NtStatus) -> u64
+        ensures { result ≡ due self.now self.now.owed number status }
+    {
+        match self.owed {
+            Some(_) => 0,
+            None => brought_to(self.request(number), status),
+        }
+    }
+
+    /// The same of a label whose bytes were not recorded: it has none, and may come with as many as are due.
+    pub fn may_come_blank(&self, label: &Label) -> bool
+        ensures { result ≡ may_come_blank self.now label.now }
+    {
+        match label {
+            Label::Call { number, request } => {
+                request.bytes.as_slice().len() == 0
+                    && self.owed.is_none()
+                    && is_next(self.calls, *number)
+            }
+            Label::Answer {
+                number,
+                status,
+                information,
+                bytes,
+            } => {
+                let due = self.due(*number, *status);
+                bytes.as_slice().len() == 0 && self.may_end(*number, *status, *information, due)
+            }
             _ => true,
         }
     }

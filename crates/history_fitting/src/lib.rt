@@ -4,13 +4,14 @@
 //! # Promises
 //!
 //! `Known::may_come` says whether a call or an answer may come, `take` takes it, and `request` has what is open by its
-//! number. A label may come just where it fits behind those that were taken (`known_fit`).
+//! number. A label may come just where it fits behind those that were taken (`known_fit`). `may_come_blank` says the same of
+//! one whose bytes were not recorded (`known_fit_by`).
 //!
 //! A `Service` tells which sectors a request moves (`moved`), and `contents_of` the bytes of one of them. Why a label can't
 //! come (`why_not`) is only tested.
 #![tactic(auto)]
 
-ghost use Rattle.history_fitting.specs.Laws.{KnownFit};
+ghost use Rattle.history_fitting.specs.Laws.{KnownFit, KnownFitBy};
 
 mod contents;
 mod fitting;
@@ -24,4 +25,9 @@ pub use service::{Place, Service};
 /// What is known of the calls tells how labels fit.
 pub fn known_fit()
     ensures { KnownFit }
+{}
+
+/// The same of labels of which some have no bytes, since these were not recorded.
+pub fn known_fit_by()
+    ensures { KnownFitBy }
 {}

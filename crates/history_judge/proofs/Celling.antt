@@ -1,5 +1,5 @@
 -- One sector, label by label.
-use Rattle.std.proofs.Common.{◌≡◌, ◌<◌, ◌≤◌, ◌⊎◌, inl, inr, ℕ, zero, suc, ◌+◌, Bool, true, false, List, [], ◌∷◌, ◌++◌, Option, Some, None, refl, sym, ◌∙◌, ap, subst, arith, append-nil, append_assoc, get_or, length, length-append, take, drop}
+use Rattle.std.proofs.Common.{◌≡◌, ◌<◌, ◌≤◌, inl, inr, ℕ, zero, suc, ◌+◌, Bool, true, false, List, [], ◌∷◌, ◌++◌, Option, Some, None, refl, sym, ◌∙◌, ap, subst, arith, append-nil, append_assoc, get_or, length, length-append, take, drop}
 use Rattle.std.specs.Prelude.{All, Contains, Result, Ok, Err, IfOk, OnOk}
 use Rattle.std.proofs.lemmas.List.{take_more, take_all}
 use Rattle.std.proofs.lemmas.List.Elements.{All-nil, All-cons, All-head, All-tail, All-append}
@@ -19,7 +19,7 @@ use Rattle.history_judge.specs.declared.trying.Try.{Try}
 use Rattle.history_judge.specs.declared.past.Past.{Past}
 use Rattle.history_judge.specs.declared.cell.Cell.{Cell}
 use Rattle.history_judge.specs.inside.Starting.{HasStarts, IsTriedAll, IsTriedAny, IsTriedBy}
-use Rattle.history_judge.specs.inside.Cells.{plain, wait_in, is_known, sights_in, all_known, starts_in, IsFront, IsTry, Saw, SawBelow, AllSee, IsBegunBy, AreBegun, AreFirst, IsCell, with_last}
+use Rattle.history_judge.specs.inside.Cells.{plain, is_known, sights_in, all_known, starts_in, IsFront, IsTry, Saw, SawBelow, AllSee, IsBegunBy, AreBegun, AreFirst, IsCell, with_last}
 use Rattle.history_judge.proofs.Begun.{tried_by}
 use Rattle.history_judge.proofs.Filling.{fill_known}
 

@@ -1,5 +1,5 @@
 -- What labels do to what waits.
-use Rattle.std.proofs.Common.{◌≡◌, ℕ, ◌==◌, ◌||◌, Bool, true, false, List, [], ◌∷◌, ◌++◌, ◌⊎◌, inl, inr, Option, Some, None, refl, sym, ◌∙◌, ap, subst, append_assoc, eq-eqb}
+use Rattle.std.proofs.Common.{◌≡◌, ℕ, ◌==◌, ◌||◌, Bool, true, false, List, [], ◌∷◌, ◌++◌, inl, inr, Option, Some, None, refl, sym, ◌∙◌, ap, subst, append_assoc, eq-eqb}
 use Rattle.std.specs.Prelude.{option_map, if◌then◌else◌}
 use Rattle.std.specs.List.{list_any}
 use Rattle.std.proofs.lemmas.Bool.{cases_Bool, eqb-true}
@@ -13,12 +13,11 @@ use Rattle.machine.specs.declared.Label.TheVariants.{Call, Device, Answer, Cance
 use Rattle.machine.specs.Rules.{Rules}
 use Rattle.register.specs.Values.{code}
 use Rattle.register.specs.declared.Sight.{Sight}
-use Rattle.register.specs.declared.Sight.TheVariants.{Read as ReadSight}
 use Rattle.history.specs.declared.Wait.{Wait}
 use Rattle.history.specs.declared.Wait.TheVariants.{Known, Awaits}
 use Rattle.history.specs.Sights.{has_sector, success_bytes, is_call_of, end_of}
 use Rattle.history.specs.Waits.{read_by, with_wait, fill, is_wait_of, ended, called, step}
-use Rattle.history_judge.specs.inside.Cells.{all_known, is_write, is_read, with_last, call_wait, read_end, read_left, answer_left, label_left, is_awaited, IsToldOf}
+use Rattle.history_judge.specs.inside.Cells.{all_known, is_write, is_read, with_last, call_wait, read_end, answer_left, label_left, is_awaited, IsToldOf}
 
 -- NUMBERS
 

@@ -17,14 +17,13 @@ use Rattle.machine.specs.Rules.{Rules, is_transfer, is_in_bounds, first_sector, 
 use Rattle.history_laws.specs.declared.Asked.{Asked}
 use Rattle.history_laws.specs.Fitting.{refused}
 use Rattle.register.specs.Values.{code}
-use Rattle.register.specs.declared.Sight.{Sight}
 use Rattle.history.specs.declared.Wait.{Wait}
-use Rattle.history.specs.declared.Wait.TheVariants.{Known as KnownWait, Awaits}
+use Rattle.history.specs.declared.Wait.TheVariants.{Known as KnownWait}
 use Rattle.history.specs.Sights.{is_partition, has_sector, success_bytes, is_call_of, end_of}
 use Rattle.history.specs.Waits.{fill, is_wait_of, ended, called, step, waits_of}
 use Rattle.history_fitting.specs.declared.fitting.Known.{Known}
 use Rattle.history_judge.specs.declared.cells.Span.{Span}
-use Rattle.history_fitting.specs.Opened.{opened_at, bare, ends_request, may_end, may_come, Puts, PutsCall, PutsAnswer, Takes, AreOpen, first_fresh, IsFresh}
+use Rattle.history_fitting.specs.Opened.{opened_at, bare, ends_request, may_end, may_come, may_come_blank, may_come_by, due, Puts, PutsCall, PutsAnswer, Takes, AreOpen, first_fresh, IsFresh}
 use Rattle.history_judge.specs.inside.Cells.{is_write, is_read, is_awaited, in_span, AreToldOf, seen_of}
 use Rattle.history_judge.specs.inside.Histories.{writes_at, reads_at, ShowsCall, AreTold, IsSpanBy, IsSpanAt, IsSpan}
 use Rattle.history_judge.proofs.Filling.{apart, push_not, push_one, fill_none, others_called, others_awaited}
@@ -133,12 +132,43 @@ moves_none rules p i q status sized told = by_sector (has_sector rules p i q) re
     by_sector true e = absurd (cc (sym told ∙ taken_in e))
     by_sector false e = e
 
-none_owed : (rules : Rules) (known : Known) (n : ℕ) (q : ClientRequest) → may_come rules known (Call n q) ≡ true → known.owed ≡ None
-none_owed rules known n q can = by_owed known.owed (and_parts _ _ can).0
-  where
-    by_owed : (owed : Option NtStatus) → is_none owed ≡ true → owed ≡ None
-    by_owed None e = refl
-    by_owed (Some status) e = absurd (cc (e))
+none_owed : (owed : Option NtStatus) → is_none owed ≡ true → owed ≡ None
+none_owed None e = refl
+none_owed (Some status) e = absurd (cc (e))
+
+-- what is so of a label that may come
+abbrev pub Stands : Known → Label → Type 0
+Stands known (Call n q) = (n ≡ known.calls + 1) × (known.owed ≡ None)
+Stands known (Answer n status informed bytes) = (count : ℕ) × (may_end known known.owed n status informed count ≡ true)
+Stands known _ = Unit {0}
+
+come_stands : (rules : Rules) (known : Known) (label : Label) → may_come rules known label ≡ true → Stands known label
+come_stands rules known (Call n q) can = (call_is_next rules known n q can, none_owed known.owed (and_parts _ _ can).0)
+come_stands rules known (Answer n status informed bytes) can = (length bytes, can)
+come_stands rules known (Device label) can = tt
+come_stands rules known (Cancel n) can = tt
+come_stands rules known Pause can = tt
+come_stands rules known Resume can = tt
+come_stands rules known Remove can = tt
+come_stands rules known Surprise can = tt
+come_stands rules known Removed can = tt
+
+blank_stands : (known : Known) (label : Label) → may_come_blank known label ≡ true → Stands known label
+blank_stands known (Call n q) can =
+    let free = and_parts _ _ (and_parts _ _ can).1 in
+    (eqb-true n (known.calls + 1) free.1, none_owed known.owed free.0)
+blank_stands known (Answer n status informed bytes) can = (due known known.owed n status, (and_parts _ _ can).1)
+blank_stands known (Device label) can = tt
+blank_stands known (Cancel n) can = tt
+blank_stands known Pause can = tt
+blank_stands known Resume can = tt
+blank_stands known Remove can = tt
+blank_stands known Surprise can = tt
+blank_stands known Removed can = tt
+
+pub stands : (gap : Bool) (rules : Rules) (known : Known) (label : Label) → may_come_by gap rules known label ≡ true → Stands known label
+stands false rules known label can = come_stands rules known label can
+stands true rules known label can = blank_stands known label can
 
 owed_last : (known : Known) (n : ℕ) (status owed : NtStatus) (informed count : ℕ) → may_end known (Some owed) n status informed count ≡ true → n ≡ known.calls
 owed_last known n status owed informed count can = eqb-true n known.calls (and_parts _ _ can).0
@@ -222,12 +252,12 @@ module _ (rules : Rules) (asked : List (Option Asked)) (labels : List Label) (ol
             (told p i m (λ e. let past : suc old.calls ≤ m = high e in subst (λ o. first_fresh o old.calls ≤ m) (sym was) (omega (arith, past)))))
       ]
 
-  answer_told : (n : ℕ) (status : NtStatus) (informed : ℕ) (bytes : List ℕ) (owed : Option NtStatus) → old.owed ≡ owed → may_end old owed n status informed (length bytes) ≡ true → new.calls ≡ old.calls → new.owed ≡ None
+  answer_told : (n : ℕ) (status : NtStatus) (informed : ℕ) (bytes : List ℕ) (count : ℕ) (owed : Option NtStatus) → old.owed ≡ owed → may_end old owed n status informed count ≡ true → new.calls ≡ old.calls → new.owed ≡ None
       → PutsAnswer owed old.opened n new.opened → (p i m : ℕ) → IsFresh new m → Next (Answer n status informed bytes) p i m
-  answer_told n status informed bytes None was can calls none puts = answer_taken n status informed bytes was (open_low asked old a n status informed (length bytes) can) calls none puts
-  answer_told n status informed bytes (Some owed) was can calls none puts = answer_owed n status owed informed bytes was (owed_last old n status owed informed (length bytes) can) calls none puts
+  answer_told n status informed bytes count None was can calls none puts = answer_taken n status informed bytes was (open_low asked old a n status informed count can) calls none puts
+  answer_told n status informed bytes count (Some owed) was can calls none puts = answer_owed n status owed informed bytes was (owed_last old n status owed informed count can) calls none puts
 
-  pub told_next : 0 < rules.sector_size → (label : Label) → may_come rules old label ≡ true → Takes rules old label new → AreTold rules (labels ++ label ∷ []) new
+  pub told_next : 0 < rules.sector_size → (label : Label) → Stands old label → Takes rules old label new → AreTold rules (labels ++ label ∷ []) new
   told_next sized label can takes = λ p i m fresh. subst (ShowsCall rules p i m (opened_at new.opened m)) (sym (seen_push rules p i [] labels label)) (by_label label can takes p i m fresh)
     where
       kept : (label : Label) → new ≡ old → ((p i : ℕ) → step code rules p i (seen_of rules labels p i) label ≡ seen_of rules labels p i) → (p i m : ℕ) → IsFresh new m → Next label p i m
@@ -235,10 +265,10 @@ module _ (rules : Rules) (asked : List (Option Asked)) (labels : List Label) (ol
           subst (ShowsCall rules p i m (opened_at new.opened m)) (sym (passed p i))
           (subst (λ known. IsFresh known m → ShowsCall rules p i m (opened_at known.opened m) (seen_of rules labels p i)) (sym is) (told p i m) fresh)
 
-      by_label : (label : Label) → may_come rules old label ≡ true → Takes rules old label new → (p i m : ℕ) → IsFresh new m → Next label p i m
+      by_label : (label : Label) → Stands old label → Takes rules old label new → (p i m : ℕ) → IsFresh new m → Next label p i m
       by_label (Call n q) can takes =
-          call_told n q (refused rules q) (call_is_next rules old n q can) (none_owed rules old n q can) takes.0 takes.1 takes.2 (λ p i status is. moves_none rules p i q status sized is)
-      by_label (Answer n status informed bytes) can takes = answer_told n status informed bytes old.owed refl can takes.0 takes.1 takes.2
+          call_told n q (refused rules q) can.0 can.1 takes.0 takes.1 takes.2 (λ p i status is. moves_none rules p i q status sized is)
+      by_label (Answer n status informed bytes) can takes = answer_told n status informed bytes can.0 old.owed refl can.1 takes.0 takes.1 takes.2
       by_label (Device label) can is = kept (Device label) is (λ p i. refl)
       by_label (Cancel n) can is = kept (Cancel n) is (λ p i. refl)
       by_label Pause can is = kept Pause is (λ p i. refl)
@@ -278,11 +308,11 @@ module _ (rules : Rules) (asked : List (Option Asked)) (labels : List Label) (ol
   at_out (Some r) found p i spans out q is = let same : r ≡ q = cc (is) in moves_out q found p i (subst (λ x. IsSpanBy rules x found) same spans) out
 
   -- a sector that a label isn't for shows nothing by it
-  pub passed_over : (label : Label) (found : Option (Span × Kind)) (p i : ℕ) → may_come rules old label ≡ true → IsSpan rules old label found → ((span : Span) (kind : Kind) → found ≡ Some (span, kind) → in_span span p i ≡ false)
+  pub passed_over : (label : Label) (found : Option (Span × Kind)) (p i : ℕ) → Stands old label → IsSpan rules old label found → ((span : Span) (kind : Kind) → found ≡ Some (span, kind) → in_span span p i ≡ false)
       → step code rules p i (seen_of rules labels p i) label ≡ seen_of rules labels p i
   passed_over (Call n q) found p i can spans out = ap (λ b. if b then called code rules i n q q.kind (seen_of rules labels p i) else seen_of rules labels p i) (moves_out q found p i spans out)
   passed_over (Answer n status informed bytes) found p i can spans out =
-      answer_passed p i n status informed bytes (opened_at old.opened n) refl (answer_fresh n status informed (length bytes) old.owed refl can) (at_out (opened_at old.opened n) found p i spans out)
+      answer_passed p i n status informed bytes (opened_at old.opened n) refl (answer_fresh n status informed can.0 old.owed refl can.1) (at_out (opened_at old.opened n) found p i spans out)
   passed_over (Device label) found p i can spans out = refl
   passed_over (Cancel n) found p i can spans out = refl
   passed_over Pause found p i can spans out = refl
@@ -300,10 +330,10 @@ module _ (rules : Rules) (asked : List (Option Asked)) (labels : List Label) (ol
       (h.called ∙ ap (λ b. if b then is_write q.kind else false) has ∙ ap is_write (sym spans.0), h.awaited ∙ ap (λ b. if b then is_read q.kind else false) has ∙ ap is_read (sym spans.0))
 
   -- and one that it is for shows what it does there
-  pub told_of : (label : Label) (span : Span) (kind : Kind) → may_come rules old label ≡ true → IsSpan rules old label (Some (span, kind)) → AreToldOf rules (seen_of rules labels) span kind label
+  pub told_of : (label : Label) (span : Span) (kind : Kind) → Stands old label → IsSpan rules old label (Some (span, kind)) → AreToldOf rules (seen_of rules labels) span kind label
   told_of (Call n q) span kind can spans = λ i inside. spans.1.1 span.partition i ∙ inside
   told_of (Answer n status informed bytes) span kind can spans = λ i inside.
-      told_at n i span kind (opened_at old.opened n) refl (answer_fresh n status informed (length bytes) old.owed refl can) spans inside
+      told_at n i span kind (opened_at old.opened n) refl (answer_fresh n status informed can.0 old.owed refl can.1) spans inside
   told_of (Device label) span kind can spans = λ i inside. tt
   told_of (Cancel n) span kind can spans = λ i inside. tt
   told_of Pause span kind can spans = λ i inside. tt

@@ -1,4 +1,5 @@
 mod Alike
+mod Started
 mod Begun
 mod Filling
 mod Celling

@@ -103,6 +103,22 @@ fn first_tries(alloc: Global, start: &Start) -> Result<Vec<Try>, AllocError>
     Ok(tries)
 }
 
+/// Whether to look what the sector began with: behind each answer but a read's whose bytes were not recorded.
+fn may_begin(told: Told<'_>) -> bool {
+    match (told.label, told.kind) {
+        (
+            Label::Answer {
+                status: NtStatus::Success,
+                bytes,
+                ..
+            },
+            Kind::Read,
+        ) => !bytes.as_slice().is_empty(),
+        (Label::Answer { .. }, _) => true,
+        _ => false,
+    }
+}
+
 impl Cell {
     /// Of which nothing was seen.
     pub fn new(alloc: Global, start: &Start) -> Result<Cell, AllocError>
@@ -295,7 +311,7 @@ impl Cell {
     {
         self.past.note(told)?;
         self.take_label(alloc, &basis.service, told, place)?;
-        if self.tries.is_empty() {
+        if self.tries.is_empty() && may_begin(told) {
             return self.begin(alloc, &basis.start);
         }
         Ok(())

@@ -10,21 +10,20 @@ ghost use Rattle.register.specs.Values.{code};
 use crate::cell::Cell;
 use crate::recorded::Fitted;
 use crate::trying::Tried;
-use history::{refused_are_unexplained, shown_by_waits};
+use history::{refused_are_unexplained_by_any, shown_by_waits};
 use history_fitting::{Misfit, Place};
-use history_shown::shown_are_scheduled;
-use register::codes_tell;
 use register_judge::SoFar;
 use std::alloc::{AllocError, Global};
 
 /// What the judge says of a history. A line is the number that a label was given with.
 #[derive(Debug, Clone, Copy, PartialEq, Eq)]
 pub enum Verdict {
-    /// Calls carry their bytes, answers are to open calls and of their sizes, and each sector that it touches has a schedule.
+    /// Calls carry their bytes, answers are to open calls and of their sizes, and what each sector shows that it touches has a
+    /// schedule.
     Passed,
     /// The label of this line can't come behind those before it, whatever the sectors hold: no run explains the history.
     Misfit { line: u64, why: Misfit },
-    /// The sector has no schedule, and had none behind the answer of this line: no run explains the history.
+    /// What the sector shows has no schedule, and had none behind the answer of this line: no run explains the history.
     Refused { place: Place, line: u64 },
     /// Too many of the sector's requests were open at once.
     Undecided { place: Place },
@@ -80,9 +79,9 @@ fn judge_cell(
 ) -> Result<Verdict, AllocError>
     requires whole { IsWhole fitted.now }
     requires there { cell_at fitted.now.cells place.partition place.sector ≡ Some cell.now }
-    ensures { (start : List ℕ) → fitted.now.basis.start.bytes ≡ code start → IfOk result (IsRightOf fitted.now.basis.start.any fitted.now.basis.service start fitted.now.labels.items (place ∷ [])) }
+    ensures { (start : List ℕ) → fitted.now.basis.start.bytes ≡ code start → IfOk result (IsRightOf fitted.now.basis.start.any fitted.now.basis.service start fitted.now.gaps.items fitted.now.labels.items (place ∷ [])) }
 {
-    refused_are_unexplained();
+    refused_are_unexplained_by_any();
     shown_by_waits();
     let tried = cell.judge(alloc, &fitted.basis)?;
     Ok(verdict_of(place, tried))
@@ -91,7 +90,7 @@ fn judge_cell(
 /// The same of a sector at a place.
 fn judge_sector(alloc: Global, fitted: &Fitted, place: Place) -> Result<Verdict, AllocError>
     requires { IsWhole fitted.now }
-    ensures { (start : List ℕ) → fitted.now.basis.start.bytes ≡ code start → IfOk result (IsRightOf fitted.now.basis.start.any fitted.now.basis.service start fitted.now.labels.items (place ∷ [])) }
+    ensures { (start : List ℕ) → fitted.now.basis.start.bytes ≡ code start → IfOk result (IsRightOf fitted.now.basis.start.any fitted.now.basis.service start fitted.now.gaps.items fitted.now.labels.items (place ∷ [])) }
 {
     match fitted.cells.get(place) {
         Some(cell) => judge_cell(alloc, fitted, place, cell),
@@ -102,7 +101,7 @@ fn judge_sector(alloc: Global, fitted: &Fitted, place: Place) -> Result<Verdict,
 /// Judges these sectors.
 fn judge_all(alloc: Global, fitted: &Fitted, places: &[Place]) -> Result<Verdict, AllocError>
     requires { IsWhole fitted.now }
-    ensures { (start : List ℕ) → fitted.now.basis.start.bytes ≡ code start → IfOk result (IsRightOf fitted.now.basis.start.any fitted.now.basis.service start fitted.now.labels.items places.now) }
+    ensures { (start : List ℕ) → fitted.now.basis.start.bytes ≡ code start → IfOk result (IsRightOf fitted.now.basis.start.any fitted.now.basis.service start fitted.now.gaps.items fitted.now.labels.items places.now) }
 {
     let mut verdict = Verdict::Passed;
     for place in places {
@@ -115,10 +114,8 @@ fn judge_all(alloc: Global, fitted: &Fitted, places: &[Place]) -> Result<Verdict
 /// Judges labels that fit.
 pub(crate) fn judge_sectors(alloc: Global, fitted: &Fitted) -> Result<Verdict, AllocError>
     requires { IsWhole fitted.now }
-    ensures { (start : List ℕ) → fitted.now.basis.start.bytes ≡ code start → IfOk result (IsRightBy fitted.now.basis.start.any fitted.now.basis.service start fitted.now.labels.items) }
+    ensures { (start : List ℕ) → fitted.now.basis.start.bytes ≡ code start → IfOk result (IsRightBy fitted.now.basis.start.any fitted.now.basis.service start fitted.now.gaps.items fitted.now.labels.items) }
 {
-    codes_tell();
-    shown_are_scheduled();
     shown_by_waits();
     judge_all(alloc, fitted, fitted.cells.places.as_slice())
 }

@@ -1,19 +1,19 @@
 //! A history, taken label by label.
 
-ghost use Rattle.std.specs.Prelude.{◌≡◌, ◌<◌, ◌++◌, ◌∷◌, ℕ, [], Bool, false, IfOk, IfSome, OnOk, true};
+ghost use Rattle.std.specs.Prelude.{◌≡◌, ◌<◌, ◌++◌, ◌∷◌, ℕ, [], Bool, false, IfOk, IfSome, not, OnOk, true};
 ghost use Rattle.history_fitting.specs.Services.{rules_of};
 ghost use Rattle.history_judge.specs.Verdicts.{IsRightBy, IsUnfit};
 ghost use Rattle.history_judge.specs.inside.Cells.{HasCells, seen_of};
 ghost use Rattle.history_judge.specs.inside.Histories.{IsSpan, IsSpanBy, IsWhole};
-ghost use Rattle.history_fitting.specs.Opened.{may_come};
+ghost use Rattle.history_fitting.specs.Opened.{may_come_by};
 
 use crate::cell::{Basis, Told};
 use crate::cells::{Cells, Span, span_of};
 use crate::judging::{Verdict, judge_sectors};
 use crate::telling::{Refusal, needs_busy, refusal_of};
 use crate::trying::Start;
+use history::explained_by_some_fit;
 use history_fitting::{Known, Misfit, Place, Service};
-use history_laws::explained_fit;
 use machine::{ClientRequest, Kind, Label};
 use noted::Noted;
 use register::Contents;
@@ -27,6 +27,21 @@ pub(crate) struct Fitted {
     pub known: Known,
     pub cells: Cells,
     pub labels: Noted<Label>,
+    /// Of each, whether its bytes were not recorded.
+    pub gaps: Noted<bool>,
+}
+
+/// One label more.
+fn with_label(labels: &Noted<Label>, label: &Label) -> Noted<Label>
+    ensures { result.items ≡ labels.now.items ++ label.now ∷ [] }
+{
+    labels.with(label)
+}
+
+fn with_gap(gaps: &Noted<bool>, gap: bool) -> Noted<bool>
+    ensures { result.items ≡ gaps.now.items ++ gap ∷ [] }
+{
+    gaps.with(&gap)
 }
 
 impl Fitted {
@@ -35,6 +50,7 @@ impl Fitted {
         requires { 0 < basis.service.sector_size }
         ensures basis { result.basis ≡ basis }
         ensures labels { result.labels.items ≡ [] }
+        ensures gaps { result.gaps.items ≡ [] }
         ensures whole { IsWhole result }
     {
         Fitted {
@@ -42,7 +58,19 @@ impl Fitted {
             known: Known::new(alloc),
             cells: Cells::new(alloc),
             labels: Noted::none(),
+            gaps: Noted::none(),
         }
+    }
+
+    /// Whether a label may come behind these, or one whose bytes were not recorded.
+    fn may_come(&self, label: &Label, gap: bool) -> bool
+        requires { 0 < self.now.basis.service.sector_size }
+        ensures { result ≡ may_come_by gap (rules_of self.now.basis.service) self.now.known label.now }
+    {
+        if gap {
+            return self.known.may_come_blank(label);
+        }
+        self.known.may_come(&self.basis.service, label)
     }
 
     /// Which sectors a label is for, and what its request does.
@@ -63,10 +91,11 @@ impl Fitted {
     /// Gives a label to the sectors that it is for.
     fn visit(&mut self, alloc: Global, line: u64, label: &Label) -> Result<(), AllocError>
         requires whole { IsWhole self.old }
-        requires fits { may_come (rules_of self.old.basis.service) self.old.known label.now ≡ true }
+        requires fits { (gap : Bool) × (may_come_by gap (rules_of self.old.basis.service) self.old.known label.now ≡ true) }
         ensures basis { self.new.basis ≡ self.old.basis }
         ensures known { self.new.known ≡ self.old.known }
         ensures labels { self.new.labels.items ≡ self.old.labels.items }
+        ensures gaps { self.new.gaps.items ≡ self.old.gaps.items }
         ensures cells { OnOk result (HasCells self.old.basis.start.any self.old.basis.start.bytes (seen_of (rules_of self.old.basis.service) (self.old.labels.items ++ label.now ∷ [])) self.new.cells) }
     {
         match self.span(label) {
@@ -79,16 +108,18 @@ impl Fitted {
     }
 
     /// Takes the next label.
-    fn take(&mut self, alloc: Global, line: u64, label: &Label) -> Result<(), AllocError>
+    fn take(&mut self, alloc: Global, line: u64, label: &Label, gap: bool) -> Result<(), AllocError>
         requires whole { IsWhole self.old }
-        requires fits { may_come (rules_of self.old.basis.service) self.old.known label.now ≡ true }
+        requires fits { may_come_by gap (rules_of self.old.basis.service) self.old.known label.now ≡ true }
         ensures basis { self.new.basis ≡ self.old.basis }
         ensures labels { OnOk result (self.new.labels.items ≡ self.old.labels.items ++ label.now ∷ []) }
+        ensures gaps { OnOk result (self.new.gaps.items ≡ self.old.gaps.items ++ gap ∷ []) }
         ensures whole { OnOk result (IsWhole self.new) }
     {
         self.visit(alloc, line, label)?;
         self.known.take(alloc, &self.basis.service, label)?;
-        self.labels = self.labels.with(label);
+        self.labels = with_label(&self.labels, label);
+        self.gaps = with_gap(&self.gaps, gap);
         Ok(())
     }
 }
@@ -118,6 +149,7 @@ pub struct History {
     stopped: u64,
     /// That label, and those behind it.
     behind: Noted<Label>,
+    gaps_behind: Noted<bool>,
 }
 
 impl Model for History {
@@ -127,9 +159,9 @@ impl Model for History {
 
     ghost Value = { HistoryView };
 
-    ghost view = { λ h. record { service = h.fitted.basis.service; start = h.start.items; any = h.fitted.basis.start.any; labels = h.fitted.labels.items ++ h.behind.items } };
+    ghost view = { λ h. record { service = h.fitted.basis.service; start = h.start.items; any = h.fitted.basis.start.any; gaps = h.fitted.gaps.items ++ h.gaps_behind.items; labels = h.fitted.labels.items ++ h.behind.items } };
 
-    ghost invariant = { λ h. IsHistory h.fitted h.start.items h.misfit h.behind.items };
+    ghost invariant = { λ h. IsHistory h.fitted h.start.items h.misfit h.gaps_behind.items h.behind.items };
 }
 
 impl History {
@@ -146,7 +178,7 @@ impl History {
         any: bool,
     ) -> Result<History, AllocError>
         requires { 0 < service.sector_size }
-        ensures { IfOk result (λ h. h ≡ record { service = service; start = start.now; any = any; labels = [] }) }
+        ensures { IfOk result (λ h. h ≡ record { service = service; start = start.now; any = any; gaps = []; labels = [] }) }
     {
         let bytes = Contents::new(alloc, start)?;
         let basis = Basis {
@@ -160,42 +192,49 @@ impl History {
             misfit: None,
             stopped: 0,
             behind: Noted::none(),
+            gaps_behind: Noted::none(),
         })
     }
 
-    /// Takes the next label, and the number of its line, by which verdicts tell of it. The lines rise.
+    /// Takes the next label, and the number of its line, by which verdicts tell of it. The lines rise. Where its bytes were not
+    /// `recorded` it has none, and they may have been any.
     ///
     /// # Errors
     ///
     /// [`AllocError`] where memory was refused.
-    pub fn push(mut self, alloc: Global, line: u64, label: &Label) -> Result<History, AllocError>
-        ensures { IfOk result (λ h. h ≡ record self { labels = self.labels ++ label.now ∷ [] }) }
+    pub fn push(
+        mut self,
+        alloc: Global,
+        line: u64,
+        label: &Label,
+        recorded: bool,
+    ) -> Result<History, AllocError>
+        ensures { IfOk result (λ h. h ≡ record self { gaps = self.gaps ++ not recorded ∷ []; labels = self.labels ++ label.now ∷ [] }) }
     {
+        let gap = !recorded;
         if self.misfit.is_some() {
-            self.behind = self.behind.with(label);
+            self.behind = with_label(&self.behind, label);
+            self.gaps_behind = with_gap(&self.gaps_behind, gap);
             return Ok(self);
         }
         self.count = self.count.saturating_add(1);
-        if self
-            .fitted
-            .known
-            .may_come(&self.fitted.basis.service, label)
-        {
-            self.fitted.take(alloc, line, label)?;
+        if self.fitted.may_come(label, gap) {
+            self.fitted.take(alloc, line, label, gap)?;
             return Ok(self);
         }
         self.misfit = Some((line, self.fitted.known.why_not(label)));
         self.stopped = number_in(label);
-        self.behind = self.behind.with(label);
+        self.behind = with_label(&self.behind, label);
+        self.gaps_behind = with_gap(&self.gaps_behind, gap);
         Ok(self)
     }
 
     /// Why the last label can't come behind those before it, if one can't: then no run explains the history, whatever the
     /// sectors hold, and no label behind that one is counted.
     pub fn misfit(&self) -> Option<Misfit>
-        ensures { IfSome result (λ _. IsUnfit self.now.service self.now.labels) }
+        ensures { IfSome result (λ _. IsUnfit self.now.service self.now.gaps self.now.labels) }
     {
-        explained_fit();
+        explained_by_some_fit();
         let (_, why) = self.misfit?;
         Some(why)
     }
@@ -207,9 +246,9 @@ impl History {
     ///
     /// [`AllocError`] where memory was refused.
     pub fn judge(&self, alloc: Global) -> Result<Verdict, AllocError>
-        ensures right { IfOk result (IsRightBy self.now.any self.now.service self.now.start self.now.labels) }
+        ensures right { IfOk result (IsRightBy self.now.any self.now.service self.now.start self.now.gaps self.now.labels) }
     {
-        explained_fit();
+        explained_by_some_fit();
         match self.misfit {
             Some((line, why)) => Ok(Verdict::Misfit { line, why }),
             None => judge_sectors(alloc, &self.fitted),

@@ -17,7 +17,7 @@ pub enum Source {
     Start,
     /// No write.
     Nobody,
-    /// None of the last writes.
+    /// None of the last writes, or one whose bytes were not recorded.
     Unknown,
     /// The write of this number, whose call has this line.
     Call { number: u64, line: u64 },
@@ -36,7 +36,7 @@ pub struct Found {
 #[derive(Debug, Drop)]
 pub struct Refusal {
     pub number: u64,
-    /// What it gave, if it is of a read.
+    /// What it gave, if it is of a read whose bytes were recorded.
     pub found: Option<Found>,
 }
 
@@ -54,6 +54,14 @@ fn is_tried(tried: &[Contents], value: &Contents) -> bool {
     tried.iter().any(|other| other.is(value))
 }
 
+/// Whether it is a write whose bytes were not recorded.
+fn is_blank_write(sight: &Sight) -> bool {
+    match sight {
+        Sight::Write { value, .. } => value.is_none(),
+        _ => false,
+    }
+}
+
 /// What is seen, but that the read of this number gives these bytes.
 fn with_value(given: &Given, number: u64, value: &Contents) -> Result<Given, AllocError> {
     match &given.sight {
@@ -69,11 +77,11 @@ fn with_value(given: &Given, number: u64, value: &Contents) -> Result<Given, All
 }
 
 impl Refused<'_> {
-    /// What the read gave.
+    /// What the read gave, if it was recorded.
     fn value(&self) -> Option<&Contents> {
         for one in self.given {
             if let Sight::Read { number, value } = &one.sight {
-                if *number == self.number {
+                if *number == self.number && !value.is_none() {
                     return Some(value);
                 }
             }
@@ -100,12 +108,17 @@ impl Refused<'_> {
         None
     }
 
+    /// Whether there is a write whose bytes were not recorded.
+    fn has_blank_write(&self) -> bool {
+        self.given.iter().any(|one| is_blank_write(&one.sight))
+    }
+
     /// Where bytes are from that the read gave.
     fn source(&self, value: &Contents) -> Source {
         if let Some(source) = self.writer(value) {
             return source;
         }
-        if !self.cell.past.is_whole() {
+        if !self.cell.past.is_whole() || self.has_blank_write() {
             return Source::Unknown;
         }
         let start = &self.basis.start;
@@ -138,7 +151,7 @@ impl Refused<'_> {
             if sources.len() >= MOST_TOLD {
                 return Ok(sources);
             }
-            if is_tried(tried.as_slice(), value) {
+            if value.is_none() || is_tried(tried.as_slice(), value) {
                 continue;
             }
             tried.push(value.share()?)?;
@@ -166,7 +179,7 @@ impl Refused<'_> {
         Ok(sources)
     }
 
-    /// What the read gave, if it is one.
+    /// What the read gave, if it is one and its bytes were recorded.
     fn found(&self, alloc: Global) -> Result<Option<Found>, AllocError> {
         let Some(value) = self.value() else {
             return Ok(None);

@@ -1,25 +1,30 @@
 //! A sector as a register, tried from what it may have had at the start.
 
-ghost use Rattle.std.specs.Prelude.{◌≡◌, ℕ, ◌∷◌, ◌++◌, [], All, Contains, IfOk, List, OnOk};
+ghost use Rattle.std.specs.Prelude.{◌≡◌, ◌≢◌, ℕ, ◌∷◌, ◌++◌, [], All, Contains, IfOk, List, OnOk};
 ghost use Rattle.std.specs.Bool.{OnTrue};
 ghost use Rattle.register.specs.declared.Sight.{Sight};
+ghost use Rattle.register.specs.Schedules.{unrecorded};
 ghost use Rattle.history_judge.specs.inside.Cells.{AllSee, IsBegunBy, IsTry, Saw, sights_in, starts_in};
 ghost use Rattle.history_judge.specs.inside.Starting.{
   Counts,
   HasStarts,
+  is_blank,
   IsBetter,
   IsTriedAll,
   IsTriedAny,
   IsTriedOf,
+  Keeps,
   StartsOf,
   so_far_if,
   TakesStart,
+  with_blank,
 };
 
 use crate::waits::Given;
 use register::{Contents, Sight};
 use register_judge::{Observed, SoFar};
 use std::alloc::{AllocError, Global};
+use std::collections::VecDeque;
 
 /// What sectors had at the start.
 #[derive(Drop)]
@@ -136,7 +141,7 @@ fn is_in(values: &[Contents], value: &Contents) -> bool
 
 /// Adds bytes, unless they are there.
 fn add(values: &mut Vec<Contents>, value: &Contents) -> Result<(), AllocError>
-    ensures kept { OnOk result ((other : ℕ) → Contains values.old.items other → Contains values.new.items other) }
+    ensures kept { OnOk result (Keeps values.old.items values.new.items) }
     ensures added { OnOk result (Contains values.new.items value.now) }
 {
     if is_in(values.as_slice(), value) {
@@ -146,16 +151,45 @@ fn add(values: &mut Vec<Contents>, value: &Contents) -> Result<(), AllocError>
     Ok(())
 }
 
-/// Adds what a read brings; false where something succeeds.
-fn take_start(values: &mut Vec<Contents>, sight: &Sight) -> Result<bool, AllocError>
-    ensures { IfOk result (TakesStart values.old.items sight.now values.new.items) }
+/// Adds what a read brings, or where its bytes were not recorded the read.
+fn take_read(
+    blanks: &mut VecDeque<u64>,
+    values: &mut Vec<Contents>,
+    number: u64,
+    value: &Contents,
+) -> Result<(), AllocError>
+    ensures blanks { OnOk result (blanks.new.items ≡ with_blank blanks.old.items number value.now) }
+    ensures kept { OnOk result (Keeps values.old.items values.new.items) }
+    ensures added { OnOk result (value.now ≢ unrecorded → Contains values.new.items value.now) }
+{
+    if value.is_none() {
+        blanks.push_front(number)?;
+        return Ok(());
+    }
+    add(values, value)
+}
+
+/// Whether the read is one of these.
+fn is_blank(blanks: &VecDeque<u64>, number: u64) -> bool
+    ensures { result ≡ is_blank blanks.now.items number }
+{
+    blanks.contains(&number)
+}
+
+/// The same of any sight; false where something else succeeds than a read whose bytes were not recorded.
+fn take_start(
+    blanks: &mut VecDeque<u64>,
+    values: &mut Vec<Contents>,
+    sight: &Sight,
+) -> Result<bool, AllocError>
+    ensures { IfOk result (TakesStart blanks.old.items values.old.items sight.now blanks.new.items values.new.items) }
 {
     match sight {
-        Sight::Read { value, .. } => {
-            add(values, value)?;
+        Sight::Read { number, value } => {
+            take_read(blanks, values, *number, value)?;
             Ok(true)
         }
-        Sight::Done { .. } => Ok(false),
+        Sight::Done { number } => Ok(is_blank(blanks, *number)),
         Sight::Write { .. } | Sight::Failed { .. } => Ok(true),
     }
 }
@@ -164,19 +198,20 @@ fn take_start(values: &mut Vec<Contents>, sight: &Sight) -> Result<bool, AllocEr
 #[derive(Drop)]
 pub(crate) struct Starts {
     pub values: Vec<Contents>,
-    /// Whether something has succeeded: what comes later adds nothing.
+    /// Whether something has succeeded but reads whose bytes were not recorded: what comes later adds nothing.
     pub over: bool,
 }
 
-/// These bytes, and those of the reads that are called before anything succeeds. If a sector may have begun with others,
-/// nobody has read them, and it may have begun with these.
+/// These bytes, and those of the reads that are called before anything succeeds but reads whose bytes were not recorded. If
+/// a sector may have begun with others, nobody has read them where they were recorded, and it may have begun with these.
 fn starts_of(alloc: Global, first: &Contents, given: &[Given]) -> Result<Starts, AllocError>
     ensures { IfOk result (StartsOf first.now (sights_in given.now)) }
 {
     let mut values = Vec::new(alloc);
     values.push(first.share()?)?;
+    let mut blanks = VecDeque::new(alloc);
     for one in given {
-        if !take_start(&mut values, &one.sight)? {
+        if !take_start(&mut blanks, &mut values, &one.sight)? {
             return Ok(Starts { values, over: true });
         }
     }
@@ -186,7 +221,7 @@ fn starts_of(alloc: Global, first: &Contents, given: &[Given]) -> Result<Starts,
     })
 }
 
-/// Tries that have taken what is seen first, once something succeeds.
+/// Tries that have taken what is seen first, once something succeeds but reads whose bytes were not recorded.
 pub(crate) fn begun(
     alloc: Global,
     first: &Contents,

@@ -12,7 +12,7 @@ use Rattle.history_laws.proofs.Mirroring.{further, newest}
 use Rattle.history_runs.proofs.Explaining.{scheduled_explained}
 use Rattle.register.specs.Schedules.{HasSchedule}
 use Rattle.history.specs.Sights.{has_sector, call_sight, with_sight, sights_of}
-use Rattle.history_shown.specs.Laws.{IsReadBelow, IsMoved, MovedAreExplained}
+use Rattle.history_shown.specs.Laws.{IsReadBelow, IsRecorded, IsMoved, MovedAreExplained}
 use Rattle.history_shown.proofs.Scheduling.{shown_scheduled}
 
 module _ (rules : Rules) (p i : ℕ) where
@@ -67,7 +67,7 @@ module _ (rules : Rules) (p i : ℕ) where
   unmoved_scheduled : (start : List ℕ) (history : List Label) → all_fit_at_first rules history ≡ true → is_moved history ≡ false → IsScheduled rules p i start history
   unmoved_scheduled start history fit still =
       let silent : sights_of none rules p i [] history ≡ [] = shows_nothing none history still in
-      shown_scheduled none 0 rules p i start history (λ a b low e. absurd (omega arith)) fit (subst (All (IsReadBelow 0)) (sym silent) (All-nil (IsReadBelow 0)))
+      shown_scheduled none 0 rules p i start history (λ a b low e. absurd (omega arith)) fit (subst (All (IsReadBelow 0)) (sym silent) (All-nil (IsReadBelow 0))) (subst (All IsRecorded) (sym silent) (All-nil IsRecorded))
       (subst (HasSchedule (none start)) (sym silent) (record { events = []; in_turn = tt; seen = refl }))
 
 pub moved_explained : MovedAreExplained

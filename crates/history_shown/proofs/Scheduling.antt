@@ -4,7 +4,7 @@ use Rattle.std.specs.Prelude.{All, Contains, is_none, slice_get, if◌then◌els
 use Rattle.std.specs.List.{list_any}
 use Rattle.std.proofs.lemmas.Bool.{and_parts, eqb-true}
 use Rattle.std.proofs.lemmas.Bool.Decides.{nat_tests}
-use Rattle.std.proofs.lemmas.List.Elements.{All-nil, All-head, All-tail, All-cons, All-contains, All-weaker}
+use Rattle.std.proofs.lemmas.List.Elements.{All-nil, All-head, All-tail, All-cons, All-append, All-contains, All-weaker}
 use Rattle.std.proofs.lemmas.List.{length-set}
 use Rattle.ntstatus.specs.declared.NtStatus.{NtStatus}
 use Rattle.ntstatus.specs.declared.NtStatus.TheVariants.{Success}
@@ -25,8 +25,8 @@ use Rattle.register.specs.declared.Sight.TheVariants.{Write as WriteSight, Read 
 use Rattle.register.specs.Schedules as register
 use Rattle.register.specs.Schedules.{HasSchedule}
 use Rattle.history.specs.Sights.{has_sector, bytes_at, success_of, is_call_of, end_of, read_sight, value_of, call_sight, sight_of, with_sight, sights_of}
-use Rattle.history_shown.specs.Laws.{Tells, IsReadBelow, ShownAreScheduled}
-use Rattle.history_shown.proofs.Turning.{Comes, sights_in, turned, comes_next, IsShown, shown_now, told_shown, place_is, at_has, has_at}
+use Rattle.history_shown.specs.Laws.{Tells, IsReadBelow, IsRecorded, ShownAreScheduled}
+use Rattle.history_shown.proofs.Turning.{in_front, Comes, sights_in, turned, comes_next, IsShown, shown_now, told_shown, place_is, at_has, has_at}
 use Rattle.history_shown.proofs.Hearing.{HeardWrite, HeardRead, Heard, Shows, heard_effect, heard_label}
 
 -- WHAT FITS
@@ -97,6 +97,32 @@ call_is e = (cc (e), cc (e))
 some_sight : {x y : Sight} → Some x ≡ Some y → x ≡ y
 some_sight e = cc (e)
 
+-- what is read has a value below the count, and bytes were recorded
+abbrev IsKnown : ℕ → Sight → Type 0
+IsKnown count x = IsReadBelow count x × IsRecorded x
+
+both_known : (count : ℕ) (sights : List Sight) → All (IsReadBelow count) sights → All IsRecorded sights → All (IsKnown count) sights
+both_known count [] low all = All-nil (IsKnown count)
+both_known count (x ∷ sights) low all =
+    All-cons (IsKnown count) x sights (All-head (IsReadBelow count) x sights low, All-head IsRecorded x sights all) (both_known count sights (All-tail (IsReadBelow count) x sights low) (All-tail IsRecorded x sights all))
+
+all_front : {X : Type 0} (P : X → Type 0) (xs ys : List X) → All P (xs ++ ys) → All P xs
+all_front P [] ys all = All-nil P
+all_front P (x ∷ xs) ys all = All-cons P x xs (All-head P x (xs ++ ys) all) (all_front P xs ys (All-tail P x (xs ++ ys) all))
+
+all_back : {X : Type 0} (P : X → Type 0) (xs ys : List X) → All P (xs ++ ys) → All P ys
+all_back P [] ys all = all
+all_back P (x ∷ xs) ys all = all_back P xs ys (All-tail P x (xs ++ ys) all)
+
+-- what was told is among the sights
+seen_all : (P : Sight → Type 0) (told : List register.Event) (x : Sight) → All P (register.seen_of told) → Contains told (register.Seen x) → P x
+seen_all P [] x all (k, low, is) = absurd (omega arith)
+seen_all P (register.Effect m v ∷ told) x all there = elim (in_front (register.Effect m v) told (register.Seen x) there) [ inl e ↦ absurd (cc (e)) | inr before ↦ seen_all P told x all before ]
+seen_all P (register.Seen y ∷ told) x all there = elim (in_front (register.Seen y) told (register.Seen x) there) [
+  | inl e ↦ let same : y ≡ x = cc (e) in subst P same (All-head P y [] (all_back P (register.seen_of told) (y ∷ []) all))
+  | inr before ↦ seen_all P told x (all_front P (register.seen_of told) (y ∷ []) all) before
+]
+
 module _ (code : List ℕ → ℕ) (count : ℕ) (tells : Tells code count) (rules : Rules) (p i : ℕ) (start : List ℕ) where
   abbrev GoesOn : List Event → List Label → Type 0
   GoesOn past labels = (events : List Event) × MayFollow rules p i start past events × (labels_of events ≡ labels)
@@ -113,8 +139,8 @@ module _ (code : List ℕ → ℕ) (count : ℕ) (tells : Tells code count) (rul
     is_got : (q : ClientRequest) (bytes : List ℕ) → Contains past (Seen (Call n q)) → q.kind ≡ Read → All (IsNoAnswer n) past → success_of n labels ≡ Some bytes
         → part_of rules bytes (i - first_sector rules q) ≡ sector
 
-  effect_of : (past : List Event) (told : List register.Event) (labels : List Label) (n v : ℕ) → Hears past told labels → register.TakesEffect (code start) told n v → IsEffect past labels n v
-  effect_of past told labels n v h t = by_call t.called
+  effect_of : (past : List Event) (told : List register.Event) (labels : List Label) (n v : ℕ) → Hears past told labels → All IsRecorded (register.seen_of told) → register.TakesEffect (code start) told n v → IsEffect past labels n v
+  effect_of past told labels n v h recorded t = by_call t.called
     where
       of_write : HeardWrite code rules p i past n v → Contains told (register.Seen (WriteSight n v)) → IsEffect past labels n v
       of_write w there = record {
@@ -162,8 +188,10 @@ module _ (code : List ℕ → ℕ) (count : ℕ) (tells : Tells code count) (rul
           bytes_are e = cc (e)
 
       by_call : register.IsCalledFor (code start) told n v → IsEffect past labels n v
-      by_call (inl there) = of_write (h.writes n v there) there
-      by_call (inr (there, met)) = of_read (h.reads n v there) there met
+      by_call (inl (inl there)) = of_write (h.writes n v there) there
+      by_call (inr (inl there, met)) = of_read (h.reads n v there) there met
+      by_call (inl (inr none)) = absurd (seen_all IsRecorded told (WriteSight n register.unrecorded) recorded none refl)
+      by_call (inr (inr none, met)) = absurd (seen_all IsRecorded told (ReadSight n register.unrecorded) recorded none refl)
 
   -- TO THE NEXT SIGHT
 
@@ -172,18 +200,18 @@ module _ (code : List ℕ → ℕ) (count : ℕ) (tells : Tells code count) (rul
   FromSight told labels asked owed x more = (past' : List Event) (told' rest' : List register.Event) → Hears past' told' labels → Known past' asked owed → register.seen_of told' ≡ register.seen_of told
       → register.May (code start) told' (register.Seen x) → Comes (code start) (register.Seen x ∷ told') rest' → sights_in rest' ≡ more → GoesOn past' labels
 
-  reach : (rest told : List register.Event) (past : List Event) (labels : List Label) (asked : List (Option Asked)) (owed : Option NtStatus) (x : Sight) (more : List Sight) → Hears past told labels → Known past asked owed
+  reach : (rest told : List register.Event) (past : List Event) (labels : List Label) (asked : List (Option Asked)) (owed : Option NtStatus) (x : Sight) (more : List Sight) → Hears past told labels → All IsRecorded (register.seen_of told) → Known past asked owed
       → Comes (code start) told rest → sights_in rest ≡ x ∷ more → FromSight told labels asked owed x more → GoesOn past labels
-  reach [] told past labels asked owed x more h k c e on = absurd (cc (e))
-  reach (register.Seen y ∷ rest) told past labels asked owed x more h k c e on =
+  reach [] told past labels asked owed x more h recorded k c e on = absurd (cc (e))
+  reach (register.Seen y ∷ rest) told past labels asked owed x more h recorded k c e on =
       let same : y ≡ x = cc (e) in
       let others : sights_in rest ≡ more = cc (e) in
       on past told rest h k refl (subst (λ z. register.May (code start) told (register.Seen z)) same c.0) (subst (λ z. Comes (code start) (register.Seen z ∷ told) rest) same c.1) others
-  reach (register.Effect n v ∷ rest) told past labels asked owed x more h k c e on =
-      let f : IsEffect past labels n v = effect_of past told labels n v h c.0 in
+  reach (register.Effect n v ∷ rest) told past labels asked owed x more h recorded k c e on =
+      let f : IsEffect past labels n v = effect_of past told labels n v h recorded c.0 in
       let low : n < length asked = All-contains (IsBelow (length asked)) past (Seen (Call n f.takes.request)) k.given f.takes.is_open.called in
       let next : GoesOn (Effect n f.sector ∷ past) labels =
-      reach rest (register.Effect n v ∷ told) (Effect n f.sector ∷ past) labels asked owed x more (heard_effect code count rules p i start past told labels n v f.sector h f.is_value f.is_got)
+      reach rest (register.Effect n v ∷ told) (Effect n f.sector ∷ past) labels asked owed x more (heard_effect code count rules p i start past told labels n v f.sector h f.is_value f.is_got) recorded
       (known_more past asked owed (Effect n f.sector) low (λ m. tt) k) c.1 e on in
       (Effect n f.sector ∷ next.0, (f.takes, next.1), next.2)
 
@@ -206,11 +234,11 @@ module _ (code : List ℕ → ℕ) (count : ℕ) (tells : Tells code count) (rul
 
   -- what goes on at these labels
   abbrev Schedules : List Label → Type 0
-  Schedules labels = (past : List Event) (told rest : List register.Event) (asked : List (Option Asked)) (owed : Option NtStatus) → Hears past told labels → Known past asked owed → all_fit rules asked owed labels ≡ true
-      → Comes (code start) told rest → All (IsReadBelow count) (sights_in rest) → sights_of code rules p i (register.seen_of told) labels ≡ register.seen_of told ++ sights_in rest → GoesOn past labels
+  Schedules labels = (past : List Event) (told rest : List register.Event) (asked : List (Option Asked)) (owed : Option NtStatus) → Hears past told labels → All IsRecorded (register.seen_of told) → Known past asked owed → all_fit rules asked owed labels ≡ true
+      → Comes (code start) told rest → All (IsKnown count) (sights_in rest) → sights_of code rules p i (register.seen_of told) labels ≡ register.seen_of told ++ sights_in rest → GoesOn past labels
 
   on_label : (label : Label) (labels : List Label) → ((asked : List (Option Asked)) (owed : Option NtStatus) → fits rules asked owed label ≡ true → Prepares label labels asked owed) → Schedules labels → Schedules (label ∷ labels)
-  on_label label labels prepares on past told rest asked owed h k fit c low e =
+  on_label label labels prepares on past told rest asked owed h recorded k fit c low e =
       let parts = fit_parts (fits rules asked owed label) (all_fit rules (asked_after rules asked owed label) (owed_after rules owed label) labels) fit in
       by_sight (prepares asked owed parts.0) parts.1 (sight_of code rules p i (register.seen_of told) label labels) refl e
     where
@@ -219,20 +247,22 @@ module _ (code : List ℕ → ℕ) (count : ℕ) (tells : Tells code count) (rul
       by_sight prepare fit' None is e' =
           let ready = prepare past told None h k is (λ y f. cc (f)) tt in
           let next : GoesOn (Seen label ∷ past) labels =
-          on (Seen label ∷ past) told rest (asked_after rules asked owed label) (owed_after rules owed label) (heard_label code count rules p i start past told label labels None ready.shows h) ready.known fit' c low e' in
+          on (Seen label ∷ past) told rest (asked_after rules asked owed label) (owed_after rules owed label) (heard_label code count rules p i start past told label labels None ready.shows h) recorded ready.known fit' c low e' in
           (Seen label ∷ next.0, (ready.may, next.1), ap (λ ls. label ∷ ls) next.2)
       by_sight prepare fit' (Some x) is e' = from (comes_next code rules p i labels (register.seen_of told) x (sights_in rest) e')
         where
           from : (more : List Sight) × (sights_in rest ≡ x ∷ more) × (sights_of code rules p i (register.seen_of told ++ x ∷ []) labels ≡ (register.seen_of told ++ x ∷ []) ++ more) → GoesOn past (label ∷ labels)
           from (more, comes, later) =
-              let low' : All (IsReadBelow count) (x ∷ more) = subst (All (IsReadBelow count)) comes low in
-              reach rest told past (label ∷ labels) asked owed x more h k c comes
+              let low' : All (IsKnown count) (x ∷ more) = subst (All (IsKnown count)) comes low in
+              let now : IsKnown count x = All-head (IsKnown count) x more low' in
+              reach rest told past (label ∷ labels) asked owed x more h recorded k c comes
               (λ past' told' rest' h' k' same may c' others.
               let ready = prepare past' told' (Some x) h' k' (ap (λ sights. sight_of code rules p i sights label labels) same ∙ is)
-              (λ y f. subst (IsReadBelow count) (some_sight f) (All-head (IsReadBelow count) x more low')) may in
+              (λ y f. subst (IsReadBelow count) (some_sight f) now.0) may in
               let next : GoesOn (Seen label ∷ past') labels =
               on (Seen label ∷ past') (register.Seen x ∷ told') rest' (asked_after rules asked owed label) (owed_after rules owed label)
-              (heard_label code count rules p i start past' told' label labels (Some x) ready.shows h') ready.known fit' c' (subst (All (IsReadBelow count)) (sym others) (All-tail (IsReadBelow count) x more low'))
+              (heard_label code count rules p i start past' told' label labels (Some x) ready.shows h')
+              (All-append IsRecorded (register.seen_of told') (x ∷ []) (subst (All IsRecorded) (sym same) recorded) (All-cons IsRecorded x [] now.1 (All-nil IsRecorded))) ready.known fit' c' (subst (All (IsKnown count)) (sym others) (All-tail (IsKnown count) x more low'))
               (subst (λ sights. sights_of code rules p i (sights ++ x ∷ []) labels ≡ (sights ++ x ∷ []) ++ sights_in rest') (sym same) (later ∙ ap (λ ys. (register.seen_of told ++ x ∷ []) ++ ys) (sym others))) in
               (Seen label ∷ next.0, (ready.may, next.1), ap (λ ls. label ∷ ls) next.2))
 
@@ -500,7 +530,7 @@ module _ (code : List ℕ → ℕ) (count : ℕ) (tells : Tells code count) (rul
   -- ALL LABELS
 
   schedules : (labels : List Label) → Schedules labels
-  schedules [] = λ past told rest asked owed h k fit c low e. ([], tt, refl)
+  schedules [] = λ past told rest asked owed h recorded k fit c low e. ([], tt, refl)
   schedules (Call n q ∷ labels) = on_label (Call n q) labels (λ asked owed fit. prepare_call n q labels asked owed fit) (schedules labels)
   schedules (Answer n status informed bytes ∷ labels) = on_label (Answer n status informed bytes) labels (λ asked owed fit. prepare_answer n status informed bytes labels asked owed fit) (schedules labels)
   schedules (Device label ∷ labels) =
@@ -538,9 +568,9 @@ module _ (code : List ℕ → ℕ) (count : ℕ) (tells : Tells code count) (rul
       none (suc n) a e = cc (e)
 
 pub shown_scheduled : ShownAreScheduled
-shown_scheduled code count rules p i start history tells fit low h =
+shown_scheduled code count rules p i start history tells fit low recorded h =
     let all = turned (code start) h.events [] h.in_turn tt in
     let same : sights_in all.0 ≡ sights_of code rules p i [] history = all.2 ∙ append-nil (register.seen_of h.events) ∙ h.seen in
-    let found = schedules code count tells rules p i start history [] [] all.0 (None ∷ []) None (nothing_heard code count tells rules p i start history) (nothing_known code count tells rules p i start) fit all.1
-    (subst (All (IsReadBelow count)) (sym same) low) (sym same) in
+    let found = schedules code count tells rules p i start history [] [] all.0 (None ∷ []) None (nothing_heard code count tells rules p i start history) (All-nil IsRecorded) (nothing_known code count tells rules p i start) fit all.1
+    (subst (All (IsKnown count)) (sym same) (both_known count (sights_of code rules p i [] history) low recorded)) (sym same) in
     record { events = found.0; in_turn = found.1; seen = found.2 }

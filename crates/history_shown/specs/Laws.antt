@@ -1,5 +1,5 @@
 -- What a schedule of a register says of the sector that showed it.
-use Rattle.std.specs.Prelude.{◌≡◌, ◌<◌, ℕ, true, List, [], Some, All, Contains, slice_get}
+use Rattle.std.specs.Prelude.{◌≡◌, ◌≢◌, ◌<◌, ℕ, true, List, [], Some, All, Contains, slice_get}
 use Rattle.machine.specs.declared.ClientRequest.{ClientRequest}
 use Rattle.machine.specs.declared.Label.{Label}
 use Rattle.machine.specs.declared.Label.TheVariants.{Call}
@@ -12,7 +12,7 @@ use Rattle.history_laws.specs.Fitting.{all_fit_at_first}
 use Rattle.history_runs.specs.Laws.{IsAddressable, IsBusyWrite}
 use Rattle.register.specs.declared.Sight.{Sight}
 use Rattle.register.specs.declared.Sight.TheVariants.{Write, Read, Done, Failed}
-use Rattle.register.specs.Schedules.{HasSchedule}
+use Rattle.register.specs.Schedules.{HasSchedule, unrecorded}
 use Rattle.history.specs.Sights.{has_sector, sights_of}
 
 -- different bytes are different values, where one of these is below the count
@@ -26,10 +26,17 @@ IsReadBelow count (Write number value) = Unit {0}
 IsReadBelow count (Done number) = Unit {0}
 IsReadBelow count (Failed number) = Unit {0}
 
--- in a history that fits, a sector that shows what has a schedule as a register has a schedule
+-- the bytes of what is called were recorded
+abbrev pub IsRecorded : Sight → Type 0
+IsRecorded (Read number value) = value ≢ unrecorded
+IsRecorded (Write number value) = value ≢ unrecorded
+IsRecorded (Done number) = Unit {0}
+IsRecorded (Failed number) = Unit {0}
+
+-- in a history that fits, a sector that shows what has a schedule as a register has a schedule, where all bytes were recorded
 abbrev pub ShownAreScheduled : Type 0
 ShownAreScheduled = (code : List ℕ → ℕ) (count : ℕ) (rules : Rules) (p i : ℕ) (start : List ℕ) (history : List Label) → Tells code count → all_fit_at_first rules history ≡ true
-    → All (IsReadBelow count) (sights_of code rules p i [] history) → HasSchedule (code start) (sights_of code rules p i [] history) → IsScheduled rules p i start history
+    → All (IsReadBelow count) (sights_of code rules p i [] history) → All IsRecorded (sights_of code rules p i [] history) → HasSchedule (code start) (sights_of code rules p i [] history) → IsScheduled rules p i start history
 
 -- some call moves the sector
 pub record IsMoved (rules : Rules) (p i : ℕ) (history : List Label) : Type 0 where

@@ -1,5 +1,5 @@
 -- What holds of a history between two labels.
-use Rattle.std.specs.Prelude.{◌≡◌, ◌<◌, ◌+◌, ◌^◌, ℕ, Bool, List, [], ◌∷◌, ◌++◌, Option, Some, None, false, if◌then◌else◌}
+use Rattle.std.specs.Prelude.{◌≡◌, ◌<◌, ℕ, Bool, List, [], ◌∷◌, ◌++◌, Option, Some, None, false, if◌then◌else◌}
 use Rattle.std.specs.List.{list_any}
 use Rattle.srb.specs.declared.Kind.{Kind}
 use Rattle.machine.specs.declared.ClientRequest.{ClientRequest}
@@ -7,9 +7,9 @@ use Rattle.machine.specs.declared.Label.{Label}
 use Rattle.machine.specs.declared.Label.TheVariants.{Call, Answer}
 use Rattle.machine.specs.Rules.{Rules}
 use Rattle.history_laws.specs.declared.Asked.{Asked}
-use Rattle.history_laws.specs.Fitting.{all_fit, all_fit_at_first}
 use Rattle.register.specs.Values.{code}
 use Rattle.history.specs.declared.Wait.{Wait}
+use Rattle.history.specs.Gaps.{all_fit_by, all_fit_by_at_first}
 use Rattle.history.specs.Sights.{has_sector}
 use Rattle.history.specs.Waits.{is_wait_of}
 use Rattle.history_fitting.specs.declared.fitting.Known.{Known}
@@ -17,7 +17,7 @@ use Rattle.history_fitting.specs.declared.fitting.Misfit.{Misfit}
 use Rattle.history_judge.specs.declared.cells.Span.{Span}
 use Rattle.history_judge.specs.declared.recorded.Fitted.{Fitted}
 use Rattle.history_fitting.specs.Services.{rules_of}
-use Rattle.history_fitting.specs.Opened.{opened_at, may_come, AreOpen, IsFresh}
+use Rattle.history_fitting.specs.Opened.{opened_at, may_come_by, AreOpen, IsFresh}
 use Rattle.history_judge.specs.inside.Cells.{is_write, is_read, is_awaited, IsSpanOf, HasCells, seen_of}
 
 -- what an open request does to the sector
@@ -56,24 +56,28 @@ IsSpan rules known _ found = found ≡ None
 pub record IsWhole (f : Fitted) : Type 0 where
   pub sized : 0 < f.basis.service.sector_size
   pub asked : List (Option Asked)
-  pub known : (rest : List Label) → all_fit_at_first (rules_of f.basis.service) (f.labels.items ++ rest) ≡ all_fit (rules_of f.basis.service) asked f.known.owed rest
+  pub known : (gaps : List Bool) (rest : List Label)
+      → all_fit_by_at_first (rules_of f.basis.service) (f.gaps.items ++ gaps) (f.labels.items ++ rest) ≡ all_fit_by (rules_of f.basis.service) asked f.known.owed gaps rest
   pub opens : AreOpen asked f.known
   pub told : AreTold (rules_of f.basis.service) f.labels.items f.known
   pub cells : HasCells f.basis.start.any f.basis.start.bytes (seen_of (rules_of f.basis.service) f.labels.items) f.cells
 
 -- the label behind these doesn't fit
-pub record IsStopped (f : Fitted) (behind : List Label) : Type 0 where
+pub record IsStopped (f : Fitted) (gaps : List Bool) (behind : List Label) : Type 0 where
+  pub gap : Bool
   pub label : Label
+  pub other_gaps : List Bool
   pub rest : List Label
+  pub gaps_are : gaps ≡ gap ∷ other_gaps
   pub is : behind ≡ label ∷ rest
-  pub misfit : may_come (rules_of f.basis.service) f.known label ≡ false
+  pub misfit : may_come_by gap (rules_of f.basis.service) f.known label ≡ false
 
 -- labels are behind only where one doesn't fit
-abbrev pub StopsAt : Fitted → Option (ℕ × Misfit) → List Label → Type 0
-StopsAt f None behind = behind ≡ []
-StopsAt f (Some at) behind = IsStopped f behind
+abbrev pub StopsAt : Fitted → Option (ℕ × Misfit) → List Bool → List Label → Type 0
+StopsAt f None gaps behind = (gaps ≡ []) × (behind ≡ [])
+StopsAt f (Some at) gaps behind = IsStopped f gaps behind
 
-pub record IsHistory (f : Fitted) (start : List ℕ) (misfit : Option (ℕ × Misfit)) (behind : List Label) : Type 0 where
+pub record IsHistory (f : Fitted) (start : List ℕ) (misfit : Option (ℕ × Misfit)) (gaps : List Bool) (behind : List Label) : Type 0 where
   pub whole : IsWhole f
   pub starts : f.basis.start.bytes ≡ code start
-  pub stops : StopsAt f misfit behind
+  pub stops : StopsAt f misfit gaps behind

@@ -1,37 +1,23 @@
 -- How verdicts of sectors make one.
-use Rattle.std.specs.Prelude.{◌≡◌, ◌⊎◌, ℕ, Bool, true, false, List, [], All, length}
+use Rattle.std.specs.Prelude.{◌≡◌, ◌⊎◌, ℕ, Bool, true, false, List, All}
 use Rattle.machine.specs.declared.Label.{Label}
-use Rattle.register.specs.Values.{code}
-use Rattle.register.specs.Schedules.{HasSchedule}
 use Rattle.register_judge.specs.declared.observed.SoFar.{SoFar}
 use Rattle.register_judge.specs.declared.observed.SoFar.TheVariants.{Passed as PassedSoFar, Refused as RefusedSoFar, Undecided as UndecidedSoFar}
-use Rattle.history.specs.Sights.{sights_of}
 use Rattle.history_fitting.specs.declared.service.Service.{Service}
 use Rattle.history_fitting.specs.declared.service.Place.{Place}
 use Rattle.history_judge.specs.declared.judging.Verdict.{Verdict}
-use Rattle.history_judge.specs.declared.judging.Verdict.TheVariants.{Passed, Misfit, Refused, Undecided}
-use Rattle.history_fitting.specs.Services.{rules_of}
-use Rattle.history_judge.specs.Verdicts.{IsRightBy}
-
--- the sector, which has these bytes at the start, has a schedule as a register
-abbrev pub Shows : Service → List ℕ → List Label → Place → Type 0
-Shows service start history place = HasSchedule (code start) (sights_of code (rules_of service) place.partition place.sector [] history)
-
--- the same from some bytes on
-pub record ShowsFromSome (service : Service) (history : List Label) (place : Place) : Type 0 where
-  pub start : List ℕ
-  pub whole : length start ≡ service.sector_size
-  pub shows : Shows service start history place
+use Rattle.history_judge.specs.declared.judging.Verdict.TheVariants.{Passed, Refused, Undecided}
+use Rattle.history_judge.specs.Verdicts.{Passes, PassesFromSome, IsRightBy}
 
 -- from these bytes on, or where any will do from some
-abbrev pub ShowsBy : Bool → Service → List ℕ → List Label → Place → Type 0
-ShowsBy false service start history place = Shows service start history place
-ShowsBy true service start history place = ShowsFromSome service history place
+abbrev pub PassesBy : Bool → Service → List ℕ → List Label → Place → Type 0
+PassesBy false service start history place = Passes service start history place
+PassesBy true service start history place = PassesFromSome service history place
 
 -- what passes is each of these sectors
-abbrev pub IsRightOf : Bool → Service → List ℕ → List Label → List Place → Verdict → Type 0
-IsRightOf any service start history places Passed = All (ShowsBy any service start history) places
-IsRightOf any service start history places verdict = IsRightBy any service start history verdict
+abbrev pub IsRightOf : Bool → Service → List ℕ → List Bool → List Label → List Place → Verdict → Type 0
+IsRightOf any service start gaps history places Passed = All (PassesBy any service start history) places
+IsRightOf any service start gaps history places verdict = IsRightBy any service start gaps history verdict
 
 -- one of two verdicts, which passes only where both do
 pub record IsOneOf (a b verdict : Verdict) : Type 0 where

@@ -1,36 +1,45 @@
 -- What a sector may have had at the start.
-use Rattle.std.specs.Prelude.{◌≡◌, ◌⊎◌, ℕ, Bool, true, false, List, [], ◌∷◌, ◌++◌, All, Contains, length}
+use Rattle.std.specs.Prelude.{◌≡◌, ◌≢◌, ◌⊎◌, ℕ, ◌==◌, Bool, true, false, List, [], ◌∷◌, ◌++◌, All, Contains, length, if◌then◌else◌}
+use Rattle.std.specs.List.{list_any}
 use Rattle.register.specs.Values.{code}
 use Rattle.register.specs.declared.Sight.{Sight}
 use Rattle.register.specs.declared.Sight.TheVariants.{Write, Read, Done, Failed}
-use Rattle.register.specs.Schedules.{HasSchedule}
+use Rattle.register.specs.Schedules.{HasSchedule, unrecorded}
 use Rattle.register_judge.specs.declared.observed.SoFar.{SoFar}
 use Rattle.register_judge.specs.declared.observed.SoFar.TheVariants.{Passed, Refused, Undecided}
 use Rattle.register_judge.specs.Observed.{IsSoFar}
 use Rattle.history_judge.specs.declared.trying.Starts.{Starts}
 
--- a read of the value is called before anything succeeds
-abbrev pub IsEarly : ℕ → List Sight → Type 0
-IsEarly value [] = ⊥
-IsEarly value (Read number other ∷ sights) = (other ≡ value) ⊎ IsEarly value sights
-IsEarly value (Done number ∷ sights) = ⊥
-IsEarly value (Write number other ∷ sights) = IsEarly value sights
-IsEarly value (Failed number ∷ sights) = IsEarly value sights
+-- the read is one of these
+abbrev pub is_blank : List ℕ → ℕ → Bool
+is_blank blanks number = list_any (λ blank. blank == number) blanks
+
+-- the reads whose bytes were not recorded, and this one if it is one
+abbrev pub with_blank : List ℕ → ℕ → ℕ → List ℕ
+with_blank blanks number value = if value == unrecorded then number ∷ blanks else blanks
+
+-- a read of the value is called before anything succeeds but reads whose bytes were not recorded: these, and later ones
+abbrev pub IsEarly : List ℕ → ℕ → List Sight → Type 0
+IsEarly blanks value [] = ⊥
+IsEarly blanks value (Read number other ∷ sights) = ((other ≡ value) × (other ≢ unrecorded)) ⊎ IsEarly (with_blank blanks number other) value sights
+IsEarly blanks value (Done number ∷ sights) = (is_blank blanks number ≡ true) × IsEarly blanks value sights
+IsEarly blanks value (Write number other ∷ sights) = IsEarly blanks value sights
+IsEarly blanks value (Failed number ∷ sights) = IsEarly blanks value sights
 
 abbrev pub Keeps : List ℕ → List ℕ → Type 0
 Keeps old new = (value : ℕ) → Contains old value → Contains new value
 
--- a read's value is added, up to the first success
-abbrev pub TakesStart : List ℕ → Sight → List ℕ → Bool → Type 0
-TakesStart old (Read number value) new goes = (goes ≡ true) × Keeps old new × Contains new value
-TakesStart old (Done number) new goes = (goes ≡ false) × Keeps old new
-TakesStart old (Write number value) new goes = (goes ≡ true) × Keeps old new
-TakesStart old (Failed number) new goes = (goes ≡ true) × Keeps old new
+-- a read's value is added, up to the first success of anything but the reads whose bytes were not recorded
+abbrev pub TakesStart : List ℕ → List ℕ → Sight → List ℕ → List ℕ → Bool → Type 0
+TakesStart blanks old (Read number value) more new goes = (goes ≡ true) × (more ≡ with_blank blanks number value) × Keeps old new × (value ≢ unrecorded → Contains new value)
+TakesStart blanks old (Done number) more new goes = (goes ≡ is_blank blanks number) × (more ≡ blanks) × Keeps old new
+TakesStart blanks old (Write number value) more new goes = (goes ≡ true) × (more ≡ blanks) × Keeps old new
+TakesStart blanks old (Failed number) more new goes = (goes ≡ true) × (more ≡ blanks) × Keeps old new
 
 -- this value, and those that are read early
 pub record HasStarts (first : ℕ) (sights : List Sight) (values : List ℕ) : Type 0 where
   pub has_first : Contains values first
-  pub early : (value : ℕ) → IsEarly value sights → Contains values value
+  pub early : (value : ℕ) → IsEarly [] value sights → Contains values value
 
 -- the value is that of so many bytes
 pub record IsSized (size value : ℕ) : Type 0 where

@@ -1,4 +1,4 @@
-use Rattle.std.proofs.Common.{◌∙◌, sym, refl}
+use Rattle.std.proofs.Common.{◌∙◌, sym}
 use Rattle.history_fitting.specs.Services.{rules_of}
 use Rattle.history_judge.proofs.Visiting.{span_some, span_still}
 use Rattle.history_judge.proofs.cells.span_in.Goals as goal

@@ -1,4 +1,3 @@
-use Rattle.std.proofs.Common.{◌∙◌, sym, refl}
 use Rattle.history_fitting.specs.Services.{rules_of}
 use Rattle.history_judge.proofs.Visiting.{span_none}
 use Rattle.history_judge.proofs.cells.span_of.Goals as goal

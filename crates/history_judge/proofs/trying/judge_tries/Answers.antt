@@ -1,4 +1,4 @@
-use Rattle.std.proofs.Common.{◌++◌, [], sym, ◌∙◌, subst}
+use Rattle.std.proofs.Common.{◌++◌, [], sym, subst}
 use Rattle.std.specs.Prelude.{All}
 use Rattle.history_judge.specs.inside.Starting.{IsTriedAll}
 use Rattle.history_judge.specs.inside.Cells.{AllSee, sights_in, starts_in, IsTry}

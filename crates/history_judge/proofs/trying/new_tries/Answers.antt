@@ -1,4 +1,4 @@
-use Rattle.std.proofs.Common.{◌∙◌, take}
+use Rattle.std.proofs.Common.{◌∙◌}
 use Rattle.std.proofs.lemmas.List.{take_all}
 use Rattle.history_judge.proofs.Celling.{new_more}
 use Rattle.history_judge.proofs.trying.new_tries.Goals as goal

@@ -1,5 +1,4 @@
-use Rattle.std.proofs.Common.{◌≡◌, ◌<◌, ◌≤◌, get_or, length, true, refl, sym, ◌∙◌, ap, subst}
-use Rattle.register.specs.declared.Sight.{Sight}
+use Rattle.std.proofs.Common.{◌≡◌, ◌<◌, ◌≤◌, get_or, true, refl, sym, ◌∙◌, ap, subst}
 use Rattle.history_judge.specs.inside.Cells.{sights_in}
 use Rattle.history_judge.specs.inside.Starting.{TakesStart}
 use Rattle.history_judge.proofs.Celling.{sight_at, sights_length}
@@ -12,9 +11,9 @@ returns-then-not-branch c =
     let i = c.loop-one.one-index in
     let item = c.one-item.result in
     let at : item.sight ≡ get_or (sights_in given) i item.sight = ap (λ g. g.sight) c.one-item.is ∙ sight_at given i item item.sight c.loop-one-test.true in
-    starts_over c.args.first.now (sights_in given) i item.sight c.loop-one.values.items (record { values = c.take_start.new.values; over = true }) c.in_ok-take_start.field-0
+    starts_over c.args.first.now (sights_in given) i item.sight c.loop-one.blanks.items c.loop-one.values.items c.take_start.new.blanks.items (record { values = c.take_start.new.values; over = true }) c.in_ok-take_start.field-0
     (subst (λ n. i < n) (sym (sights_length given)) c.loop-one-test.true) c.loop-one.invariant
-    (subst (λ s. TakesStart c.loop-one.values.items s c.take_start.new.values.items c.in_ok-take_start.field-0) at c.in_ok-take_start.ensures) c.if-not-branch.true
+    (subst (λ s. TakesStart c.loop-one.blanks.items c.loop-one.values.items s c.take_start.new.blanks.items c.take_start.new.values.items c.in_ok-take_start.field-0) at c.in_ok-take_start.ensures) c.if-not-branch.true
 
 pub loop-one-preserved : goal.loop-one-preserved
 loop-one-preserved c =
@@ -22,10 +21,10 @@ loop-one-preserved c =
     let i = c.loop-one.one-index in
     let item = c.one-item.result in
     let at : item.sight ≡ get_or (sights_in given) i item.sight = ap (λ g. g.sight) c.one-item.is ∙ sight_at given i item item.sight c.loop-one-test.true in
-    starts_more c.args.first.now (sights_in given) i item.sight c.loop-one.values.items c.take_start.new.values.items c.in_ok-take_start.field-0
+    starts_more c.args.first.now (sights_in given) i item.sight c.loop-one.blanks.items c.loop-one.values.items c.take_start.new.blanks.items c.take_start.new.values.items c.in_ok-take_start.field-0
     (subst (λ n. i < n) (sym (sights_length given)) c.loop-one-test.true) c.loop-one.invariant
-    (subst (λ s. TakesStart c.loop-one.values.items s c.take_start.new.values.items c.in_ok-take_start.field-0) at c.in_ok-take_start.ensures)
+    (subst (λ s. TakesStart c.loop-one.blanks.items c.loop-one.values.items s c.take_start.new.blanks.items c.take_start.new.values.items c.in_ok-take_start.field-0) at c.in_ok-take_start.ensures)
 
 pub returns : goal.returns
 returns c =
-    starts_all c.args.first.now (sights_in c.args.given.now) c.loop-one.one-index _ (subst (λ n. n ≤ c.loop-one.one-index) (sym (sights_length c.args.given.now)) c.loop-one-test.false) refl c.loop-one.invariant
+    starts_all c.args.first.now (sights_in c.args.given.now) c.loop-one.one-index c.loop-one.blanks.items _ (subst (λ n. n ≤ c.loop-one.one-index) (sym (sights_length c.args.given.now)) c.loop-one-test.false) refl c.loop-one.invariant

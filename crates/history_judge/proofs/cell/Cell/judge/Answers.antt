@@ -1,5 +1,5 @@
 use Rattle.std.proofs.Common.{◌≡◌, ◌++◌, [], sym, ◌∙◌, ap, subst, arith, length}
-use Rattle.std.specs.Prelude.{IfOk, All}
+use Rattle.std.specs.Prelude.{All}
 use Rattle.std.proofs.lemmas.Result.{IfOk-weaker}
 use Rattle.history.specs.Waits.{known}
 use Rattle.history_judge.specs.inside.Starting.{IsTriedAll, IsTriedAny, IsTriedBy}

@@ -7,8 +7,8 @@ use Rattle.history_judge.proofs.Celling.{cell_noted}
 use Rattle.history_judge.proofs.Filling.{label_step}
 use Rattle.history_judge.proofs.cell.Cell.take.Goals as goal
 
-pub returns-then-is_empty : goal.returns-then-is_empty
-returns-then-is_empty c = λ waits h told.
+pub returns-then-may_begin : goal.returns-then-may_begin
+returns-then-may_begin c = λ waits h told.
     let rules = rules_of c.args.basis.now.service in
     let any = c.args.basis.now.start.any in
     let start = c.args.basis.now.start.bytes in

@@ -1,4 +1,4 @@
-use Rattle.std.proofs.Common.{◌≡◌, refl, sym, ◌∙◌, arith, length}
+use Rattle.std.proofs.Common.{◌≡◌, sym, ◌∙◌, arith, length}
 use Rattle.history_judge.specs.declared.cells.Cells.{Cells}
 use Rattle.history_judge.proofs.Visiting.{one_there, one_new_at, not_at}
 use Rattle.history_judge.proofs.cells.Cells.at.Goals as goal

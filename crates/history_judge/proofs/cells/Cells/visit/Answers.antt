@@ -1,4 +1,4 @@
-use Rattle.std.proofs.Common.{◌≡◌, ◌<◌, refl, sym, subst}
+use Rattle.std.proofs.Common.{◌<◌, refl, sym, subst}
 use Rattle.history_fitting.specs.Services.{rules_of}
 use Rattle.history_judge.specs.inside.Cells.{IsCell}
 use Rattle.history_judge.proofs.Celling.{on_one}

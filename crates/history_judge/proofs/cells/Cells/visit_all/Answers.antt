@@ -1,5 +1,4 @@
-use Rattle.std.proofs.Common.{◌≡◌, ◌+◌, ◌≤◌, arith, subst}
-use Rattle.std.specs.Prelude.{OnOk}
+use Rattle.std.proofs.Common.{◌≡◌, ◌+◌, arith, subst}
 use Rattle.history_fitting.specs.Services.{rules_of}
 use Rattle.history_judge.specs.inside.Cells.{HasCells, seen_at, seen_in}
 use Rattle.history_judge.proofs.Visiting.{cells_alike, seen_none, seen_next, told_next_one}

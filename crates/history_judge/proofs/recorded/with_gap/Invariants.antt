@@ -1,6 +1,6 @@
 use Rattle.std.proofs.Common.{◌∷◌, ◌++◌, []}
-use Rattle.history_judge.proofs.recorded.Fitted.take.Given as goal
+use Rattle.history_judge.proofs.recorded.with_gap.Given as goal
 
--- the labels so far, and this one
+-- those before, and this one
 abbrev pub ghost-with : goal.ghost-with
 ghost-with a = a.self.now.items ++ a._from.now ∷ []
