@@ -1,3 +1,5 @@
+pub mod Busy
+pub mod Explaining
 pub mod Passing
 pub mod Listing
 pub mod Starting

@@ -10,15 +10,17 @@ use Rattle.machine.specs.declared.Label.{Label}
 use Rattle.machine.specs.declared.Label.TheVariants.{Call}
 use Rattle.machine.specs.Rules.{Rules, sectors_of}
 use Rattle.machine.specs.Sending.{array_at}
-use Rattle.history_laws.specs.Schedules.{IsScheduled}
-use Rattle.history.specs.Sights.{has_sector}
-use Rattle.history_shown.specs.Laws.{IsMoved, MovedAreExplained}
+use Rattle.register.specs.Schedules.{HasSchedule}
+use Rattle.register.specs.Values.{code}
+use Rattle.history.specs.Sights.{has_sector, sights_of}
+use Rattle.history_shown.specs.Laws.{IsMoved}
 use Rattle.history_fitting.specs.declared.service.Service.{Service}
 use Rattle.history_fitting.specs.declared.service.Place.{Place}
 use Rattle.history_fitting.specs.Services.{rules_of}
 use Rattle.history_judge.specs.Verdicts.{IsTouched, IsPassedFromSome}
 use Rattle.history_legal.specs.Laws.{PassedFromSomeAreExplained}
 use Rattle.history_legal.proofs.Listing.{listed, listed_length, listed_gives, listed_at, listed_past}
+use Rattle.history_legal.proofs.Explaining.{Laws, filled_explained}
 use Rattle.history_legal.proofs.Passing.{moved_touched}
 
 -- WHETHER A SECTOR IS TOUCHED
@@ -66,7 +68,7 @@ look rules place (label ∷ history) = look_at rules place label history (look r
 
 -- THE ARRAYS
 
-module _ (service : Service) (history : List Label) (passed : IsPassedFromSome service history) where
+module _ (service : Service) (gaps : List Bool) (history : List Label) (passed : IsPassedFromSome service gaps history) where
   abbrev pick : (p i : ℕ) → Tells (rules_of service) (record { partition = p; sector = i }) history → List ℕ
   pick p i (inl t) = (passed.passes (record { partition = p; sector = i }) t).start
   pick p i (inr untouched) = replicate service.sector_size 0
@@ -75,7 +77,8 @@ module _ (service : Service) (history : List Label) (passed : IsPassedFromSome s
   pick_whole p i (inl t) = (passed.passes (record { partition = p; sector = i }) t).whole
   pick_whole p i (inr untouched) = length-replicate service.sector_size 0
 
-  pick_scheduled : (p i : ℕ) (told : Tells (rules_of service) (record { partition = p; sector = i }) history) → IsMoved (rules_of service) p i history → IsScheduled (rules_of service) p i (pick p i told) history
+  pick_scheduled : (p i : ℕ) (told : Tells (rules_of service) (record { partition = p; sector = i }) history) → IsMoved (rules_of service) p i history
+      → HasSchedule (code (pick p i told)) (sights_of code (rules_of service) p i [] history)
   pick_scheduled p i (inl t) moved = (passed.passes (record { partition = p; sector = i }) t).passes
   pick_scheduled p i (inr untouched) moved = absurd (untouched (moved_touched service history p i moved))
 
@@ -111,13 +114,15 @@ module _ (service : Service) (history : List Label) (passed : IsPassedFromSome s
         omega (arith, zero_there)
   ]
 
-pub passed_from_some_explained : MovedAreExplained → PassedFromSomeAreExplained
-passed_from_some_explained explained service history room seen none_busy passed = record {
-  arrays = arrays_of service history passed;
-  whole = whole service history passed;
-  sized = λ p i sector there.
-      ap length (held service history passed p i sector there) ∙ pick_whole service history passed p i (look (rules_of service) (record { partition = p; sector = i }) history);
-  explained = explained (rules_of service) (arrays_of service history passed) history room (whole service history passed) seen passed.fit none_busy
-      (λ p i sector there moved. subst (λ s. IsScheduled (rules_of service) p i s history) (sym (held service history passed p i sector there))
-      (pick_scheduled service history passed p i (look (rules_of service) (record { partition = p; sector = i }) history) moved));
+pub passed_from_some_explained : Laws → PassedFromSomeAreExplained
+passed_from_some_explained laws service gaps history room seen none_busy passed = record {
+  arrays = arrays_of service gaps history passed;
+  whole = whole service gaps history passed;
+  sized = λ p i sector there. ap length (held service gaps history passed p i sector there) ∙ start_whole p i;
+  explained = filled_explained laws (rules_of service) (start_of service gaps history passed) gaps history (arrays_of service gaps history passed) start_whole room (whole service gaps history passed)
+      (held service gaps history passed) seen none_busy passed.fit
+      (λ p i moved. pick_scheduled service gaps history passed p i (look (rules_of service) (record { partition = p; sector = i }) history) moved);
 }
+  where
+    start_whole : (p i : ℕ) → length (start_of service gaps history passed p i) ≡ service.sector_size
+    start_whole p i = pick_whole service gaps history passed p i (look (rules_of service) (record { partition = p; sector = i }) history)

@@ -3,19 +3,25 @@
 //! # Promises
 //!
 //! A history of calls and answers that `judge` of history_judge passes is explained by a run of the sector machine
-//! (`passed_are_explained`), from arrays of which each sector has the bytes that the judge was given. Each sector must have
-//! an address of 64 bits, and no write be answered DEVICE_BUSY. What `judge` where any start will do passes is explained so from some
-//! arrays, whose sectors have the right size (`passed_from_some_are_explained`).
+//! (`passed_are_explained`), from arrays of which each sector has the bytes that the judge was given. Where some bytes were
+//! not recorded, there are bytes for their place with which it is. Each sector must have an address of 64 bits, and no write
+//! be answered DEVICE_BUSY. What `judge` where any start will do passes is explained so from some arrays, whose sectors have
+//! the right size (`passed_from_some_are_explained`).
 #![tactic(auto)]
 
 ghost use Rattle.history_legal.specs.Laws.{PassedAreExplained, PassedFromSomeAreExplained};
 
-use history_shown::moved_are_explained;
+use history_filled::gaps_are_filled;
+use history_shown::{moved_are_explained, shown_are_scheduled};
+use register::codes_tell;
 
 /// What passes is explained.
 pub fn passed_are_explained()
     ensures { PassedAreExplained }
 {
+    codes_tell();
+    gaps_are_filled();
+    shown_are_scheduled();
     moved_are_explained();
 }
 
@@ -23,5 +29,8 @@ pub fn passed_are_explained()
 pub fn passed_from_some_are_explained()
     ensures { PassedFromSomeAreExplained }
 {
+    codes_tell();
+    gaps_are_filled();
+    shown_are_scheduled();
     moved_are_explained();
 }

@@ -2,4 +2,9 @@ use Rattle.history_legal.proofs.Starting.{passed_from_some_explained}
 use Rattle.history_legal.proofs.passed_from_some_are_explained.Goals as goal
 
 pub returns : goal.returns
-returns c = passed_from_some_explained c.moved_are_explained.ensures
+returns c = passed_from_some_explained (record {
+  codes_tell = c.codes_tell.ensures;
+  gaps_filled = c.gaps_are_filled.ensures;
+  shown_scheduled = c.shown_are_scheduled.ensures;
+  moved_explained = c.moved_are_explained.ensures;
+})
