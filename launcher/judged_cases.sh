@@ -190,14 +190,17 @@ run_labels() {
     for it in "$scratch/split.$1"/*.words; do run_labels_of "labels_of.$1" "$it" "$2"; done
 }
 
-# Judges the history of a folder, which says what is printed, and may have `words`: a legal one ends with status 0, any other
-# with 1.
+# Judges the history of a folder, which says what is printed, and may have `words` and what is said: a legal one ends with status
+# 0, any other with 1. In the folder without_settings none are given.
 run_history() {
-    local it=history.${1##*/} status=1 options=()
+    local it=history.${1#"$top/examples/history/"} status=1 options=() settings=("$top/examples/history/config.toml") said=''
+    it=${it//\//.}
     ! grep -q '^legal\|"legal"' "$1/stdout" || status=0
     [ ! -f "$1/words" ] || read -r -a options < "$1/words"
-    want "$it" "$status" < "$1/stdout"
-    run_case "$it" history "${options[@]}" "$top/examples/history/config.toml" "$1/history"
+    [ ! -f "$1/stderr" ] || said=$(cat "$1/stderr")$'\n'
+    [[ $it != history.without_settings.* ]] || settings=()
+    want "$it" "$status" "$said" < "$1/stdout"
+    run_case "$it" history "${options[@]}" "${settings[@]}" "$1/history"
 }
 
 # Has the judge draw the picture that the pages show.
@@ -343,7 +346,7 @@ run_judge_cases() {
     run_cuts
     run_cut
     run_refused_late
-    for it in "$top"/examples/history/*/history; do run_history "${it%/*}"; done
+    for it in "$top"/examples/history/{,without_settings/}*/history; do run_history "${it%/*}"; done
     run_refused_words
     run_answered_at_once "$top/launcher/judged_at_once"
     run_page

@@ -30,6 +30,17 @@ enum Step {
     Bad {
         number: u64,
     },
+    /// A write whose bytes were not recorded.
+    WriteSome {
+        number: u64,
+        sector: u64,
+        count: u64,
+    },
+    /// A read was answered, with bytes that were not recorded.
+    GoodSome {
+        number: u64,
+        length: u64,
+    },
 }
 
 /// The second sector of the first partition.
@@ -39,7 +50,7 @@ const SECOND: Place = Place {
 };
 
 /// What clients saw of four sectors of zeros, and the verdict.
-static CASES: [(&str, &[Step], Verdict); 11] = [
+static CASES: [(&str, &[Step], Verdict); 14] = [
     (
         "a write is read back",
         &[
@@ -280,6 +291,93 @@ static CASES: [(&str, &[Step], Verdict); 11] = [
             why: Misfit::Number,
         },
     ),
+    (
+        "a write whose bytes were not recorded is read as one thing",
+        &[
+            Step::WriteSome {
+                number: 1,
+                sector: 1,
+                count: 1,
+            },
+            Step::Written {
+                number: 1,
+                length: 2,
+            },
+            Step::Read {
+                number: 2,
+                sector: 1,
+                count: 1,
+            },
+            Step::Good {
+                number: 2,
+                bytes: &[5, 6],
+            },
+            Step::Read {
+                number: 3,
+                sector: 1,
+                count: 1,
+            },
+            Step::GoodSome {
+                number: 3,
+                length: 2,
+            },
+        ],
+        Verdict::Passed,
+    ),
+    (
+        "it is read as two things",
+        &[
+            Step::WriteSome {
+                number: 1,
+                sector: 1,
+                count: 1,
+            },
+            Step::Written {
+                number: 1,
+                length: 2,
+            },
+            Step::Read {
+                number: 2,
+                sector: 1,
+                count: 1,
+            },
+            Step::Good {
+                number: 2,
+                bytes: &[5, 6],
+            },
+            Step::Read {
+                number: 3,
+                sector: 1,
+                count: 1,
+            },
+            Step::Good {
+                number: 3,
+                bytes: &[5, 7],
+            },
+        ],
+        Verdict::Refused {
+            place: SECOND,
+            line: 5,
+        },
+    ),
+    (
+        "a read of one sector brings two that were not recorded",
+        &[
+            Step::Read {
+                number: 1,
+                sector: 0,
+                count: 1,
+            },
+            Step::GoodSome {
+                number: 1,
+                length: 4,
+            },
+        ],
+        Verdict::Misfit {
+            line: 1,
+            why: Misfit::Answer,
+        },
+    ),
 ];
 
 /// The call of a transfer from one sector on.
@@ -330,7 +428,18 @@ fn label_of(alloc: Global, step: &Step) -> Result<Label, AllocError> {
         }
         Step::Written { number, length } => answer(number, NtStatus::Success, length, none),
         Step::Bad { number } => answer(number, NtStatus::IoDeviceError, 0, none),
+        Step::WriteSome {
+            number,
+            sector,
+            count,
+        } => call(number, Kind::Write, sector, count.saturating_mul(2), none),
+        Step::GoodSome { number, length } => answer(number, NtStatus::Success, length, none),
     })
+}
+
+/// Whether the bytes of a step were recorded.
+fn is_recorded(step: &Step) -> bool {
+    !matches!(step, Step::WriteSome { .. } | Step::GoodSome { .. })
 }
 
 /// The history of these steps, of four sectors of zeros.
@@ -343,7 +452,7 @@ fn recorded(alloc: Global, steps: &[Step]) -> Result<History, AllocError> {
     let mut history = History::new(alloc, service, &[0, 0], false)?;
     for (line, step) in steps.iter().enumerate() {
         let label = label_of(alloc, step)?;
-        history = history.push(alloc, line as u64, &label)?;
+        history = history.push(alloc, line as u64, &label, is_recorded(step))?;
     }
     Ok(history)
 }

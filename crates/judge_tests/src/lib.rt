@@ -8,6 +8,8 @@
 #[cfg(test)]
 mod disks;
 #[cfg(test)]
+mod fitting;
+#[cfg(test)]
 mod histories;
 #[cfg(test)]
 mod registers;

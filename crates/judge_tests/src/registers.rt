@@ -5,6 +5,9 @@ use register_judge::{Observed, SoFar, Verdict, judge};
 use std::alloc::{AllocError, Global};
 use std::test::Fail;
 
+/// The value of bytes that were not recorded.
+const UNRECORDED: u8 = 0;
+
 /// What is seen of a register of one byte.
 enum Step {
     Write { number: u64, value: u8 },
@@ -14,7 +17,7 @@ enum Step {
 }
 
 /// What is seen of a register that has 7 at the start, and the verdict.
-static CASES: [(&str, &[Step], Verdict); 14] = [
+static CASES: [(&str, &[Step], Verdict); 26] = [
     (
         "a read of the start",
         &[
@@ -233,6 +236,261 @@ static CASES: [(&str, &[Step], Verdict); 14] = [
         Verdict::Passed,
     ),
     (
+        "a read that was not recorded",
+        &[
+            Step::Read {
+                number: 1,
+                value: UNRECORDED,
+            },
+            Step::Done { number: 1 },
+        ],
+        Verdict::Passed,
+    ),
+    (
+        "a write that was not recorded, read twice",
+        &[
+            Step::Write {
+                number: 1,
+                value: UNRECORDED,
+            },
+            Step::Done { number: 1 },
+            Step::Read {
+                number: 2,
+                value: 9,
+            },
+            Step::Done { number: 2 },
+            Step::Read {
+                number: 3,
+                value: 9,
+            },
+            Step::Done { number: 3 },
+        ],
+        Verdict::Passed,
+    ),
+    (
+        "a write that was not recorded, read as two values",
+        &[
+            Step::Write {
+                number: 1,
+                value: UNRECORDED,
+            },
+            Step::Done { number: 1 },
+            Step::Read {
+                number: 2,
+                value: 9,
+            },
+            Step::Done { number: 2 },
+            Step::Read {
+                number: 3,
+                value: 8,
+            },
+            Step::Done { number: 3 },
+        ],
+        Verdict::Refused { sights: 6 },
+    ),
+    (
+        "a write that was not recorded, overwritten",
+        &[
+            Step::Write {
+                number: 1,
+                value: UNRECORDED,
+            },
+            Step::Done { number: 1 },
+            Step::Write {
+                number: 2,
+                value: 5,
+            },
+            Step::Done { number: 2 },
+            Step::Read {
+                number: 3,
+                value: 9,
+            },
+            Step::Done { number: 3 },
+        ],
+        Verdict::Refused { sights: 6 },
+    ),
+    (
+        "a write that was not recorded, read beside it",
+        &[
+            Step::Write {
+                number: 1,
+                value: UNRECORDED,
+            },
+            Step::Read {
+                number: 2,
+                value: 9,
+            },
+            Step::Done { number: 1 },
+            Step::Done { number: 2 },
+            Step::Read {
+                number: 3,
+                value: 9,
+            },
+            Step::Done { number: 3 },
+        ],
+        Verdict::Passed,
+    ),
+    (
+        "a write that was not recorded, read before another acts",
+        &[
+            Step::Write {
+                number: 1,
+                value: UNRECORDED,
+            },
+            Step::Write {
+                number: 2,
+                value: 5,
+            },
+            Step::Read {
+                number: 3,
+                value: 9,
+            },
+            Step::Done { number: 2 },
+            Step::Read {
+                number: 4,
+                value: 5,
+            },
+            Step::Done { number: 4 },
+            Step::Done { number: 3 },
+            Step::Done { number: 1 },
+        ],
+        Verdict::Passed,
+    ),
+    (
+        "a write that was not recorded and failed, read",
+        &[
+            Step::Write {
+                number: 1,
+                value: UNRECORDED,
+            },
+            Step::Failed { number: 1 },
+            Step::Read {
+                number: 2,
+                value: 9,
+            },
+            Step::Done { number: 2 },
+        ],
+        Verdict::Passed,
+    ),
+    (
+        "a write that was not recorded, of what was there",
+        &[
+            Step::Write {
+                number: 1,
+                value: UNRECORDED,
+            },
+            Step::Done { number: 1 },
+            Step::Read {
+                number: 2,
+                value: 7,
+            },
+            Step::Done { number: 2 },
+            Step::Read {
+                number: 3,
+                value: 7,
+            },
+            Step::Done { number: 3 },
+        ],
+        Verdict::Passed,
+    ),
+    (
+        "two reads called before a write that was not recorded is told",
+        &[
+            Step::Write {
+                number: 1,
+                value: UNRECORDED,
+            },
+            Step::Done { number: 1 },
+            Step::Read {
+                number: 2,
+                value: 8,
+            },
+            Step::Read {
+                number: 3,
+                value: 9,
+            },
+            Step::Done { number: 2 },
+            Step::Done { number: 3 },
+        ],
+        Verdict::Refused { sights: 6 },
+    ),
+    (
+        "the same, and a write of the second's value",
+        &[
+            Step::Write {
+                number: 1,
+                value: UNRECORDED,
+            },
+            Step::Done { number: 1 },
+            Step::Read {
+                number: 2,
+                value: 8,
+            },
+            Step::Read {
+                number: 3,
+                value: 9,
+            },
+            Step::Write {
+                number: 4,
+                value: 9,
+            },
+            Step::Done { number: 2 },
+            Step::Done { number: 3 },
+        ],
+        Verdict::Passed,
+    ),
+    (
+        "a write that was told before another can't come back",
+        &[
+            Step::Write {
+                number: 1,
+                value: UNRECORDED,
+            },
+            Step::Read {
+                number: 2,
+                value: 9,
+            },
+            Step::Done { number: 2 },
+            Step::Write {
+                number: 3,
+                value: 5,
+            },
+            Step::Done { number: 3 },
+            Step::Read {
+                number: 4,
+                value: 9,
+            },
+            Step::Done { number: 4 },
+        ],
+        Verdict::Refused { sights: 7 },
+    ),
+    (
+        "a read that was not recorded tells nothing",
+        &[
+            Step::Write {
+                number: 1,
+                value: UNRECORDED,
+            },
+            Step::Done { number: 1 },
+            Step::Read {
+                number: 2,
+                value: UNRECORDED,
+            },
+            Step::Done { number: 2 },
+            Step::Read {
+                number: 3,
+                value: 9,
+            },
+            Step::Done { number: 3 },
+            Step::Read {
+                number: 4,
+                value: 8,
+            },
+            Step::Done { number: 4 },
+        ],
+        Verdict::Refused { sights: 8 },
+    ),
+    (
         "a number that was given",
         &[
             Step::Write {
@@ -253,15 +511,23 @@ static CASES: [(&str, &[Step], Verdict); 14] = [
     ),
 ];
 
+/// One byte, or none where it was not recorded.
+fn contents_of(alloc: Global, value: u8) -> Result<Contents, AllocError> {
+    if value == UNRECORDED {
+        return Contents::none(alloc);
+    }
+    Contents::new(alloc, &[value])
+}
+
 fn sight_of(alloc: Global, step: &Step) -> Result<Sight, AllocError> {
     Ok(match *step {
         Step::Write { number, value } => Sight::Write {
             number,
-            value: Contents::new(alloc, &[value])?,
+            value: contents_of(alloc, value)?,
         },
         Step::Read { number, value } => Sight::Read {
             number,
-            value: Contents::new(alloc, &[value])?,
+            value: contents_of(alloc, value)?,
         },
         Step::Done { number } => Sight::Done { number },
         Step::Failed { number } => Sight::Failed { number },
@@ -291,6 +557,14 @@ fn wanted_of(verdict: Verdict) -> SoFar {
         Verdict::Refused { .. } => SoFar::Refused,
         Verdict::Undecided => SoFar::Undecided,
     }
+}
+
+#[test]
+fn bytes_are_there_or_not(rt: HostRuntime) -> Result<(), Fail> {
+    let alloc = rt.alloc();
+    assert!(&rt; Contents::none(alloc)?.is_none());
+    assert!(&rt; !Contents::new(alloc, &[0])?.is_none());
+    Ok(())
 }
 
 #[test]

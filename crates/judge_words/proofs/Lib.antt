@@ -1,3 +1,4 @@
 mod Apps
+mod Files
 mod Flags
 mod Names

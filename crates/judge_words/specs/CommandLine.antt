@@ -33,6 +33,10 @@ asked_words app = with_flag (with_flag (with_flag (judged_words app) (codes "set
 abbrev pub two_words : Text → Text → Text → App
 two_words name first second = with_rule (with_rule (new_app name) (word_rule first true)) (word_rule second true)
 
+-- a command of this name for one word, or for two
+abbrev pub one_or_two_words : Text → App
+one_or_two_words name = with_rule (with_rule (new_app name) (word_rule (codes "FIRST") true)) (word_rule (codes "SECOND") false)
+
 -- check, what is asked, [--progress] [--sessions] CONFIG TRACE
 abbrev pub check_words : App
 check_words = with_flag (with_flag (asked_words (two_words (codes "check") (codes "CONFIG") (codes "TRACE"))) (codes "progress")) (codes "sessions")
@@ -45,17 +49,15 @@ cut_words = judged_words (two_words (codes "cut") (codes "CONFIG") (codes "TRACE
 abbrev pub record_words : App
 record_words = two_words (codes "record") (codes "CONFIG") (codes "SCRIPT")
 
--- history [--any-start] [--progress] [--json] [--sessions] CONFIG HISTORY
+-- history [--any-start] [--progress] [--json] [--sessions] [CONFIG] HISTORY: of two words the first is CONFIG
 abbrev pub history_words : App
 history_words =
-    with_flag (with_flag (with_flag (with_flag (two_words (codes "history") (codes "CONFIG") (codes "HISTORY")) (codes "any-start")) (codes "progress")) (codes "json"))
-    (codes "sessions")
+    with_flag (with_flag (with_flag (with_flag (one_or_two_words (codes "history")) (codes "any-start")) (codes "progress")) (codes "json")) (codes "sessions")
 
 -- picture, how it is judged, [--events] [--lines A-B] [CONFIG] TRACE: of two words the first is CONFIG
 abbrev pub picture_words : App
 picture_words =
-    with_rule (with_flag (judged_words (with_rule (with_rule (new_app (codes "picture")) (word_rule (codes "FIRST") true)) (word_rule (codes "SECOND") false))) (codes "events"))
-    (option_rule (codes "lines"))
+    with_rule (with_flag (judged_words (one_or_two_words (codes "picture"))) (codes "events")) (option_rule (codes "lines"))
 
 -- the program, with its five subcommands
 abbrev pub program : App
@@ -88,7 +90,7 @@ pub record HasFlags (rows : List Row) (asked : Asked) : Type 0 where
   pub ended : IsRead rows (codes "ended") asked.ended
   pub json : IsRead rows (codes "json") asked.json
 
--- one word is the trace; of two the first is the settings, and the second the trace
+-- one word is the trace or the history; of two the first is the settings, and the second that
 abbrev pub AreFiles : Option Text → Option Text → Option Text → Text → Type 0
 AreFiles None second config trace = ⊥
 AreFiles (Some first) None config trace = (first ≡ trace) × (config ≡ None)
@@ -100,7 +102,8 @@ HasWords rows (Check config trace asked progress sessions) = (first_of (codes "C
     × HasFlags rows asked × IsRead rows (codes "progress") progress × IsRead rows (codes "sessions") sessions
 HasWords rows (Cut config trace asked) = (first_of (codes "CONFIG") rows ≡ Some config.now) × (first_of (codes "TRACE") rows ≡ Some trace.now) × HasFlags rows asked
 HasWords rows (Record config script) = (first_of (codes "CONFIG") rows ≡ Some config.now) × (first_of (codes "SCRIPT") rows ≡ Some script.now)
-HasWords rows (History config history any_start progress json sessions) = (first_of (codes "CONFIG") rows ≡ Some config.now) × (first_of (codes "HISTORY") rows ≡ Some history.now)
+HasWords rows (History config history any_start progress json sessions) =
+    AreFiles (first_of (codes "FIRST") rows) (first_of (codes "SECOND") rows) (option_map (λ c. c.now) config) history.now
     × IsRead rows (codes "any-start") any_start × IsRead rows (codes "progress") progress × IsRead rows (codes "json") json
     × IsRead rows (codes "sessions") sessions
 HasWords rows (Picture config trace asked events lines) =

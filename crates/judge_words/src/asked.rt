@@ -23,11 +23,11 @@ pub enum Command<'a> {
         config: &'a str,
         script: &'a str,
     },
-    /// Judges a history, given the paths of the settings and of the history. With `any_start` its sectors may begin with
-    /// anything, with `progress` it is told how many lines were read, with `json` the verdict is a JSON object, with
-    /// `sessions` the history is one of several sessions.
+    /// Judges a history, given its path, and that of the settings, where they are given. With `any_start` its sectors may
+    /// begin with anything, with `progress` it is told how many lines were read, with `json` the verdict is a JSON object,
+    /// with `sessions` the history is one of several sessions.
     History {
-        config: &'a str,
+        config: Option<&'a str>,
         history: &'a str,
         any_start: bool,
         progress: bool,

@@ -3,7 +3,7 @@
 ghost use Rattle.std.specs.Prelude.{◌≡◌, IfOk, codes, false, true};
 ghost use Rattle.clap.specs.Words.{App, new_app, rule_of, with_rule, with_subcommand};
 ghost use Rattle.command_line.specs.Grammar.{option_rule, word_rule};
-ghost use Rattle.judge_words.specs.CommandLine.{IsApp, asked_words, check_words, cut_words, history_words, judged_words, picture_words, program, two_words, with_flag};
+ghost use Rattle.judge_words.specs.CommandLine.{IsApp, asked_words, check_words, cut_words, history_words, judged_words, one_or_two_words, picture_words, program, two_words, with_flag};
 
 use clap::{Arg, Command};
 use command_line::{flag, option, word};
@@ -78,6 +78,16 @@ fn two_words<'a>(
     Ok(both)
 }
 
+/// A command of this name for one word, or for two.
+fn one_or_two_words<'a>(alloc: Global, name: &'a str) -> Result<Command<'a>, AllocError>
+    ensures { IfOk result (IsApp (one_or_two_words name.entry.now)) }
+{
+    let command = named(alloc, name);
+    let one = with(command, word(alloc, "FIRST", true))?;
+    let both = with(one, word(alloc, "SECOND", false))?;
+    Ok(both)
+}
+
 fn checks<'a>(alloc: Global) -> Result<Command<'a>, AllocError>
     ensures { IfOk result (IsApp check_words) }
 {
@@ -99,7 +109,7 @@ fn cuts<'a>(alloc: Global) -> Result<Command<'a>, AllocError>
 fn histories<'a>(alloc: Global) -> Result<Command<'a>, AllocError>
     ensures { IfOk result (IsApp history_words) }
 {
-    let command = two_words(alloc, "history", "CONFIG", "HISTORY")?;
+    let command = one_or_two_words(alloc, "history")?;
     let start = with_flag(alloc, command, "any-start")?;
     let progress = with_flag(alloc, start, "progress")?;
     let json = with_flag(alloc, progress, "json")?;
@@ -110,10 +120,8 @@ fn histories<'a>(alloc: Global) -> Result<Command<'a>, AllocError>
 fn pictures<'a>(alloc: Global) -> Result<Command<'a>, AllocError>
     ensures { IfOk result (IsApp picture_words) }
 {
-    let command = named(alloc, "picture");
-    let one = with(command, word(alloc, "FIRST", true))?;
-    let both = with(one, word(alloc, "SECOND", false))?;
-    let judged = judged(alloc, both)?;
+    let command = one_or_two_words(alloc, "picture")?;
+    let judged = judged(alloc, command)?;
     let events = with_flag(alloc, judged, "events")?;
     let lines = with(events, option(alloc, "lines"))?;
     Ok(lines)

@@ -132,16 +132,14 @@ fn record_of<'a>(words: &ArgMatches<'a>) -> Option<Command<'a>>
 fn history_of<'a>(words: &ArgMatches<'a>) -> Option<Command<'a>>
     ensures { MatchOption result ((command : Command) → name_of command ≡ codes "history" → ¬ (HasWords (rows_of (found_of words.now)) command)) (λ command. (name_of command ≡ codes "history") × HasWords (rows_of (found_of words.now)) command) }
 {
-    let Some(config) = words.get_str("CONFIG") else {
-        return None;
-    };
-    let Some(history) = words.get_str("HISTORY") else {
-        return None;
-    };
     let any_start = words.get_flag("any-start");
     let watched = words.get_flag("progress");
     let json = words.get_flag("json");
     let sessions = words.get_flag("sessions");
+    let Some(first) = words.get_str("FIRST") else {
+        return None;
+    };
+    let (config, history) = files(first, words.get_str("SECOND"));
     Some(Command::History {
         config,
         history,
@@ -171,7 +169,7 @@ fn picture_of<'a>(matches: &ArgMatches<'a>) -> Option<Command<'a>>
     })
 }
 
-/// The path of the settings, where there are two paths, and that of the trace.
+/// The path of the settings, where there are two paths, and that of what is judged or drawn.
 fn files<'a>(first: &'a str, second: Option<&'a str>) -> (Option<&'a str>, &'a str)
     ensures { AreFiles (Some first.entry.now) (option_map (λ s. s.now) second.entry) (option_map (λ s. s.now) result.0) result.1.now }
 {

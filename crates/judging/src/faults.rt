@@ -56,7 +56,7 @@ impl fmt::Display for Error {
             Error::Usage => f.write_str(
                 "usage: stackjudge check [--any-cut] [--any-tag] [--any-read] [--many] [--whole-disk] [--gaps] [--settled] \
                 [--ended] [--json] [--sessions] CONFIG TRACE | stackjudge cut CONFIG TRACE | stackjudge record CONFIG SCRIPT \
-                | stackjudge history [--any-start] [--json] [--sessions] CONFIG HISTORY | stackjudge picture [--events] [--lines A-B] [CONFIG] TRACE \
+                | stackjudge history [--any-start] [--json] [--sessions] [CONFIG] HISTORY | stackjudge picture [--events] [--lines A-B] [CONFIG] TRACE \
                 | stackjudge picture --html CONFIG TRACE",
             ),
             Error::Startup(fault) => write!(f, "stackjudge: {fault}"),

@@ -1,16 +1,16 @@
 //! A history, judged: what clients saw of a service, calls and answers with their bytes.
 
-ghost use Rattle.std.specs.Prelude.{IfOk};
+ghost use Rattle.std.specs.Prelude.{◌≡◌, ◌<◌, IfOk, option_map};
 ghost use Rattle.settings.specs.InRange.{AreInRange};
-ghost use Rattle.judging.specs.Histories.{IsOfSettings};
-ghost use Rattle.judging.specs.inside.Saying.{IsBy, IsSaid, IsServiceOf};
+ghost use Rattle.judging.specs.Histories.{IsLargestDisk, IsOfService, IsServiceBy, IsServiceOf, is_seen, with_line};
+ghost use Rattle.judging.specs.inside.Saying.{IsBy, IsSaid};
 
 use crate::Error;
 use crate::findings::{Finding, object_of, write_finding};
-use crate::opened::{extents, zero_sector};
+use crate::opened::{extents, whole_disk, zero_sector};
 use crate::progress::Progress;
 use crate::reading::{is_ended, next_line, without_end};
-use crate::told::{Told, told_whole};
+use crate::told::{Told, told_by};
 use compose::LONGEST_REQUEST;
 use history_judge::{History, Place, Refusal, Service};
 use machine::Label;
@@ -18,6 +18,7 @@ use settings::Config;
 use startup::{Verdict, read_settings};
 use std::alloc::{AllocError, Global};
 use std::io::{BufRead, BufReader, Read, Write};
+use trace_reader::Recorded as RecordedLine;
 
 /// How many bytes are read at once.
 const BUFFER: usize = 65_536;
@@ -78,10 +79,11 @@ impl Recorded {
     }
 }
 
-/// Judges a history by the sizes and partitions of some settings, from sectors of zeros, or where it is asked for of any bytes,
-/// and writes what it is: `legal` with the number of its requests, the first line at which it is explained by no run, or the
-/// sector that is undecided. It has passed where it is legal. Lines of the service's device are passed over. A line that can't
-/// stand where it does ends the reading; what no order of requests explains ends it when the lines have doubled.
+/// Judges a history by the sizes and partitions of some settings, or where none are given of the largest disk, from sectors of
+/// zeros, or where it is asked for of any bytes, and writes what it is: `legal` with the number of its requests, the first line
+/// at which it is explained by no run, or the sector that is undecided. It has passed where it is legal. Bytes that were not
+/// recorded may have been any. Lines of the service's device are passed over. A line that can't stand where it does ends the
+/// reading; what no order of requests explains ends it when the lines have doubled.
 ///
 /// # Errors
 ///
@@ -89,16 +91,16 @@ impl Recorded {
 /// line; it has no call and no answer; `out` failed. Where memory was refused, [`Error::NoMemory`].
 pub fn judge_history<C: Read + Drop, T: Read + Drop, O: Write, W: Write>(
     alloc: Global,
-    config: C,
+    config: Option<C>,
     history: T,
     terms: Terms,
     listeners: &mut Listeners<O, W>,
 ) -> Result<Verdict, Error> {
-    let config = read_settings(alloc, config)?;
+    let service = read_service(alloc, config)?;
     let Ok(mut input) = BufReader::with_capacity(alloc, BUFFER, history) else {
         return Err(Error::NoMemory);
     };
-    let history = no_label(alloc, &config, terms.any_start)?;
+    let history = no_label(alloc, service, terms.any_start)?;
     let history = read_history(alloc, &mut input, history, &mut listeners.progress)?;
     let recorded = Recorded { history };
     if recorded.history.count() == 0 {
@@ -144,14 +146,12 @@ fn judged_idle(
     }
 }
 
-/// A history of the service that some settings describe, from sectors of zeros, or where it is asked for of any bytes, with
-/// no label.
-fn no_label(alloc: Global, config: &Config, any: bool) -> Result<History, AllocError>
-    requires { AreInRange config.now }
-    ensures { IfOk result (IsOfSettings config.now any) }
+/// A history of a service, from sectors of zeros, or where it is asked for of any bytes, with no label.
+fn no_label(alloc: Global, service: Service, any: bool) -> Result<History, AllocError>
+    requires { 0 < service.sector_size }
+    ensures { IfOk result (IsOfService service any) }
 {
-    let service = service_of(alloc, config)?;
-    let start = zero_sector(alloc, config.sector_size)?;
+    let start = zero_sector(alloc, service.sector_size)?;
     History::new(alloc, service, start.as_slice(), any)
 }
 
@@ -169,9 +169,9 @@ fn read_history<B: BufRead, W: Write>(
     for index in 0..u64::MAX {
         next_line(input, &mut line)?;
         let number = index + 1;
-        match told_whole(alloc, without_end(line.as_slice()))? {
+        match told_by(alloc, without_end(line.as_slice()))? {
             Told::Line(told) => {
-                history = with(alloc, history, number, &told.line.label)?;
+                history = with(alloc, history, number, &told)?;
                 progress.say_read(history.count());
             }
             Told::Nothing => {}
@@ -189,12 +189,28 @@ fn read_history<B: BufRead, W: Write>(
     Err(Error::TraceUnreadable)
 }
 
-/// Takes the label of a line, unless it is of the service's device.
-fn with(alloc: Global, history: History, line: u64, label: &Label) -> Result<History, AllocError> {
-    if !matches!(label, Label::Call { .. } | Label::Answer { .. }) {
+/// Whether clients see a label: it is a call or an answer.
+fn is_seen(label: &Label) -> bool
+    ensures { result ≡ is_seen label.now }
+{
+    matches!(label, Label::Call { .. } | Label::Answer { .. })
+}
+
+/// Takes the label of a line of this number, unless it is of the service's device.
+fn with(
+    alloc: Global,
+    history: History,
+    number: u64,
+    told: &RecordedLine,
+) -> Result<History, AllocError>
+    ensures { IfOk result (λ h. h ≡ with_line told.now history) }
+{
+    let RecordedLine { line, untold } = told;
+    if !is_seen(&line.label) {
         return Ok(history);
     }
-    history.push(alloc, line, label)
+    let recorded = !*untold;
+    history.push(alloc, number, &line.label, recorded)
 }
 
 /// Whether no run explains a history, whatever comes behind it.
@@ -210,8 +226,33 @@ fn is_refused(alloc: Global, history: &History, next_look: &mut u64) -> Result<b
     Ok(matches!(verdict, history_judge::Verdict::Refused { .. }))
 }
 
+/// The service that the settings of an input describe, or where there is no input the largest disk.
+///
+/// # Errors
+///
+/// The settings can't be read, or are refused. Where memory was refused, [`Error::NoMemory`].
+pub(crate) fn read_service<C: Read + Drop>(
+    alloc: Global,
+    config: Option<C>,
+) -> Result<Service, Error>
+    ensures sized { IfOk result (λ service. 0 < service.sector_size) }
+    ensures service { IfOk result (IsServiceBy (option_map (λ input. C.remaining input) config)) }
+{
+    match config {
+        Some(config) => {
+            let config = read_settings(alloc, config)?;
+            let service = service_of(alloc, &config)?;
+            Ok(service)
+        }
+        None => {
+            let service = largest_disk(alloc)?;
+            Ok(service)
+        }
+    }
+}
+
 /// The service that some settings describe.
-pub(crate) fn service_of(alloc: Global, config: &Config) -> Result<Service, AllocError>
+fn service_of(alloc: Global, config: &Config) -> Result<Service, AllocError>
     requires { AreInRange config.now }
     ensures { IfOk result (IsServiceOf config.now) }
 {
@@ -219,5 +260,24 @@ pub(crate) fn service_of(alloc: Global, config: &Config) -> Result<Service, Allo
         sector_size: config.sector_size,
         partitions: extents(alloc, config.partitions.as_slice())?,
         longest: LONGEST_REQUEST as u64,
+    })
+}
+
+/// Bytes of a sector where there are no settings.
+const SECTOR_SIZE: u32 = 512;
+
+/// The most sectors that settings may give a disk.
+const MOST_SECTORS: u64 = 1_099_511_627_776;
+
+/// A service of one partition, which is the largest disk.
+fn largest_disk(alloc: Global) -> Result<Service, AllocError>
+    ensures { IfOk result IsLargestDisk }
+{
+    let partitions = whole_disk(alloc, MOST_SECTORS)?;
+    let longest = LONGEST_REQUEST as u64;
+    Ok(Service {
+        sector_size: SECTOR_SIZE,
+        partitions,
+        longest,
     })
 }

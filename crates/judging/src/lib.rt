@@ -10,11 +10,12 @@
 //! `Meets`); else it prints the first line that is refused, and the rule (`IsFirstRefused`, `printed`). Without a verdict:
 //! why (`fault`), and what was written before (`told`). `cut`: a text is written that is refused for the same as the
 //! trace, but for numbers, or only a remark where the trace is a run (`printed`); that it is small is only tested.
-//! `record_script`: the labels of a script's steps, or why not (`text`, `fault`). Inside: a history is judged as one of
-//! the settings' stack, from sectors of zeros, or where that is asked for of any bytes (`IsOfSettings`), one over sessions so from
-//! zeros (`AreOfSettings`, `IsSaidOfSessions`), and a trace of several sessions by the settings' rules, with its sectors apart
-//! (`AreJudged`). How `judge_history`, `judge_session_history` and `check_sessions` read, and what they write, is only tested,
-//! and so is what stands behind a verdict's rule or numbers, and pictures and progress.
+//! `record_script`: the labels of a script's steps, or why not (`text`, `fault`). Inside: the service of a history is that of
+//! the settings' stack, or without settings the largest disk (`IsServiceBy`), and its sectors begin with zeros, or where that
+//! is asked for with any bytes (`IsOfService`, `AreOfService`); each line is taken as it was recorded (`with_line`), and what
+//! is said is right (`IsSaid`, `IsSaidOfSessions`); a trace of several sessions is judged by the settings' rules, with its
+//! sectors apart (`AreJudged`). How `judge_history`, `judge_session_history` and `check_sessions` read, and what they write,
+//! is only tested, and so is what stands behind a verdict's rule or numbers, and pictures and progress.
 #![tactic(auto)]
 
 pub mod checking;

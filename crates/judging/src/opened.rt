@@ -116,7 +116,7 @@ pub(crate) fn extents_by(alloc: Global, standard: &Standard) -> Result<Vec<Exten
 }
 
 /// One partition that is a whole disk of so many sectors.
-fn whole_disk(alloc: Global, count: u64) -> Result<Vec<Extent>, AllocError>
+pub(crate) fn whole_disk(alloc: Global, count: u64) -> Result<Vec<Extent>, AllocError>
     ensures { IfOk result (λ extents. extents.items ≡ record { first = 0; count = count } ∷ []) }
 {
     let mut extents = Vec::new(alloc);

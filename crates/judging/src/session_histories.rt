@@ -1,23 +1,22 @@
 //! A history over several sessions, judged: between two of them power was lost, or the process ended.
 
-ghost use Rattle.std.specs.Prelude.{IfOk};
-ghost use Rattle.settings.specs.InRange.{AreInRange};
-ghost use Rattle.judging.specs.SessionHistories.{AreOfSettings};
+ghost use Rattle.std.specs.Prelude.{◌<◌, IfOk};
+ghost use Rattle.judging.specs.SessionHistories.{AreOfService};
 ghost use Rattle.judging.specs.inside.Saying.{IsSaidOfSessions};
 
 use crate::Error;
 use crate::fields::Fields;
 use crate::findings::{broken_object, text_of};
-use crate::histories::{Listeners, service_of};
+use crate::histories::{Listeners, read_service};
 use crate::opened::zero_sector;
 use crate::progress::Progress;
 use crate::reading::{is_ended, next_line, without_end};
 use crate::told::{Told, told_whole};
+use history_fitting::Service;
 use history_loss_judge::SessionHistory;
 use machine::Label;
 use ntstatus::NtStatus;
-use settings::Config;
-use startup::{Verdict, read_settings};
+use startup::Verdict;
 use std::alloc::{AllocError, Global};
 use std::io;
 use std::io::{BufRead, BufReader, Read, Write};
@@ -42,8 +41,8 @@ pub(crate) enum Said {
     Busy,
 }
 
-/// Judges a history over several sessions, by the sizes and partitions of some settings, from sectors of zeros, and writes what
-/// it is, as `judge_history` does. A line `lost` says that power was lost, a line `ended` that the process ended; behind it
+/// Judges a history over several sessions, by the sizes and partitions of some settings, or where none are given of the largest
+/// disk, from sectors of zeros, and writes what it is, as `judge_history` does. All bytes have to be recorded. A line `lost` says that power was lost, a line `ended` that the process ended; behind it
 /// requests count from 1, and none of before is answered.
 ///
 /// # Errors
@@ -52,16 +51,16 @@ pub(crate) enum Said {
 /// line; it has no call and no answer; `out` failed. Where memory was refused, [`Error::NoMemory`].
 pub fn judge_session_history<C: Read + Drop, T: Read + Drop, O: Write, W: Write>(
     alloc: Global,
-    config: C,
+    config: Option<C>,
     history: T,
     json: bool,
     listeners: &mut Listeners<O, W>,
 ) -> Result<Verdict, Error> {
-    let config = read_settings(alloc, config)?;
+    let service = read_service(alloc, config)?;
     let Ok(mut input) = BufReader::with_capacity(alloc, BUFFER, history) else {
         return Err(Error::NoMemory);
     };
-    let history = no_line(alloc, &config)?;
+    let history = no_line(alloc, service)?;
     let recorded = read_sessions(alloc, &mut input, history, &mut listeners.progress)?;
     if recorded.history.count() == 0 {
         return Err(Error::NoLabel);
@@ -91,13 +90,12 @@ fn judged(alloc: Global, recorded: &Recorded) -> Result<Said, AllocError>
     }
 }
 
-/// A history of the service that some settings describe, from sectors of zeros, with no line.
-fn no_line(alloc: Global, config: &Config) -> Result<SessionHistory, AllocError>
-    requires { AreInRange config.now }
-    ensures { IfOk result (AreOfSettings config.now) }
+/// A history of a service, from sectors of zeros, with no line.
+fn no_line(alloc: Global, service: Service) -> Result<SessionHistory, AllocError>
+    requires { 0 < service.sector_size }
+    ensures { IfOk result (AreOfService service) }
 {
-    let service = service_of(alloc, config)?;
-    let start = zero_sector(alloc, config.sector_size)?;
+    let start = zero_sector(alloc, service.sector_size)?;
     SessionHistory::new(alloc, service, start.as_slice())
 }
 

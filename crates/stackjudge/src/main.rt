@@ -19,11 +19,12 @@ use judging::progress::Progress;
 use judging::scripts::record_script;
 use judging::session_histories::judge_session_history;
 use judging::sessions::check_sessions;
-use startup::{Verdict, ended, fault_of, hold_standard, open_input};
+use startup::{Input, Verdict, ended, fault_of, hold_standard, open_input};
 use std::alloc::Global;
 use std::env;
 use std::io::{BufWriter, Write};
 use std::process::ExitCode;
+use std::rt::Files;
 
 /// How many bytes of output are written at once.
 const BUFFER: usize = 65_536;
@@ -185,16 +186,24 @@ fn write_trace(rt: &HostRuntime, config: &str, script: &str) -> Result<Verdict, 
     Ok(Verdict::Passed)
 }
 
+/// Opens the file at a path, if one is given.
+fn open_if<R: Files>(rt: &R, path: Option<&str>) -> Option<Input<R::File>> {
+    match path {
+        Some(path) => Some(open_input(rt, path)),
+        None => None,
+    }
+}
+
 /// Judges the history at a path, or the one on standard input.
 fn judge_history_at<O: Write, W: Write>(
     rt: &HostRuntime,
-    config: &str,
+    config: Option<&str>,
     history: &str,
     terms: Terms,
     listeners: &mut Listeners<O, W>,
 ) -> Result<Verdict, Error> {
     let alloc = rt.alloc();
-    let config = open_input(rt, config);
+    let config = open_if(rt, config);
     if history == "-" {
         return judge_history(alloc, config, rt.stdin(), terms, listeners);
     }
@@ -204,7 +213,7 @@ fn judge_history_at<O: Write, W: Write>(
 /// Judges the history over several sessions at a path, or the one on standard input. Its sectors begin with zeros.
 fn judge_session_history_at<O: Write, W: Write>(
     rt: &HostRuntime,
-    config: &str,
+    config: Option<&str>,
     history: &str,
     terms: Terms,
     listeners: &mut Listeners<O, W>,
@@ -214,7 +223,7 @@ fn judge_session_history_at<O: Write, W: Write>(
         return Err(Error::Usage);
     }
     let alloc = rt.alloc();
-    let config = open_input(rt, config);
+    let config = open_if(rt, config);
     if history == "-" {
         return judge_session_history(alloc, config, rt.stdin(), json, listeners);
     }

@@ -13,7 +13,7 @@ use Rattle.judging.specs.declared.faults.Error.TheVariants.{Usage, Startup, Trac
 
 -- the line of a fault, without its end
 abbrev pub line_of : Error → List ℕ
-line_of Usage = codes "usage: stackjudge check [--any-cut] [--any-tag] [--any-read] [--many] [--whole-disk] [--gaps] [--settled] [--ended] [--json] [--sessions] CONFIG TRACE | stackjudge cut CONFIG TRACE | stackjudge record CONFIG SCRIPT | stackjudge history [--any-start] [--json] [--sessions] CONFIG HISTORY | stackjudge picture [--events] [--lines A-B] [CONFIG] TRACE | stackjudge picture --html CONFIG TRACE"
+line_of Usage = codes "usage: stackjudge check [--any-cut] [--any-tag] [--any-read] [--many] [--whole-disk] [--gaps] [--settled] [--ended] [--json] [--sessions] CONFIG TRACE | stackjudge cut CONFIG TRACE | stackjudge record CONFIG SCRIPT | stackjudge history [--any-start] [--json] [--sessions] [CONFIG] HISTORY | stackjudge picture [--events] [--lines A-B] [CONFIG] TRACE | stackjudge picture --html CONFIG TRACE"
 line_of (Startup fault) = codes "stackjudge: " ++ startup_text fault
 line_of TraceUnreadable = codes "stackjudge: cannot read TRACE"
 line_of ScriptUnreadable = codes "stackjudge: cannot read SCRIPT"

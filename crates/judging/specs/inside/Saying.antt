@@ -1,11 +1,7 @@
--- What is said of a history, and of what service.
-use Rattle.std.specs.Prelude.{◌≡◌, ◌<◌}
-use Rattle.settings.specs.declared.Config.{Config}
-use Rattle.startup.specs.Started.{rules_of}
+-- What is said of a history.
+use Rattle.std.specs.Prelude.{◌≡◌}
 use Rattle.history_judge.specs.Histories.{HistoryView}
-use Rattle.history_fitting.specs.declared.service.Service.{Service}
 use Rattle.history_judge.specs.declared.judging.Verdict.{Verdict}
-use Rattle.history_fitting.specs.Services.{AreOf}
 use Rattle.history_judge.specs.Verdicts.{IsRightBy}
 use Rattle.history_loss_judge.specs.Histories.{HistoryView as SessionsView}
 use Rattle.history_loss_judge.specs.Verdicts.{IsRight}
@@ -14,14 +10,9 @@ use Rattle.judging.specs.declared.session_histories.Said.{Said as SaidOfSessions
 use Rattle.judging.specs.declared.session_histories.Said.TheVariants.{By as BySessions, Busy as BusySessions}
 use Rattle.judging.specs.declared.histories.Said.TheVariants.{By, Busy}
 
--- a service with the sizes and partitions of the settings' stack
-pub record IsServiceOf (config : Config) (service : Service) : Type 0 where
-  pub are_of : AreOf service (rules_of config)
-  pub some : 0 < service.sector_size
-
 -- a verdict that is told is right
 abbrev pub IsSaid : HistoryView → Said → Type 0
-IsSaid history (By verdict) = IsRightBy history.any history.service history.start history.labels verdict
+IsSaid history (By verdict) = IsRightBy history.any history.service history.start history.gaps history.labels verdict
 IsSaid history (Busy place) = Unit {0}
 
 -- if a verdict is told, it is this one

@@ -1,16 +1,14 @@
-use Rattle.std.proofs.Common.{◌≡◌, ◌∙◌, Option, None, Some, List, refl, subst, codes}
+use Rattle.std.proofs.Common.{◌≡◌, ◌∙◌, Option, None, List, refl, codes}
 use Rattle.clap.specs.Words.{Row, Text, found_of}
 use Rattle.clap.specs.Walk.{first_of, rows_of}
 use Rattle.clap.proofs.WalkLemmas.{first_value-rows}
-use Rattle.judge_words.proofs.Names.{history_is_no_picture}
+use Rattle.judge_words.proofs.Files.{as_found, no_files}
 use Rattle.judge_words.proofs.Flags.{flag_is}
-use Rattle.judge_words.specs.CommandLine.{AreFiles, HasWords, name_of}
+use Rattle.judge_words.proofs.Names.{history_is_no_picture}
+use Rattle.judge_words.specs.CommandLine.{HasWords, name_of}
 use Rattle.judge_words.specs.declared.asked.Command.{Command}
 use Rattle.judge_words.specs.declared.asked.Command.TheVariants.{Check, Cut, History, Picture, Record}
 use Rattle.judge_words.proofs.reading.picture_of.Goals as goal
-
-as_found : (first second first' second' config : Option Text) (trace : Text) → first ≡ first' → second ≡ second' → AreFiles first second config trace → AreFiles first' second' config trace
-as_found first second first' second' config trace e f has = subst (λ (x : Option Text). AreFiles x second' config trace) e (subst (λ (x : Option Text). AreFiles first x config trace) f has)
 
 pub returns : goal.returns
 returns c =
@@ -23,10 +21,6 @@ returns c =
         c.get_str-lines.ensures ∙ first_value-rows found (codes "lines"),
       ),
     )
-
-no_files : (first second config : Option Text) (trace : Text) → ◌≡◌ {A = Option Text} None first → AreFiles first second config trace → ⊥
-no_files None second config trace none has = has
-no_files (Some first) second config trace none has = absurd (cc (none))
 
 no_first : (rows : List Row) (command : Command) → name_of command ≡ codes "picture" → ◌≡◌ {A = Option Text} None (first_of (codes "FIRST") rows) → HasWords rows command → ⊥
 no_first rows (Check config trace asked progress sessions) name none has = absurd (cc (name))
