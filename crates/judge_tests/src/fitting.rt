@@ -1,5 +1,7 @@
 //! How labels fit behind each other, and which sectors a request moves.
 
+ghost use Rattle.std.specs.Prelude.{◌≡◌, IfOk};
+
 use history_fitting::{Known, Misfit, Place, Service, contents_of};
 use machine::{ClientRequest, Kind, Label};
 use ntstatus::NtStatus;
@@ -8,7 +10,9 @@ use std::alloc::{AllocError, Global};
 use std::test::Fail;
 
 /// A service of sectors of two bytes, the four of whose partition begin at its second sector.
-fn service(alloc: Global) -> Result<Service, AllocError> {
+fn service(alloc: Global) -> Result<Service, AllocError>
+    ensures { IfOk result (λ service. service.sector_size ≡ 2) }
+{
     Ok(Service {
         sector_size: 2,
         partitions: Vec::from_slice(alloc, &[Extent { first: 1, count: 4 }])?,
