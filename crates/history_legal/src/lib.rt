@@ -3,9 +3,9 @@
 //! # Promises
 //!
 //! A history of calls and answers that `judge` of history_judge passes is explained by a run of the sector machine
-//! (`passed_are_explained`), from arrays of which each sector has the bytes that the judge was given. Where some bytes were
-//! not recorded, there are bytes for their place with which it is. Each sector must have an address of 64 bits, and no write
-//! be answered DEVICE_BUSY. What `judge` where any start will do passes is explained so from some arrays, whose sectors have
+//! (`passed_are_explained`), from arrays of which each sector has the bytes that the judge was given, as many as a sector
+//! has. Where some bytes were not recorded, there are bytes for their place with which it is. Each sector must have an
+//! address of 64 bits, and no write be answered DEVICE_BUSY. What `judge` where any start will do passes is explained so from some arrays, whose sectors have
 //! the right size (`passed_from_some_are_explained`).
 #![tactic(auto)]
 
