@@ -1,2 +1,3 @@
 mod FirstSector
+mod Joined
 mod OverDisk

@@ -2,6 +2,7 @@
 
 ghost use Rattle.std.specs.Prelude.{◌≡◌, IfErr, IfOk};
 ghost use Rattle.settings.specs.InRange.{AreInRange};
+ghost use Rattle.volume.specs.Sparse.{AreZeros};
 ghost use Rattle.startup.specs.Started.{IsFirstOf, IsOpenFault, IsStartFault, IsStartOf, IsVolumeOf, limits_of};
 
 use compose::{Settings, Stack, StartFault};
@@ -49,6 +50,7 @@ pub fn open(
 ) -> Result<Volume<PlannedAdapter<SparseDisk>>, OpenFault>
     requires { AreInRange config }
     ensures volume { IfOk result (IsVolumeOf config partition) }
+    ensures zeros { IfOk result (λ volume. AreZeros volume.content.bytes) }
     ensures fault { IfErr result (IsOpenFault config partition) }
 {
     let settings = limits_of(&config);

@@ -12,4 +12,6 @@ pub mod Methods
 pub mod Handles
 pub mod Closing
 pub mod Starting
+pub mod Zeros
+pub mod Sparsely
 mod Common

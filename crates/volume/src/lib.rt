@@ -8,7 +8,8 @@
 //! (`writes`), else the disk stays (`same`). A failed write leaves each of its sectors old or new (`WritesSome`). Each
 //! result is its request's one answer, with write-through as asked (`answered`). A refused request sent no command, a
 //! failed one or a done flush some (`sent`). `open`, `start`: the disk's bytes and one handle more (`content`,
-//! `handles`), or why not (`why`, `fault`). `close`: one handle fewer (`closed`), the bytes as they were (`same`).
+//! `handles`), or why not (`why`, `fault`). `close`: one handle fewer (`closed`), the bytes as they were (`same`). A
+//! [`SparseVolume`], which was zeros at first, promises the same, and that what it tells as zeros is (`IsRun`).
 #![tactic(auto)]
 
 use adapter::Adapter;
@@ -18,8 +19,11 @@ use ntstatus::NtStatus;
 
 mod carrying;
 mod opening;
+mod sparse;
 mod volume;
+mod written;
 
+pub use sparse::SparseVolume;
 pub use volume::Volume;
 
 /// The sizes of a partition.
@@ -29,6 +33,15 @@ pub struct Sizes {
     pub sector_size: u64,
     /// The number of sectors, from 1 to 2^40.
     pub sectors: u64,
+}
+
+/// Bytes of a volume that are alike.
+#[derive(Debug, Clone, Copy, PartialEq, Eq)]
+pub struct Run {
+    /// How many bytes.
+    pub count: u64,
+    /// Whether they are known to be zeros.
+    pub are_zeros: bool,
 }
 
 /// Why a request did not succeed.

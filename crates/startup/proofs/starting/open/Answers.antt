@@ -1,6 +1,10 @@
 use Rattle.std.proofs.Common.{◌≡◌, Err, rules, subst}
 use Rattle.compose.specs.declared.Settings.{Settings}
 use Rattle.volume.specs.Opening.{IsOpenFault}
+use Rattle.settings.specs.Medium.{extents_of}
+use Rattle.volume.specs.Shown.{extent_at}
+use Rattle.startup.specs.Started.{IsVolumeOf}
+use Rattle.startup.proofs.Joined.{all_zeros}
 use Rattle.startup.proofs.OverDisk.{opened, not_opened}
 use Rattle.startup.proofs.starting.open.Goals as goal
 
@@ -8,6 +12,13 @@ pub returns-clause-volume : goal.returns-clause-volume
 returns-clause-volume c =
     opened c.args.config c.in-Ok.adapter.inner c.in-Ok.ensures.new c.in-Ok.ensures.says c.new_adapter.ensures.extents c.args.partition c.in_ok-volume.volume c.in-Ok.ensures.blank
     c.in_ok-volume.ensures.content c.in_ok-volume.ensures.partition
+
+pub returns-clause-zeros : goal.returns-clause-zeros
+returns-clause-zeros c =
+    let v : IsVolumeOf c.args.config c.args.partition c.in_ok-volume.volume =
+    opened c.args.config c.in-Ok.adapter.inner c.in-Ok.ensures.new c.in-Ok.ensures.says c.new_adapter.ensures.extents c.args.partition c.in_ok-volume.volume c.in-Ok.ensures.blank
+    c.in_ok-volume.ensures.content c.in_ok-volume.ensures.partition in
+    all_zeros c.args.config.sector_size (extent_at (extents_of c.args.config) c.args.partition).count c.in_ok-volume.volume.content.bytes v.blank
 
 pub returns-in_err-volume-clause-fault : goal.returns-in_err-volume-clause-fault
 returns-in_err-volume-clause-fault c =

@@ -1,0 +1,2 @@
+-- What no reader of the public clauses needs.
+pub mod Written
