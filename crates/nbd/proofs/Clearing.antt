@@ -9,7 +9,7 @@ use Rattle.nbd.specs.Replies.{failure}
 use Rattle.nbd.specs.Carrying.{Clears, Faulting, IsFailure}
 
 -- what stands in front, at its length
-front_add : (T rest : List ℕ) (o k : ℕ) → length T ≡ o → take (o + k) (T ++ rest) ≡ T ++ take k rest
+pub front_add : (T rest : List ℕ) (o k : ℕ) → length T ≡ o → take (o + k) (T ++ rest) ≡ T ++ take k rest
 front_add T rest o k e = ap (λ (m : ℕ). take (m + k) (T ++ rest)) (sym e) ∙ take-append-add T rest k
 
 drop_add : (T rest : List ℕ) (o k : ℕ) → length T ≡ o → drop (o + k) (T ++ rest) ≡ drop k rest

@@ -1,5 +1,8 @@
 pub mod Streaming
 pub mod Clearing
+pub mod Zeros
+pub mod Telling
+pub mod Querying
 pub mod Serving
 pub mod Haggling
 pub mod Spelling

@@ -7,14 +7,35 @@ use Rattle.nbd.specs.declared.arrays.Sizes.{Sizes}
 use Rattle.nbd.specs.declared.End.TheVariants.{Left, Malformed}
 use Rattle.nbd.specs.declared.options.Next.{Next}
 use Rattle.nbd.specs.declared.options.Next.TheVariants.{Options, Requests, Ended}
+use Rattle.nbd.specs.declared.dialects.Dialect.{Dialect}
+use Rattle.nbd.specs.declared.dialects.Dialect.TheVariants.{Plain, Simple}
 use Rattle.nbd.specs.Content.{Content, sizes_of}
+use Rattle.nbd.specs.Dialects.{heard, next_dialect}
 use Rattle.nbd.specs.Options.{Asked, IsAsked, IsNoOption, are_known, greeting, next_of, option_bytes, replies_to, wants_no_zeroes, wish_of}
 use Rattle.nbd.specs.Carrying.{Faulting}
-use Rattle.nbd.specs.Session.{Begins, Exchange, IsTold, IsLast, Run, asked_by, said, told_by}
+use Rattle.nbd.specs.Session.{Begins, Exchange, IsTold, IsLast, Run, asked_by, said, told_in}
 
--- the replies to an option
+-- the replies to an option in a dialect
+abbrev pub answer_in : Dialect → Sizes → Bool → Asked → List ℕ
+answer_in dialect sizes no_zeroes a = replies_to sizes no_zeroes a.code (heard dialect (wish_of a))
+
+-- the replies to an option where only simple replies are offered
 abbrev pub answers_to : Sizes → Bool → Asked → List ℕ
-answers_to sizes no_zeroes a = replies_to sizes no_zeroes a.code (wish_of a)
+answers_to sizes no_zeroes a = answer_in Plain sizes no_zeroes a
+
+-- the dialect behind an option
+abbrev pub dialect_behind : Dialect → Asked → Dialect
+dialect_behind dialect a = next_dialect dialect a.code (wish_of a)
+
+-- the dialect behind options
+abbrev pub dialect_after : Dialect → List Asked → Dialect
+dialect_after dialect [] = dialect
+dialect_after dialect (a ∷ as') = dialect_after (dialect_behind dialect a) as'
+
+-- the replies to options, each in the dialect of its moment
+abbrev pub answers_in : Dialect → Sizes → Bool → List Asked → List ℕ
+answers_in dialect sizes no_zeroes [] = []
+answers_in dialect sizes no_zeroes (a ∷ as') = answer_in dialect sizes no_zeroes a ++ answers_in (dialect_behind dialect a) sizes no_zeroes as'
 
 -- each of these options but the last leads to another option, and the last one leads to this
 abbrev pub Leads : List Asked → Next → Type 0
@@ -47,8 +68,9 @@ pub record Talks (F : Faulting) (old : Content) (input out : Option (List ℕ)) 
   -- no request is served but behind an option that leads to requests
   pub in_turn : ((next ≡ Requests) × IsLast end last) ⊎ ((exchanges ≡ []) × (((next ≡ Ended end) × (last ≡ [])) ⊎ ((next ≡ Options) × IsLastOption end last)))
   pub asked : Begins input (flags ++ (said option_bytes options ++ (said asked_by exchanges ++ last)))
-  pub told : IsTold end out after (greeting ++ (said (answers_to (sizes_of old) no_zeroes) options ++ said told_by exchanges))
-  pub run : Run F old exchanges new
+  -- structured replies are offered, and used where they were asked for
+  pub told : IsTold end out after (greeting ++ (answers_in Simple (sizes_of old) no_zeroes options ++ said (told_in (dialect_after Simple options)) exchanges))
+  pub run : Run F (dialect_after Simple options) old exchanges new
 
 -- four bytes with a flag that isn't known
 pub record AreNoFlags (bytes : List ℕ) : Type 0 where

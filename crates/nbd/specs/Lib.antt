@@ -7,7 +7,11 @@ pub mod Replies
 pub mod Carrying
 pub mod Session
 pub mod Options
+pub mod Contexts
+pub mod Dialects
 pub mod Handshake
+pub mod Status
+pub mod Chunks
 pub mod Laws
 pub mod Over
 pub mod inside

@@ -1,15 +1,16 @@
 -- What the bytes of an option ask for, and the bytes of its reply.
-use Rattle.std.specs.Prelude.{◌≡◌, ◌≢◌, ℕ, ◌+◌, ◌*◌, ◌==◌, ◌||◌, Bool, not, nat_lt, if◌then◌else◌, List, [], ◌++◌, length, replicate, bit_and}
+use Rattle.std.specs.Prelude.{◌≡◌, ◌≢◌, ℕ, ◌+◌, ◌*◌, ◌==◌, ◌||◌, Bool, true, false, not, nat_lt, if◌then◌else◌, List, [], ◌++◌, length, replicate, bit_and, Result, Ok, Err}
 use Rattle.byteorder.specs.Endian.{big_from, big_bytes}
 use Rattle.nbd.specs.declared.End.TheVariants.{Left, Malformed}
 use Rattle.nbd.specs.declared.arrays.Sizes.{Sizes}
 use Rattle.nbd.specs.declared.options.Wish.{Wish}
-use Rattle.nbd.specs.declared.options.Wish.TheVariants.{Export, Leave, Exports, Info, Go, Refuse, Close}
+use Rattle.nbd.specs.declared.options.Wish.TheVariants.{Export, Leave, Exports, Info, Go, StructuredReplies, ListContexts, SetContexts, Refuse, Close}
 use Rattle.nbd.specs.declared.options.OptionError.{OptionError}
 use Rattle.nbd.specs.declared.options.OptionError.TheVariants.{Unsupported, Invalid, Unknown, TooBig}
 use Rattle.nbd.specs.declared.options.Next.{Next}
 use Rattle.nbd.specs.declared.options.Next.TheVariants.{Options, Requests, Ended}
-use Rattle.nbd.specs.declared.constants.TheConstants.{NBDMAGIC, IHAVEOPT, NBD_REP_MAGIC, NBD_FLAG_FIXED_NEWSTYLE, NBD_FLAG_NO_ZEROES, NBD_FLAG_C_FIXED_NEWSTYLE, NBD_FLAG_C_NO_ZEROES, NBD_OPT_EXPORT_NAME, NBD_OPT_ABORT, NBD_OPT_LIST, NBD_OPT_INFO, NBD_OPT_GO, NBD_REP_ACK, NBD_REP_SERVER, NBD_REP_INFO, NBD_REP_ERR_UNSUP, NBD_REP_ERR_INVALID, NBD_REP_ERR_UNKNOWN, NBD_REP_ERR_TOO_BIG, NBD_INFO_EXPORT, NBD_INFO_BLOCK_SIZE, NBD_FLAG_HAS_FLAGS, NBD_FLAG_READ_ONLY, NBD_FLAG_SEND_FLUSH, NBD_FLAG_SEND_FUA, NBD_FLAG_SEND_WRITE_ZEROES, LONGEST, LONGEST_OPTION}
+use Rattle.nbd.specs.declared.constants.TheConstants.{NBDMAGIC, IHAVEOPT, NBD_REP_MAGIC, NBD_FLAG_FIXED_NEWSTYLE, NBD_FLAG_NO_ZEROES, NBD_FLAG_C_FIXED_NEWSTYLE, NBD_FLAG_C_NO_ZEROES, NBD_OPT_EXPORT_NAME, NBD_OPT_ABORT, NBD_OPT_LIST, NBD_OPT_INFO, NBD_OPT_GO, NBD_OPT_STRUCTURED_REPLY, NBD_OPT_LIST_META_CONTEXT, NBD_OPT_SET_META_CONTEXT, NBD_REP_ACK, NBD_REP_SERVER, NBD_REP_INFO, NBD_REP_META_CONTEXT, NBD_REP_ERR_UNSUP, NBD_REP_ERR_INVALID, NBD_REP_ERR_UNKNOWN, NBD_REP_ERR_TOO_BIG, NBD_INFO_EXPORT, NBD_INFO_BLOCK_SIZE, NBD_FLAG_HAS_FLAGS, NBD_FLAG_READ_ONLY, NBD_FLAG_SEND_FLUSH, NBD_FLAG_SEND_FUA, NBD_FLAG_SEND_WRITE_ZEROES, LONGEST, LONGEST_OPTION}
+use Rattle.nbd.specs.Contexts.{allocation, asked_in}
 
 -- the server's first bytes: its two magic numbers and its handshake flags
 abbrev pub greeting : List ℕ
@@ -43,6 +44,9 @@ wish_in code bytes =
     else if code == NBD_OPT_LIST then (if length bytes == 0 then Exports else Refuse Invalid)
     else if code == NBD_OPT_INFO then info_in Info bytes
     else if code == NBD_OPT_GO then info_in Go bytes
+    else if code == NBD_OPT_STRUCTURED_REPLY then StructuredReplies (length bytes == 0)
+    else if code == NBD_OPT_LIST_META_CONTEXT then ListContexts (asked_in false bytes)
+    else if code == NBD_OPT_SET_META_CONTEXT then SetContexts (asked_in true bytes)
     else Refuse Unsupported
 
 -- what comes after an option
@@ -91,6 +95,12 @@ info_replies sizes code =
 abbrev pub name_replies : ℕ → List ℕ
 name_replies code = option_reply code NBD_REP_SERVER (big_bytes 4 0) ++ option_reply code NBD_REP_ACK []
 
+-- the context under this number, if it was asked for
+abbrev pub context_replies : ℕ → ℕ → Result Bool OptionError → List ℕ
+context_replies code id (Ok true) = option_reply code NBD_REP_META_CONTEXT (big_bytes 4 id ++ allocation) ++ option_reply code NBD_REP_ACK []
+context_replies code id (Ok false) = option_reply code NBD_REP_ACK []
+context_replies code id (Err e) = option_reply code (option_error_number e) []
+
 -- the reply of an export of these sizes
 abbrev pub replies_to : Sizes → Bool → ℕ → Wish → List ℕ
 replies_to sizes no_zeroes code Export = export_bytes sizes ++ (if no_zeroes then [] else replicate 124 0)
@@ -98,6 +108,10 @@ replies_to sizes no_zeroes code Leave = option_reply code NBD_REP_ACK []
 replies_to sizes no_zeroes code Exports = name_replies code
 replies_to sizes no_zeroes code Info = info_replies sizes code
 replies_to sizes no_zeroes code Go = info_replies sizes code
+replies_to sizes no_zeroes code (StructuredReplies true) = option_reply code NBD_REP_ACK []
+replies_to sizes no_zeroes code (StructuredReplies false) = option_reply code NBD_REP_ERR_INVALID []
+replies_to sizes no_zeroes code (ListContexts asked) = context_replies code 0 asked
+replies_to sizes no_zeroes code (SetContexts asked) = context_replies code 1 asked
 replies_to sizes no_zeroes code (Refuse e) = option_reply code (option_error_number e) []
 replies_to sizes no_zeroes code Close = []
 

@@ -1,5 +1,5 @@
 -- What is said in a session, and what it does to the array.
-use Rattle.std.specs.Prelude.{◌≡◌, ◌≢◌, ℕ, List, [], ◌∷◌, ◌++◌, length, Option, None, Some, ⊤}
+use Rattle.std.specs.Prelude.{◌≡◌, ◌≢◌, ℕ, List, [], ◌∷◌, ◌++◌, length, MatchBool, Option, None, Some, ⊤}
 use Rattle.std.specs.Io.KnownBytes.{Appends}
 use Rattle.byteorder.specs.Endian.{big_from}
 use Rattle.nbd.specs.declared.End.{End}
@@ -8,7 +8,11 @@ use Rattle.nbd.specs.declared.requests.Request.{Request}
 use Rattle.nbd.specs.declared.constants.TheConstants.{NBD_CMD_DISC, NBD_REQUEST_MAGIC}
 use Rattle.nbd.specs.Content.{Content}
 use Rattle.nbd.specs.Requests.{IsRequest, payload_count}
+use Rattle.nbd.specs.declared.dialects.Dialect.{Dialect}
 use Rattle.nbd.specs.Replies.{Outcome, reply_bytes}
+use Rattle.nbd.specs.Chunks.{reply_in}
+use Rattle.nbd.specs.Dialects.{asks_status}
+use Rattle.nbd.specs.Status.{TellsStatus}
 use Rattle.nbd.specs.Carrying.{Faulting, Serves}
 
 -- a request that was served: its 28 bytes, the bytes that came behind it, and how it ended
@@ -26,21 +30,29 @@ asked_by x = x.header ++ x.payload
 abbrev pub told_by : Exchange → List ℕ
 told_by x = reply_bytes x.request.cookie x.outcome
 
+-- so in a dialect
+abbrev pub told_in : Dialect → Exchange → List ℕ
+told_in dialect x = reply_in dialect x.request x.outcome
+
 -- what all of these say, one after the other
 abbrev pub said : {X : Type 0} → (X → List ℕ) → List X → List ℕ
 said bytes [] = []
 said bytes (x ∷ xs) = bytes x ++ said bytes xs
 
-pub record IsExchange (F : Faulting) (old : Content) (x : Exchange) (new : Content) : Type 0 where
+-- a request was served: one that asks which bytes are zeros is told, and any other carried out
+abbrev pub ServesIn : Faulting → Dialect → Request → List ℕ → Content → Outcome → Content → Type 0
+ServesIn F dialect r payload old o new = MatchBool (asks_status dialect r) (TellsStatus old r o × (new ≡ old)) (Serves F r payload old o new)
+
+pub record IsExchange (F : Faulting) (dialect : Dialect) (old : Content) (x : Exchange) (new : Content) : Type 0 where
   pub is_request : IsRequest x.header x.request
   pub goes_on : x.request.kind ≢ NBD_CMD_DISC
   pub long : length x.payload ≡ payload_count x.request
-  pub serves : Serves F x.request x.payload old x.outcome new
+  pub serves : ServesIn F dialect x.request x.payload old x.outcome new
 
 -- the array moved by these requests, one after the other, and by nothing else
-abbrev pub Run : Faulting → Content → List Exchange → Content → Type 0
-Run F old [] new = new ≡ old
-Run F old (x ∷ xs) new = (mid : Content) × IsExchange F old x mid × Run F mid xs new
+abbrev pub Run : Faulting → Dialect → Content → List Exchange → Content → Type 0
+Run F dialect old [] new = new ≡ old
+Run F dialect old (x ∷ xs) new = (mid : Content) × IsExchange F dialect old x mid × Run F dialect mid xs new
 
 -- a stream begins with these bytes, where its bytes are known
 abbrev pub Begins : Option (List ℕ) → List ℕ → Type 0

@@ -5,5 +5,6 @@ pub mod Handshake
 pub mod Options
 pub mod Over
 pub mod Session
+pub mod Status
 pub mod Streams
 pub mod Standing

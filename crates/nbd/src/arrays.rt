@@ -1,6 +1,7 @@
 //! What a server serves.
 
-ghost use Rattle.std.specs.Prelude.{◌≡◌, ◌≤◌, ◌+◌, length, slice_range, IfErr, MatchResult};
+ghost use Rattle.std.specs.Prelude.{◌≡◌, ◌≤◌, ◌<◌, ◌+◌, ◌%◌, length, replicate, slice_range, IfErr, MatchResult};
+ghost use Rattle.std.specs.Bool.{OnTrue};
 ghost use Rattle.nbd.specs.Content.{AreInBounds, Content, IsBlockSize, IsSameOutside, written};
 ghost use Rattle.nbd.specs.declared.arrays.ArrayFault.{ArrayFault};
 
@@ -17,6 +18,15 @@ pub struct Sizes {
     pub bytes: u64,
     /// Whether clients are told that it can't be written. A write that comes all the same is for the array to fail.
     pub read_only: bool,
+}
+
+/// Bytes that are alike: zeros, or not known to be zeros.
+#[derive(Debug, Clone, Copy, PartialEq, Eq)]
+pub struct Run {
+    /// How many bytes.
+    pub count: u32,
+    /// Whether all of them are known to be zeros.
+    pub are_zeros: bool,
 }
 
 /// Why an array did not do what it was asked to.
@@ -86,4 +96,13 @@ pub trait Array {
     fn flush(&mut self, alloc: Global) -> Result<(), ArrayFault>
         ensures fails { IfErr result (fails (content self.old) (content self.new)) }
         ensures same { content self.new ≡ content self.old };
+
+    /// Tells how many bytes from byte `offset` on, at most `count`, in whole blocks, are alike: known to be zeros, or not
+    /// known to be.
+    fn run(&self, offset: u64, count: u32) -> Run
+        requires in_bounds { AreInBounds (content self.now).block (length (content self.now).bytes) offset count }
+        ensures some { 0 < result.count }
+        ensures within { result.count ≤ count }
+        ensures aligned { result.count % (content self.now).block ≡ 0 }
+        ensures zeros { OnTrue result.are_zeros (slice_range (content self.now).bytes offset (offset + result.count) ≡ replicate result.count 0) };
 }

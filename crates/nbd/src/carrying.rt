@@ -32,6 +32,7 @@ pub(crate) fn serve_request<R: Read, A: Array>(
     input: &mut R,
     request: Request,
 ) -> Result<Answer, End>
+    ensures short { IfOk result (λ answer. length (outcome_of answer).content ≤ LONGEST) }
     ensures served { IfOk result (λ answer. IsServed A.fails request (A.content array.old) (R.remaining input.old) (R.remaining input.new) (outcome_of answer) (A.content array.new)) }
     ensures ended { IfErr result (λ end. (end ≡ End.Input) × (A.content array.new ≡ A.content array.old)) }
 {
@@ -61,6 +62,7 @@ fn carry_out<R: Read, A: Array>(
     requires within { IsWithin (A.content array.old).block (length (A.content array.old).bytes) command }
     requires block { IsBlockSize (A.content array.old).block }
     requires small { length (A.content array.old).bytes < 2 ^ 64 }
+    ensures short { IfOk result (λ answer. length (outcome_of answer).content ≤ LONGEST) }
     ensures carried { IfOk result (λ answer. IsCarried A.fails command (A.content array.old) (R.remaining input.old) (R.remaining input.new) (outcome_of answer) (A.content array.new)) }
     ensures ended { IfErr result (λ end. (end ≡ End.Input) × (A.content array.new ≡ A.content array.old)) }
 {
@@ -93,7 +95,8 @@ fn carry_out<R: Read, A: Array>(
 fn read<A: Array>(alloc: Global, array: &mut A, offset: u64, count: u32) -> Answer
     requires in_bounds { AreInBounds (A.content array.old).block (length (A.content array.old).bytes) offset count }
     requires short { count ≤ LONGEST }
-    ensures { Gets A.fails (A.content array.old) offset count (outcome_of result) (A.content array.new) }
+    ensures gets { Gets A.fails (A.content array.old) offset count (outcome_of result) (A.content array.new) }
+    ensures few { length (outcome_of result).content ≤ LONGEST }
 {
     let Some(buffer) = zeros(alloc, count) else {
         return Answer::Refused(ReplyError::Enomem);
@@ -126,6 +129,7 @@ fn write<R: Read, A: Array>(
 ) -> Result<Answer, End>
     requires in_bounds { AreInBounds (A.content array.old).block (length (A.content array.old).bytes) asked.offset asked.count }
     requires short { asked.count ≤ LONGEST }
+    ensures few { IfOk result (λ answer. length (outcome_of answer).content ≤ LONGEST) }
     ensures written { IfOk result (λ answer. IsWritten A.fails asked.offset asked.count (A.content array.old) (R.remaining input.old) (R.remaining input.new) (outcome_of answer) (A.content array.new)) }
     ensures ended { IfErr result (λ end. (end ≡ End.Input) × (A.content array.new ≡ A.content array.old)) }
 {
@@ -144,7 +148,8 @@ fn write<R: Read, A: Array>(
 fn put<A: Array>(alloc: Global, array: &mut A, offset: u64, bytes: Vec<u8>, through: bool) -> Answer
     requires in_bounds { AreInBounds (A.content array.old).block (length (A.content array.old).bytes) offset (length bytes.items) }
     requires short { length bytes.items ≤ LONGEST }
-    ensures { Puts A.fails (A.content array.old) offset bytes.items (outcome_of result) (A.content array.new) }
+    ensures puts { Puts A.fails (A.content array.old) offset bytes.items (outcome_of result) (A.content array.new) }
+    ensures few { length (outcome_of result).content ≤ LONGEST }
 {
     if needs_no_write(alloc, array, offset, bytes.as_slice(), through) {
         return Answer::Done;
@@ -160,7 +165,8 @@ fn clear<A: Array>(alloc: Global, array: &mut A, offset: u64, count: u32, throug
     requires in_bounds { AreInBounds (A.content array.old).block (length (A.content array.old).bytes) offset count }
     requires block { IsBlockSize (A.content array.old).block }
     requires small { length (A.content array.old).bytes < 2 ^ 64 }
-    ensures { Clears A.fails (A.content array.old) offset count (outcome_of result) (A.content array.new) }
+    ensures clears { Clears A.fails (A.content array.old) offset count (outcome_of result) (A.content array.new) }
+    ensures few { length (outcome_of result).content ≤ LONGEST }
 {
     let mut done = 0;
     while done < count {
@@ -223,7 +229,8 @@ fn needs_no_write<A: Array>(
 
 /// Brings what was written past volatile caches.
 fn flush<A: Array>(alloc: Global, array: &mut A) -> Answer
-    ensures { Flushes A.fails (A.content array.old) (outcome_of result) (A.content array.new) }
+    ensures flushes { Flushes A.fails (A.content array.old) (outcome_of result) (A.content array.new) }
+    ensures few { length (outcome_of result).content ≤ LONGEST }
 {
     match array.flush(alloc) {
         Ok(()) => Answer::Done,

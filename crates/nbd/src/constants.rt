@@ -15,6 +15,9 @@ pub(crate) const NBD_REQUEST_MAGIC: u32 = 0x2560_9513;
 /// The number that begins each simple reply.
 pub(crate) const NBD_SIMPLE_REPLY_MAGIC: u32 = 0x6744_6698;
 
+/// The number that begins each chunk of a structured reply.
+pub(crate) const NBD_STRUCTURED_REPLY_MAGIC: u32 = 0x668E_33EF;
+
 // Handshake flags.
 pub(crate) const NBD_FLAG_FIXED_NEWSTYLE: u16 = 1;
 
@@ -36,12 +39,20 @@ pub(crate) const NBD_OPT_INFO: u32 = 6;
 
 pub(crate) const NBD_OPT_GO: u32 = 7;
 
+pub(crate) const NBD_OPT_STRUCTURED_REPLY: u32 = 8;
+
+pub(crate) const NBD_OPT_LIST_META_CONTEXT: u32 = 9;
+
+pub(crate) const NBD_OPT_SET_META_CONTEXT: u32 = 10;
+
 // Replies to options.
 pub(crate) const NBD_REP_ACK: u32 = 1;
 
 pub(crate) const NBD_REP_SERVER: u32 = 2;
 
 pub(crate) const NBD_REP_INFO: u32 = 3;
+
+pub(crate) const NBD_REP_META_CONTEXT: u32 = 4;
 
 pub(crate) const NBD_REP_ERR_UNSUP: u32 = 0x8000_0001;
 
@@ -78,10 +89,28 @@ pub(crate) const NBD_CMD_FLUSH: u16 = 3;
 
 pub(crate) const NBD_CMD_WRITE_ZEROES: u16 = 6;
 
+pub(crate) const NBD_CMD_BLOCK_STATUS: u16 = 7;
+
 // Flags of a request.
 pub(crate) const NBD_CMD_FLAG_FUA: u16 = 1;
 
 pub(crate) const NBD_CMD_FLAG_NO_HOLE: u16 = 2;
+
+pub(crate) const NBD_CMD_FLAG_REQ_ONE: u16 = 8;
+
+// Chunks of a structured reply.
+pub(crate) const NBD_REPLY_FLAG_DONE: u16 = 1;
+
+pub(crate) const NBD_REPLY_TYPE_OFFSET_DATA: u16 = 1;
+
+pub(crate) const NBD_REPLY_TYPE_BLOCK_STATUS: u16 = 5;
+
+pub(crate) const NBD_REPLY_TYPE_ERROR: u16 = 0x8001;
+
+// What the context `base:allocation` tells of bytes.
+pub(crate) const NBD_STATE_HOLE: u32 = 1;
+
+pub(crate) const NBD_STATE_ZERO: u32 = 2;
 
 // Errors of a reply.
 pub(crate) const NBD_EPERM: u32 = 1;

@@ -1,4 +1,5 @@
-//! The NBD protocol of a server: the fixed newstyle handshake, and requests with simple replies, over any [`Array`].
+//! The NBD protocol of a server: the fixed newstyle handshake, and requests with simple replies, or with structured ones
+//! for a client of an [`Array`] that asks for them.
 //!
 //! No contract says when replies are passed on. [`serve`] passes each on at once. [`serve_over`] may pass several on
 //! together, but does so before it waits for more bytes of the client.
@@ -7,19 +8,23 @@
 //!
 //! `serve` is a session (`IsSession`): the handshake tells write protection (NBD_FLAG_READ_ONLY), then come just the
 //! replies to the requests read, in order; the array moved by just these, failures within their bytes. In bounds only
-//! the array or memory fails (`Fails`), a flush by the array alone (`Flushes`). `serve_over`: the same over a storage's
-//! own relation (`Backing`, `IsSessionOver`). `parse_request`, `command_of`, `parse_option`, `write_reply`,
-//! `write_replies` are exact, with one spelling a request (`one_spelling`). `begin` is what comes before the requests
-//! (`Opens`, `EndsUnasked`), `serve_beside` just one reply to each request read, by its cookie, in the order of answers
-//! (`EndsSince`), for which `take_request` reads; together a whole session (`IsSessionBeside`, `makes_a_session`).
-//! Only tested: that a flush and a write past caches reach the array as such.
+//! the array or memory fails (`Fails`), a flush by the array alone (`Flushes`). Who asked for structured replies has them
+//! (`reply_in`), and by the context `base:allocation` only zeros are told as zeros (`TellsStatus`). `serve_over`: simple
+//! replies alone, over a storage's own relation (`Backing`, `IsSessionOver`). `parse_request`, `command_of`,
+//! `parse_option`, `write_reply`, `write_replies` are exact, with one spelling a request (`one_spelling`). `begin` is what
+//! comes before the requests (`Opens`, `EndsUnasked`), `serve_beside` just one reply to each request read, by its cookie,
+//! in the order of answers (`EndsSince`), for which `take_request` reads; together a whole session (`IsSessionBeside`,
+//! `makes_a_session`). Only tested: that a flush and a write past caches reach the array as such, and that zeros are told.
 #![tactic(auto)]
 
 mod arrays;
 mod backing;
 mod beside;
 mod carrying;
+mod chunks;
 mod constants;
+mod contexts;
+mod dialects;
 mod handshake;
 mod incoming;
 mod laws;
@@ -30,13 +35,15 @@ mod replies;
 mod requests;
 mod session;
 mod standing;
+mod status;
 mod streams;
 mod waiting;
 
-pub use arrays::{Array, ArrayFault, Sizes};
+pub use arrays::{Array, ArrayFault, Run, Sizes};
 pub use backing::Backing;
 pub use beside::{Desk, Happening, serve_beside};
 pub use constants::LONGEST;
+pub use dialects::Dialect;
 pub use handshake::begin;
 pub use incoming::{Incoming, begins_whole, take_request};
 pub use laws::{makes_a_session, one_spelling, written_inside};

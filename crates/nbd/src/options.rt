@@ -1,10 +1,11 @@
 //! The options that a client sends before its requests, and their replies.
 
-ghost use Rattle.std.specs.Prelude.{◌≡◌, ◌≤◌, ◌<◌, ◌^◌, ◌++◌, ℕ, List, length, IfErr, IfOk, OnOk};
+ghost use Rattle.std.specs.Prelude.{true, ◌≡◌, ◌≤◌, ◌<◌, ◌^◌, ◌++◌, ℕ, List, length, IfErr, IfOk, OnOk};
 ghost use Rattle.std.specs.Io.KnownBytes.{Appends};
 ghost use Rattle.byteorder.specs.Endian.{big_bytes};
 ghost use Rattle.nbd.specs.inside.Handshake.{TakesLastOption};
-ghost use Rattle.nbd.specs.Options.{block_bytes, export_bytes, export_flags, info_in, info_replies, name_replies, next_of, option_error_number, option_header, option_reply, replies_to, wish_in};
+ghost use Rattle.nbd.specs.Contexts.{allocation};
+ghost use Rattle.nbd.specs.Options.{block_bytes, context_replies, export_bytes, export_flags, info_in, info_replies, name_replies, next_of, option_error_number, option_header, option_reply, replies_to, wish_in};
 ghost use Rattle.nbd.specs.inside.Options.{TakesOption, TakesOptionHeader};
 
 use crate::End;
@@ -12,10 +13,12 @@ use crate::arrays::Sizes;
 use crate::constants::{
     IHAVEOPT, LONGEST, LONGEST_OPTION, NBD_FLAG_HAS_FLAGS, NBD_FLAG_READ_ONLY, NBD_FLAG_SEND_FLUSH,
     NBD_FLAG_SEND_FUA, NBD_FLAG_SEND_WRITE_ZEROES, NBD_INFO_BLOCK_SIZE, NBD_INFO_EXPORT,
-    NBD_OPT_ABORT, NBD_OPT_EXPORT_NAME, NBD_OPT_GO, NBD_OPT_INFO, NBD_OPT_LIST, NBD_REP_ACK,
+    NBD_OPT_ABORT, NBD_OPT_EXPORT_NAME, NBD_OPT_GO, NBD_OPT_INFO, NBD_OPT_LIST,
+    NBD_OPT_LIST_META_CONTEXT, NBD_OPT_SET_META_CONTEXT, NBD_OPT_STRUCTURED_REPLY, NBD_REP_ACK,
     NBD_REP_ERR_INVALID, NBD_REP_ERR_TOO_BIG, NBD_REP_ERR_UNKNOWN, NBD_REP_ERR_UNSUP, NBD_REP_INFO,
-    NBD_REP_MAGIC, NBD_REP_SERVER,
+    NBD_REP_MAGIC, NBD_REP_META_CONTEXT, NBD_REP_SERVER,
 };
+use crate::contexts::{ALLOCATION, parse_contexts};
 use crate::streams::{skip, take};
 use byteorder::{BigEndian, ByteOrder};
 use std::io;
@@ -40,6 +43,12 @@ pub enum Wish {
     Info,
     /// NBD_OPT_GO: what the export is, and to go on to requests.
     Go,
+    /// NBD_OPT_STRUCTURED_REPLY, which has no data: `bare` says that there are none.
+    StructuredReplies { bare: bool },
+    /// NBD_OPT_LIST_META_CONTEXT: whether it asks for the context `base:allocation`, or why it isn't done.
+    ListContexts(Result<bool, OptionError>),
+    /// NBD_OPT_SET_META_CONTEXT: whether it chooses the context `base:allocation`, or why it isn't done.
+    SetContexts(Result<bool, OptionError>),
     /// An option that isn't done, for this reason.
     Refuse(OptionError),
     /// NBD_OPT_EXPORT_NAME of an export that isn't there, to which there is no reply.
@@ -76,7 +85,12 @@ impl Wish {
             Wish::Export | Wish::Go => Next::Requests,
             Wish::Leave => Next::Ended(End::Left),
             Wish::Close => Next::Ended(End::Malformed),
-            Wish::Exports | Wish::Info | Wish::Refuse(_) => Next::Options,
+            Wish::Exports
+            | Wish::Info
+            | Wish::StructuredReplies { .. }
+            | Wish::ListContexts(_)
+            | Wish::SetContexts(_)
+            | Wish::Refuse(_) => Next::Options,
         }
     }
 }
@@ -108,6 +122,11 @@ pub fn parse_option(code: u32, bytes: &[u8]) -> Wish
         NBD_OPT_LIST => Wish::Refuse(OptionError::Invalid),
         NBD_OPT_INFO => parse_info(Wish::Info, bytes),
         NBD_OPT_GO => parse_info(Wish::Go, bytes),
+        NBD_OPT_STRUCTURED_REPLY => Wish::StructuredReplies {
+            bare: bytes.is_empty(),
+        },
+        NBD_OPT_LIST_META_CONTEXT => Wish::ListContexts(parse_contexts(false, bytes)),
+        NBD_OPT_SET_META_CONTEXT => Wish::SetContexts(parse_contexts(true, bytes)),
         _ => Wish::Refuse(OptionError::Unsupported),
     }
 }
@@ -203,9 +222,61 @@ pub fn write_replies<W: Write>(
         Wish::Leave => write_option_reply(out, code, NBD_REP_ACK, &[]),
         Wish::Exports => write_exports(out, code),
         Wish::Info | Wish::Go => write_info(out, sizes, code),
+        Wish::StructuredReplies { bare: true } => write_option_reply(out, code, NBD_REP_ACK, &[]),
+        Wish::StructuredReplies { bare: false } => write_option_reply(
+            out,
+            code,
+            NBD_REP_ERR_INVALID,
+            &[],
+        ),
+        Wish::ListContexts(asked) => write_contexts(out, code, 0, asked),
+        Wish::SetContexts(asked) => write_contexts(out, code, 1, asked),
         Wish::Refuse(error) => write_option_reply(out, code, error.number(), &[]),
         Wish::Close => Ok(()),
     }
+}
+
+/// Writes the context `base:allocation` under this number, if it was asked for.
+///
+/// # Errors
+///
+/// The errors of the writer.
+fn write_contexts<W: Write>(
+    out: &mut W,
+    code: u32,
+    id: u32,
+    asked: Result<bool, OptionError>,
+) -> io::Result<()>
+    ensures { OnOk result (Appends (W.contents out.old) (W.contents out.new) (context_replies code id asked)) }
+{
+    match asked {
+        Ok(true) => write_context(out, code, id),
+        Ok(false) => write_option_reply(out, code, NBD_REP_ACK, &[]),
+        Err(error) => write_option_reply(out, code, error.number(), &[]),
+    }
+}
+
+/// Writes the context `base:allocation` under this number.
+///
+/// # Errors
+///
+/// The errors of the writer.
+fn write_context<W: Write>(out: &mut W, code: u32, id: u32) -> io::Result<()>
+    ensures { OnOk result (Appends (W.contents out.old) (W.contents out.new) (context_replies code id (Ok true))) }
+{
+    write_option_reply(out, code, NBD_REP_META_CONTEXT, &context_bytes(id))?;
+    write_option_reply(out, code, NBD_REP_ACK, &[])?;
+    Ok(())
+}
+
+/// The context's number and name.
+fn context_bytes(id: u32) -> [u8; 19]
+    ensures { result ≡ big_bytes 4 id ++ allocation }
+{
+    let mut bytes = [0; 19];
+    BigEndian::write_u32(&mut bytes, id);
+    bytes[4..].copy_from_slice(&ALLOCATION);
+    bytes
 }
 
 /// Writes the reply to NBD_OPT_EXPORT_NAME.

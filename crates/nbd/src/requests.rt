@@ -4,13 +4,14 @@ ghost use Rattle.std.specs.Prelude.{◌≡◌, ◌<◌, ◌≤◌, Ok, MatchOpti
 ghost use Rattle.std.specs.Result.{result_err};
 ghost use Rattle.nbd.specs.Requests.{command_in, extent_fault, flags_fault, IsRequest, IsWithin, payload_count, payload_of};
 ghost use Rattle.nbd.specs.Replies.{error_number};
+ghost use Rattle.nbd.specs.Status.{status_fault};
 ghost use Rattle.nbd.specs.Content.{AreInBounds};
 
 use crate::arrays::Sizes;
 use crate::constants::{
-    LONGEST, NBD_CMD_DISC, NBD_CMD_FLAG_FUA, NBD_CMD_FLAG_NO_HOLE, NBD_CMD_FLUSH, NBD_CMD_READ,
-    NBD_CMD_WRITE, NBD_CMD_WRITE_ZEROES, NBD_EINVAL, NBD_EIO, NBD_ENOMEM, NBD_ENOSPC, NBD_EPERM,
-    NBD_ESHUTDOWN, NBD_REQUEST_MAGIC,
+    LONGEST, NBD_CMD_DISC, NBD_CMD_FLAG_FUA, NBD_CMD_FLAG_NO_HOLE, NBD_CMD_FLAG_REQ_ONE,
+    NBD_CMD_FLUSH, NBD_CMD_READ, NBD_CMD_WRITE, NBD_CMD_WRITE_ZEROES, NBD_EINVAL, NBD_EIO,
+    NBD_ENOMEM, NBD_ENOSPC, NBD_EPERM, NBD_ESHUTDOWN, NBD_REQUEST_MAGIC,
 };
 use byteorder::{BigEndian, ByteOrder};
 
@@ -152,6 +153,21 @@ pub fn command_of(request: Request, sizes: Sizes) -> Result<Command, ReplyError>
         }
         _ => Err(ReplyError::Einval),
     }
+}
+
+/// Looks at a request that asks which bytes of an array of these sizes are known to be zeros.
+///
+/// # Errors
+///
+/// [`ReplyError::Einval`] where a flag is set that isn't known, or it names bytes that aren't whole blocks of the array.
+pub(crate) fn check_status(request: Request, sizes: Sizes) -> Result<(), ReplyError>
+    requires { 0 < sizes.block }
+    ensures fault { result_err result ≡ status_fault sizes.block sizes.bytes request }
+    ensures in_bounds { OnOk result (AreInBounds sizes.block sizes.bytes request.offset request.count) }
+{
+    check_flags(request.flags, NBD_CMD_FLAG_FUA | NBD_CMD_FLAG_REQ_ONE)?;
+    check_extent(request, sizes, u32::MAX, ReplyError::Einval)?;
+    Ok(())
 }
 
 /// How many bytes come behind a request.

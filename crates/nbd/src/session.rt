@@ -1,8 +1,9 @@
 //! A client's session.
 
-ghost use Rattle.std.specs.Prelude.{◌≡◌, IfErr, IfOk, MatchResult, OnOk};
+ghost use Rattle.std.specs.Prelude.{◌≡◌, ◌≤◌, length, IfErr, IfOk, MatchResult, OnOk};
 ghost use Rattle.std.specs.Io.KnownBytes.{Appends};
-ghost use Rattle.nbd.specs.Replies.{outcome_of, reply_bytes};
+ghost use Rattle.nbd.specs.Replies.{outcome_of};
+ghost use Rattle.nbd.specs.Chunks.{reply_in};
 ghost use Rattle.nbd.specs.Handshake.{IsSession};
 ghost use Rattle.nbd.specs.Session.{TakesLast};
 ghost use Rattle.nbd.specs.inside.Session.{Ends, IsExchanged, TakesRequest};
@@ -10,10 +11,13 @@ ghost use Rattle.nbd.specs.inside.Session.{Ends, IsExchanged, TakesRequest};
 use crate::End;
 use crate::arrays::Array;
 use crate::carrying::serve_request;
-use crate::constants::NBD_CMD_DISC;
-use crate::handshake::begin;
-use crate::replies::{Answer, write_reply};
+use crate::chunks::write_reply_in;
+use crate::constants::{LONGEST, NBD_CMD_DISC};
+use crate::dialects::Dialect;
+use crate::handshake::begin_in;
+use crate::replies::Answer;
 use crate::requests::{Request, parse_request};
+use crate::status::tell_status;
 use crate::streams::take;
 use std::alloc::Global;
 use std::io::{Read, Write};
@@ -27,8 +31,8 @@ pub fn serve<R: Read, W: Write, A: Array>(
 ) -> End
     ensures { IsSession A.fails (A.content array.old) (R.remaining input.old) (W.contents out.old) result (A.content array.new) (W.contents out.new) }
 {
-    match begin(input, out, array.sizes()) {
-        Ok(()) => serve_requests(alloc, array, input, out),
+    match begin_in(input, out, array.sizes(), Dialect::Simple) {
+        Ok(dialect) => serve_requests(alloc, array, input, out, dialect),
         Err(end) => end,
     }
 }
@@ -39,11 +43,12 @@ fn serve_requests<R: Read, W: Write, A: Array>(
     array: &mut A,
     input: &mut R,
     out: &mut W,
+    dialect: Dialect,
 ) -> End
-    ensures { Ends A.fails (A.content array.old) (R.remaining input.old) (W.contents out.old) result (A.content array.new) (W.contents out.new) }
+    ensures { Ends A.fails dialect (A.content array.old) (R.remaining input.old) (W.contents out.old) result (A.content array.new) (W.contents out.new) }
 {
     for _ in 0..u64::MAX {
-        if let Err(end) = exchange(alloc, array, input, out) {
+        if let Err(end) = exchange(alloc, array, input, out, dialect) {
             return end;
         }
     }
@@ -60,13 +65,17 @@ fn exchange<R: Read, W: Write, A: Array>(
     array: &mut A,
     input: &mut R,
     out: &mut W,
+    dialect: Dialect,
 ) -> Result<(), End>
-    ensures exchanged { OnOk result (IsExchanged A.fails (A.content array.old) (R.remaining input.old) (W.contents out.old) (A.content array.new) (R.remaining input.new) (W.contents out.new)) }
-    ensures ended { IfErr result (λ end. Ends A.fails (A.content array.old) (R.remaining input.old) (W.contents out.old) end (A.content array.new) (W.contents out.new)) }
+    ensures exchanged { OnOk result (IsExchanged A.fails dialect (A.content array.old) (R.remaining input.old) (W.contents out.old) (A.content array.new) (R.remaining input.new) (W.contents out.new)) }
+    ensures ended { IfErr result (λ end. Ends A.fails dialect (A.content array.old) (R.remaining input.old) (W.contents out.old) end (A.content array.new) (W.contents out.new)) }
 {
     let request = next_request(input)?;
+    if dialect.asks_status(request) {
+        return tell_status(array, out, request);
+    }
     let answer = serve_request(alloc, array, input, request)?;
-    tell(out, request.cookie, &answer)?;
+    tell(out, dialect, request, &answer)?;
     Ok(())
 }
 
@@ -93,11 +102,17 @@ pub(crate) fn next_request<R: Read>(input: &mut R) -> Result<Request, End>
 /// # Errors
 ///
 /// [`End::Output`].
-fn tell<W: Write>(out: &mut W, cookie: u64, answer: &Answer) -> Result<(), End>
-    ensures told { OnOk result (Appends (W.contents out.old) (W.contents out.new) (reply_bytes cookie (outcome_of answer.now))) }
+fn tell<W: Write>(
+    out: &mut W,
+    dialect: Dialect,
+    request: Request,
+    answer: &Answer,
+) -> Result<(), End>
+    requires { length (outcome_of answer.now).content ≤ LONGEST }
+    ensures told { OnOk result (Appends (W.contents out.old) (W.contents out.new) (reply_in dialect request (outcome_of answer.now))) }
     ensures ended { IfErr result (λ end. end ≡ End.Output) }
 {
-    let written = write_reply(out, cookie, answer);
+    let written = write_reply_in(out, dialect, request, answer);
     if written.is_err() || out.flush().is_err() {
         return Err(End::Output);
     }

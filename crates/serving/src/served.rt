@@ -1,21 +1,22 @@
 //! A volume as the array that a server of NBD serves.
 
 ghost use Rattle.std.specs.Prelude.{◌≡◌};
+ghost use Rattle.volume.specs.Sparse.{AreZeros};
 ghost use Rattle.serving.specs.Serving.{array_of, told_fault};
 
 use adapter::Adapter;
 use compose::Refusal;
-use nbd::{Array, ArrayFault, Sizes};
+use nbd::{Array, ArrayFault, Run, Sizes};
 use ntstatus::NtStatus;
 use sector::Bytes;
 use std::alloc::Global;
 use std::marker::Model;
-use volume::{Error, Volume};
+use volume::{Error, SparseVolume, Volume};
 
 /// A volume, served.
 #[derive(Drop)]
 pub(crate) struct Served<A: Adapter> {
-    volume: Volume<A>,
+    volume: SparseVolume<A>,
     /// Whether clients are told that it can't be written.
     read_only: bool,
 }
@@ -30,10 +31,15 @@ impl<A: Adapter> Model for Served<A> {
 }
 
 impl<A: Adapter> Served<A> {
-    pub fn new(volume: Volume<A>, read_only: bool) -> Served<A>
+    /// Serves a volume of zeros.
+    pub fn new(alloc: Global, volume: Volume<A>, read_only: bool) -> Served<A>
+        requires zeros { AreZeros volume.content.bytes }
         ensures { result ≡ array_of volume.content read_only }
     {
-        Served { volume, read_only }
+        Served {
+            volume: SparseVolume::new(alloc, volume),
+            read_only,
+        }
     }
 }
 
@@ -79,6 +85,14 @@ impl<A: Adapter> Array for Served<A> {
         match self.volume.flush(alloc) {
             Ok(()) => Ok(()),
             Err(fault) => Err(array_fault(fault)),
+        }
+    }
+
+    fn run(&self, offset: u64, count: u32) -> Run {
+        let run = self.volume.run(offset, count as u64);
+        Run {
+            count: run.count as u32,
+            are_zeros: run.are_zeros,
         }
     }
 }

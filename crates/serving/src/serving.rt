@@ -63,7 +63,7 @@ fn start(
 {
     let read_only = config.write_protected;
     match open(alloc, config, partition) {
-        Ok(volume) => Ok(Served::new(volume, read_only)),
+        Ok(volume) => Ok(Served::new(alloc, volume, read_only)),
         Err(fault) => Err(open_fault(fault)),
     }
 }

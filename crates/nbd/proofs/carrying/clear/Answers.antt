@@ -17,7 +17,7 @@ loop-done-preserved g c =
       cleared = continued old mid _ c.args.offset c.loop-done.done c.min-piece.result (omega (arith, c.requires.in_bounds.inside)) i.cleared c.in_default.ensures.cleared;
     }
 
-pub returns-in-Err : goal.returns-in-Err
-returns-in-Err g c =
+pub returns-in-Err-clause-clears : goal.returns-in-Err-clause-clears
+returns-in-Err-clause-clears g c =
     failed_piece g.A.Array.fails (g.A.Array.content c.args.array.now) (g.A.Array.content c.loop-done.array) _ c.args.offset c.loop-done.done c.min-piece.result c.args.count c.in-Err.error
     c.in-Err.ensures.cleared c.requires.in_bounds.inside c.loop-done-test.true (omega arith) c.loop-done.invariant.cleared c.in-Err.ensures.outside

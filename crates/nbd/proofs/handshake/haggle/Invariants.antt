@@ -4,4 +4,4 @@ use Rattle.nbd.proofs.handshake.haggle.Given as goal
 
 abbrev pub invariant-loop : goal.invariant-loop
 invariant-loop g l =
-    Haggles l.sizes l.no_zeroes (g.R.Read.remaining l.fn.input) (g.W.Write.contents l.fn.out) (g.R.Read.remaining l.input) (g.W.Write.contents l.out) Options
+    Haggles l.offer.sizes l.offer.no_zeroes l.fn.dialect (g.R.Read.remaining l.fn.input) (g.W.Write.contents l.fn.out) (g.R.Read.remaining l.input) (g.W.Write.contents l.out) l.now Options
