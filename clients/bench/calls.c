@@ -69,6 +69,54 @@ writes_and_reads(void)
 	saddlemug_close(&volume);
 }
 
+/* Of four parts of 32 KiB the third is written. */
+static void
+tells_what_was_never_written(void)
+{
+	static const struct {
+		uint64_t offset, count, run;
+		bool are_zeros;
+	} rows[] = {{0, 131072, 65536, true}, {65536, 65536, 32768, false}, {66048, 1024, 1024, false}, {98304, 32768, 32768, true}, {512, 512, 512, true},
+		{0, 0, 0, false}, {100, 512, 0, false}, {0, 100, 0, false}, {0, 131584, 0, false}, {131072, 512, 0, false}, {0, UINT64_MAX - 511, 0, false}};
+	struct saddlemug_memory disk = MEMORY;
+	struct saddlemug volume = {0};
+	struct saddlemug_run run;
+	uint8_t bytes[512];
+	disk.sectors = 257;
+	disk.partitions[0].count = 256;
+	fill(bytes, sizeof bytes, 0xA5);
+	IS(saddlemug_open_memory(&volume, &disk, NULL, 0, 0) == SADDLEMUG_SUCCESS);
+	run = saddlemug_run(&volume, 0, 131072);
+	IS(run.count == 131072 && run.are_zeros);
+	IS(saddlemug_write(&volume, 65536 + 512, bytes, 512, false) == SADDLEMUG_SUCCESS);
+	for (size_t i = 0; i < sizeof rows / sizeof *rows; i++) {
+		run = saddlemug_run(&volume, rows[i].offset, rows[i].count);
+		IS(run.count == rows[i].run && run.are_zeros == rows[i].are_zeros);
+	}
+	saddlemug_close(&volume);
+}
+
+/* A read that is longer, shorter or refused leaves nothing in the next one. */
+static void
+reads_of_all_lengths(void)
+{
+	static const size_t lengths[] = {512, 2048, 0, 1024, 512, 3584};
+	struct saddlemug volume = {0};
+	uint8_t buffer[4096], bytes[512];
+	fill(bytes, sizeof bytes, 0xA5);
+	IS(saddlemug_open(&volume, text(SETTINGS), strlen(SETTINGS), 0) == SADDLEMUG_SUCCESS);
+	IS(saddlemug_write(&volume, 0, bytes, 512, false) == SADDLEMUG_SUCCESS);
+	for (size_t i = 0; i < sizeof lengths / sizeof *lengths; i++) {
+		fill(buffer, sizeof buffer, 0x5A);
+		IS(saddlemug_read(&volume, 0, buffer, 4096) == SADDLEMUG_DEVICE_DATA_ERROR && is_all(buffer, 4096, 0x5A));
+		IS(saddlemug_read(&volume, 0, buffer, lengths[i]) == SADDLEMUG_SUCCESS);
+		IS(is_all(buffer, lengths[i] < 512 ? lengths[i] : 512, 0xA5));
+		IS(lengths[i] <= 512 || is_all(buffer + 512, lengths[i] - 512, 0));
+		IS(is_all(buffer + lengths[i], sizeof buffer - lengths[i], 0x5A));
+	}
+	saddlemug_close(&volume);
+}
+
 static void
 refuses_what_it_cannot_open(void)
 {
@@ -429,6 +477,8 @@ static const struct {
 	void (*run)(void);
 } CASES[] = {
 	CASE(writes_and_reads),
+	CASE(tells_what_was_never_written),
+	CASE(reads_of_all_lengths),
 	CASE(refuses_what_it_cannot_open),
 	CASE(steps_a_stack),
 	CASE(tells_names),

@@ -162,7 +162,7 @@ open_with(const char *text, size_t length)
 		return -1;
 	}
 	sizes = saddlemug_sizes(&volume);
-	read_only = is_protected();
+	read_only = settings_file != NULL && is_protected();
 	return 0;
 }
 
@@ -276,12 +276,12 @@ can_multi_conn(void *handle)
 	return 1;
 }
 
-/* Holes are what the file system tells of; the stack knows none. */
+/* Holes are what the file system tells of, or what was never written to the disk in memory. */
 static int
 can_extents(void *handle)
 {
 	(void) handle;
-	return image_file != NULL && !is_target;
+	return !is_target;
 }
 
 static int
@@ -366,13 +366,26 @@ flush_(void *handle, uint32_t flags)
 	return answered("flush", image_file != NULL ? own_disk_flush(&image) : saddlemug_flush(&volume));
 }
 
+/* How many bytes from `offset` on are a hole, or none. */
+static uint64_t
+extent_of(uint64_t offset, uint64_t count, bool *is_hole)
+{
+	if (image_file != NULL)
+		return own_disk_extent(&image, offset, count, is_hole);
+	struct saddlemug_run run = saddlemug_run(&volume, offset, count);
+	*is_hole = run.are_zeros;
+	return run.count;
+}
+
+/* Of whole sectors, also where others are asked of. */
 static int
 extents_(void *handle, uint32_t count, uint64_t offset, uint32_t flags, struct nbdkit_extents *extents)
 {
 	(void) handle;
-	for (uint64_t end = offset + count; offset < end;) {
+	uint64_t end = (offset + count + sizes.sector_size - 1) / sizes.sector_size * sizes.sector_size;
+	for (offset -= offset % sizes.sector_size; offset < end;) {
 		bool is_hole;
-		uint64_t length = own_disk_extent(&image, offset, end - offset, &is_hole);
+		uint64_t length = extent_of(offset, end - offset, &is_hole);
 		if (nbdkit_add_extent(extents, offset, length, is_hole ? NBDKIT_EXTENT_HOLE | NBDKIT_EXTENT_ZERO : 0) != 0)
 			return -1;
 		if ((flags & NBDKIT_FLAG_REQ_ONE) != 0)

@@ -71,7 +71,7 @@ def _check(call: str, status: int) -> None:
 
 
 # The version of saddlemug.h that this file speaks to.
-_VERSION = 0x000200
+_VERSION = 0x000201
 
 
 # The structs of saddlemug.h.
@@ -83,6 +83,10 @@ class _Room(ctypes.Structure):
 
 class _Sizes(ctypes.Structure):
     _fields_ = [("sector_size", c_uint64), ("sectors", c_uint64)]
+
+
+class _Run(ctypes.Structure):
+    _fields_ = [("count", c_uint64), ("are_zeros", c_bool)]
 
 
 class _Id(ctypes.Structure):
@@ -164,6 +168,7 @@ _CALLS = {
     "saddlemug_stack_memory_open_into": (c_uint32, [_ROOM, POINTER(_Memory), POINTER(c_uint64), c_size_t]),
     "saddlemug_open_into": (c_uint32, [_ROOM, c_void_p, c_size_t, c_uint8]),
     "saddlemug_sizes": (_Sizes, [_ROOM]),
+    "saddlemug_run": (_Run, [_ROOM, c_uint64, c_uint64]),
     "saddlemug_read": (c_uint32, [_ROOM, c_uint64, c_void_p, c_size_t]),
     "saddlemug_write": (c_uint32, [_ROOM, c_uint64, c_void_p, c_size_t, c_bool]),
     "saddlemug_flush": (c_uint32, [_ROOM]),
@@ -296,6 +301,12 @@ class Volume:
     def sectors(self) -> int:
         """Sectors of the partition."""
         return _c.saddlemug_sizes(self._open()).sectors
+
+    def run(self, offset: int, length: int) -> tuple[int, bool]:
+        """How many bytes from here on are alike, at most so many, and whether they are known to be zeros, since nothing was
+        written there. No bytes where these are no whole sectors of the partition, one at least."""
+        run = _c.saddlemug_run(self._open(), offset, length)
+        return run.count, run.are_zeros
 
     def read(self, offset: int, length: int) -> bytes:
         """Reads whole sectors, 65,536 at most; both numbers are in bytes."""

@@ -42,13 +42,13 @@ extern "C" {
 #define SADDLEMUG_IO_DEVICE_ERROR UINT32_C(0xC0000185)
 #define SADDLEMUG_NOT_FOUND UINT32_C(0xC0000225)
 
-/* VERSIONS: a byte for each of the three numbers, the first on the left. This header is of 0.2.0.
+/* VERSIONS: a byte for each of the three numbers, the first on the left. This header is of 0.2.1.
  *
  * A program compiled over this header runs over each shared library of its soname, libsaddlemug.so.0, that is no older: the
  * numbers, the structs with their sizes and places, and what the calls take and answer stay as they are. New calls may come, and
  * new numbers at the end of an enum; then the last of the three numbers rises, or the second. Whatever else changes raises the
  * soname's number, and that is the first of the three. The inline functions here are compiled into the program. */
-#define SADDLEMUG_VERSION UINT32_C(0x000200)
+#define SADDLEMUG_VERSION UINT32_C(0x000201)
 
 /* The version of the library that is linked or loaded. */
 uint32_t saddlemug_version(void);
@@ -162,6 +162,18 @@ saddlemug_open_memory(struct saddlemug *room, const struct saddlemug_memory *dis
 }
 
 struct saddlemug_sizes saddlemug_sizes(struct saddlemug *volume);
+
+struct saddlemug_run {
+	uint64_t count; /* how many bytes are alike */
+	bool are_zeros; /* they are known to be zeros, or not known to be */
+};
+
+/* Tells how many bytes from byte `offset` of the partition on, at most `count`, are alike. Nothing is asked of the disk. What no
+ * write was asked of since the volume was opened is known to be zeros, by parts of 32 KiB; nothing is any more, once memory to note
+ * a write was refused. A run that isn't known to be zeros may end before the next zeros, after 128 MiB.
+ *
+ * No bytes just where these are no whole sectors of the partition, one at least. */
+struct saddlemug_run saddlemug_run(struct saddlemug *volume, uint64_t offset, uint64_t count);
 
 /* Reads `length` bytes from byte `offset` of the partition on: whole sectors, at most 65,536 of them. A call of no bytes
  * there succeeds.

@@ -7,7 +7,9 @@ use Rattle.io_manager.specs.declared.Refusal.TheVariants.{InsufficientResources}
 use Rattle.volume.specs.declared.Error.{Error}
 use Rattle.volume.specs.declared.Error.TheVariants.{Refused}
 use Rattle.volume.specs.Calls.{AreInBounds, IsAnswered, IsFault, IsSameDisk, IsToldAsAnswered, IsWriteFault as IsVolumeWriteFault, WasSent}
-use Rattle.volume.specs.Shown.{VolumeView}
+use Rattle.volume.specs.Shown.{Content, VolumeView}
+use Rattle.volume.specs.Sparse.{AreSectors, IsRun}
+use Rattle.saddlemug.specs.declared.volume_calls.DiskRun.{DiskRun}
 use Rattle.saddlemug.specs.Statuses.{fault_status}
 
 -- this is the number of the status of a fault of this kind
@@ -36,3 +38,8 @@ pub record EndsWith (old : VolumeView) (q : ClientRequest) (IsWhy : Error → Ty
 -- which it ended
 abbrev pub IsToldNumber : VolumeView → ClientRequest → (Error → Type 0) → VolumeView → ℕ → Type 0
 IsToldNumber old q IsWhy new number = MatchBool (nat_eq number 0) (IsAnswered old q Success new) (IsNumberOf (EndsWith old q IsWhy new) number)
+
+-- bytes that are alike, as the volume knows them; none just where these are no whole sectors of the partition
+abbrev pub TellsRun : Content → ℕ → ℕ → DiskRun → Type 0
+TellsRun c offset count told =
+    MatchBool (nat_eq told.count 0) (¬ (AreSectors c offset count)) (IsRun c offset count (record { count = told.count; are_zeros = told.are_zeros }))

@@ -2,7 +2,7 @@
 
 ghost use Rattle.std.specs.Prelude.{◌≡◌, ◌≢◌, ◌*◌, ⊤, Err, length, IfErr, IfOk, MatchBool, MatchResult};
 ghost use Rattle.volume.specs.Calls.{AreInBounds, IsFault, IsSameDisk, IsToldAsAnswered, Reads, WasSent, Writes, flush_of, read_of, write_of};
-ghost use Rattle.saddlemug.specs.Calls.{IsReadFault, IsWriteFault};
+ghost use Rattle.saddlemug.specs.Calls.{IsReadFault, IsWriteFault, TellsRun};
 ghost use Rattle.ntstatus.specs.declared.NtStatus.TheVariants.{InvalidDeviceRequest, Success};
 ghost use Rattle.referee.specs.Taking.{LeavesNothing};
 ghost use Rattle.saddlemug.specs.Holding.{IfInMemory, IfOver, IsAnyJudge, IsAnyStack, IsAnyVolume, IsJudge, IsOver, IsStack, IsVolume, places_in};
@@ -12,26 +12,23 @@ ghost use Rattle.saddlemug.specs.Stepping.{IsNotStepped, IsStepStatus, ShowsAnsw
 
 use crate::asked::StackArmed;
 use crate::booking::StackBooking;
-use crate::bytes::{copied, zeros};
 use crate::events::{StackEvent, StackReply};
 use crate::judged::{take_label, take_text, tell_why};
 use crate::labels::{StackAnswer, StackLabel};
 use crate::memory_stack::MemoryStack;
+use crate::memory_volume::MemoryVolume;
 use crate::over::Over;
-use adapter::Adapter;
-use compose::Refusal;
-use disk::SparseDisk;
-use miniport::PlannedAdapter;
+use crate::volume_calls::DiskRun;
 use ntstatus::NtStatus;
 use referee::Referee;
 use std::alloc::Global;
-use volume::{Error, Sizes, Volume};
+use volume::{Error, Sizes};
 
 /// What C holds.
 #[derive(Drop)]
 pub enum Instance {
     /// One partition as an array of bytes, over a stack of its own.
-    Volume(Volume<PlannedAdapter<SparseDisk>>),
+    Volume(MemoryVolume),
     /// A whole stack, event by event.
     Stack(MemoryStack),
     /// A stack over storage of C's own.
@@ -53,11 +50,22 @@ impl Instance {
         }
     }
 
-    /// Reads from the volume, as [`read_into`].
+    /// How many bytes of the volume are alike, as [`MemoryVolume::run`].
+    pub fn run(&self, offset: u64, count: u64) -> DiskRun
+        requires { IsAnyVolume self.now }
+        ensures { IsVolume (λ v. TellsRun v.content offset count result) self.now }
+    {
+        match self {
+            Instance::Volume(volume) => volume.run(offset, count),
+            Instance::Stack(_) | Instance::Over(_) | Instance::Judge(_) => unreachable!(),
+        }
+    }
+
+    /// Reads from the volume, as [`MemoryVolume::read`].
     ///
     /// # Errors
     ///
-    /// As [`read_into`].
+    /// As [`MemoryVolume::read`].
     pub fn read(&mut self, alloc: Global, offset: u64, buffer: &mut [u8]) -> Result<(), Error>
         requires { IsAnyVolume self.old }
         ensures held { IsAnyVolume self.new }
@@ -68,16 +76,16 @@ impl Instance {
         ensures same { IsVolume (λ old. IsVolume (IsSameDisk old) self.new) self.old }
     {
         match self {
-            Instance::Volume(volume) => read_into(volume, alloc, offset, buffer),
+            Instance::Volume(volume) => volume.read(alloc, offset, buffer),
             Instance::Stack(_) | Instance::Over(_) | Instance::Judge(_) => unreachable!(),
         }
     }
 
-    /// Writes to the volume, as [`write_from`].
+    /// Writes to the volume, as [`MemoryVolume::write`].
     ///
     /// # Errors
     ///
-    /// As [`write_from`].
+    /// As [`MemoryVolume::write`].
     pub fn write(
         &mut self,
         alloc: Global,
@@ -93,16 +101,16 @@ impl Instance {
         ensures sent { IsVolume (λ old. IsVolume (λ new. IfErr result (WasSent old new)) self.new) self.old }
     {
         match self {
-            Instance::Volume(volume) => write_from(volume, alloc, offset, bytes, through),
+            Instance::Volume(volume) => volume.write(alloc, offset, bytes, through),
             Instance::Stack(_) | Instance::Over(_) | Instance::Judge(_) => unreachable!(),
         }
     }
 
-    /// Flushes the disk's caches, as [`Volume::flush`].
+    /// Flushes the disk's caches, as [`MemoryVolume::flush`].
     ///
     /// # Errors
     ///
-    /// As [`Volume::flush`].
+    /// As [`MemoryVolume::flush`].
     pub fn flush(&mut self, alloc: Global) -> Result<(), Error>
         requires { IsAnyVolume self.old }
         ensures held { IsAnyVolume self.new }
@@ -278,59 +286,5 @@ impl Instance {
             Instance::Judge(judge) => judge.is_settled(),
             Instance::Volume(_) | Instance::Stack(_) | Instance::Over(_) => unreachable!(),
         }
-    }
-}
-
-/// Reads as many bytes as the buffer has, from byte `offset` of the partition on.
-///
-/// # Errors
-///
-/// As [`Volume::read`], and [`Refusal::InsufficientResources`] where memory for the bytes was refused. The buffer is as
-/// it was.
-fn read_into<A: Adapter>(
-    volume: &mut Volume<A>,
-    alloc: Global,
-    offset: u64,
-    buffer: &mut [u8],
-) -> Result<(), Error>
-    ensures reads { MatchResult result (λ _. Reads volume.old.content offset (length buffer.old) buffer.new) (IsReadFault volume.old offset (length buffer.old)) }
-    ensures answered { IsToldAsAnswered volume.old (read_of volume.old offset (length buffer.old)) result volume.new }
-    ensures sent { IfErr result (WasSent volume.old volume.new) }
-    ensures as_it_was { IfErr result (λ _. buffer.new ≡ buffer.old) }
-    ensures same { IsSameDisk volume.old volume.new }
-{
-    let Ok(room) = zeros(alloc, buffer.len() as u64) else {
-        return Err(Error::Refused(Refusal::InsufficientResources));
-    };
-    match volume.read(alloc, offset, room) {
-        Ok(bytes) => {
-            buffer.copy_from_slice(bytes.as_slice());
-            Ok(())
-        }
-        Err(fault) => Err(fault),
-    }
-}
-
-/// Writes these bytes from byte `offset` of the partition on, past volatile caches if `through`.
-///
-/// # Errors
-///
-/// As [`Volume::write`], and [`Refusal::InsufficientResources`] where memory for the bytes was refused; then nothing
-/// has changed.
-fn write_from<A: Adapter>(
-    volume: &mut Volume<A>,
-    alloc: Global,
-    offset: u64,
-    bytes: &[u8],
-    through: bool,
-) -> Result<(), Error>
-    ensures in_bounds { IfOk result (λ _. AreInBounds volume.old.content offset (length bytes.now)) }
-    ensures writes { MatchResult result (λ _. Writes volume.old offset bytes.now volume.new) (λ fault. IsWriteFault volume.old offset bytes.now fault volume.new) }
-    ensures answered { IsToldAsAnswered volume.old (write_of volume.old offset bytes.now through) result volume.new }
-    ensures sent { IfErr result (WasSent volume.old volume.new) }
-{
-    match copied(alloc, bytes) {
-        Ok(copy) => volume.write(alloc, offset, copy, through),
-        Err(_) => Err(Error::Refused(Refusal::InsufficientResources)),
     }
 }

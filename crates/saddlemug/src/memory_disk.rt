@@ -7,13 +7,11 @@ ghost use Rattle.settings.specs.InRange.{AreInRange};
 ghost use Rattle.saddlemug.specs.InMemory.{AreTold, IsDisk, IsDiskStatus, IsInRange, IsToldStack, IsToldStackStatus, IsToldVolume, IsToldVolumeStatus, is_used, partition_of, told};
 
 use crate::memory_stack::MemoryStack;
+use crate::memory_volume::MemoryVolume;
 use crate::opening::{stack_of, volume_of};
-use disk::SparseDisk;
-use miniport::PlannedAdapter;
 use ntstatus::NtStatus;
 use settings::{Config, Partition};
 use std::alloc::{AllocError, Global};
-use volume::Volume;
 
 /// A partition of a disk in memory.
 #[repr(C)]
@@ -101,7 +99,7 @@ pub(crate) fn told_volume(
     disk: &MemoryDisk,
     bad: &[u64],
     partition: u8,
-) -> Result<Volume<PlannedAdapter<SparseDisk>>, NtStatus>
+) -> Result<MemoryVolume, NtStatus>
     ensures volume { IfOk result (IsToldVolume disk.now bad.now partition) }
     ensures fault { IfErr result (λ status. status ≢ Success) }
     ensures why { IfErr result (IsToldVolumeStatus disk.now bad.now partition) }

@@ -32,9 +32,9 @@ const STATUSES: [NtStatus; 17] = [
 /// The version of the library: a byte for each of its three numbers, the first on the left.
 #[unsafe(no_mangle)]
 pub extern "C" fn saddlemug_version() -> u32
-    ensures { result ≡ 0x000200 }
+    ensures { result ≡ 0x000201 }
 {
-    0x00_0200
+    0x00_0201
 }
 
 /// Puts the name of a status into a buffer, in capitals and without the prefix `STATUS_`, as much of it as has room.

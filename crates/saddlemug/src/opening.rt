@@ -9,26 +9,25 @@ ghost use Rattle.saddlemug.specs.Opened.{IsConfigStatus, IsNewStack, IsNewVolume
 ghost use Rattle.saddlemug.specs.Statuses.{start_status};
 
 use crate::memory_stack::MemoryStack;
+use crate::memory_volume::MemoryVolume;
 use crate::status::{refusal_status, start_status};
 use compose::StartFault;
-use disk::SparseDisk;
-use miniport::PlannedAdapter;
 use ntstatus::NtStatus;
 use settings::{Config, ConfigFault};
 use startup::{open, settings_of, start};
 use std::alloc::Global;
-use volume::{OpenFault, Volume};
+use volume::OpenFault;
 
 /// Opens a partition, counted from 0, of a disk of zeros with the partition table of a text's settings.
 ///
 /// # Errors
 ///
-/// As [`config_of`], [`start_status`] and [`Volume::open`] say.
+/// As [`config_of`], [`start_status`] and [`volume::Volume::open`] say.
 pub(crate) fn new_volume(
     alloc: Global,
     text: &[u8],
     partition: u8,
-) -> Result<Volume<PlannedAdapter<SparseDisk>>, NtStatus>
+) -> Result<MemoryVolume, NtStatus>
     ensures volume { IfOk result (IsNewVolume text.now partition) }
     ensures fault { IfErr result (λ status. status ≢ Success) }
     ensures why { IfErr result (IsVolumeStatus text.now partition) }
@@ -74,19 +73,19 @@ pub(crate) fn config_of(alloc: Global, text: &[u8]) -> Result<Config, NtStatus>
 ///
 /// # Errors
 ///
-/// As [`start_status`] and [`Volume::open`] say.
+/// As [`start_status`] and [`volume::Volume::open`] say.
 pub(crate) fn volume_of(
     alloc: Global,
     config: Config,
     partition: u8,
-) -> Result<Volume<PlannedAdapter<SparseDisk>>, NtStatus>
+) -> Result<MemoryVolume, NtStatus>
     requires { AreInRange config }
     ensures volume { IfOk result (IsVolumeOf config partition) }
     ensures fault { IfErr result (λ status. status ≢ Success) }
     ensures why { IfErr result (IsOpenStatus config partition) }
 {
     match open(alloc, config, partition) {
-        Ok(volume) => Ok(volume),
+        Ok(volume) => Ok(MemoryVolume::new(alloc, volume)),
         Err(OpenFault::Start(fault)) => Err(start_status(fault)),
         Err(OpenFault::Refused(reason)) => Err(refusal_status(reason)),
     }

@@ -2,7 +2,7 @@
 
 ghost use Rattle.std.specs.Prelude.{◌≡◌, ◌⊎◌, ◌*◌, ⊤, None, MatchBool, length, nat_eq};
 ghost use Rattle.volume.specs.Calls.{AreInBounds, IsFault, IsSameDisk, Reads, Writes, flush_of, read_of, write_of};
-ghost use Rattle.saddlemug.specs.Calls.{IsNumberOf, IsReadFault, IsToldNumber, IsWriteFault};
+ghost use Rattle.saddlemug.specs.Calls.{IsNumberOf, IsReadFault, IsToldNumber, IsWriteFault, TellsRun};
 ghost use Rattle.saddlemug.specs.Holding.{HoldsAnyVolume, HoldsVolume};
 ghost use Rattle.saddlemug.specs.Opened.{IsNewVolume, IsVolumeStatus};
 ghost use Rattle.saddlemug.specs.Statuses.{IsNumberOfStatus};
@@ -22,6 +22,16 @@ pub struct DiskSizes {
     pub sector_size: u64,
     /// The number of sectors, from 1 to 2^32 - 1.
     pub sectors: u64,
+}
+
+/// Bytes of a partition that are alike.
+#[repr(C)]
+#[derive(Clone, Copy)]
+pub struct DiskRun {
+    /// How many bytes.
+    pub count: u64,
+    /// Whether they are known to be zeros.
+    pub are_zeros: bool,
 }
 
 /// Opens a volume into an empty cell: a partition, counted from 0, of a disk of zeros with the partition table of a
@@ -59,6 +69,21 @@ pub extern "C" fn saddlemug_sizes(alloc: Global, cell: &mut Cell) -> DiskSizes
         sector_size: sizes.sector_size,
         sectors: sizes.sectors,
     }
+}
+
+/// Tells how many bytes from byte `offset` of the partition on, at most `count`, are alike: known to be zeros, or not
+/// known to be. None where these are no whole sectors of the partition, one at least.
+#[unsafe(no_mangle)]
+pub extern "C" fn saddlemug_run(alloc: Global, cell: &mut Cell, offset: u64, count: u64) -> DiskRun
+    requires { HoldsAnyVolume cell.old.held }
+    ensures held { HoldsAnyVolume cell.new.held }
+    ensures runs { HoldsVolume (λ v. TellsRun v.content offset count result) cell.old.held }
+    ensures same { cell.new.held ≡ cell.old.held }
+{
+    let held = cell.take(alloc);
+    let run = held.run(offset, count);
+    cell.put(held);
+    run
 }
 
 /// Reads as many bytes as the buffer has, from byte `offset` of the partition on. Answers the status; where it is not 0
