@@ -1,4 +1,4 @@
--- What is known of a port of which nothing was asked yet.
+-- The sizes of an adapter.
 use Rattle.std.proofs.Common.{◌≡◌, ℕ, true, length}
 use Rattle.adapter.specs.View.{AdapterView}
 use Rattle.port.specs.Opening.{sizes_of}

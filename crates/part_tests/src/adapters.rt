@@ -182,7 +182,7 @@ fn completes(
 
 /// Each way to fail, and each command carried out. No sectors at the end of a disk are in it, and a write that passes the
 /// cache writes.
-const CASES: [Case; 17] = [
+const CASES: &[Case] = &[
     (0x40, 0x12, 0, 0, 36, 36, Checked(5, 0x20)),
     (0x40, 0x28, 0x20, 0, 1, 512, Checked(5, 0x24)),
     (0x40, 0x28, 0, 3, 2, 1024, Checked(5, 0x21)),
@@ -213,7 +213,7 @@ const UNKNOWN: Case = (0x40, 0x28, 0, 0, 1, 512, Invalid);
 #[test]
 fn ends_by_the_first_row_that_fits(rt: HostRuntime) -> Result<(), Fail> {
     let alloc = rt.alloc();
-    for case in &CASES {
+    for case in CASES {
         completes(&rt, alloc, false, SCSI, case)?;
     }
     completes(&rt, alloc, true, SCSI, &A_READ)?;
@@ -388,7 +388,7 @@ fn run<A: Adapter>(
 
 /// A read between two writes sees the first alone. Labels wait, are forgotten, or are taken. A reset faults a piece that did
 /// nothing and marks those that acted, each counted once; a piece that did nothing comes back busy.
-const THREE_TAGS: [Row; 31] = [
+const THREE_TAGS: &[Row] = &[
     (Write(0, 1, 0, 0xA5), Some(&[Starts(1, 0)])),
     (Write(1, 2, 1, 0x5A), Some(&[Starts(2, 1)])),
     (Read(2, 3, 0), Some(&[Starts(3, 2)])),
@@ -424,7 +424,7 @@ const THREE_TAGS: [Row; 31] = [
 
 /// The second act fails though nothing is wrong with its command, and moves nothing; acts that were ignored don't count.
 /// All else is as with the adapter in memory.
-const SECOND_ACT_FAILS: [Row; 13] = [
+const SECOND_ACT_FAILS: &[Row] = &[
     (Write(0, 1, 0, 0xA5), Some(&[Starts(1, 0)])),
     (Act(0, true), Some(&[Acts(1)])),
     (Act(0, false), Some(&[])),
@@ -446,7 +446,7 @@ fn run_three_tags<A: Adapter>(rt: &impl Abort, alloc: Global, adapter: A) -> Res
     requires few { (A.view adapter).accepted ≡ 0 }
     requires labels { length (A.view adapter).labels ≡ 0 }
 {
-    run(rt, alloc, adapter, &THREE_TAGS)
+    run(rt, alloc, adapter, THREE_TAGS)
 }
 
 /// Takes the steps on a disk whose second act fails, and which tells of itself what the one in memory does.
@@ -457,7 +457,7 @@ fn run_failing<A: Adapter>(rt: &impl Abort, alloc: Global, adapter: A) -> Result
     same(rt, &adapter.sector_size(), &512);
     same(rt, &adapter.max_transfer(), &64);
     assert!(rt; adapter.is_faithful() && adapter.failures() == 0);
-    run(rt, alloc, adapter, &SECOND_ACT_FAILS)
+    run(rt, alloc, adapter, SECOND_ACT_FAILS)
 }
 
 /// A disk whose second act fails.
@@ -499,6 +499,14 @@ fn write_with(alloc: Global, room: bool) -> Result<Srb, Fail>
     Ok(Srb { for_label, ..srb })
 }
 
+/// Whether a label is of an act that tells these bytes.
+fn is_act_with(label: &Option<DeviceLabel>, want: &[u8]) -> bool {
+    match label {
+        Some(DeviceLabel::Act { bytes, .. }) => bytes.as_slice() == want,
+        _ => false,
+    }
+}
+
 /// Checks the label of a write's act, and the SRB that comes back.
 fn acts_with<A: Adapter>(
     rt: &impl Abort,
@@ -513,10 +521,7 @@ fn acts_with<A: Adapter>(
     put(rt, &mut adapter, 0, 1, srb)?;
     act(rt, &mut adapter, 0);
     assert!(rt; is_told(adapter.take_label(), &Starts(1, 0)));
-    let label = adapter.take_label();
-    let is_wanted =
-        matches!(&label, Some(DeviceLabel::Act { bytes, .. }) if bytes.as_slice() == want);
-    assert!(rt; is_wanted);
+    assert!(rt; is_act_with(&adapter.take_label(), want));
     let (srb, _) = finish(&mut adapter, 0)?;
     same(rt, &srb.data.as_slice(), &[0xA5; 512].as_slice());
     Ok(())

@@ -1,6 +1,6 @@
 //! Acts that are booked, of a disk whose sectors stand elsewhere.
 
-ghost use Rattle.std.specs.Prelude.{◌≡◌, ◌<◌, ◌^◌, length, IfOk};
+ghost use Rattle.std.specs.Prelude.{◌≡◌, ◌≤◌, ◌<◌, ◌^◌, length, IfOk};
 
 use crate::adapters::{End, SCSI, act, completion_of, finish, put, srb_of};
 use crate::expect::same;
@@ -68,13 +68,18 @@ fn book_as<A: Adapter>(adapter: &mut A, tag: u8, piece: u128, entry: &mut Entry,
     }
 }
 
+/// Checks that piece 1 was started, on tag 0.
+fn is_started<A: Adapter>(rt: &impl Abort, adapter: &mut A) {
+    assert!(rt; matches!(adapter.take_label(), Some(DeviceLabel::Start { .. })));
+    assert!(rt; adapter.armed(1).is_none());
+    assert!(rt; matches!(adapter.armed(0), Some((1, _))));
+}
+
 /// Books this of piece 1 on tag 0, which was started, and of two pieces that are not there. No label is left.
 fn book<A: Adapter>(rt: &impl Abort, adapter: &mut A, entry: &mut Entry, how: How)
     ensures { length (A.view adapter.new).labels ≡ 0 }
 {
-    assert!(rt; matches!(adapter.take_label(), Some(DeviceLabel::Start { .. })));
-    assert!(rt; adapter.armed(1).is_none());
-    assert!(rt; matches!(adapter.armed(0), Some((1, _))));
+    is_started(rt, adapter);
     book_as(adapter, 1, 1, entry, how);
     book_as(adapter, 0, 2, entry, how);
     book_as(adapter, 0, 1, entry, how);
@@ -84,6 +89,30 @@ fn book<A: Adapter>(rt: &impl Abort, adapter: &mut A, entry: &mut Entry, how: Ho
 /// The first of some bytes, or 0 where there are none.
 fn first_of(bytes: &Bytes) -> u8 {
     bytes.as_slice().first().copied().unwrap_or(0)
+}
+
+/// The SRB of a command, with its data full of A5h.
+fn srb_for(alloc: Global, asked: Asked) -> Result<Srb, Fail>
+    requires { asked.2 ≤ 512 }
+    ensures { IfOk result (λ s. length s.data ≤ s.for_label) }
+{
+    let (flags, block, count) = asked;
+    srb_of(alloc, SCSI, flags, block, count, 0xA5)
+}
+
+/// Books the act of piece 1 on tag 0. Returns whether it acted, with what first byte the SRB comes back, and how it ends.
+fn acts_as<A: Adapter>(
+    rt: &impl Abort,
+    adapter: &mut A,
+    entry: &mut Entry,
+    how: How,
+) -> Result<(bool, u8, Completion), Fail> {
+    book(rt, adapter, entry, how);
+    act(rt, adapter, 0);
+    assert!(rt; adapter.armed(0).is_none());
+    let acted = matches!(adapter.take_label(), Some(DeviceLabel::Act { .. }));
+    let (srb, completion) = finish(adapter, 0)?;
+    Ok((acted, first_of(&srb.data), completion))
 }
 
 /// Books what a row says of an SRB's act, and checks how the SRB comes back, whether it acted, and with what the entry
@@ -97,17 +126,12 @@ fn comes_back<A: Adapter>(
     requires few { (A.view adapter).accepted ≡ 0 }
     requires place { length (A.view adapter).labels ≡ 0 }
 {
-    let ((flags, block, count), done, how, (byte, end, acts), left) = *row;
-    assert!(rt; count <= 512 && done.3 <= 512);
+    let (asked, done, how, (byte, end, acts), left) = *row;
+    assert!(rt; asked.2 <= 512 && done.3 <= 512);
     let mut entry = entry(alloc, done)?;
-    let srb = srb_of(alloc, SCSI, flags, block, count, 0xA5)?;
-    put(rt, &mut adapter, 0, 1, srb)?;
-    book(rt, &mut adapter, &mut entry, how);
-    act(rt, &mut adapter, 0);
-    assert!(rt; adapter.armed(0).is_none());
-    let acted = matches!(adapter.take_label(), Some(DeviceLabel::Act { .. }));
-    let (srb, completion) = finish(&mut adapter, 0)?;
-    same(rt, &first_of(&srb.data), &byte);
+    put(rt, &mut adapter, 0, 1, srb_for(alloc, asked)?)?;
+    let (acted, first, completion) = acts_as(rt, &mut adapter, &mut entry, how)?;
+    same(rt, &first, &byte);
     same(rt, &completion, &completion_of(end));
     same(rt, &acted, &acts);
     same(rt, &first_of(&entry.bytes), &left);
@@ -141,7 +165,7 @@ const UNBOOKED: (u8, End, bool) = (0xA5, Checked(4, 0), false);
 
 const FAILED: (u8, End, bool) = (0xA5, Checked(3, 0x11), false);
 
-const BOOKED: [Row; 11] = [
+const BOOKED: &[Row] = &[
     (A_READ, ONE_READ, Copied, READ, 0x5A),
     (A_READ, ONE_READ, Taken, READ, 0xA5),
     (A_READ, ONE_READ, Sent, UNBOOKED, 0x5A),
@@ -158,7 +182,7 @@ const BOOKED: [Row; 11] = [
 #[test]
 fn acts_are_as_booked(rt: HostRuntime) -> Result<(), Fail> {
     let alloc = rt.alloc();
-    for row in &BOOKED {
+    for row in BOOKED {
         comes_back(&rt, alloc, elsewhere(alloc)?, row)?;
     }
     Ok(())
@@ -171,7 +195,7 @@ const A_SYNC: Done = (Kind::Flush, 0, 0, 0, 0);
 /// What an SRB asks for, an entry, of how many sectors the disk is, and whether the entry may be of an act of it.
 type OfRow = (Asked<'static>, Done, u64, bool);
 
-const OF_ACTS: [OfRow; 13] = [
+const OF_ACTS: &[OfRow] = &[
     (A_READ, ONE_READ, 4, true),
     (A_READ, ONE_READ, 1, true),
     (A_READ, ONE_READ, 0, false),
@@ -189,9 +213,9 @@ const OF_ACTS: [OfRow; 13] = [
 
 /// Says whether the entry of a row may be of its SRB's act, as the row has it.
 fn is_of(rt: &impl Abort, alloc: Global, row: &OfRow) -> Result<(), Fail> {
-    let ((flags, block, count), done, sectors, expected) = *row;
-    assert!(rt; count <= 512 && done.3 <= 512);
-    let srb = srb_of(alloc, SCSI, flags, block, count, 0xA5)?;
+    let (asked, done, sectors, expected) = *row;
+    assert!(rt; asked.2 <= 512 && done.3 <= 512);
+    let srb = srb_for(alloc, asked)?;
     let entry = entry(alloc, done)?;
     same(rt, &may_be_entry_of(512, sectors, &srb, &entry), &expected);
     Ok(())
@@ -200,7 +224,7 @@ fn is_of(rt: &impl Abort, alloc: Global, row: &OfRow) -> Result<(), Fail> {
 #[test]
 fn entries_may_be_of_acts(rt: HostRuntime) -> Result<(), Fail> {
     let alloc = rt.alloc();
-    for row in &OF_ACTS {
+    for row in OF_ACTS {
         is_of(&rt, alloc, row)?;
     }
     Ok(())

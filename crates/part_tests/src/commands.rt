@@ -11,7 +11,7 @@ use std::process::Abort;
 /// sectors of 512 bytes.
 type Row = (&'static [u8], u64, u32, Direction, u64);
 
-const BLOCKS: [Row; 8] = [
+const BLOCKS: &[Row] = &[
     (
         &[0x28, 8, 0x12, 0x34, 0x56, 0x78, 0, 0x9A, 0xBC, 0],
         0x1234_5678,
@@ -72,7 +72,7 @@ fn has_block(rt: &impl Abort, row: &Row) {
 }
 
 /// Blocks with a fault: too few bytes, another opcode, a protect field that isn't zero, another service action.
-const FAULTS: [(&[u8], CdbFault); 4] = [
+const FAULTS: &[(&[u8], CdbFault)] = &[
     (&[0x28, 0x20, 0, 0, 0, 0, 0, 0, 1], ShortCdb),
     (&[0x12], UnknownOpcode),
     (&[0x28, 0x20, 0, 0, 8, 0, 0, 0, 1, 0], InvalidField),
@@ -84,10 +84,10 @@ const FAULTS: [(&[u8], CdbFault); 4] = [
 
 #[test]
 fn blocks_are_those_of_the_standard(rt: HostRuntime) {
-    for row in &BLOCKS {
+    for row in BLOCKS {
         has_block(&rt, row);
     }
-    for (block, fault) in &FAULTS {
+    for (block, fault) in FAULTS {
         assert!(rt; decode(block) == Err(*fault), "{block:?}");
     }
     let wide = [0x35, 0xFF, 0, 0, 0, 0, 0xFF, 0, 0, 4, 9];
@@ -104,12 +104,11 @@ const CODE_24: Sense = Sense {
     ascq: 0,
 };
 
+const TOLD: &[u8] = &[0x70, 0, 5, 0, 0, 0, 0, 10, 0, 0, 0, 0, 0x24, 0, 0, 0, 0, 0];
+
 /// Bytes, and the sense that they tell; of too few and of a deferred error none. Bits beside a key say nothing.
-const SENSES: [(&[u8], Option<Sense>); 4] = [
-    (
-        &[0x70, 0, 5, 0, 0, 0, 0, 10, 0, 0, 0, 0, 0x24, 0, 0, 0, 0, 0],
-        Some(CODE_24),
-    ),
+const SENSES: &[(&[u8], Option<Sense>)] = &[
+    (TOLD, Some(CODE_24)),
     (&[0x70, 0, 5, 0, 0, 0, 0, 10, 0, 0, 0, 0, 0x24], None),
     (&[0x71, 0, 5, 0, 0, 0, 0, 10, 0, 0, 0, 0, 0x24, 0], None),
     (
@@ -120,8 +119,8 @@ const SENSES: [(&[u8], Option<Sense>); 4] = [
 
 #[test]
 fn sense_has_its_bytes(rt: HostRuntime) {
-    same(&rt, &encode_sense(&CODE_24).as_slice(), &SENSES[0].0);
-    for (bytes, want) in &SENSES {
+    same(&rt, &encode_sense(&CODE_24).as_slice(), &TOLD);
+    for (bytes, want) in SENSES {
         same_at(&rt, &decode_sense(bytes), want, bytes);
     }
 }

@@ -4,6 +4,7 @@ ghost use Rattle.std.specs.Prelude.{◌≡◌};
 
 use crate::expect::{prints, same};
 use sector::{Bytes, Extent, InvalidParameter, LabelRoom, bytes_to_sectors};
+use std::process::Abort;
 use std::test::Fail;
 
 fn extent(first: u64, count: u64) -> Extent
@@ -12,16 +13,24 @@ fn extent(first: u64, count: u64) -> Extent
     Extent { first, count }
 }
 
-#[test]
-fn extents_are_cut_and_share_sectors(rt: HostRuntime) -> Result<(), Fail> {
+fn are_cut(rt: &impl Abort) {
     let (low, high) = extent(2048, 100).cut(64);
-    same(&rt, &low, &extent(2048, 64));
-    same(&rt, &high, &extent(2112, 36));
-    same(&rt, &extent(5, 3).shift(2048), &extent(2053, 3));
+    same(rt, &low, &extent(2048, 64));
+    same(rt, &high, &extent(2112, 36));
+    same(rt, &extent(5, 3).shift(2048), &extent(2053, 3));
+}
+
+fn share_sectors(rt: &impl Abort) {
     let last = u64::MAX;
     assert!(rt; extent(last, last).overlaps(extent(last - 1, 2)));
     assert!(rt; !extent(2048, 1024).overlaps(extent(3072, 1024)));
     assert!(rt; extent(4095, 1).is_within(4096) && !extent(last, 2).is_within(last));
+}
+
+#[test]
+fn extents_are_cut_and_share_sectors(rt: HostRuntime) -> Result<(), Fail> {
+    are_cut(&rt);
+    share_sectors(&rt);
     for (offset, length, want) in [
         (523_776, 512, Ok(extent(1023, 1))),
         (523_776, 1024, Err(InvalidParameter)),
@@ -33,23 +42,35 @@ fn extents_are_cut_and_share_sectors(rt: HostRuntime) -> Result<(), Fail> {
     prints(&rt, rt.alloc(), &InvalidParameter, text)
 }
 
+fn are_overwritten_and_emptied(rt: &impl Abort, bytes: Bytes) {
+    assert!(rt; bytes.len() == 2);
+    let bytes = bytes.overwritten(&[3, 4]);
+    same(rt, &bytes.as_slice(), &[3, 4].as_slice());
+    let kept = bytes.emptied().into_vec();
+    same(rt, &(kept.len(), kept.capacity()), &(0, 2));
+}
+
+fn are_kept_behind_none(rt: &impl Abort, bytes: Bytes) {
+    let bytes = bytes.emptied();
+    same(rt, &bytes.as_slice().len(), &0);
+    same(rt, &bytes.into_spare().as_slice(), &[1, 2].as_slice());
+}
+
+fn fill_a_room(rt: &impl Abort, room: LabelRoom) {
+    let mut room = room;
+    let taken = room.take();
+    assert!(rt; room.capacity() == 0 && taken.capacity() == 3);
+    let bytes = taken.filled(&[5, 6]);
+    same(rt, &bytes.as_slice(), &[5, 6].as_slice());
+}
+
 /// What stands behind bytes that are emptied is kept, and told to nobody but who takes the memory.
 #[test]
 fn bytes_keep_their_memory(rt: HostRuntime) -> Result<(), Fail> {
-    let bytes = Bytes::new(vec![in rt.alloc(); 1, 2]?);
-    same(&rt, &bytes.len(), &2);
-    let bytes = bytes.overwritten(&[3, 4]);
-    same(&rt, &bytes.as_slice(), &[3, 4].as_slice());
-    let kept = bytes.emptied().into_vec();
-    same(&rt, &(kept.len(), kept.capacity()), &(0, 2));
-    let bytes = Bytes::new(vec![in rt.alloc(); 1, 2]?).emptied();
-    same(&rt, &bytes.as_slice().len(), &0);
-    same(&rt, &bytes.into_spare().as_slice(), &[1, 2].as_slice());
-    let mut room = LabelRoom::new(rt.alloc(), 3)?;
-    let taken = room.take();
-    same(&rt, &(room.capacity(), taken.capacity()), &(0, 3));
-    let bytes = taken.filled(&[5, 6]);
-    same(&rt, &bytes.as_slice(), &[5, 6].as_slice());
-    same(&rt, &LabelRoom::none(rt.alloc()).capacity(), &0);
+    let alloc = rt.alloc();
+    are_overwritten_and_emptied(&rt, Bytes::new(vec![in alloc; 1, 2]?));
+    are_kept_behind_none(&rt, Bytes::new(vec![in alloc; 1, 2]?));
+    fill_a_room(&rt, LabelRoom::new(alloc, 3)?);
+    same(&rt, &LabelRoom::none(alloc).capacity(), &0);
     Ok(())
 }

@@ -97,7 +97,7 @@ const SIZES: Sizes = Sizes {
 };
 
 /// Commands one after the other, and what comes of each.
-const CARRIED_OUT: [(Command, Told); 7] = [
+const CARRIED_OUT: &[(Command, Told)] = &[
     (READ, Ok(Some(7))),
     (WRITE, Ok(None)),
     (READ, Ok(Some(9))),
@@ -108,7 +108,7 @@ const CARRIED_OUT: [(Command, Told); 7] = [
 ];
 
 /// Six calls write the sector, and the seventh syncs.
-const FAILURES: [(How, Command, (u8, u8, u8, u8)); 8] = [
+const FAILURES: &[(How, Command, (u8, u8, u8, u8))] = &[
     (FailsAt(3), READ, (0x84, 3, 0x11, 0)),
     (IsShort, READ, (0x84, 3, 0x11, 0)),
     (IsShort, WRITE, (0x84, 3, 0x0C, 0)),
@@ -119,17 +119,29 @@ const FAILURES: [(How, Command, (u8, u8, u8, u8)); 8] = [
     (FailsAt(0), SYNC, (0x84, 4, 0x00, 0)),
 ];
 
+/// Checks what comes of a command over a storage that fails so.
+fn fails(
+    rt: &impl Abort,
+    alloc: Global,
+    how: How,
+    command: Command,
+    want: Told,
+) -> Result<(), Fail> {
+    let mut disk = FileDisk::new(alloc, storage(alloc, how)?, SIZES);
+    comes_to(rt, alloc, &mut disk, command, want)?;
+    same(rt, &disk.is_full(), &matches!(how, IsFull));
+    Ok(())
+}
+
 #[test]
 fn each_command_is_carried_out_or_fails(rt: HostRuntime) -> Result<(), Fail> {
     let alloc = rt.alloc();
     let mut disk = FileDisk::new(alloc, storage(alloc, Serves)?, SIZES);
-    for (command, want) in CARRIED_OUT {
+    for &(command, want) in CARRIED_OUT {
         comes_to(&rt, alloc, &mut disk, command, want)?;
     }
-    for (how, command, want) in FAILURES {
-        let mut disk = FileDisk::new(alloc, storage(alloc, how)?, SIZES);
-        comes_to(&rt, alloc, &mut disk, command, Err(want))?;
-        same(&rt, &disk.is_full(), &matches!(how, IsFull));
+    for &(how, command, want) in FAILURES {
+        fails(&rt, alloc, how, command, Err(want))?;
     }
     Ok(())
 }

@@ -3,7 +3,7 @@
 ghost use Rattle.std.specs.Prelude.{◌≡◌, ◌≤◌, false};
 ghost use Rattle.part_tests.specs.Known.{IsKnown};
 
-use crate::session::Session;
+use crate::session::{Session, assert_wanted};
 use crate::steps::Step;
 use device::{Device, Hold};
 use hold_filter::Filter;
@@ -76,7 +76,7 @@ pub(crate) fn try_all_held<D: Holds>(
     let mut session = Session::new(filter, Driver::Filter, partitions);
     for (n, step) in steps.iter().enumerate() {
         let as_wanted = session.carry_out_held(rt, alloc, step)?;
-        assert!(rt; as_wanted, "step {n}, counted from 0");
+        assert_wanted(rt, n, as_wanted);
     }
     Ok(())
 }

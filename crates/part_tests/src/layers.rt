@@ -4,7 +4,7 @@ ghost use Rattle.std.specs.Prelude.{◌≡◌, ◌≤◌, ◌^◌, [], ◌∷◌
 ghost use Rattle.class_disk.specs.Opening.{IsFreshPort, TakesParts};
 ghost use Rattle.hold_filter.specs.Opening.{IsFreshBelow};
 ghost use Rattle.machine.specs.Map.{IsMap};
-ghost use Rattle.part_tests.specs.Fresh.{IsFreshOver};
+ghost use Rattle.part_tests.specs.Fresh.{IsBlank};
 ghost use Rattle.part_tests.specs.Known.{IsKnown};
 ghost use Rattle.partition.specs.Opening.{IsFreshDisk};
 
@@ -18,12 +18,12 @@ use crate::steps::Step::{
 use crate::steps::Told::{Acts, Bad, Busy, Faults, Good, Sends, Starts};
 use arrayvec::ArrayVec;
 use class_disk::Disk;
+use device::Device;
 use device::Kind::{Flush, Read, Write};
-use device::{Device, Shown};
 use disk::VecDisk;
 use hold_filter::Filter;
 use irp::Driver;
-use miniport::MemAdapter;
+use miniport::{Adapter, MemAdapter};
 use ntstatus::NtStatus;
 use partition::Partitions;
 use port::Port;
@@ -32,18 +32,18 @@ use std::alloc::{AllocError, Global};
 use std::process::Abort;
 use std::test::Fail;
 
-/// A port over this many sectors of 512 bytes, with these bad sectors, two tags and transfers of this many sectors.
-fn port(
+/// An adapter of this many sectors of 512 bytes, with these bad sectors, two tags and transfers of this many sectors.
+fn adapter(
     alloc: Global,
     sectors: u64,
     bad: &[u64],
     transfer: u32,
-) -> Result<Port<MemAdapter<VecDisk>>, AllocError>
+) -> Result<MemAdapter<VecDisk>, AllocError>
     requires some { 1 ≤ sectors }
     requires few { sectors ≤ 4096 }
     requires transfer { 1 ≤ transfer }
     requires short { transfer ≤ 64 }
-    ensures fresh { IfOk result (λ port. IsFreshOver (⟦<Port<MemAdapter<VecDisk>> as Shown>⟧.view port) sectors transfer) }
+    ensures { IfOk result (λ adapter. IsBlank adapter.shown sectors transfer) }
 {
     let bad = bad.to_vec(alloc)?;
     let Ok(disk) = VecDisk::new(alloc, 512, sectors, bad) else {
@@ -52,10 +52,7 @@ fn port(
     let Ok(adapter) = MemAdapter::new(alloc, disk, transfer, 2, false) else {
         return Err(AllocError);
     };
-    let Ok(port) = Port::new(alloc, adapter) else {
-        return Err(AllocError);
-    };
-    Ok(port)
+    Ok(adapter)
 }
 
 /// Takes these steps on a class driver over a port of eight sectors, of which nothing was asked yet.
@@ -90,6 +87,23 @@ fn filter_over<D: Device>(
     let filter = Filter::new(alloc, device, 1);
     let whole = [Extent { first: 0, count: 4 }];
     try_all_held(rt, alloc, filter, &whole, steps)
+}
+
+/// Takes these steps on a filter with a window of one over a class driver over a port of four sectors, of which nothing
+/// was asked yet.
+fn filter_over_class<D: Device>(
+    rt: &impl Abort,
+    alloc: Global,
+    port: D,
+    steps: &[Step],
+) -> Result<(), AllocError>
+    requires takes { TakesParts D.takes_srb D.stack_size }
+    requires fresh { IsFreshPort (D.view port) }
+    requires many { (D.view port).most ≡ 2 ^ 96 }
+    requires known { IsKnown (D.view port) (record { first = 0; count = 4 } ∷ []) 1 false false }
+{
+    let disk = Disk::new(alloc, port, 512);
+    filter_over(rt, alloc, disk, steps)
 }
 
 /// Takes these steps on these partitions of a disk of 4,096 sectors, of which nothing was asked yet.
@@ -342,36 +356,58 @@ const PARTITIONS: &[Step] = &[
     NoneDone,
 ];
 
-fn on_port(rt: &impl Abort, alloc: Global) -> Result<(), AllocError> {
-    let port = port(alloc, 4, &[3], 2)?;
+/// A port over this adapter. Each function here has but one layer's type, over any type below it: layers within one
+/// another are dear to prove.
+fn on_port<A: Adapter>(rt: &impl Abort, alloc: Global, adapter: A) -> Result<(), AllocError>
+    requires { IsBlank (A.view adapter) 4 2 }
+{
+    let Ok(port) = Port::new(alloc, adapter) else {
+        return Err(AllocError);
+    };
     let whole = [Extent { first: 0, count: 4 }];
     try_all(rt, alloc, port, Driver::Port, &whole, PORT)
 }
 
-fn on_class(rt: &impl Abort, alloc: Global) -> Result<(), AllocError> {
-    let port = port(alloc, 8, &[5], 2)?;
+fn on_class<A: Adapter>(rt: &impl Abort, alloc: Global, adapter: A) -> Result<(), AllocError>
+    requires { IsBlank (A.view adapter) 8 2 }
+{
+    let Ok(port) = Port::new(alloc, adapter) else {
+        return Err(AllocError);
+    };
     class_over(rt, alloc, port, CLASS)
 }
 
-fn on_filter(rt: &impl Abort, alloc: Global) -> Result<(), AllocError> {
-    let port = port(alloc, 4, &[], 2)?;
-    let disk = Disk::new(alloc, port, 512);
-    filter_over(rt, alloc, disk, FILTER)
+fn on_filter<A: Adapter>(rt: &impl Abort, alloc: Global, adapter: A) -> Result<(), AllocError>
+    requires { IsBlank (A.view adapter) 4 2 }
+{
+    let Ok(port) = Port::new(alloc, adapter) else {
+        return Err(AllocError);
+    };
+    filter_over_class(rt, alloc, port, FILTER)
 }
 
-fn on_partitions(rt: &impl Abort, alloc: Global, partitions: &[Extent]) -> Result<(), AllocError>
+fn on_partitions<A: Adapter>(
+    rt: &impl Abort,
+    alloc: Global,
+    adapter: A,
+    partitions: &[Extent],
+) -> Result<(), AllocError>
+    requires blank { IsBlank (A.view adapter) 4096 64 }
     requires few { length partitions.now ≤ 4 }
     requires map { IsMap 4096 partitions.now }
 {
-    let port = port(alloc, 4096, &[3100], 64)?;
+    let Ok(port) = Port::new(alloc, adapter) else {
+        return Err(AllocError);
+    };
     partitions_over(rt, alloc, port, partitions, PARTITIONS)
 }
 
 #[test]
 fn each_layer_serves_by_its_contract(rt: HostRuntime) -> Result<(), Fail> {
-    on_port(&rt, rt.alloc())?;
-    on_class(&rt, rt.alloc())?;
-    on_filter(&rt, rt.alloc())?;
-    on_partitions(&rt, rt.alloc(), &TURNED)?;
+    let alloc = rt.alloc();
+    on_port(&rt, alloc, adapter(alloc, 4, &[3], 2)?)?;
+    on_class(&rt, alloc, adapter(alloc, 8, &[5], 2)?)?;
+    on_filter(&rt, alloc, adapter(alloc, 4, &[], 2)?)?;
+    on_partitions(&rt, alloc, adapter(alloc, 4096, &[3100], 64)?, &TURNED)?;
     Ok(())
 }

@@ -39,7 +39,7 @@ fn numbers_are_those_of_the_headers(rt: HostRuntime) -> Result<(), Fail> {
 /// A completion, with the key and the code of its sense; its class where that isn't bad, and its status.
 type Completed = (u8, u8, Option<(u8, u8)>, Option<Class>, NtStatus);
 
-const COMPLETED: [Completed; 5] = [
+const COMPLETED: &[Completed] = &[
     (0xC1, 0x00, None, Some(Class::Good), NtStatus::Success),
     (0x05, 0x08, None, Some(Class::Busy), NtStatus::DeviceBusy),
     (0x84, 0x02, Some((3, 0x11)), None, NtStatus::DeviceDataError),
@@ -67,7 +67,7 @@ fn is_completed(rt: &impl Abort, row: &Completed) {
 
 #[test]
 fn completions_and_flags_are_taken_as_they_are(rt: HostRuntime) -> Result<(), Fail> {
-    for row in &COMPLETED {
+    for row in COMPLETED {
         is_completed(&rt, row);
     }
     let both = SrbFlags::from_bits(0xC0);

@@ -11,6 +11,7 @@ use irp::{
 use ntstatus::NtStatus;
 use sector::{Bytes, Extent};
 use srb::Srb;
+use std::alloc::{AllocError, Global};
 use std::process::Abort;
 use std::test::Fail;
 
@@ -99,14 +100,16 @@ fn climbs(rt: &impl Abort, irp: Irp, status: NtStatus, called: &[Driver]) {
     same(rt, &bytes.as_slice(), &[0xA5, 0x5A].as_slice());
 }
 
+fn payload(alloc: Global) -> Result<Payload, AllocError> {
+    Ok(Payload::Buffer(Bytes::new([0xA5, 0x5A].to_vec(alloc)?)))
+}
+
 #[test]
 fn packets_climb_to_the_routines_that_ask(rt: HostRuntime) -> Result<(), Fail> {
-    let payload = Payload::Buffer(Bytes::new([0xA5, 0x5A].to_vec(rt.alloc())?));
-    let irp = packet_at_port(payload, ON_BOTH, ON_BOTH, ON_ERROR);
+    let irp = packet_at_port(payload(rt.alloc())?, ON_BOTH, ON_BOTH, ON_ERROR);
     let all = [Driver::Class, Driver::Filter, Driver::Partition];
     climbs(&rt, irp, NtStatus::IoDeviceError, &all);
-    let payload = Payload::Buffer(Bytes::new([0xA5, 0x5A].to_vec(rt.alloc())?));
-    let mut irp = packet_at_port(payload, NEVER, NEVER, ON_CANCEL);
+    let mut irp = packet_at_port(payload(rt.alloc())?, NEVER, NEVER, ON_CANCEL);
     irp.mark_cancelled();
     climbs(&rt, irp, NtStatus::Success, &[Driver::Class]);
     Ok(())

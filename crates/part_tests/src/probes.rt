@@ -83,50 +83,80 @@ fn tells<A: Adapter>(
 /// The least number of sectors that READ CAPACITY(10) can't tell.
 const FAR: u64 = 0x1_0000_0000;
 
+/// A disk's sectors, and how many commands a probe sends to it.
+const SENT: &[(u64, u64)] = &[(4096, 2), (FAR - 1, 2), (FAR, 3), (1 << 40, 3)];
+
+const ONE: &[Extent] = &[Extent {
+    first: 2048,
+    count: 1024,
+}];
+
+// Probes a disk of this many sectors, of which the command behind so many fails, if that many are sent.
+fn fails_or_is_probed(
+    rt: &impl Abort,
+    alloc: Global,
+    sectors: u64,
+    commands: u64,
+    before: u64,
+) -> Result<(), AllocError> {
+    let disk = partitioned(rt, alloc, sectors, &[])?;
+    let once = PlannedAdapter::failing_once(alloc, disk, before)?;
+    if before < commands {
+        let failed = Err(ProbeFault::Device(NtStatus::IoDeviceError));
+        return tells(rt, alloc, once, failed, 1);
+    }
+    tells(rt, alloc, once, Ok(ONE), 0)
+}
+
+fn a_short_disk_is_refused(rt: &impl Abort, alloc: Global) -> Result<(), AllocError> {
+    let past_end = Err(ProbeFault::Mbr(MbrFault::PastEnd));
+    tells(rt, alloc, partitioned(rt, alloc, 3000, &[])?, past_end, 0)
+}
+
+fn a_table_is_unread(rt: &impl Abort, alloc: Global) -> Result<(), AllocError> {
+    let unread = Err(ProbeFault::Device(NtStatus::DeviceDataError));
+    tells(rt, alloc, partitioned(rt, alloc, 4096, &[0])?, unread, 1)
+}
+
+fn large_sectors_are_probed(rt: &impl Abort, alloc: Global) -> Result<(), AllocError> {
+    let first = table(rt, &[]);
+    let large = VecDisk::starting_with(alloc, 4096, 8, first.as_slice(), Vec::new(alloc));
+    let large = large.map_err(no_memory)?;
+    tells(rt, alloc, adapter(rt, alloc, large)?, Ok(&[]), 0)
+}
+
 // Each command fails in turn: two are sent to a disk that READ CAPACITY(10) tells of, and three to a longer one.
 #[test]
 fn a_disk_is_probed_or_a_command_fails(rt: HostRuntime) -> Result<(), Fail> {
     let alloc = rt.alloc();
-    let failed = Err(ProbeFault::Device(NtStatus::IoDeviceError));
-    for (sectors, commands) in [(4096, 2), (FAR - 1, 2), (FAR, 3), (1 << 40, 3)] {
+    for &(sectors, commands) in SENT {
         for before in 0..4 {
-            let once = PlannedAdapter::failing_once(
-                alloc,
-                partitioned(&rt, alloc, sectors, &[])?,
-                before,
-            )?;
-            if before < commands {
-                tells(&rt, alloc, once, failed, 1)?;
-            } else {
-                tells(&rt, alloc, once, Ok(&[extent(2048, 1024)]), 0)?;
-            }
+            fails_or_is_probed(&rt, alloc, sectors, commands, before)?;
         }
     }
-    let past_end = Err(ProbeFault::Mbr(MbrFault::PastEnd));
-    tells(&rt, alloc, partitioned(&rt, alloc, 3000, &[])?, past_end, 0)?;
-    let unread = Err(ProbeFault::Device(NtStatus::DeviceDataError));
-    tells(&rt, alloc, partitioned(&rt, alloc, 4096, &[0])?, unread, 1)?;
-    let first = table(&rt, &[]);
-    let large = VecDisk::starting_with(alloc, 4096, 8, first.as_slice(), Vec::new(alloc))?;
-    tells(&rt, alloc, adapter(&rt, alloc, large)?, Ok(&[]), 0)?;
+    a_short_disk_is_refused(&rt, alloc)?;
+    a_table_is_unread(&rt, alloc)?;
+    large_sectors_are_probed(&rt, alloc)?;
     Ok(())
 }
 
 // A fault of the probe, and of the table within it.
+const TEXTS: &[(ProbeFault, &str)] = &[
+    (
+        ProbeFault::Device(NtStatus::DeviceDataError),
+        "the device failed a command of the probe: DEVICE_DATA_ERROR",
+    ),
+    (
+        ProbeFault::Mbr(MbrFault::NoSignature),
+        "the partition table is wrong: no signature",
+    ),
+    (ProbeFault::NoMemory, "no memory"),
+];
+
 #[test]
 fn faults_are_told(rt: HostRuntime) -> Result<(), Fail> {
-    for (fault, want) in [
-        (
-            ProbeFault::Device(NtStatus::DeviceDataError),
-            "the device failed a command of the probe: DEVICE_DATA_ERROR",
-        ),
-        (
-            ProbeFault::Mbr(MbrFault::NoSignature),
-            "the partition table is wrong: no signature",
-        ),
-        (ProbeFault::NoMemory, "no memory"),
-    ] {
-        prints(&rt, rt.alloc(), &fault, want)?;
+    for (fault, want) in TEXTS {
+        prints(&rt, rt.alloc(), fault, want)?;
     }
     Ok(())
 }

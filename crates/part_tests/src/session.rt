@@ -227,6 +227,11 @@ impl<'a, D: Device> Session<'a, D> {
     }
 }
 
+/// Ends the test, and names the step, where it did not answer what it must.
+pub(crate) fn assert_wanted(rt: &impl Abort, n: usize, as_wanted: bool) {
+    assert!(rt; as_wanted, "step {n}, counted from 0");
+}
+
 /// Takes all steps in turn, on a layer of which nothing was asked yet.
 pub(crate) fn try_all<D: Device>(
     rt: &impl Abort,
@@ -242,7 +247,7 @@ pub(crate) fn try_all<D: Device>(
     let mut session = Session::new(device, driver, partitions);
     for (n, step) in steps.iter().enumerate() {
         let as_wanted = session.carry_out(rt, alloc, step)?;
-        assert!(rt; as_wanted, "step {n}, counted from 0");
+        assert_wanted(rt, n, as_wanted);
     }
     Ok(())
 }

@@ -8,6 +8,7 @@ use arrayvec::ArrayVec;
 use mbr::MbrFault::{CoversTable, EmptyEntry, NoSignature, Overlap, PastEnd, ShortSector};
 use mbr::{MbrFault, parse, render};
 use sector::Extent;
+use std::alloc::Global;
 use std::process::Abort;
 use std::test::Fail;
 
@@ -59,6 +60,23 @@ fn a_table_says_its_partitions_or_its_fault(rt: HostRuntime) {
     }
 }
 
+/// The texts of faults.
+const TEXTS: &[(MbrFault, &str)] = &[
+    (ShortSector, "short sector"),
+    (NoSignature, "no signature"),
+    (EmptyEntry, "empty entry"),
+    (CoversTable, "covers table"),
+    (PastEnd, "past end"),
+    (Overlap, "overlap"),
+];
+
+fn faults_have_texts(rt: &impl Abort, alloc: Global) -> Result<(), Fail> {
+    for (fault, want) in TEXTS {
+        prints(rt, alloc, fault, want)?;
+    }
+    Ok(())
+}
+
 #[test]
 fn a_table_has_its_bytes_and_faults_their_texts(rt: HostRuntime) -> Result<(), Fail> {
     let entries = [(0, extent(1, 2)), (0xEE, extent(0xFFFF_FFFF, 0x8070_6050))];
@@ -70,15 +88,5 @@ fn a_table_has_its_bytes_and_faults_their_texts(rt: HostRuntime) -> Result<(), F
     ]);
     bytes[510..].copy_from_slice(&[0x55, 0xAA]);
     same(&rt, &sector.as_slice(), &bytes.as_slice());
-    for (fault, want) in [
-        (ShortSector, "short sector"),
-        (NoSignature, "no signature"),
-        (EmptyEntry, "empty entry"),
-        (CoversTable, "covers table"),
-        (PastEnd, "past end"),
-        (Overlap, "overlap"),
-    ] {
-        prints(&rt, rt.alloc(), &fault, want)?;
-    }
-    Ok(())
+    faults_have_texts(&rt, rt.alloc())
 }
