@@ -29,4 +29,6 @@ mod served;
 #[cfg(test)]
 mod sessions;
 #[cfg(test)]
+mod structured;
+#[cfg(test)]
 mod volumes;

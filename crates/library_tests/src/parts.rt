@@ -13,6 +13,14 @@ pub(crate) enum Part {
     Request(u16, u16, u64, u64, u32),
     /// A reply: its error and its cookie.
     Reply(u32, u64),
+    /// The front of an option: its code, and how many bytes come behind it.
+    Asks(u32, u32),
+    /// The front of a reply to an option: the option's code, the reply's kind, and how many bytes come behind it.
+    Answers(u32, u32, u32),
+    /// The front of a structured reply's last chunk: its kind, its cookie, and how many bytes come behind it.
+    Chunk(u16, u64, u32),
+    /// The name `base:allocation`.
+    Allocation,
 }
 
 /// What a client sends to come to its requests: NBD_OPT_GO for the export with the empty name.
@@ -74,6 +82,25 @@ pub(crate) fn add(bytes: &mut Vec<u8>, parts: &[Part]) -> Result<(), AllocError>
                 bytes.extend_from_slice(&error.to_be_bytes())?;
                 bytes.extend_from_slice(&cookie.to_be_bytes())?;
             }
+            Part::Asks(code, count) => {
+                bytes.extend_from_slice(&0x4948_4156_454F_5054_u64.to_be_bytes())?;
+                bytes.extend_from_slice(&code.to_be_bytes())?;
+                bytes.extend_from_slice(&count.to_be_bytes())?;
+            }
+            Part::Answers(code, kind, count) => {
+                bytes.extend_from_slice(&0x0003_E889_0455_65A9_u64.to_be_bytes())?;
+                bytes.extend_from_slice(&code.to_be_bytes())?;
+                bytes.extend_from_slice(&kind.to_be_bytes())?;
+                bytes.extend_from_slice(&count.to_be_bytes())?;
+            }
+            Part::Chunk(kind, cookie, count) => {
+                bytes.extend_from_slice(&0x668E_33EF_u32.to_be_bytes())?;
+                bytes.extend_from_slice(&1_u16.to_be_bytes())?;
+                bytes.extend_from_slice(&kind.to_be_bytes())?;
+                bytes.extend_from_slice(&cookie.to_be_bytes())?;
+                bytes.extend_from_slice(&count.to_be_bytes())?;
+            }
+            Part::Allocation => bytes.extend_from_slice(b"base:allocation")?,
         }
     }
     Ok(())

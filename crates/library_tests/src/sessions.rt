@@ -3,18 +3,18 @@
 use crate::expect::{same, same_at};
 use crate::parts::Part::{Fill, Reply, Request};
 use crate::parts::{GO, Part, bytes_of, fill, gone};
-use nbd::{Array, ArrayFault, End, MemArray, Sizes, serve};
+use nbd::{Array, ArrayFault, End, MemArray, Run, Sizes, serve};
 use std::alloc::{AllocError, Global};
 use std::process::Abort;
 
 /// An array that counts what goes past caches, and may fail.
 #[derive(Drop)]
-struct Counting {
-    array: MemArray,
+pub(crate) struct Counting {
+    pub(crate) array: MemArray,
     /// How many writes went past caches.
-    through: u32,
-    flushes: u32,
-    fault: Option<ArrayFault>,
+    pub(crate) through: u32,
+    pub(crate) flushes: u32,
+    pub(crate) fault: Option<ArrayFault>,
 }
 
 impl Array for Counting {
@@ -58,6 +58,10 @@ impl Array for Counting {
             None => self.array.flush(alloc),
         }
     }
+
+    fn run(&self, offset: u64, count: u32) -> Run {
+        self.array.run(offset, count)
+    }
 }
 
 /// A write past caches and one that isn't, zeros past caches, a flush and a read.
@@ -92,7 +96,7 @@ static FAULTS: [(ArrayFault, u32); 4] = [
 ];
 
 /// The bytes of blocks that are filled with these.
-fn blocks(alloc: Global, fillings: &[u8]) -> Result<Vec<u8>, AllocError> {
+pub(crate) fn blocks(alloc: Global, fillings: &[u8]) -> Result<Vec<u8>, AllocError> {
     let mut bytes = Vec::new(alloc);
     for filling in fillings {
         fill(&mut bytes, *filling, 512)?;

@@ -9,10 +9,12 @@ use disk::{Medium, NoMemory, VecDisk};
 use miniport::MemAdapter;
 use ntstatus::NtStatus;
 use sector::Bytes;
+use settings::ConfigFault;
+use startup::{open, settings_of};
 use std::alloc::{AllocError, Global};
 use std::process::Abort;
 use std::test::Fail;
-use volume::{Error, OpenFault, Volume};
+use volume::{Error, OpenFault, Run, SparseVolume, Volume};
 
 /// Sector 0 with one partition, of the sectors 2,048 to 3,071. An entry has its type in byte 4, its first sector in the
 /// bytes from 8 on and their number in those from 12 on, the lowest first.
@@ -228,5 +230,77 @@ fn reads_writes_and_flushes(rt: HostRuntime) -> Result<(), Fail> {
     let alloc = rt.alloc();
     let adapter = disk_adapter(&rt, alloc, &[2052])?;
     run(&rt, alloc, adapter, &ROWS)?;
+    Ok(())
+}
+
+/// A partition of 1,024 sectors: sixteen parts of 32,768 bytes.
+const WRITTEN: &str =
+    "sector_size = 512\nsectors = 1025\nmax_transfer = 2\ndepth = 2\nwindow = 1\n[[partition]]\nfirst = 1\n\
+    count = 1024\n";
+
+/// A run of bytes that are zeros, or not known to be.
+fn run_of(count: u64, are_zeros: bool) -> Option<Run> {
+    Some(Run { count, are_zeros })
+}
+
+/// The run that begins at this byte, of so many bytes at most, if they are sectors.
+fn run_at<A: Adapter>(volume: &SparseVolume<A>, offset: u64, count: u64) -> Option<Run> {
+    if volume.has_sectors(offset, count) {
+        Some(volume.run(offset, count))
+    } else {
+        None
+    }
+}
+
+/// Writes, and asks where nothing was written.
+fn tell_runs<A: Adapter>(
+    rt: &impl Abort,
+    alloc: Global,
+    volume: &mut SparseVolume<A>,
+) -> Result<(), AllocError> {
+    for (offset, length) in [(32_768, 32_768), (65_536, 512), (523_776, 512)] {
+        let bytes = filled(alloc, 0xA5, length)?;
+        let written = volume.write(alloc, offset, bytes, false);
+        assert!(rt; gives(written, Given::Done)?);
+    }
+    let rows = [
+        (0, 524_288, run_of(32_768, true)),
+        (0, 512, run_of(512, true)),
+        // The second part and the third were written, the third by one sector.
+        (32_768, 491_520, run_of(65_536, false)),
+        (66_048, 512, run_of(512, false)),
+        (97_792, 426_496, run_of(512, false)),
+        (98_304, 425_984, run_of(393_216, true)),
+        // The last sector was written.
+        (491_520, 32_768, run_of(32_768, false)),
+        (491_008, 1024, run_of(512, true)),
+        // No sectors of the partition.
+        (0, 0, None),
+        (100, 512, None),
+        (0, 100, None),
+        (523_776, 1024, None),
+    ];
+    for (offset, count, run) in rows {
+        let told = run_at(volume, offset, count);
+        assert!(rt; told == run, "{offset} {count}: {told:?}");
+    }
+    Ok(())
+}
+
+#[test]
+fn tells_what_was_never_written(rt: HostRuntime) -> Result<(), Fail> {
+    let alloc = rt.alloc();
+    let config = match settings_of(alloc, WRITTEN.as_bytes()) {
+        Ok(config) => config,
+        Err(ConfigFault::NoMemory) => return Err(Fail::from(AllocError)),
+        Err(fault) => panic!(rt; "{fault:?}"),
+    };
+    let volume = match open(alloc, config, 0) {
+        Ok(volume) => volume,
+        Err(OpenFault::Start(StartFault::NoMemory)) => return Err(Fail::from(AllocError)),
+        Err(fault) => panic!(rt; "{fault:?}"),
+    };
+    let mut volume = SparseVolume::new(alloc, volume);
+    tell_runs(&rt, alloc, &mut volume)?;
     Ok(())
 }
