@@ -1,5 +1,5 @@
 -- A call on a stack on which nothing else is open: it goes, or ends at once.
-use Rattle.volume.proofs.Common.{◌≡◌, ◌<◌, ◌≤◌, ◌⊎◌, inl, inr, ℕ, ◌+◌, ◌-◌, ◌/◌, Bool, true, false, List, [], ◌∷◌, ◌++◌, Option, Some, None, refl, sym, ◌∙◌, ap, subst, arith, length, take, drop, map, All, Any, IsPermutation, IsNone, IsFalse, slice_get, ◌&&◌, ◌==◌, not, nat_le, is_none, is_some, if◌then◌else◌, concat, nat_tests, mod-add-div', All-append, All-cons, All-nil, IsPermutation-sym, IsPermutation-trans, IsPermutation-append_right, IsPermutation-append_comm, NtStatus, when, first_some, IsIn, IsSector, sectors_in, DeviceLabel, Kind, Read, Write, Flush, ClientRequest, Label, Call, Answer, Rules, is_transfer, is_in_bounds, place_count, OpenRequest, Owed, State, IsSame, refusal, is_full, Opens, Refuses, Admits, bytes_carried, Step, Run, as_label, Run-append, none_there, IsReached, Handle, Id, Refusal, InvalidHandle, InvalidParameter, DeletePending, DeviceBusy, InsufficientResources, InvalidDeviceRequest, NotFound, Reply, ManagerView, number_limit, status_of_refusal, without_bytes, Event, AreUsable, IsIdle, IsReady, IsBetween, IsQuiet, answers_of, Quietly, Goes, Asks, Leaves, ComesTo, Ends, HasReason, Turns, disk_first, sectors_on, IsRead}
+use Rattle.volume.proofs.Common.{◌≡◌, ◌<◌, ◌≤◌, ◌⊎◌, inl, inr, ℕ, ◌+◌, ◌-◌, ◌/◌, Bool, true, false, List, [], ◌∷◌, ◌++◌, Option, Some, None, refl, sym, ◌∙◌, ap, subst, arith, length, take, drop, map, All, Any, IsPermutation, IsNone, IsFalse, slice_get, ◌&&◌, ◌==◌, not, nat_le, is_none, is_some, if◌then◌else◌, concat, nat_tests, mod-add-div', All-append, All-cons, All-nil, IsPermutation-sym, IsPermutation-trans, IsPermutation-append_right, IsPermutation-append_comm, NtStatus, when, first_some, IsIn, IsSector, sectors_in, DeviceLabel, Kind, Read, Write, Flush, ClientRequest, Label, Call, Answer, Rules, is_transfer, is_in_bounds, place_count, OpenRequest, Owed, State, IsSame, refusal, is_full, Opens, Refuses, Admits, bytes_carried, Step, Run, as_label, Run-append, none_there, IsReached, Handle, Id, Refusal, InvalidHandle, InvalidParameter, DeletePending, DeviceBusy, InsufficientResources, InvalidDeviceRequest, NotFound, Reply, ManagerView, number_limit, status_of_refusal, without_bytes, Event, AreUsable, IsIdle, IsReady, IsBetween, IsQuiet, answers_of, Quietly, Goes, Asks, Leaves, Looks, ComesTo, Ends, HasReason, Turns, disk_first, sectors_on, IsRead}
 use Rattle.ntstatus.specs.declared.NtStatus.TheVariants.{Success, InvalidHandle as InvalidHandleStatus, InvalidParameter as InvalidParameterStatus, DeletePending as DeletePendingStatus, DeviceBusy as DeviceBusyStatus, InsufficientResources as ResourcesStatus, InvalidDeviceRequest as RequestStatus, NotFound as FoundStatus}
 use Rattle.io_manager.specs.declared.Answer.{Answer as AnswerOf}
 use Rattle.io_manager.specs.declared.Reply.TheVariants.{Handle as HandleReply, Request as Requested, Answered, Refused}
@@ -362,14 +362,7 @@ goes_further before number q mid new g h = record {
   handles = record { handles = h.handles.handles ∙ g.handles.handles; next_handle = h.handles.next_handle ∙ g.handles.next_handle };
 }
 
--- the answers were looked through behind quiet labels
-pub record Looks (old : ManagerView) (answer : Option AnswerOf) (now : ManagerView) : Type 0 where
-  pub looked : ManagerView
-  pub quietly : Quietly old looked
-  pub between : IsBetween looked
-  pub takes : TakesAnswer looked answer now
-
--- and none was found
+-- no answer was found yet
 pub none_yet : (old : ManagerView) (answer : Option AnswerOf) (now : ManagerView) → Looks old answer now → is_some answer ≡ false → Quietly old now × IsBetween now × (now.answers ≡ [])
 none_yet old None now h none = (
   subst (λ (v : ManagerView). Quietly old v) (sym h.takes.1) h.quietly,

@@ -67,5 +67,5 @@ pub use Rattle.std.specs.Prelude.{All, Any, Contains, IfErr, IsFalse, IsNone, Is
 pub use Rattle.volume.specs.Opening.{IsOpenRefusal, IsRefusedOf, LacksHandle}
 pub use Rattle.volume.specs.Ready.{AreUsable, IsIdle, IsReady, VolumeKept}
 pub use Rattle.volume.specs.Shown.{VolumeView, content_of, extent_at, handle_count, parted_at, volume_over}
-pub use Rattle.volume.specs.Working.{Asks, ChangesSome, ComesTo, Ends, Goes, HasReason, IsBetween, IsPlaceOf, IsQuiet, Leaves, Quietly, Turns, answers_of, disk_first, fresh_count, sectors_on, tags_out, unsent_places, work}
+pub use Rattle.volume.specs.Working.{Asks, ChangesSome, ComesTo, Ends, Goes, HasReason, IsBetween, IsPlaceOf, IsQuiet, Leaves, Looks, Quietly, Turns, answers_of, disk_first, fresh_count, sectors_on, tags_out, unsent_places, work}
 pub use Rattle.volume.specs.declared.Sizes.{Sizes}

@@ -5,6 +5,7 @@ pub mod Using
 pub mod Steps
 pub mod Disk
 pub mod Ending
+pub mod Going
 pub mod Calling
 pub mod Bytes
 pub mod Content

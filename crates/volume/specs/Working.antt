@@ -1,5 +1,5 @@
 -- A request that goes on alone: nobody calls, and the adapter acts on what it has and hands it back.
-use Rattle.std.specs.Prelude.{◌≡◌, ◌<◌, ◌≤◌, ◌⊎◌, ◌≢◌, ℕ, ◌+◌, ◌*◌, false, List, [], ◌∷◌, ◌++◌, Some, map, length, slice_get, slice_range, count_by, All, IsPermutation, IsTrue, IsFalse}
+use Rattle.std.specs.Prelude.{◌≡◌, ◌<◌, ◌≤◌, ◌⊎◌, ◌≢◌, ℕ, ◌+◌, ◌*◌, false, List, [], ◌∷◌, ◌++◌, Option, Some, map, length, slice_get, slice_range, count_by, All, IsPermutation, IsTrue, IsFalse}
 use Rattle.std.specs.List.{sum_by, concat}
 use Rattle.ntstatus.specs.declared.NtStatus.{NtStatus}
 use Rattle.ntstatus.specs.declared.NtStatus.TheVariants.{Success}
@@ -22,7 +22,7 @@ use Rattle.io_manager.specs.declared.Refusal.TheVariants.{InvalidParameter, Devi
 use Rattle.io_manager.specs.Shown.{ManagerView}
 use Rattle.io_manager.specs.Calls.{call_on, number_limit}
 use Rattle.device.specs.View.{KeepsOutside}
-use Rattle.io_manager.specs.Right.{FitsTogether, SameHandles, as_answer}
+use Rattle.io_manager.specs.Right.{FitsTogether, SameHandles, TakesAnswer, as_answer}
 use Rattle.compose.specs.declared.Event.{Event}
 use Rattle.compose.specs.declared.Event.TheVariants.{Read as ReadEvent, Write as WriteEvent, Flush as FlushEvent}
 use Rattle.volume.specs.Shown.{extent_at}
@@ -92,6 +92,13 @@ pub record Goes (before : ManagerView) (number : ℕ) (q : ClientRequest) (now :
   pub same_rules : now.rules ≡ before.rules
   pub outside : KeepsOutside before.rules.partitions before.adapter now.adapter
   pub handles : SameHandles before now
+
+-- quiet labels led to a look for an answer
+pub record Looks (old : ManagerView) (answer : Option AnswerOf) (now : ManagerView) : Type 0 where
+  pub looked : ManagerView
+  pub quietly : Quietly old looked
+  pub between : IsBetween looked
+  pub takes : TakesAnswer looked answer now
 
 -- CALLS
 

@@ -19,6 +19,7 @@ use ntstatus::NtStatus;
 
 mod carrying;
 mod opening;
+mod slowing;
 mod sparse;
 mod volume;
 mod written;

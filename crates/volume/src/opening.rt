@@ -7,6 +7,7 @@ ghost use Rattle.volume.specs.Opening.{IsOn, IsOpenFault, IsOpenRefusal, ShowsDi
 ghost use Rattle.probe.specs.Exchange.{IsIdle};
 
 use crate::carrying::step;
+use crate::slowing::Slowing;
 use crate::{NotOpened, OpenFault, Sizes, Unopened, Volume};
 use adapter::Adapter;
 use compose::{Event, Handle, NotStarted, Refusal, Reply, Settings, Stack};
@@ -107,6 +108,7 @@ impl<A: Adapter> Volume<A> {
             handle,
             partition,
             sizes,
+            slowing: Slowing::none(alloc),
         })
     }
 }

@@ -155,6 +155,13 @@ impl<A: Adapter> SparseVolume<A> {
         self.volume.flush(alloc)
     }
 
+    /// As [`Volume::take_delay`].
+    pub fn take_delay(&mut self) -> u64
+        ensures { self.new ≡ self.old }
+    {
+        self.volume.take_delay()
+    }
+
     /// As [`Volume::close`].
     pub fn close(self, alloc: Global) -> Stack<A>
         ensures ready { IsReady result }

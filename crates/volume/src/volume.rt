@@ -6,9 +6,11 @@ ghost use Rattle.volume.specs.Ready.{IsReady};
 ghost use Rattle.volume.specs.Calls.{AreInBounds, IsFault, IsSameDisk, IsToldAsAnswered, IsWriteFault, Reads, WasSent, Writes, flush_of, read_of, write_of};
 
 use crate::carrying::{carry_out, step};
+use crate::slowing::Slowing;
 use crate::{Error, Sizes};
 use adapter::Adapter;
 use compose::{Event, Handle, Stack};
+use injection::Rule;
 use ntstatus::NtStatus;
 use sector::Bytes;
 use std::alloc::Global;
@@ -20,6 +22,7 @@ pub struct Volume<A: Adapter> {
     pub(crate) handle: Handle,
     pub(crate) partition: u8,
     pub(crate) sizes: Sizes,
+    pub(crate) slowing: Slowing,
 }
 
 // Written by hand: each crate above would prove a derived one again.
@@ -30,6 +33,7 @@ impl<A: Adapter> Drop for Volume<A> {
             handle: _,
             partition: _,
             sizes: _,
+            slowing: _,
         } = self;
     }
 }
@@ -46,6 +50,25 @@ impl<A: Adapter> Model for Volume<A> {
 }
 
 impl<A: Adapter> Volume<A> {
+    /// Has commands come back busy or take longer by these rules from now on, and by no others. A rule of another kind
+    /// does nothing. A piece that came back busy is sent again, as often as the stack sends one; with
+    /// [`NtStatus::DeviceBusy`] the request fails.
+    pub fn with_rules(self, rules: Vec<Rule>) -> Volume<A>
+        ensures { result ≡ self }
+    {
+        let mut volume = self;
+        volume.slowing = Slowing::by(rules);
+        volume
+    }
+
+    /// Returns by how many milliseconds rules delayed commands since this was asked last. Whoever serves the volume waits
+    /// so long: a call only says so.
+    pub fn take_delay(&mut self) -> u64
+        ensures { self.new ≡ self.old }
+    {
+        self.slowing.take_delay()
+    }
+
     /// Returns the bytes of a sector, and the number of sectors of the partition.
     pub fn sizes(&self) -> Sizes
         ensures sector_size { result.sector_size ≡ self.now.content.sector_size }
@@ -79,7 +102,7 @@ impl<A: Adapter> Volume<A> {
             offset,
             buffer,
         };
-        let answer = match carry_out(&mut self.stack, alloc, event) {
+        let answer = match carry_out(&mut self.stack, alloc, &mut self.slowing, event) {
             Ok(answer) => answer,
             Err(reason) => return Err(Error::Refused(reason)),
         };
@@ -121,7 +144,7 @@ impl<A: Adapter> Volume<A> {
             bytes,
             through,
         };
-        let written = match carry_out(&mut self.stack, alloc, event) {
+        let written = match carry_out(&mut self.stack, alloc, &mut self.slowing, event) {
             Ok(answer) => answer,
             Err(reason) => return Err(Error::Refused(reason)),
         };
@@ -145,7 +168,7 @@ impl<A: Adapter> Volume<A> {
         let event = Event::Flush {
             handle: self.handle,
         };
-        let flushed = match carry_out(&mut self.stack, alloc, event) {
+        let flushed = match carry_out(&mut self.stack, alloc, &mut self.slowing, event) {
             Ok(answer) => answer,
             Err(reason) => return Err(Error::Refused(reason)),
         };
@@ -166,6 +189,7 @@ impl<A: Adapter> Volume<A> {
             handle,
             partition: _,
             sizes: _,
+            slowing: _,
         } = self;
         let _ = step(&mut stack, alloc, Event::Close { handle });
         stack

@@ -1,27 +1,36 @@
 use Rattle.volume.proofs.Common.{Option, ◌∙◌, ap, subst, not, TakesAnswer}
 use Rattle.io_manager.specs.declared.Answer.{Answer as AnswerOf}
-use Rattle.volume.proofs.Steps.{Quietly-refl, Quietly-trans}
+use Rattle.volume.proofs.Steps.{Quietly-refl}
 use Rattle.volume.proofs.Calling.{goes_further, none_yet}
-use Rattle.volume.proofs.Ending.{ends, some_out}
+use Rattle.volume.proofs.Ending.{ends}
+use Rattle.volume.proofs.Going.{looks_fewer, looks_further}
 use Rattle.volume.proofs.carrying.await_answer.Goals as goal
 
 pub waiting-init : goal.waiting-init
 waiting-init g c = record { looked = c.args.stack.now; quietly = Quietly-refl c.args.stack.now; between = c.requires.between; takes = c.take_answer-answer.ensures }
 
-pub finish_one-requires : goal.finish_one-requires
-finish_one-requires g c =
+pub go_on-answer-requires : goal.go_on-answer-requires
+go_on-answer-requires g c =
     let h = none_yet _ _ _ c.waiting.invariant (c.is_none.ensures ∙ ap not c.waiting-test.true) in
     record {
       between = h.1;
-      some_out =
-          some_out c.requires.goes.0 c.requires.goes.3 c.requires.goes.1 c.requires.goes.2 c.waiting.stack
-          (goes_further c.requires.goes.0 c.requires.goes.1 c.requires.goes.2 c.args.stack.now c.waiting.stack c.requires.goes.4 h.0) h.1 h.2;
+      goes = (
+        c.requires.goes.0,
+        c.requires.goes.1,
+        c.requires.goes.2,
+        c.requires.goes.3,
+        goes_further c.requires.goes.0 c.requires.goes.1 c.requires.goes.2 c.args.stack.now c.waiting.stack c.requires.goes.4 h.0,
+      );
+      none = h.2;
     }
 
 pub waiting-preserved : goal.waiting-preserved
 waiting-preserved g c =
     let h = none_yet _ _ _ c.waiting.invariant (c.is_none.ensures ∙ ap not c.waiting-test.true) in
-    record { looked = c.finish_one.new.stack; quietly = Quietly-trans _ _ _ h.0 c.finish_one.ensures.quietly; between = c.finish_one.ensures.between; takes = c.take_answer-answer-in-waiting.ensures }
+    looks_further c.args.stack.now c.waiting.stack c.go_on-answer.result c.go_on-answer.new.stack h.0 c.go_on-answer.ensures.looks
+
+pub waiting-smaller : goal.waiting-smaller
+waiting-smaller g c = looks_fewer c.waiting.answer c.go_on-answer.result c.waiting.slowing.rules.items c.go_on-answer.new.slowing.rules.items (c.is_none.ensures ∙ ap not c.waiting-test.true) c.go_on-answer.ensures.fewer
 
 pub returns : goal.returns
 returns g c = λ before number q ready goes.

@@ -1,4 +1,5 @@
-use Rattle.volume.proofs.Common.{◌≡◌, All, IsPermutation, IsBetween, Quietly, tags_out, work}
+use Rattle.volume.proofs.Common.{◌≡◌, ◌≤◌, All, IsPermutation, IsBetween, Quietly, tags_out, work}
+use Rattle.injection.specs.Rules.{left}
 use Rattle.volume.proofs.Steps.{IsFrom}
 use Rattle.volume.proofs.carrying.finish_one.Given as goal
 
@@ -11,4 +12,5 @@ invariant-loop-tag g l = record {
   free : All (IsFrom l.tag) (tags_out l.stack.state);
   same_tags : IsPermutation (tags_out l.initial.stack.state) (tags_out l.stack.state);
   same_work : work l.stack.state ≡ work l.initial.stack.state;
+  no_more : left l.slowing.rules.items ≤ left l.initial.slowing.rules.items;
 }
