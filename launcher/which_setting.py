@@ -20,7 +20,9 @@ WHOLE = {
 OPTIONAL = ("open_requests", "type")
 OF_PARTITION = {"first": range(2**32), "count": range(2**32), "type": range(1, 255 + 1)}
 OF_RULE = {"every": range(1, 2**63), "times": range(1, 2**63), "first": range(2**63), "count": range(2**63)}
-KINDS = ("medium_error", "hardware_error", "not_ready", "aborted_command")
+KINDS = ("medium_error", "hardware_error", "not_ready", "aborted_command", "busy", "delay")
+OF_DELAY = {"ms": range(1, 60_000 + 1)}
+RULE_KEYS = ("kind", *OF_RULE, *OF_DELAY)
 KEYS = (*WHOLE, "write_protected", "bad_sectors", "fault", "partition")
 
 
@@ -66,8 +68,8 @@ def unknown(settings, partitions):
             return f"{shown(key)} is no key: there are {', '.join(KEYS)}"
     for at, rule in enumerate(listed(settings, "fault")):
         for key in rule if isinstance(rule, dict) else ():
-            if key != "kind" and key not in OF_RULE:
-                return f"fault {at}: {shown(key)} is no key: there are kind, {', '.join(OF_RULE)}"
+            if key not in RULE_KEYS:
+                return f"fault {at}: {shown(key)} is no key: there are {', '.join(RULE_KEYS)}"
     for at, partition in enumerate(partitions):
         for key in partition if isinstance(partition, dict) else ():
             if key not in OF_PARTITION:
@@ -75,8 +77,17 @@ def unknown(settings, partitions):
     return None
 
 
+def in_delay(rule, where):
+    """What is wrong with the time of a rule."""
+    if rule["kind"] == "delay":
+        return numbers(rule, OF_DELAY, where)
+    if "ms" in rule:
+        return f"{where}ms = {shown(rule['ms'])}, and it is for the kind delay alone"
+    return None
+
+
 def in_rules(settings):
-    """The first fault of the rules by which commands fail."""
+    """The first fault of the rules."""
     if not isinstance(settings.get("fault", []), list):
         return "fault is no list of tables: write fault = [{ kind = ... }]"
     for at, rule in enumerate(listed(settings, "fault")):
@@ -87,6 +98,8 @@ def in_rules(settings):
         if rule["kind"] not in KINDS:
             return f"fault {at}: kind = {shown(rule['kind'])}, and it is {' or '.join(KINDS)}"
         if fault := numbers(rule, OF_RULE, f"fault {at}: ", OF_RULE):
+            return fault
+        if fault := in_delay(rule, f"fault {at}: "):
             return fault
     return None
 

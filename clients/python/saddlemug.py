@@ -639,8 +639,8 @@ class Armed:
 
 
 class Stack:
-    """A stack over a new disk in memory, of TOML settings or the numbers of a disk; or over storage of the program's own,
-    where `first` is sector 0 of a `Disk`, with its partition table."""
+    """A stack over a new disk in memory, of TOML settings with no rule `busy` or `delay`, or the numbers of a disk; or over
+    storage of the program's own, where `first` is sector 0 of a `Disk`, with its partition table."""
 
     def __init__(self, settings: Union[str, bytes, MemoryDisk, Disk], first: Optional[bytes] = None):
         self._room = _Room(None)

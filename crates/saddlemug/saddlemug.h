@@ -107,7 +107,8 @@ saddlemug_open(struct saddlemug *room, const uint8_t *settings, size_t length, u
 
 /* What is wrong with settings, in the words of the programs, as `config: missing key` or `mbr: overlap`, without a zero at the
  * end: as much of it as `room` says goes into the buffer. Answers how long it is: 0 where a stack of the settings can be started,
- * for which one is. A volume of them can then be opened just where they have its partition. */
+ * for which one is. A volume of them can then be opened just where they have its partition. No stack can be started of settings
+ * with a rule that is `busy` or `delay`, which are for volumes: they are then `config: out of range`. */
 uint64_t saddlemug_settings_words(const uint8_t *settings, size_t length, uint8_t *buffer, size_t room);
 
 /* The same with a zero at the end, cut to `room` bytes, of which there is one at least. True where something is wrong; also where
@@ -211,7 +212,8 @@ struct saddlemug_stack {
 	void *at;
 };
 
-/* As `saddlemug_open`, but for the partition. */
+/* As `saddlemug_open`, but for the partition. INVALID_PARAMETER also where a rule of the settings is `busy` or `delay`: the caller
+ * says when a command comes back. */
 uint32_t saddlemug_stack_open_into(struct saddlemug_stack *room, const uint8_t *settings, size_t length);
 
 static inline uint32_t
@@ -534,7 +536,8 @@ struct saddlemug_judge {
 	void *at;
 };
 
-/* Opens a judge of the stack of these settings, before its first label. The statuses are those of `saddlemug_stack_open`. */
+/* Opens a judge of the stack of these settings, before its first label. The statuses are those of `saddlemug_stack_open`, but
+ * no rule is refused. */
 uint32_t saddlemug_judge_open_into(struct saddlemug_judge *room, const uint8_t *settings, size_t length);
 
 static inline uint32_t

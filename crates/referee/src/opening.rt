@@ -4,7 +4,7 @@ ghost use Rattle.std.specs.Prelude.{◌≡◌, IfErr, IfOk, OnOk, map, replicate
 ghost use Rattle.machine.specs.Map.{IsMap};
 ghost use Rattle.settings.specs.InRange.{AreInRange};
 ghost use Rattle.settings.specs.Medium.{extent_of, extents_of, zeros};
-ghost use Rattle.startup.specs.Started.{IsStartFault, rules_of};
+ghost use Rattle.startup.specs.Started.{IsStackFault, rules_of};
 ghost use Rattle.judge.specs.Views.{rules_of as rules_in};
 ghost use Rattle.referee.specs.Opening.{arrays_of};
 
@@ -18,7 +18,7 @@ use std::alloc::{AllocError, Global};
 pub(crate) fn check_table(alloc: Global, config: &Config) -> Result<(), StartFault>
     requires { AreInRange config.now }
     ensures map { OnOk result (IsMap config.now.sectors (extents_of config.now)) }
-    ensures fault { IfErr result (IsStartFault config.now) }
+    ensures fault { IfErr result (IsStackFault config.now) }
 {
     let Ok(sector) = table_sector(alloc, config) else {
         return Err(StartFault::NoMemory);

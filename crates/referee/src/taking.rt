@@ -4,7 +4,7 @@ ghost use Rattle.std.specs.Prelude.{◌≡◌, ◌↔◌, [], Any, IfErr, IfOk, 
 ghost use Rattle.judge.specs.Following.{HasTakenLines};
 ghost use Rattle.judge.specs.LeftUndone.{IsSettled};
 ghost use Rattle.settings.specs.InRange.{AreInRange};
-ghost use Rattle.startup.specs.Started.{IsStartFault, rules_of};
+ghost use Rattle.startup.specs.Started.{IsStackFault, rules_of};
 ghost use Rattle.referee.specs.Numbers.{number_of};
 ghost use Rattle.referee.specs.Opening.{IsOpened, arrays_of};
 ghost use Rattle.referee.specs.Taking.{GoesBy, IsAbsent, IsInTable, IsTaken, IsTold, IsWhy, LeavesNothing, partition_of, why_by};
@@ -146,7 +146,7 @@ impl Referee {
     pub fn open(alloc: Global, config: &Config) -> Result<Referee, StartFault>
         requires { AreInRange config.now }
         ensures opened { IfOk result (IsOpened config.now) }
-        ensures fault { IfErr result (IsStartFault config.now) }
+        ensures fault { IfErr result (IsStackFault config.now) }
     {
         check_table(alloc, config)?;
         let Ok(judge) = first_judge(alloc, config) else {

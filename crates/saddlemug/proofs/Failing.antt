@@ -13,7 +13,7 @@ use Rattle.compose.specs.declared.StartFault.TheVariants.{Device, Settings, Mbr,
 use Rattle.volume.specs.declared.OpenFault.{OpenFault}
 use Rattle.volume.specs.declared.OpenFault.TheVariants.{Start}
 use Rattle.settings.specs.declared.Config.{Config}
-use Rattle.startup.specs.Started.{IsOpenFault, IsStartFault}
+use Rattle.startup.specs.Started.{IsOpenFault, IsStackFault, IsStartFault}
 use Rattle.saddlemug.specs.Statuses.{refusal_status, start_status}
 
 failure_fails : (s : NtStatus) → IsOfFailure s → s ≡ Success → ⊥
@@ -23,14 +23,20 @@ failure_fails s f e =
     let same : Good ≡ Bad f.completion = sym good ∙ f.is_bad in
     cc (same)
 
+pub stack_fails : (c : Config) (fault : StartFault) → IsStackFault c fault → start_status fault ≡ Success → ⊥
+stack_fails c (Device s) failure e = failure_fails s failure.fails.failure e
+stack_fails c NoMemory failure e = cc (e)
+stack_fails c Settings failure e = cc (e)
+stack_fails c (Mbr fault) failure e = cc (e)
+
 pub start_fails : (c : Config) (fault : StartFault) → IsStartFault c fault → start_status fault ≡ Success → ⊥
-start_fails c (Device s) failure e = failure_fails s failure.fails.failure e
-start_fails c NoMemory failure e = cc (e)
 start_fails c Settings failure e = cc (e)
+start_fails c (Device s) failure e = stack_fails c (Device s) failure e
+start_fails c NoMemory failure e = cc (e)
 start_fails c (Mbr fault) failure e = cc (e)
 
 pub open_fails : (c : Config) (p : ℕ) (opened : OpenFault) (fault : StartFault) → opened ≡ Start fault → IsOpenFault c p opened → start_status fault ≡ Success → ⊥
-open_fails c p opened fault is told e = start_fails c fault (subst (IsOpenFault c p) is told) e
+open_fails c p opened fault is told e = stack_fails c fault (subst (IsOpenFault c p) is told) e
 
 pub refusal_fails : (reason : Refusal) → refusal_status reason ≡ Success → ⊥
 refusal_fails InvalidHandle e = cc (e)

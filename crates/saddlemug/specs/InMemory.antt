@@ -1,5 +1,5 @@
 -- A disk in memory as C tells it.
-use Rattle.std.specs.Prelude.{◌≡◌, ◌⊎◌, ◌≤◌, ℕ, nat_le, nat_lt, Bool, IsTrue, List, map, take}
+use Rattle.std.specs.Prelude.{◌≡◌, ◌⊎◌, ◌≤◌, ℕ, nat_le, nat_lt, Bool, IsTrue, List, [], map, take}
 use Rattle.std.specs.List.{list_all}
 use Rattle.ntstatus.specs.declared.NtStatus.{NtStatus}
 use Rattle.ntstatus.specs.declared.NtStatus.TheVariants.{InsufficientResources, InvalidParameter}
@@ -49,6 +49,7 @@ pub record AreTold (d : MemoryDisk) (bad : List ℕ) (c : Config) : Type 0 where
   pub open_requests : c.open_requests ≡ d.open_requests
   pub write_protected : c.write_protected ≡ d.write_protected
   pub bad_sectors : c.bad_sectors.items ≡ bad
+  pub no_rules : c.faults.items ≡ []
   pub partitions : c.partitions.items ≡ map partition_of (told d)
 
 abbrev pub IsToldVolume : MemoryDisk → List ℕ → ℕ → VolumeView → Type 0

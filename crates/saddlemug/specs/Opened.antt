@@ -7,7 +7,7 @@ use Rattle.io_manager.specs.Shown.{ManagerView}
 use Rattle.settings.specs.declared.Config.{Config}
 use Rattle.startup.specs.Reading.{settings_fault}
 use Rattle.settings.specs.Settings.{AreSettingsOf}
-use Rattle.startup.specs.Started.{IsFirstOf, IsOpenFault, IsStartFault, IsVolumeOf}
+use Rattle.startup.specs.Started.{IsFirstOf, IsOpenFault, IsStackFault, IsStartFault, IsVolumeOf}
 use Rattle.volume.specs.declared.OpenFault.{OpenFault}
 use Rattle.volume.specs.Shown.{VolumeView}
 use Rattle.saddlemug.specs.Statuses.{open_status, start_status}
@@ -49,6 +49,12 @@ pub record IsStartStatus (config : Config) (status : NtStatus) : Type 0 where
   pub why : IsStartFault config fault
   pub is_status : status ≡ start_status fault
 
+-- the status of a fault for which there is none to judge, whatever the rules of these settings
+pub record IsUnstarted (config : Config) (status : NtStatus) : Type 0 where
+  pub fault : StartFault
+  pub why : IsStackFault config fault
+  pub is_status : status ≡ start_status fault
+
 -- why nothing was opened: there are no settings, or nothing of them
 abbrev pub IsUnopened : (NtStatus → Type 0) → (Config → Type 0) → (Config → NtStatus → Type 0) → NtStatus → Type 0
 IsUnopened AreNone AreGiven IsOfThem status = AreNone status ⊎ ((config : Config) × AreGiven config × IsOfThem config status)
@@ -58,3 +64,6 @@ IsVolumeStatus text partition status = IsUnopened (IsConfigStatus text) (AreSett
 
 abbrev pub IsStackStatus : List ℕ → NtStatus → Type 0
 IsStackStatus text status = IsUnopened (IsConfigStatus text) (AreSettingsOf text) IsStartStatus status
+
+abbrev pub IsJudgeStatus : List ℕ → NtStatus → Type 0
+IsJudgeStatus text status = IsUnopened (IsConfigStatus text) (AreSettingsOf text) IsUnstarted status

@@ -4,7 +4,7 @@ ghost use Rattle.std.specs.Prelude.{◌≡◌, ◌⊎◌, None, MatchBool, nat_e
 ghost use Rattle.referee.specs.Taking.{LeavesNothing};
 ghost use Rattle.saddlemug.specs.Holding.{HoldsAnyJudge, HoldsJudge};
 ghost use Rattle.saddlemug.specs.Judged.{IsNewJudge, TakesLabel, TakesText, TellsWhy};
-ghost use Rattle.saddlemug.specs.Opened.{IsStackStatus};
+ghost use Rattle.saddlemug.specs.Opened.{IsJudgeStatus};
 ghost use Rattle.saddlemug.specs.Statuses.{IsNumberOfStatus};
 ghost use Rattle.saddlemug.specs.ToldLabels.{TellsLine};
 
@@ -34,7 +34,7 @@ pub extern "C" fn saddlemug_label_words(
 pub extern "C" fn saddlemug_judge_open_into(alloc: Global, cell: &mut Cell, settings: &[u8]) -> u32
     requires { cell.old.held ≡ None }
     ensures held { MatchBool (nat_eq result 0) (HoldsJudge (IsNewJudge settings.now) cell.new.held) (cell.new.held ≡ None) }
-    ensures status { (result ≡ 0) ⊎ IsNumberOfStatus (IsStackStatus settings.now) result }
+    ensures status { (result ≡ 0) ⊎ IsNumberOfStatus (IsJudgeStatus settings.now) result }
 {
     match new_judge(alloc, settings) {
         Ok(judge) => cell.fill(alloc, Instance::Judge(judge)),

@@ -9,7 +9,7 @@ ghost use Rattle.referee.specs.Numbers.{why_text};
 ghost use Rattle.referee.specs.Opening.{IsOpened};
 ghost use Rattle.saddlemug.specs.Judged.{IsNewJudge, TakesLabel, TakesText, TellsLabel, TellsWhy};
 ghost use Rattle.saddlemug.specs.Names.{IsPut};
-ghost use Rattle.saddlemug.specs.Opened.{IsStackStatus, IsStartStatus};
+ghost use Rattle.saddlemug.specs.Opened.{IsJudgeStatus, IsUnstarted};
 ghost use Rattle.saddlemug.specs.ToldLabels.{TellsLine, line_told};
 
 use crate::bytes::put;
@@ -35,7 +35,7 @@ use trace_line::Line;
 pub(crate) fn new_judge(alloc: Global, text: &[u8]) -> Result<Referee, NtStatus>
     ensures judge { IfOk result (IsNewJudge text.now) }
     ensures fault { IfErr result (λ status. status ≢ Success) }
-    ensures why { IfErr result (IsStackStatus text.now) }
+    ensures why { IfErr result (IsJudgeStatus text.now) }
 {
     let config = config_of(alloc, text)?;
     judge_of(alloc, &config)
@@ -50,7 +50,7 @@ fn judge_of(alloc: Global, config: &Config) -> Result<Referee, NtStatus>
     requires { AreInRange config.now }
     ensures judge { IfOk result (IsOpened config.now) }
     ensures fault { IfErr result (λ status. status ≢ Success) }
-    ensures why { IfErr result (IsStartStatus config.now) }
+    ensures why { IfErr result (IsUnstarted config.now) }
 {
     match Referee::open(alloc, config) {
         Ok(judge) => Ok(judge),

@@ -45,7 +45,7 @@ pub(crate) fn number_of(outcome: Result<(), Error>) -> u32
 
 /// The status of a start that failed. It is the status of the command that the device failed,
 /// [`NtStatus::InsufficientResources`], or [`NtStatus::InvalidParameter`] where the settings have partitions that a
-/// disk can't have.
+/// disk can't have, or rules that a stack can't have.
 pub(crate) fn start_status(fault: StartFault) -> NtStatus
     ensures { result ≡ start_status fault }
 {

@@ -3,6 +3,7 @@ mod FoundLists
 mod Keys
 mod NewDisk
 mod SettingFaults
+mod Sorted
 mod UsedPartitions
 mod WholeSectors
 mod Zipped

@@ -8,7 +8,7 @@ use Rattle.toml.specs.Parse.{parse_document}
 use Rattle.ntstatus.specs.First.{first_some}
 use Rattle.settings.specs.declared.ConfigFault.{ConfigFault}
 use Rattle.settings.specs.declared.ConfigFault.TheVariants.{NotToml, UnknownKey, MissingKey, OutOfRange, TooManyPartitions, NoMemory}
-use Rattle.settings.specs.Kinds.{is_kind, most}
+use Rattle.settings.specs.Kinds.{is_delay, is_kind, most}
 use Rattle.settings.specs.Settings.{whole, list_of, values_of, has_known_keys}
 
 -- a number is in a range
@@ -57,6 +57,12 @@ needed_fault test (Some d) = unless (test d) OutOfRange
 abbrev pub optional_fault : Data → (Data → Bool) → Option Data → Option ConfigFault
 optional_fault default test found = unless (test (unwrap_or found default)) OutOfRange
 
+-- what is wrong with the milliseconds of a rule, which a delay has to have, and no other rule has
+abbrev pub ms_fault : Bool → Option Data → Option ConfigFault
+ms_fault true found = needed_fault (is_number (is_from 1 60000)) found
+ms_fault false None = None
+ms_fault false (Some d) = Some OutOfRange
+
 -- what is wrong with a rule
 abbrev pub rule_fault : Data → Option ConfigFault
 rule_fault (table settings) = first_some (
@@ -65,6 +71,7 @@ rule_fault (table settings) = first_some (
     ∷ optional_fault (whole most) (is_number (is_from 1 most)) (get_member (codes "times") settings)
     ∷ optional_fault (whole 0) (is_number (is_from 0 most)) (get_member (codes "first") settings)
     ∷ optional_fault (whole 0) (is_number (is_from 0 most)) (get_member (codes "count") settings)
+    ∷ ms_fault (is_delay (get_member (codes "kind") settings)) (get_member (codes "ms") settings)
     ∷ [])
 rule_fault _ = Some OutOfRange
 

@@ -3,4 +3,5 @@ pub mod FaultTexts
 pub mod InRange
 pub mod Kinds
 pub mod Medium
+pub mod Rules
 pub mod Settings

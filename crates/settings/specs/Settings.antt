@@ -2,15 +2,16 @@
 use Rattle.std.specs.Prelude.{◌≡◌, ℕ, ◌-◌, pos, List, [], ◌∷◌, map, Bool, true, false, ◌&&◌, IsTrue, Option, None, Some, MatchOption, codes}
 use Rattle.std.specs.List.{AllZip, list_all, list_any}
 use Rattle.std.specs.Str.{bytes_eq}
-use Rattle.toml.specs.Data.{Data, integer, boolean, array, table, Items, no_items, item, Members, no_members, member, get_member}
+use Rattle.toml.specs.Data.{Data, integer, boolean, string, array, table, Items, no_items, item, Members, no_members, member, get_member}
 use Rattle.toml.specs.Parse.{parse_document}
 use Rattle.toml.specs.View.{items_of}
-use Rattle.miniport.specs.declared.fault_rule.FaultKind.{FaultKind}
-use Rattle.miniport.specs.declared.fault_rule.FaultRule.{FaultRule}
+use Rattle.injection.specs.declared.Kind.{Kind}
+use Rattle.injection.specs.declared.Kind.TheVariants.{Delay}
+use Rattle.injection.specs.declared.Rule.{Rule}
 use Rattle.settings.specs.declared.Config.{Config}
 use Rattle.settings.specs.declared.Partition.{Partition}
-use Rattle.settings.specs.InRange.{AreInRange, IsUsed}
-use Rattle.settings.specs.Kinds.{kind_in, most, range_of}
+use Rattle.settings.specs.InRange.{AreInRange, IsFrom, IsUsed}
+use Rattle.settings.specs.Kinds.{most, name_of, range_of}
 
 -- a whole number, as a document gives it
 abbrev pub whole : ℕ → Data
@@ -47,13 +48,17 @@ GivesPartition d p = (settings : Members) × (d ≡ table settings) × IsPartiti
 abbrev pub ArePartitions : Option Data → List Partition → Type 0
 ArePartitions found ps = MatchOption found (ps ≡ []) (λ d. (tables : List Data) × (d ≡ array (items_of tables)) × AllZip GivesPartition tables ps)
 
--- a value is there, and names this kind
-abbrev pub IsKind : Option Data → FaultKind → Type 0
-IsKind None kind = ⊥
-IsKind (Some d) kind = kind_in d ≡ Some kind
+-- a value is there, and is the name of this kind
+abbrev pub IsKind : Option Data → Kind → Type 0
+IsKind found kind = found ≡ Some (string (name_of kind))
+
+-- the milliseconds of a delay are found, 1 to 60,000, and none of another kind
+abbrev pub IsTimed : Option Data → Kind → Type 0
+IsTimed found (Delay ms) = IsNumber found ms × IsFrom 1 60000 ms
+IsTimed found _ = found ≡ None
 
 -- the keys of a table say what a rule is
-pub record IsRule (settings : Members) (r : FaultRule) : Type 0 where
+pub record IsRule (settings : Members) (r : Rule) : Type 0 where
   pub kind : IsKind (get_member (codes "kind") settings) r.kind
   pub every : IsNumberOr 1 (get_member (codes "every") settings) r.every
   pub times : IsNumberOr most (get_member (codes "times") settings) r.times
@@ -62,15 +67,16 @@ pub record IsRule (settings : Members) (r : FaultRule) : Type 0 where
   pub first_is : IsNumberOr 0 (get_member (codes "first") settings) first
   pub count_is : IsNumberOr 0 (get_member (codes "count") settings) count
   pub sectors : r.sectors ≡ range_of first count
-  -- it fails the last of so many
+  -- it is due of the last of so many
   pub wait : r.wait ≡ r.every - 1
+  pub ms : IsTimed (get_member (codes "ms") settings) r.kind
 
 -- a value is a table that gives a rule
-abbrev pub GivesRule : Data → FaultRule → Type 0
+abbrev pub GivesRule : Data → Rule → Type 0
 GivesRule d r = (settings : Members) × (d ≡ table settings) × IsRule settings r
 
 -- the values of a list give the rules in order, and no list gives none
-abbrev pub AreRules : Option Data → List FaultRule → Type 0
+abbrev pub AreRules : Option Data → List Rule → Type 0
 AreRules found rs = MatchOption found (rs ≡ []) (λ d. (tables : List Data) × (d ≡ array (items_of tables)) × AllZip GivesRule tables rs)
 
 -- the keys of a table
@@ -87,9 +93,9 @@ setting_keys = codes "sector_size" ∷ codes "sectors" ∷ codes "max_transfer" 
 abbrev pub partition_keys : List (List ℕ)
 partition_keys = codes "first" ∷ codes "count" ∷ codes "type" ∷ []
 
--- a key of a rule by which commands fail
+-- a key of a rule
 abbrev pub rule_keys : List (List ℕ)
-rule_keys = codes "kind" ∷ codes "every" ∷ codes "times" ∷ codes "first" ∷ codes "count" ∷ []
+rule_keys = codes "kind" ∷ codes "every" ∷ codes "times" ∷ codes "first" ∷ codes "count" ∷ codes "ms" ∷ []
 
 -- a table has no other keys than these
 abbrev pub has_only : List (List ℕ) → Members → Bool

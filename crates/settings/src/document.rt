@@ -17,8 +17,8 @@ use toml::Table;
 ///
 /// The first of these that fits: [`ConfigFault::NotToml`]; [`ConfigFault::UnknownKey`], at the top, in a rule or in a
 /// partition; [`ConfigFault::TooManyPartitions`]; then key by key, in the order of [`Config`], in a rule `kind`, `every`,
-/// `times`, `first`, `count`, and in a partition `first`, `count`, `type`, [`ConfigFault::MissingKey`] or
-/// [`ConfigFault::OutOfRange`], which a value of another kind is too.
+/// `times`, `first`, `count`, `ms`, and in a partition `first`, `count`, `type`, [`ConfigFault::MissingKey`] or
+/// [`ConfigFault::OutOfRange`], which a value of another kind is too, and `ms` in a rule that is no delay.
 /// [`ConfigFault::NoMemory`] in place of any of them, where memory was refused.
 pub fn config(alloc: Global, text: &str) -> Result<Config, ConfigFault>
     ensures settings { IfOk result (AreSettingsOf text.now) }

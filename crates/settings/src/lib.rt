@@ -5,17 +5,20 @@
 //!
 //! `document::config`: the settings of a document without a fault (`settings`), each in its range (`in_range`), else
 //! its first fault, or want of memory (`fault`). `new_disk` gives zeros behind a table that says the settings'
-//! partitions, with their bad sectors, and `new_adapter` a fresh adapter over them, with their rules (`new`, `rules`,
-//! `says`, `extents`, `blank`); `table_sector` is that sector 0 (`bytes`, `says`).
+//! partitions, with their bad sectors, and `new_adapter` a fresh adapter over them, with their rules that fail commands
+//! (`new`, `rules`, `says`, `extents`, `blank`); `table_sector` is that sector 0 (`bytes`, `says`). `slowing`: just
+//! their other rules, in order (`slows`); `has_slowing`: whether there is one.
 #![tactic(auto)]
 
 pub mod document;
 mod medium;
 mod planned;
+mod rules;
 mod table;
 
+use injection::Rule;
 pub use medium::{new_adapter, new_disk, table_sector};
-use miniport::FaultRule;
+pub use rules::{has_slowing, slowing};
 use std::error::Error;
 use std::fmt;
 
@@ -48,8 +51,8 @@ pub struct Config {
     pub write_protected: bool,
     /// Sectors that can't be read or written, each below `sectors`.
     pub bad_sectors: Vec<u64>,
-    /// The rules by which commands fail, the first first.
-    pub faults: Vec<FaultRule>,
+    /// The rules by which commands fail or are slowed, the first first.
+    pub faults: Vec<Rule>,
     /// At most four, in the order of their entries in the partition table.
     pub partitions: Vec<Partition>,
 }

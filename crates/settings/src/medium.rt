@@ -1,22 +1,24 @@
 //! The adapter of settings, over a sparse disk in memory.
 
-ghost use Rattle.std.specs.Prelude.{◌≡◌, ◌≤◌, ◌-◌, ◌++◌, ℕ, [], All, IfOk, IsTrue, get_or, length, map, replicate};
+ghost use Rattle.std.specs.Prelude.{◌≡◌, ◌≤◌, ◌-◌, ◌++◌, ℕ, [], All, IfOk, IsTrue, filter_map, get_or, length, map, replicate};
 ghost use Rattle.disk.specs.Medium.{HasWholeSectors};
 ghost use Rattle.disk.specs.SparseDisk.{shown};
 ghost use Rattle.mbr.specs.Table.{FitsEntry, partitions_of};
 ghost use Rattle.mbr.specs.Faults.{said_of, told_by};
 ghost use Rattle.settings.specs.InRange.{AreInRange};
+ghost use Rattle.settings.specs.Rules.{failing_of};
 ghost use Rattle.settings.specs.Medium.{HasBlankPartitions, IsNewAdapter, IsNewDisk, entries_of, entry_of, extents_of, table_sector};
 
+use crate::rules::failing;
 use crate::{Config, Partition};
 use arrayvec::ArrayVec;
 use disk::{Medium, NoMemory, SparseDisk};
-use miniport::{FaultRule, MemAdapter, PlannedAdapter};
+use miniport::{MemAdapter, PlannedAdapter};
 use sector::Extent;
 use std::alloc::{AllocError, Global};
 
 /// The adapter of the settings, of which nothing was asked yet, over a disk of zeros with their partition table in sector 0.
-/// Commands fail by the rules of the settings.
+/// Commands fail by those rules of the settings that fail some; the others are for [`slowing`](crate::slowing).
 /// No fault of a partition is looked for: the table says what is wrong with it. With `keeps_bytes` its labels keep their
 /// bytes in memory; without, contracts alone read these.
 ///
@@ -30,13 +32,13 @@ pub fn new_adapter(
 ) -> Result<PlannedAdapter<SparseDisk>, NoMemory>
     requires { AreInRange config }
     ensures new { IfOk result (λ adapter. IsNewAdapter config adapter.inner) }
-    ensures rules { IfOk result (λ adapter. adapter.rules ≡ config.faults.items) }
+    ensures rules { IfOk result (λ adapter. adapter.rules ≡ filter_map failing_of config.faults.items) }
     ensures keeps { IfOk result (λ adapter. adapter.inner.shown.keeps_bytes ≡ keeps_bytes) }
     ensures says { IfOk result (λ adapter. told_by config.sectors (get_or adapter.inner.shown.sectors 0 []) ≡ said_of config.sectors (entries_of config)) }
     ensures extents { partitions_of (entries_of config) ≡ extents_of config }
     ensures blank { IfOk result (λ adapter. HasBlankPartitions config adapter.inner.shown.sectors) }
 {
-    let rules = copied(alloc, config.faults.as_slice())?;
+    let rules = failing(alloc, config.faults.as_slice())?;
     let max_transfer = config.max_transfer;
     let depth = config.depth;
     let write_protected = config.write_protected;
@@ -45,13 +47,6 @@ pub fn new_adapter(
     let kept = keeping(adapter, keeps_bytes);
     let planned = PlannedAdapter::new(kept, rules);
     Ok(planned)
-}
-
-/// The same rules in memory of their own.
-fn copied(alloc: Global, rules: &[FaultRule]) -> Result<Vec<FaultRule>, AllocError>
-    ensures { IfOk result (λ copied. copied.items ≡ rules.now) }
-{
-    Vec::from_slice(alloc, rules)
 }
 
 /// The same adapter, whose labels keep their bytes in memory or not.

@@ -90,14 +90,14 @@ fn is_setting_key(key: &str) -> bool
     )
 }
 
-/// Whether the tables of a list have no other keys than those of a rule by which commands fail.
+/// Whether the tables of a list have no other keys than those of a rule.
 fn have_rule_keys(items: &[Value]) -> bool
     ensures { result ≡ list_all has_rule_keys (map view items.now) }
 {
     items.iter().all(|item| is_known_rule(item))
 }
 
-/// Whether a value, where it is a table, has no other keys than those of such a rule.
+/// Whether a value, where it is a table, has no other keys than those of a rule.
 fn is_known_rule(item: &Value) -> bool
     ensures { result ≡ has_rule_keys (view item.now) }
 {
@@ -116,7 +116,7 @@ fn has_rule_keys(table: &Table) -> bool
 fn is_rule_key(key: &str) -> bool
     ensures { result ≡ list_any (bytes_eq key.now) rule_keys }
 {
-    matches!(key, "kind" | "every" | "times" | "first" | "count")
+    matches!(key, "kind" | "every" | "times" | "first" | "count" | "ms")
 }
 
 /// Whether the tables of a list have no other keys than those of a partition.

@@ -29,7 +29,7 @@ use Rattle.volume.specs.declared.OpenFault.{OpenFault}
 use Rattle.volume.specs.declared.OpenFault.TheVariants.{Start as NotStarted, Refused}
 use Rattle.volume.specs.Opening.{IsOpenFault as IsOpenFaultOver, ShowsDisk}
 use Rattle.volume.specs.Shown.{Content, VolumeView, extent_at, parted_at}
-use Rattle.startup.specs.Started.{limits_of, rules_over, IsApartFault, IsOpenFault, IsStartFault, IsStartOf, IsStartOver, IsUnreadTable, IsVolumeOf}
+use Rattle.startup.specs.Started.{limits_of, rules_over, IsApartFault, IsOpenFault, IsStackFault, IsStartFault, IsStartOf, IsStartOver, IsUnreadTable, IsVolumeOf}
 
 -- partitions that were told are all that the entries say
 unfaulted : (fault : Option MbrFault) (given told : List Extent) → unless_fault fault given ≡ Ok told → told ≡ given
@@ -154,6 +154,13 @@ module _ (c : Config) (medium : MediumView) (new : IsNewDisk c medium) (many : l
 
 -- OVER THE DISK ITSELF
 
+-- a stack that did not start was not refused for the rules of its settings
+pub not_refused : (c : Config) (why : StartFault) → IsStackFault c why → IsStartFault c why
+not_refused c WrongSettings h = absurd h
+not_refused c (FailedCommand status) h = h
+not_refused c (WrongTable fault) h = h
+not_refused c WantOfMemory h = h
+
 module _ (c : Config) (view : MemView) (new : IsNewAdapter c view)
     (says : told_by c.sectors (get_or view.shown.sectors 0 []) ≡ said_of c.sectors (entries_of c))
     (extents : partitions_of (entries_of c) ≡ extents_of c) where
@@ -173,7 +180,7 @@ module _ (c : Config) (view : MemView) (new : IsNewAdapter c view)
       → IsStartOf keeps_bytes c stack
   started keeps_bytes stack keeps blank first = started_over c view.shown (shows_disk blank) true keeps_bytes stack new.faithful keeps first
 
-  pub not_started : AreInRange c → HasBlankPartitions c view.shown.sectors → (why : StartFault) (after : AdapterView) → IsSpent view.shown (limits_of c) why after → IsStartFault c why
+  pub not_started : AreInRange c → HasBlankPartitions c view.shown.sectors → (why : StartFault) (after : AdapterView) → IsSpent view.shown (limits_of c) why after → IsStackFault c why
   not_started settings blank WrongSettings after spent = absurd (spent.why.0 (record { window = settings.window; open_requests = settings.open_requests }))
   not_started settings blank (FailedCommand status) after spent = record { adapter = view; new = new; blank = blank; after = after; fails = spent.why.1 }
   not_started settings blank (WrongTable fault) after spent = sym (told_is c view.shown (shows_disk blank)) ∙ spent.why.1.1

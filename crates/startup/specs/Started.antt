@@ -1,6 +1,6 @@
 -- What settings start.
-use Rattle.std.specs.Prelude.{◌≡◌, ◌⊎◌, ◌≤◌, ℕ, Bool, true, false, Contains, Err, [], length, map, Some}
-use Rattle.std.specs.List.{concat}
+use Rattle.std.specs.Prelude.{◌≡◌, ◌⊎◌, ◌≤◌, ℕ, Bool, true, false, IsTrue, Contains, Err, [], length, map, Some}
+use Rattle.std.specs.List.{concat, list_any}
 use Rattle.ntstatus.specs.declared.NtStatus.{NtStatus}
 use Rattle.ntstatus.specs.declared.NtStatus.TheVariants.{DeviceDataError}
 use Rattle.adapter.specs.View.{AdapterView}
@@ -21,6 +21,7 @@ use Rattle.compose.specs.declared.StartFault.TheVariants.{Settings as WrongSetti
 use Rattle.compose.specs.Opening.{longest_request, last_busy_return, IsFirstView}
 use Rattle.settings.specs.declared.Config.{Config}
 use Rattle.settings.specs.Medium.{disk_of, entries_of, extents_of, table_sector, zeros, HasBlankPartitions, IsNewAdapter}
+use Rattle.settings.specs.Rules.{slows}
 use Rattle.volume.specs.declared.OpenFault.{OpenFault}
 use Rattle.volume.specs.declared.OpenFault.TheVariants.{Start as NotStarted, Refused}
 use Rattle.volume.specs.Shown.{VolumeView, extent_at, parted_at}
@@ -97,13 +98,22 @@ pub record FailsOnDisk (c : Config) (status : NtStatus) : Type 0 where
   pub after : AdapterView
   pub fails : FailsOne adapter.shown status after
 
--- why no stack of these settings could be started: the adapter failed a command, a partition is wrong, or memory was
+-- why the stack of these settings did not start: the adapter failed a command, a partition is wrong, or memory was
 -- refused
+abbrev pub IsStackFault : Config → StartFault → Type 0
+IsStackFault c (FailedCommand status) = FailsOnDisk c status
+IsStackFault c (WrongTable fault) = said_of c.sectors (entries_of c) ≡ Err fault
+IsStackFault c WantOfMemory = Unit {0}
+IsStackFault c WrongSettings = ⊥
+
+-- the settings have a rule by which commands come back busy or later
+abbrev pub IsSlowed : Config → Type 0
+IsSlowed c = IsTrue (list_any slows c.faults.items)
+
+-- why no stack was started: there is such a rule, or the stack did not start
 abbrev pub IsStartFault : Config → StartFault → Type 0
-IsStartFault c (FailedCommand status) = FailsOnDisk c status
-IsStartFault c (WrongTable fault) = said_of c.sectors (entries_of c) ≡ Err fault
-IsStartFault c WantOfMemory = Unit {0}
-IsStartFault c WrongSettings = ⊥
+IsStartFault c WrongSettings = IsSlowed c
+IsStartFault c fault = IsStackFault c fault
 
 -- a command was sent to the adapter beside the disk of these settings, and failed with this status
 pub record FailsApart (c : Config) (status : NtStatus) : Type 0 where
@@ -138,8 +148,8 @@ pub record IsVolumeOf (c : Config) (p : ℕ) (v : VolumeView) : Type 0 where
   pub blank : v.content.bytes ≡ concat (zeros c (extent_at (extents_of c) p).count)
   pub partition : v.partition ≡ p
 
--- why no volume of these settings could be opened: no stack could be started, or there is no such partition
+-- why no volume of these settings could be opened: no stack started, or there is no such partition
 abbrev pub IsOpenFault : Config → ℕ → OpenFault → Type 0
-IsOpenFault c p (NotStarted fault) = IsStartFault c fault
+IsOpenFault c p (NotStarted fault) = IsStackFault c fault
 IsOpenFault c p (Refused InvalidParameter) = length (extents_of c) ≤ p
 IsOpenFault c p (Refused _) = ⊥

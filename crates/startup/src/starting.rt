@@ -1,14 +1,19 @@
 //! What is opened over the disk of some settings.
 
-ghost use Rattle.std.specs.Prelude.{◌≡◌, IfErr, IfOk};
+ghost use Rattle.std.specs.Prelude.{◌≡◌, IfErr, IfOk, Some, filter};
+ghost use Rattle.std.specs.Result.{result_err};
+ghost use Rattle.compose.specs.declared.StartFault.TheVariants.{NoMemory, Settings as WrongSettings};
+ghost use Rattle.settings.specs.Rules.{slows};
 ghost use Rattle.settings.specs.InRange.{AreInRange};
 ghost use Rattle.volume.specs.Sparse.{AreZeros};
-ghost use Rattle.startup.specs.Started.{IsFirstOf, IsOpenFault, IsStartFault, IsStartOf, IsVolumeOf, limits_of};
+ghost use Rattle.volume.specs.declared.OpenFault.TheVariants.{Start as NotStarted};
+ghost use Rattle.startup.specs.Started.{IsFirstOf, IsOpenFault, IsSlowed, IsStartFault, IsStartOf, IsVolumeOf, limits_of};
 
 use compose::{Settings, Stack, StartFault};
 use disk::SparseDisk;
+use injection::Rule;
 use miniport::PlannedAdapter;
-use settings::{Config, new_adapter};
+use settings::{Config, has_slowing, new_adapter, slowing};
 use std::alloc::Global;
 use volume::{OpenFault, Volume};
 
@@ -18,8 +23,9 @@ use volume::{OpenFault, Volume};
 ///
 /// # Errors
 ///
-/// [`StartFault::Mbr`] with what is wrong with the partitions of the settings, [`StartFault::Device`] where the adapter
-/// failed a command, [`StartFault::NoMemory`].
+/// [`StartFault::Settings`] just where there is a rule by which commands come back busy or later, since the caller says
+/// when a piece comes back; [`StartFault::Mbr`] with what is wrong with the partitions of the settings,
+/// [`StartFault::Device`] where the adapter failed a command, [`StartFault::NoMemory`].
 pub fn start(
     alloc: Global,
     config: Config,
@@ -29,7 +35,11 @@ pub fn start(
     ensures view { IfOk result (IsStartOf keeps_bytes config) }
     ensures first { IfOk result (IsFirstOf config) }
     ensures fault { IfErr result (IsStartFault config) }
+    ensures refused { IsSlowed config → result_err result ≡ Some WrongSettings }
 {
+    if has_slowing(config.faults.as_slice()) {
+        return Err(StartFault::Settings);
+    }
     let settings = limits_of(&config);
     let Ok(adapter) = new_adapter(alloc, config, keeps_bytes) else {
         return Err(StartFault::NoMemory);
@@ -38,11 +48,13 @@ pub fn start(
     Ok(stack)
 }
 
-/// Opens a volume of a partition, counted from 0, over a stack that [`start`] starts, whose labels keep no bytes.
+/// Opens a volume of a partition, counted from 0, over a stack as that of [`start`], whose labels keep no bytes. From then
+/// on commands come back busy or later by the rules of the settings that say so.
 ///
 /// # Errors
 ///
-/// [`OpenFault::Start`] as [`start`] says; [`OpenFault::Refused`] as [`Volume::start`] says.
+/// [`OpenFault::Start`] with the faults of [`start`] but [`StartFault::Settings`]; [`OpenFault::Refused`] as
+/// [`Volume::start`] says.
 pub fn open(
     alloc: Global,
     config: Config,
@@ -54,11 +66,27 @@ pub fn open(
     ensures fault { IfErr result (IsOpenFault config partition) }
 {
     let settings = limits_of(&config);
+    let rules = slowing_of(alloc, &config)?;
     let Ok(adapter) = new_adapter(alloc, config, false) else {
         return Err(OpenFault::Start(StartFault::NoMemory));
     };
     let volume = Volume::start(alloc, adapter, settings, partition)?;
-    Ok(volume)
+    Ok(volume.with_rules(rules))
+}
+
+/// Returns the rules by which commands come back busy or later.
+///
+/// # Errors
+///
+/// [`StartFault::NoMemory`].
+fn slowing_of(alloc: Global, config: &Config) -> Result<Vec<Rule>, OpenFault>
+    ensures rules { IfOk result (λ rules. rules.items ≡ filter slows config.now.faults.items) }
+    ensures fault { IfErr result (λ fault. fault ≡ NotStarted NoMemory) }
+{
+    match slowing(alloc, config.faults.as_slice()) {
+        Ok(rules) => Ok(rules),
+        Err(_) => Err(OpenFault::Start(StartFault::NoMemory)),
+    }
 }
 
 /// Returns how many requests may be open and at work.

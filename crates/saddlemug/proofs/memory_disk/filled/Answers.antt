@@ -1,4 +1,4 @@
-use Rattle.std.proofs.Common.{ap, refl, ◌∙◌, map}
+use Rattle.std.proofs.Common.{ap, refl, rules, ◌∙◌, map}
 use Rattle.saddlemug.specs.InMemory.{partition_of}
 use Rattle.saddlemug.proofs.InRange.{in_range}
 use Rattle.saddlemug.proofs.memory_disk.filled.Goals as goal
@@ -15,6 +15,7 @@ returns-clause-in_range c =
       open_requests = refl;
       write_protected = refl;
       bad_sectors = c.in_ok-bad_sectors.ensures.items;
+      no_rules = search rules;
       partitions = c.in_ok-partitions.ensures.all ∙ ap (map partition_of) c.told.ensures;
     })
     c.in_ok-partitions.ensures.bytes
