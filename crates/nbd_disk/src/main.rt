@@ -90,7 +90,7 @@ fn run<H: Threads + Wait + Clock + Copy + Drop + Send + 'static>(
         None => match config {
             Some(config) => {
                 let (mut input, mut out) = standard(rt)?;
-                serve_disk(alloc, config, asked.partition, &mut input, &mut out)?;
+                serve_disk(handle, alloc, config, asked.partition, &mut input, &mut out)?;
                 Ok(Verdict::Passed)
             }
             None => Err(Error::Usage),

@@ -120,7 +120,7 @@ IsNotStarted c first_sector _ = ⊥
 
 -- A PARTITION IS OPENED
 
--- the settings have neither bad sectors nor rules by which commands fail
+-- the settings have neither bad sectors nor rules
 abbrev pub HasNoFaults : Config → Type 0
 HasNoFaults c = (c.bad_sectors.items ≡ []) × (c.faults.items ≡ [])
 

@@ -7,7 +7,7 @@ use Rattle.settings.specs.declared.Config.{Config}
 use Rattle.settings.specs.Medium.{extents_of, zeros}
 use Rattle.startup.specs.declared.faults.Error.TheVariants.{Start}
 use Rattle.startup.specs.Reading.{AreRead, HasFault, IsUnread}
-use Rattle.startup.specs.Started.{IsStartFault as IsStackFault}
+use Rattle.startup.specs.Started.{IsStackFault}
 use Rattle.volume.specs.declared.OpenFault.{OpenFault}
 use Rattle.volume.specs.declared.OpenFault.TheVariants.{Start as NotStarted, Refused}
 use Rattle.volume.specs.declared.Error.{Error as VolumeFault}

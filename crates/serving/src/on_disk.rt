@@ -255,7 +255,7 @@ pub fn open_file<S: Storage + Drop, P: Pen + Drop>(
     })
 }
 
-/// Returns whether the settings have bad sectors, or rules by which commands fail.
+/// Returns whether the settings have bad sectors, or rules.
 fn has_faults(config: &Config) -> bool
     ensures some { IsTrue result → ¬ HasNoFaults config.now }
     ensures none { IsFalse result → HasNoFaults config.now }

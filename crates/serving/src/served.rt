@@ -1,4 +1,4 @@
-//! A volume as the array that a server of NBD serves.
+//! A volume as the array that a server of NBD serves, and that waits as long as its rules say.
 
 ghost use Rattle.std.specs.Prelude.{◌≡◌};
 ghost use Rattle.volume.specs.Sparse.{AreZeros};
@@ -11,17 +11,21 @@ use ntstatus::NtStatus;
 use sector::Bytes;
 use std::alloc::Global;
 use std::marker::Model;
+use std::thread;
+use std::time::{Clock, Duration};
 use volume::{Error, SparseVolume, Volume};
 
 /// A volume, served.
 #[derive(Drop)]
-pub(crate) struct Served<A: Adapter> {
+pub(crate) struct Served<A: Adapter, T: Clock + Drop> {
+    /// What a delay is waited out by.
+    clock: T,
     volume: SparseVolume<A>,
     /// Whether clients are told that it can't be written.
     read_only: bool,
 }
 
-impl<A: Adapter> Model for Served<A> {
+impl<A: Adapter, T: Clock + Drop> Model for Served<A, T> {
     ghost use Rattle.nbd.specs.Content.{Content};
     ghost use Rattle.serving.specs.Serving.{array_of};
 
@@ -30,20 +34,31 @@ impl<A: Adapter> Model for Served<A> {
     ghost view = { λ s. array_of s.volume.content s.read_only };
 }
 
-impl<A: Adapter> Served<A> {
+impl<A: Adapter, T: Clock + Drop> Served<A, T> {
     /// Serves a volume of zeros.
-    pub fn new(alloc: Global, volume: Volume<A>, read_only: bool) -> Served<A>
+    pub fn new(clock: T, alloc: Global, volume: Volume<A>, read_only: bool) -> Served<A, T>
         requires zeros { AreZeros volume.content.bytes }
         ensures { result ≡ array_of volume.content read_only }
     {
         Served {
+            clock,
             volume: SparseVolume::new(alloc, volume),
             read_only,
         }
     }
+
+    /// Waits as many milliseconds as rules delayed the commands of the last call by.
+    fn wait(&mut self)
+        ensures { self.new ≡ self.old }
+    {
+        let delay = self.volume.take_delay();
+        if delay > 0 {
+            thread::sleep(&self.clock, Duration::from_millis(delay));
+        }
+    }
 }
 
-impl<A: Adapter> Array for Served<A> {
+impl<A: Adapter, T: Clock + Drop> Array for Served<A, T> {
     ghost use Rattle.serving.specs.Serving.{may_fail};
 
     ghost content = { λ s. s };
@@ -60,7 +75,9 @@ impl<A: Adapter> Array for Served<A> {
     }
 
     fn read(&mut self, alloc: Global, offset: u64, buffer: Vec<u8>) -> Result<Vec<u8>, ArrayFault> {
-        match self.volume.read(alloc, offset, Bytes::new(buffer)) {
+        let outcome = self.volume.read(alloc, offset, Bytes::new(buffer));
+        self.wait();
+        match outcome {
             Ok(bytes) => Ok(bytes.into_vec()),
             Err(fault) => Err(array_fault(fault)),
         }
@@ -75,14 +92,18 @@ impl<A: Adapter> Array for Served<A> {
     ) -> Result<(), ArrayFault> {
         // A write that failed changed nothing outside its own sectors.
         nbd::written_inside();
-        match self.volume.write(alloc, offset, Bytes::new(bytes), through) {
+        let outcome = self.volume.write(alloc, offset, Bytes::new(bytes), through);
+        self.wait();
+        match outcome {
             Ok(()) => Ok(()),
             Err(fault) => Err(array_fault(fault)),
         }
     }
 
     fn flush(&mut self, alloc: Global) -> Result<(), ArrayFault> {
-        match self.volume.flush(alloc) {
+        let outcome = self.volume.flush(alloc);
+        self.wait();
+        match outcome {
             Ok(()) => Ok(()),
             Err(fault) => Err(array_fault(fault)),
         }

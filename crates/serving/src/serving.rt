@@ -15,9 +15,11 @@ use settings::Config;
 use startup::{open, read_settings};
 use std::alloc::Global;
 use std::io::{Read, Write};
+use std::time::Clock;
 use volume::OpenFault;
 
-/// Serves a client over one partition, counted from 0, of the disk of the settings that an input gives.
+/// Serves a client over one partition, counted from 0, of the disk of the settings that an input gives. A request whose
+/// commands rules delay is answered so many milliseconds later: the clock sleeps that long, of which nothing is promised.
 ///
 /// # Errors
 ///
@@ -25,7 +27,8 @@ use volume::OpenFault;
 /// stack of them could be started; there is no such partition. Where memory was refused, the step's error for that
 /// stands in place of any of these. Behind them comes how the session ended, where the client did not leave by the
 /// protocol.
-pub fn serve_disk<C: Read + Drop, R: Read, W: Write>(
+pub fn serve_disk<T: Clock + Drop, C: Read + Drop, R: Read, W: Write>(
+    clock: T,
     alloc: Global,
     config: C,
     partition: u8,
@@ -35,7 +38,7 @@ pub fn serve_disk<C: Read + Drop, R: Read, W: Write>(
     ensures served { IsServed (C.remaining config) partition (R.remaining input.old) (W.contents out.old) (result_err result) (R.remaining input.new) (W.contents out.new) }
 {
     let config = read_settings(alloc, config)?;
-    let mut disk = start(alloc, config, partition)?;
+    let mut disk = start(clock, alloc, config, partition)?;
     outcome(serve(alloc, &mut disk, input, out))
 }
 
@@ -52,18 +55,19 @@ pub(crate) fn outcome(end: End) -> Result<(), Error>
 }
 
 /// Opens a partition of the disk of the settings, as it is before anything was written.
-fn start(
+fn start<T: Clock + Drop>(
+    clock: T,
     alloc: Global,
     config: Config,
     partition: u8,
-) -> Result<Served<PlannedAdapter<SparseDisk>>, Error>
+) -> Result<Served<PlannedAdapter<SparseDisk>, T>, Error>
     requires { AreInRange config }
     ensures content { IfOk result (λ disk. disk ≡ new_array config partition) }
     ensures fault { IfErr result (IsStartFault config partition) }
 {
     let read_only = config.write_protected;
     match open(alloc, config, partition) {
-        Ok(volume) => Ok(Served::new(alloc, volume, read_only)),
+        Ok(volume) => Ok(Served::new(clock, alloc, volume, read_only)),
         Err(fault) => Err(open_fault(fault)),
     }
 }
