@@ -1,16 +1,14 @@
 -- A request that is read before those in front of it are answered.
-use Rattle.std.proofs.Common.{◌≡◌, ◌<◌, ◌≢◌, ℕ, List, [], ◌++◌, length, inl, inr, Option, Result, Ok, Err, refl, sym, subst, ◌∙◌}
+use Rattle.std.proofs.Common.{◌≡◌, ◌<◌, ℕ, List, [], length, inl, inr, Option, Result, Ok, Err, refl, sym, subst, ◌∙◌}
 use Rattle.std.specs.Io.KnownBytes.{Consumes}
 use Rattle.nbd.specs.declared.End.{End}
 use Rattle.nbd.specs.declared.End.TheVariants.{Input}
 use Rattle.nbd.specs.declared.arrays.Sizes.{Sizes}
 use Rattle.nbd.specs.declared.incoming.Incoming.{Incoming}
 use Rattle.nbd.specs.declared.requests.Command.{Command}
-use Rattle.nbd.specs.declared.requests.Request.{Request}
 use Rattle.nbd.specs.declared.requests.ReplyError.{ReplyError}
 use Rattle.nbd.specs.declared.requests.ReplyError.TheVariants.{Enomem}
 use Rattle.nbd.specs.Requests.{command_in, payload_count}
-use Rattle.nbd.specs.Beside.{IsTaken, Taken}
 use Rattle.nbd.specs.Incoming.{IsAskedBy, IsIncoming}
 use Rattle.nbd.specs.Session.{IsLast, TakesLast}
 use Rattle.nbd.specs.inside.Session.{TakesRequest}

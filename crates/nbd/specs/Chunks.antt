@@ -1,5 +1,5 @@
 -- The bytes of a structured reply, which is one chunk here.
-use Rattle.std.specs.Prelude.{ℕ, ◌==◌, ◌||◌, Bool, if◌then◌else◌, List, [], ◌++◌, length}
+use Rattle.std.specs.Prelude.{ℕ, ◌==◌, ◌||◌, Bool, if◌then◌else◌, List, ◌++◌, length}
 use Rattle.byteorder.specs.Endian.{big_bytes}
 use Rattle.nbd.specs.declared.dialects.Dialect.{Dialect}
 use Rattle.nbd.specs.declared.dialects.Dialect.TheVariants.{Structured}

@@ -4,7 +4,6 @@ use Rattle.std.specs.Io.KnownBytes.{Consumes}
 use Rattle.nbd.specs.declared.arrays.Sizes.{Sizes}
 use Rattle.nbd.specs.declared.incoming.Incoming.{Incoming}
 use Rattle.nbd.specs.declared.requests.Command.{Command}
-use Rattle.nbd.specs.declared.requests.Request.{Request}
 use Rattle.nbd.specs.declared.requests.ReplyError.{ReplyError}
 use Rattle.nbd.specs.declared.requests.ReplyError.TheVariants.{Enomem}
 use Rattle.nbd.specs.Requests.{command_in}

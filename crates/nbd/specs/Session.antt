@@ -30,7 +30,7 @@ asked_by x = x.header ++ x.payload
 abbrev pub told_by : Exchange → List ℕ
 told_by x = reply_bytes x.request.cookie x.outcome
 
--- so in a dialect
+-- the bytes of its reply, in a dialect
 abbrev pub told_in : Dialect → Exchange → List ℕ
 told_in dialect x = reply_in dialect x.request x.outcome
 

@@ -1,5 +1,5 @@
 -- Which bytes of an array are known to be zeros.
-use Rattle.std.specs.Prelude.{◌≡◌, ◌≤◌, ◌<◌, ◌⊎◌, ℕ, ◌+◌, ◌%◌, if◌then◌else◌, List, length, ◌++◌, slice_range, replicate, Option, None, Some, MatchOption}
+use Rattle.std.specs.Prelude.{◌≡◌, ◌≤◌, ◌<◌, ℕ, ◌+◌, ◌%◌, if◌then◌else◌, List, length, ◌++◌, slice_range, replicate, Option, None, Some, MatchOption}
 use Rattle.std.specs.Bool.{OnTrue}
 use Rattle.byteorder.specs.Endian.{big_bytes}
 use Rattle.nbd.specs.declared.arrays.Run.{Run}
