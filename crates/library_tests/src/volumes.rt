@@ -6,6 +6,7 @@ ghost use Rattle.probe.specs.Exchange.{IsIdle};
 use adapter::Adapter;
 use compose::{Refusal, Settings, StartFault};
 use disk::{Medium, NoMemory, VecDisk};
+use injection::{Kind, Rule};
 use miniport::MemAdapter;
 use ntstatus::NtStatus;
 use sector::Bytes;
@@ -233,6 +234,59 @@ fn reads_writes_and_flushes(rt: HostRuntime) -> Result<(), Fail> {
     Ok(())
 }
 
+/// The rule for each so many-th command, so many times.
+fn rule(kind: Kind, every: u64, times: u64) -> Rule {
+    Rule {
+        sectors: None,
+        every,
+        times,
+        kind,
+        wait: every.saturating_sub(1),
+    }
+}
+
+/// Seven commands: three of them come back busy, and one of four takes longer.
+const SLOWED: [(Call, Given); 2] = [
+    (Call::Write(0, 2048, 0xA5, false), Given::Done),
+    (Call::Read(0, 2048), Given::Bytes(0xA5, 2048)),
+];
+
+const BUSY: Given = Given::Fault(Error::Failed(NtStatus::DeviceBusy));
+
+/// Each command comes back busy.
+const TURNED_BACK: [(Call, Given); 3] = [
+    (Call::Write(0, 1024, 0x5A, true), BUSY),
+    (Call::Read(0, 1024), BUSY),
+    (Call::Flush, BUSY),
+];
+
+/// What the last write left that was carried out.
+const LEFT: [(Call, Given); 2] = [
+    (Call::Flush, Given::Done),
+    (Call::Read(0, 2048), Given::Bytes(0xA5, 2048)),
+];
+
+#[test]
+fn commands_come_back_busy_or_take_longer_by_rules(rt: HostRuntime) -> Result<(), Fail> {
+    let alloc = rt.alloc();
+    let adapter = disk_adapter(&rt, alloc, &[])?;
+    let volume = volume_on(&rt, alloc, adapter)?;
+    let slow = [
+        rule(Kind::Busy, 1, 3),
+        rule(Kind::Delay { ms: 7 }, 2, u64::MAX),
+    ];
+    let mut slowed = volume.with_rules(Vec::from_slice(alloc, &slow)?);
+    make_all(&rt, alloc, &mut slowed, &SLOWED)?;
+    assert!(rt; slowed.take_delay() == 14);
+    assert!(rt; slowed.take_delay() == 0);
+    let busy = [rule(Kind::Busy, 1, u64::MAX)];
+    let mut turned = slowed.with_rules(Vec::from_slice(alloc, &busy)?);
+    make_all(&rt, alloc, &mut turned, &TURNED_BACK)?;
+    let mut left = turned.with_rules(Vec::new(alloc));
+    make_all(&rt, alloc, &mut left, &LEFT)?;
+    Ok(())
+}
+
 /// A partition of 1,024 sectors: sixteen parts of 32,768 bytes.
 const WRITTEN: &str =
     "sector_size = 512\nsectors = 1025\nmax_transfer = 2\ndepth = 2\nwindow = 1\n[[partition]]\nfirst = 1\n\
@@ -302,5 +356,6 @@ fn tells_what_was_never_written(rt: HostRuntime) -> Result<(), Fail> {
     };
     let mut volume = SparseVolume::new(alloc, volume);
     tell_runs(&rt, alloc, &mut volume)?;
+    drop(volume.close(alloc));
     Ok(())
 }

@@ -21,15 +21,15 @@ fn says_what_cannot_be_read_or_written(rt: HostRuntime) -> Result<(), Fail> {
     let memory = ErrorKind::OutOfMemory;
     let mut input = b"".as_slice();
     let mut out = Vec::new(alloc);
-    let unread = serve_disk(alloc, failing(denied), 0, &mut input, &mut out);
+    let unread = serve_disk(rt, alloc, failing(denied), 0, &mut input, &mut out);
     assert!(rt; unread == Err(Error::Startup(ConfigUnreadable)));
-    let refused = serve_disk(alloc, failing(memory), 0, &mut input, &mut out);
+    let refused = serve_disk(rt, alloc, failing(memory), 0, &mut input, &mut out);
     assert!(rt; refused == Err(Error::Startup(startup::Error::NoMemory)));
     let mut broken = failing(denied);
-    let unwritten = serve_disk(alloc, config.as_bytes(), 0, &mut input, &mut broken);
+    let unwritten = serve_disk(rt, alloc, config.as_bytes(), 0, &mut input, &mut broken);
     assert!(rt; unwritten == Err(Error::OutputFailed));
     let mut broken_input = failing(denied);
-    let unheard = serve_disk(alloc, config.as_bytes(), 0, &mut broken_input, &mut out);
+    let unheard = serve_disk(rt, alloc, config.as_bytes(), 0, &mut broken_input, &mut out);
     assert!(rt; unheard == Err(Error::InputEnded));
     Ok(())
 }
