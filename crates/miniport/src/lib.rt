@@ -4,7 +4,7 @@
 //!
 //! `MemAdapter` keeps [`Adapter`], faithfully, over any medium. It faults exactly where its table or a reset says
 //! (`by_table`, `completion`, `due`); failures stay within twice the pieces (`twice`). [`MemAdapter::noting`] keeps no
-//! label's bytes. `PlannedAdapter` is that adapter, but acts fail by rules (`planned`). `BookedAdapter`
+//! label's bytes. `PlannedAdapter` is that adapter, but acts fail by rules of `injection` (`planned`). `BookedAdapter`
 //! acts as was booked; how a booked failure comes back, and what `Taken` leaves, is only tested. `may_be_entry_of` says
 //! whether an entry may be booked of an SRB.
 #![tactic(auto)]
@@ -13,7 +13,6 @@ mod booked;
 mod carrying;
 mod check;
 mod completion;
-mod fault_rule;
 mod first_sector;
 mod memory;
 mod on_tag;
@@ -26,7 +25,6 @@ pub use adapter::Adapter;
 pub use booked::BookedAdapter;
 pub use carrying::{Outcome, carry_out, check_on};
 pub use completion::{MEDIUM_ERROR, failed_with};
-pub use fault_rule::{FaultKind, FaultRule};
 pub use memory::MemAdapter;
 pub use planned::PlannedAdapter;
 pub use suiting::may_be_entry_of;

@@ -4,14 +4,13 @@ ghost use Rattle.std.specs.Prelude.{◌≡◌, ◌≤◌, ◌<◌, ◌^◌, ◌+
 ghost use Rattle.adapter.specs.View.{IsInOrder};
 ghost use Rattle.adapter.specs.Calls.{ActsOrFaults, ActsNot, HasNoneFresh};
 ghost use Rattle.miniport.specs.Planned.{PlannedView, EndsByPlan, completion_of as completion_for, once};
-ghost use Rattle.miniport.specs.inside.Planned.{AsksOn, IsAskedBy};
+ghost use Rattle.miniport.specs.inside.Planned.{AsksOn};
 
 use crate::completion::{ABORTED_COMMAND, HARDWARE_ERROR, MEDIUM_ERROR, NOT_READY, failed_with};
-use crate::fault_rule::{FaultKind, FaultRule, named, turn};
 use crate::memory::MemAdapter;
 use adapter::Adapter;
-use cdb::decode;
 use disk::Medium;
+use injection::{Kind, Rule, asked_by, turn};
 use sector::Extent;
 use srb::{Booked, Completion, DeviceLabel, Srb};
 use std::alloc::{AllocError, Global};
@@ -20,7 +19,7 @@ use std::marker::Model;
 /// An adapter in memory of which commands fail by rules. In all else it is the adapter in memory.
 pub struct PlannedAdapter<M: Medium> {
     inner: MemAdapter<M>,
-    rules: Vec<FaultRule>,
+    rules: Vec<Rule>,
 }
 
 // By hand, so that no crate above proves it again, as it would a derived one.
@@ -37,9 +36,9 @@ impl<M: Medium> Model for PlannedAdapter<M> {
 }
 
 impl<M: Medium> PlannedAdapter<M> {
-    /// The adapter whose commands fail by these rules. Each act of a piece that has done nothing yet is a command, also
-    /// those by which a stack starts.
-    pub fn new(inner: MemAdapter<M>, rules: Vec<FaultRule>) -> PlannedAdapter<M>
+    /// The adapter whose commands fail by these rules; where a rule that fails none is the first that is due, the command
+    /// goes by the table. Each act of a piece that has done nothing yet is a command, also those by which a stack starts.
+    pub fn new(inner: MemAdapter<M>, rules: Vec<Rule>) -> PlannedAdapter<M>
         ensures { result ≡ record { inner = inner; rules = rules.items } }
     {
         PlannedAdapter { inner, rules }
@@ -59,20 +58,34 @@ impl<M: Medium> PlannedAdapter<M> {
         ensures { IfOk result (λ a. a ≡ record { inner = inner; rules = once before ∷ [] }) }
     {
         let mut rules = Vec::new(alloc);
-        rules.push(FaultRule::once(before))?;
+        rules.push(once(before))?;
         Ok(PlannedAdapter::new(inner, rules))
     }
 }
 
-/// The completion of a command that fails by a rule, ASC 00h but for a unit that isn't ready (SPC: 04h/00h).
-fn completion_of(kind: FaultKind) -> Completion
+/// The rule by which the command number `before` fails with a hardware error, counted from 0, and no other.
+fn once(before: u64) -> Rule
+    ensures { result ≡ once before }
+{
+    Rule {
+        sectors: None,
+        every: 1,
+        times: 1,
+        kind: Kind::HardwareError,
+        wait: before,
+    }
+}
+
+/// The completion of a command that fails by a rule, ASC 00h but for a unit that isn't ready (SPC: 04h/00h); else `None`.
+fn completion_of(kind: Kind) -> Option<Completion>
     ensures { result ≡ completion_for kind }
 {
     match kind {
-        FaultKind::MediumError => failed_with(MEDIUM_ERROR, 0x00),
-        FaultKind::HardwareError => failed_with(HARDWARE_ERROR, 0x00),
-        FaultKind::NotReady => failed_with(NOT_READY, 0x04),
-        FaultKind::AbortedCommand => failed_with(ABORTED_COMMAND, 0x00),
+        Kind::MediumError => Some(failed_with(MEDIUM_ERROR, 0x00)),
+        Kind::HardwareError => Some(failed_with(HARDWARE_ERROR, 0x00)),
+        Kind::NotReady => Some(failed_with(NOT_READY, 0x04)),
+        Kind::AbortedCommand => Some(failed_with(ABORTED_COMMAND, 0x00)),
+        Kind::Busy | Kind::Delay { .. } => None,
     }
 }
 
@@ -83,19 +96,12 @@ fn asked_on<M: Medium>(inner: &MemAdapter<M>, tag: u8) -> Option<Extent>
 {
     match inner.armed(tag) {
         None => None,
-        Some(found) => Some(asked_by(found.1)),
+        Some(found) => Some(asked_by(found.1.block.as_slice())),
     }
 }
 
-/// The sectors that an SRB names.
-fn asked_by(srb: &Srb) -> Extent
-    ensures { IsAskedBy srb.now result }
-{
-    named(decode(srb.block.as_slice()))
-}
-
 /// Fails the command of the tag's piece in this way, or ends it by its table.
-fn end_by<M: Medium>(inner: &mut MemAdapter<M>, tag: u8, failing: Option<FaultKind>) -> bool
+fn end_by<M: Medium>(inner: &mut MemAdapter<M>, tag: u8, failing: Option<Kind>) -> bool
     requires { length inner.old.shown.labels < 64 }
     ensures acts { MatchBool result (ActsOrFaults inner.old.shown tag inner.new.shown) (ActsNot inner.old.shown tag inner.new.shown) }
     ensures order { IsInOrder inner.new.shown }
@@ -103,7 +109,10 @@ fn end_by<M: Medium>(inner: &mut MemAdapter<M>, tag: u8, failing: Option<FaultKi
 {
     match failing {
         None => inner.act(tag),
-        Some(kind) => inner.fail(tag, completion_of(kind)),
+        Some(kind) => match completion_of(kind) {
+            None => inner.act(tag),
+            Some(completion) => inner.fail(tag, completion),
+        },
     }
 }
 

@@ -3,7 +3,6 @@ mod FoundLists
 mod Keys
 mod NewDisk
 mod SettingFaults
-mod Sorted
 mod UsedPartitions
 mod WholeSectors
 mod Zipped

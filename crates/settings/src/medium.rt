@@ -1,12 +1,12 @@
 //! The adapter of settings, over a sparse disk in memory.
 
-ghost use Rattle.std.specs.Prelude.{◌≡◌, ◌≤◌, ◌-◌, ◌++◌, ℕ, [], All, IfOk, IsTrue, filter_map, get_or, length, map, replicate};
+ghost use Rattle.std.specs.Prelude.{◌≡◌, ◌≤◌, ◌-◌, ◌++◌, ℕ, [], All, IfOk, IsTrue, filter, get_or, length, map, replicate};
 ghost use Rattle.disk.specs.Medium.{HasWholeSectors};
 ghost use Rattle.disk.specs.SparseDisk.{shown};
 ghost use Rattle.mbr.specs.Table.{FitsEntry, partitions_of};
 ghost use Rattle.mbr.specs.Faults.{said_of, told_by};
 ghost use Rattle.settings.specs.InRange.{AreInRange};
-ghost use Rattle.settings.specs.Rules.{failing_of};
+ghost use Rattle.settings.specs.Rules.{fails};
 ghost use Rattle.settings.specs.Medium.{HasBlankPartitions, IsNewAdapter, IsNewDisk, entries_of, entry_of, extents_of, table_sector};
 
 use crate::rules::failing;
@@ -32,7 +32,7 @@ pub fn new_adapter(
 ) -> Result<PlannedAdapter<SparseDisk>, NoMemory>
     requires { AreInRange config }
     ensures new { IfOk result (λ adapter. IsNewAdapter config adapter.inner) }
-    ensures rules { IfOk result (λ adapter. adapter.rules ≡ filter_map failing_of config.faults.items) }
+    ensures rules { IfOk result (λ adapter. adapter.rules ≡ filter fails config.faults.items) }
     ensures keeps { IfOk result (λ adapter. adapter.inner.shown.keeps_bytes ≡ keeps_bytes) }
     ensures says { IfOk result (λ adapter. told_by config.sectors (get_or adapter.inner.shown.sectors 0 []) ≡ said_of config.sectors (entries_of config)) }
     ensures extents { partitions_of (entries_of config) ≡ extents_of config }
