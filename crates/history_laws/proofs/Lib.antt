@@ -6,4 +6,5 @@ pub mod Acting
 pub mod Scheduling
 pub mod Widening
 pub mod Failing
+pub mod Knowing
 pub mod Fitting
