@@ -5,6 +5,7 @@ ghost use Rattle.class_disk.specs.Opening.{TakesParts, IsFreshPort, opening_over
 
 use crate::parts::Way;
 use crate::requests::Places;
+use crate::spares::Spares;
 use crate::table::Table;
 use crate::{Disk, Extension, Sizes};
 use device::{Climb, Device, Request, Room, Shown};
@@ -42,6 +43,7 @@ impl<D: Device> Disk<D> {
                 alloc,
                 device,
                 table: Table::new(alloc, sizes),
+                spares: Spares::new(alloc),
             },
         }
     }

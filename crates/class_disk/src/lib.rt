@@ -18,11 +18,13 @@ mod layer;
 mod noted;
 mod parts;
 mod requests;
+mod spares;
 mod table;
 mod table_calls;
 mod transfers;
 
 use device::Shown;
+use spares::Spares;
 use std::alloc::Global;
 use std::marker::Model;
 use table::Table;
@@ -46,6 +48,7 @@ struct Extension<D: Shown> {
     alloc: Global,
     device: D,
     table: Table,
+    spares: Spares,
 }
 
 // By hand, for the same reason as the drop of `Disk`.
@@ -55,6 +58,7 @@ impl<D: Shown> Drop for Extension<D> {
             alloc: _,
             device: _,
             table: _,
+            spares: _,
         } = self;
     }
 }
@@ -67,6 +71,7 @@ impl<D: Shown> Extension<D> {
             alloc: _,
             device,
             table: _,
+            spares: _,
         } = self;
         device
     }

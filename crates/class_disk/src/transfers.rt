@@ -33,7 +33,7 @@ use crate::blocks::{byte_count, part_count, part_request};
 use crate::buffers::{data_buffer, label_room, own_bytes};
 use crate::parts::{Ended, Part, PartId, Place, Progress, TransferPacket, Way};
 use device::{Climb, Device, Request};
-use irp::{Irp, Payload};
+use irp::Irp;
 use std::alloc::AllocError;
 
 /// The packet that is finished: one of the class driver's own has no completion routine above (the WDK's has one, which
@@ -49,15 +49,17 @@ fn finished(climb: Climb) -> Box<Irp>
 }
 
 impl<D: Device> Extension<D> {
-    /// Gives a room back.
+    /// Gives a room back, and keeps its packet.
     fn give_back(&mut self, packet: TransferPacket)
         requires { IsReserved (D.view self.old.device).rooms packet.room.spot }
         ensures table { self.new.table ≡ self.old.table }
         ensures order { IsOrderly (D.view self.new.device) }
         ensures frees { Frees (D.view self.old.device) packet.room.spot (D.view self.new.device) }
     {
-        self.device.free(packet.room);
+        let TransferPacket { irp, room } = packet;
+        self.device.free(room);
         self.device.shows_order();
+        self.spares.keep_packet(irp);
     }
 
     /// The packet of a part, with a room below for what the part asks for.
@@ -77,7 +79,7 @@ impl<D: Device> Extension<D> {
         ensures unless_write { request.now.kind ≢ Write
             → (D.view self.new.device).adapter ≡ (D.view self.old.device).adapter }
     {
-        let irp = Box::new(self.alloc, Irp::new(0, Payload::Sent))?;
+        let irp = self.spares.packet(self.alloc)?;
         let reserved = self.device.reserve(request);
         self.device.shows_order();
         let room = reserved?;
@@ -125,7 +127,7 @@ impl<D: Device> Extension<D> {
         })
     }
 
-    /// Gives the rooms of parts back.
+    /// Gives the rooms of parts back, and keeps their list.
     pub fn free_parts(&mut self, mut parts: Vec<Part>)
         requires out { (others : List Ticket) × AllOut (D.view self.old.device) (tickets_of parts.items ++ others) }
         requires here { All IsHere parts.items }
@@ -137,6 +139,7 @@ impl<D: Device> Extension<D> {
         while let Some(part) = parts.pop() {
             self.give_back(part.into_packet());
         }
+        self.spares.keep_parts(parts);
     }
 
     /// Adds places for the parts of the request in a slot behind those that are there.
@@ -193,7 +196,7 @@ impl<D: Device> Extension<D> {
             → (D.view self.new.device).adapter ≡ (D.view self.old.device).adapter }
     {
         let count = part_count(&self.table.sizes, request) as usize;
-        let mut parts = Vec::with_capacity(self.alloc, count)?;
+        let mut parts = self.spares.parts(self.alloc, count)?;
         let added = self.add_parts(request, slot, &mut parts);
         match added {
             Ok(()) => Ok(parts),
