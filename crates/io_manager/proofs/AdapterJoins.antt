@@ -1,6 +1,6 @@
 -- Moves of an adapter, one after another: they join, and record their labels.
 use Rattle.std.proofs.Common.{◌≡◌, ℕ, false, true, List, [], ◌∷◌, ◌++◌, Option, Some, None, refl, sym, ◌∙◌, ap, subst, append_assoc}
-use Rattle.io_manager.proofs.Common.{Need, Read, Write, Flush, append-nil, Extent, DeviceLabel, Start, Act, Fault, Return, AdapterView, ReservesMore, NotesReset, MovesOn, MovesByAll, reserves_none, ReservesFor, AdapterMoves}
+use Rattle.io_manager.proofs.Common.{Need, Read, Write, Flush, append-nil, DeviceLabel, Start, Act, Fault, Return, AdapterView, ReservesMore, NotesReset, MovesOn, MovesByAll, reserves_none, ReservesFor, AdapterMoves}
 
 label_moved : (tag : ℕ) (old : AdapterView) (label : DeviceLabel) (new : AdapterView) → MovesOn old tag label new → new.labels ≡ old.labels ++ label ∷ []
 label_moved tag old (Start piece started block) new h =

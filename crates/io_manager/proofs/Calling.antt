@@ -1,7 +1,7 @@
 -- An admitted call, and one turned away for want of memory, are right steps.
 use Rattle.std.proofs.Common.{◌≡◌, ◌≢◌, ◌<◌, ◌≤◌, inl, inr, ℕ, ◌+◌, Bool, false, List, [], ◌∷◌, ◌++◌, Some, None, refl, sym, ◌∙◌, ap, subst, arith}
 use Rattle.std.specs.Prelude.{All, option_map}
-use Rattle.io_manager.proofs.Common.{Need, All-permutation, IsPermutation-sym, deque_len, deque_capacity, All-append, All-cons, Slab, get, slab_len, Extent, Payload, Kind, Read, Write, Flush, ClientRequest, Label, Call, Rules, as_client, refusal, Opens, Run, DeviceView, sent_bytes, payload_bytes, IsStart, Reserves, ReservesNear, IsSame-refl, Handle, Id, OpenHandle, InsufficientResources, Reply, Limits, LabelBytes, Tables, ManagerView, Holder, bytes_called, call_on, without_bytes, disk_extent, reserved_by, tells_nothing, ReservesFor, IsRight, IsRightBy, CallReplies, rules_of}
+use Rattle.io_manager.proofs.Common.{All-permutation, IsPermutation-sym, deque_len, deque_capacity, All-append, All-cons, Slab, get, slab_len, Extent, Payload, Kind, Read, Write, Flush, ClientRequest, Label, Call, Rules, as_client, refusal, Opens, Run, DeviceView, sent_bytes, payload_bytes, IsStart, Reserves, ReservesNear, IsSame-refl, Handle, Id, OpenHandle, InsufficientResources, Reply, Limits, LabelBytes, Tables, ManagerView, Holder, bytes_called, call_on, without_bytes, disk_extent, reserved_by, tells_nothing, ReservesFor, IsRight, IsRightBy, CallReplies, rules_of}
 use Rattle.std.proofs.Math.ListN.{get_or-map}
 use Rattle.adapter.specs.View.{AdapterView, ReservesMore, ReservesNear as AdapterReservesNear}
 use Rattle.io_manager.specs.declared.Reply.TheVariants.{Request as Requested, Refused}

@@ -1,5 +1,5 @@
 -- A step after which no request can have ended: the device's labels alone are told, and the device stays settled.
-use Rattle.std.proofs.Common.{◌≡◌, ◌≢◌, ◌≤◌, inl, inr, ℕ, false, List, [], ◌∷◌, ◌++◌, refl, sym, ◌∙◌, ap, subst, arith, map, length}
+use Rattle.std.proofs.Common.{◌≡◌, ◌≢◌, inl, inr, ℕ, false, List, [], ◌∷◌, ◌++◌, refl, sym, ◌∙◌, ap, subst, arith, map, length}
 use Rattle.std.specs.Prelude.{IsPermutation, IsTrue, option_map}
 use Rattle.io_manager.proofs.Common.{deque_capacity, append-nil, IsPermutation-refl, length_permutation, All-nil, get, DeviceLabel, Removing, Rules, Piece, State, IsSame, IsStart, IsFreshPiece, Settled, Run, as_label, IsSame-refl, IsSame-sym, Settled-same, DeviceView, room_at, IsActOrFault, fault_of, Limits, Tables}
 use Rattle.srb.specs.declared.DeviceLabel.TheVariants.{Start, Act as ActLabel, Fault, Return}

@@ -1,7 +1,7 @@
 -- Plug and play calls as steps of the manager.
 use Rattle.pnp.specs.declared.InvalidDeviceRequest.{InvalidDeviceRequest as InvalidDeviceRequestFault}
 use Rattle.io_manager.proofs.Common.{deque_capacity, result_ok, IsPermutation-sym, IsPermutation-refl, IsPermutation-map, All-permutation, All-head, All-append, Slab, DeviceLabel, Start, Act, Fault, Return, AdapterView, MovesByAll, Label, Pause, Resume, Remove, Surprise, Rules, IsStart, beyond, held_back, as_timely, FreeStep, Run, as_label, IsSame-refl, DeviceView, IsTopmost, SameRooms, IsBeside, PausesAll, ResumesAll, DrainsAll, OpenHandle, Limits, InvalidDeviceRequest, Tables, ManagerView, Told, SameHandles, tells_nothing, TellsOne, pnp_state, IsInvalid, IsRecalled, PnpReplies, RecallReplies, IsRight, SameQueue, RequestReplies, label_of, MayDo, Does, rules_of}
-use Rattle.std.proofs.Common.{◌≡◌, ◌≤◌, Result, Ok, Err, inl, inr, ℕ, Bool, true, false, List, [], ◌∷◌, ◌++◌, Option, Some, None, refl, sym, ◌∙◌, ap, subst, map}
+use Rattle.std.proofs.Common.{◌≡◌, Result, Ok, Err, inl, inr, ℕ, Bool, true, false, List, [], ◌∷◌, ◌++◌, Option, Some, None, refl, sym, ◌∙◌, ap, subst, map}
 use Rattle.std.specs.Prelude.{IsPermutation, IsTrue, IsFalse, All, if◌then◌else◌}
 use Rattle.machine.specs.State.{OpenRequest, State, IsSame}
 use Rattle.pnp.specs.declared.State.{State as PnpState}

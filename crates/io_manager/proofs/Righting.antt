@@ -1,13 +1,13 @@
 -- From the moves of the device below, and what was collected after them, to a right step of the manager.
-use Rattle.std.proofs.Common.{◌+◌, Some, ◌≡◌, inl, ℕ, Bool, true, false, List, [], ◌++◌, Option, None, refl, sym, ◌∙◌, ap, subst, map, length, arith}
+use Rattle.std.proofs.Common.{Some, ◌≡◌, inl, ℕ, Bool, true, false, List, [], ◌++◌, Option, None, refl, sym, ◌∙◌, ap, subst, map, length, arith}
 use Rattle.std.specs.Prelude.{IsPermutation, All, option_map, slice_index_or}
 use Rattle.std.proofs.Math.ListN.{get_or-map}
-use Rattle.io_manager.proofs.Common.{Need, SamePlacesUnless, QueueView, SameQueue, deque_capacity, map-append, All-permutation, IsPermutation-sym, All-weaker, Slab, Extent, DeviceLabel, AdapterView, MovesByAll, moves_joined, Label, Rules, Run, as_label, DeviceView, KeepsOutside, IsTopmost, Moves, IsSame-refl, Run-append, IsReached, IsSound-Run, IsSound-reached, Limits, Tables, AllWriteInside, as_answer, labels_of, end_labels, Told, ReservesFor, AdapterMoves, IsRightBy, unless_answered, rules_of}
+use Rattle.io_manager.proofs.Common.{Need, SamePlacesUnless, QueueView, SameQueue, map-append, All-permutation, IsPermutation-sym, All-weaker, Slab, DeviceLabel, AdapterView, MovesByAll, moves_joined, Label, Rules, Run, as_label, DeviceView, KeepsOutside, IsTopmost, Moves, IsSame-refl, Run-append, IsReached, IsSound-Run, IsSound-reached, Limits, Tables, AllWriteInside, as_answer, labels_of, end_labels, Told, ReservesFor, AdapterMoves, IsRightBy, unless_answered, rules_of}
 use Rattle.machine.specs.State.{OpenRequest, State}
 use Rattle.pnp.specs.declared.State.{State as PnpState}
 use Rattle.pnp.specs.declared.State.TheVariants.{Removed}
 use Rattle.io_manager.specs.declared.tables.OpenRequest.{OpenRequest as OpenEntry}
-use Rattle.io_manager.specs.inside.Sound.{SamePlaces, own_places, shown_state, is_gone, holder_of, holders_of, view_of, IsHeldAt, AreHeld, IsSpotted, IsInState, EndsIf, IsSound, AsksInside, Collects}
+use Rattle.io_manager.specs.inside.Sound.{SamePlaces, shown_state, is_gone, holder_of, holders_of, view_of, IsHeldAt, AreHeld, IsSpotted, IsInState, EndsIf, IsSound, AsksInside, Collects}
 use Rattle.io_manager.proofs.Over.{labels_over, answers_over}
 use Rattle.io_manager.proofs.Ordering.{Run-split}
 use Rattle.io_manager.proofs.Outside.{HasPartition, first_inside, stays_inside}

@@ -31,6 +31,7 @@ use ntstatus::NtStatus;
 use sector::Bytes;
 use std::alloc::Global;
 use std::collections::VecDeque;
+use std::mem;
 
 /// The bytes that a packet brings back; none where it is at the adapter.
 fn bytes_of(alloc: Global, payload: Payload) -> Bytes
@@ -43,16 +44,15 @@ fn bytes_of(alloc: Global, payload: Payload) -> Bytes
     }
 }
 
-/// Returns what is left of a packet that went out of the stack.
-fn done_of(irp: Box<Irp>) -> Done
-    ensures { result ≡ done_of irp.value }
+/// Takes what is left of a packet that went out of the stack, out of the packet.
+fn done_of(irp: &mut Irp) -> Done
+    ensures { result ≡ done_of irp.old }
 {
-    let irp = Box::into_inner(irp);
     Done {
         number: irp.number,
         status: irp.io_status.status,
         information: irp.io_status.information,
-        payload: irp.payload,
+        payload: mem::replace(&mut irp.payload, Payload::Sent),
     }
 }
 
@@ -280,12 +280,13 @@ impl<D: Device> Parts<D> {
         let Some((climb, room)) = self.device.take_done() else {
             return false;
         };
-        let Climb::Finished(irp) = climb else {
+        let Climb::Finished(mut irp) = climb else {
             unreachable!()
         };
         self.device.shows_order();
         self.device.free(room);
-        self.tables.close(done_of(irp));
+        self.tables.close(done_of(&mut irp));
+        self.spare_packets.keep(irp);
         true
     }
 

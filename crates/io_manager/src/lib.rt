@@ -27,6 +27,7 @@ mod noting;
 mod opening;
 mod parts;
 mod removal;
+mod spare_packets;
 mod tables;
 
 use device::Kind;

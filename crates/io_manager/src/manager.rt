@@ -66,6 +66,7 @@ impl<D: Shown> IoManager<D> {
             device,
             limits: _,
             tables: _,
+            spare_packets: _,
         } = parts;
         device
     }

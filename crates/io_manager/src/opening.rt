@@ -9,6 +9,7 @@ use crate::chains::Chains;
 use crate::label_queue::LabelQueue;
 use crate::manager::IoManager;
 use crate::parts::Parts;
+use crate::spare_packets::SparePackets;
 use crate::tables::{HANDLE_LIMIT, LABEL_PLACES, Tables};
 use device::{Device, Shown};
 use pnp::State;
@@ -82,10 +83,14 @@ impl<D: Device> IoManager<D> {
         let Ok(tables) = Tables::new(alloc, &limits) else {
             return Err(device);
         };
+        let Ok(spare_packets) = SparePackets::new(alloc) else {
+            return Err(device);
+        };
         let parts = Parts {
             device,
             limits,
             tables,
+            spare_packets,
         };
         Ok(IoManager { parts })
     }

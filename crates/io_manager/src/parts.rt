@@ -12,19 +12,21 @@ ghost use Rattle.io_manager.specs.inside.Admitting.{request_of, HasLabelBytes, I
 ghost use Rattle.io_manager.specs.inside.Sound.{IsSound, view_of};
 
 use crate::admission::{LabelBytes, label_bytes_for, ready_packet};
+use crate::spare_packets::SparePackets;
 use crate::tables::Tables;
 use crate::{Handle, Id, Limits};
 use device::{ClientRequest, Device, Request, Room, Shown};
-use irp::{Irp, Payload};
+use irp::Irp;
 use sector::Bytes;
 use std::alloc::{AllocError, Global};
 
-/// The device below, the manager's limits, and its tables.
+/// The device below, the manager's limits and tables, and packets that are used again.
 #[derive(Drop)]
 pub(crate) struct Parts<D: Shown> {
     pub(crate) device: D,
     pub(crate) limits: Limits,
     pub(crate) tables: Tables,
+    pub(crate) spare_packets: SparePackets,
 }
 
 /// What a request needs to be sent: what it asks of the device below, its packet, its room there, and the buffers for
@@ -74,7 +76,7 @@ impl<D: Device> Parts<D> {
             labels.keeps(),
             labels.keeps_bytes(),
         )?;
-        let irp = Box::new(alloc, Irp::new(0, Payload::Sent))?;
+        let irp = self.spare_packets.take(alloc)?;
         let room = self.device.reserve(&below)?;
         Ok(Prepared {
             below,

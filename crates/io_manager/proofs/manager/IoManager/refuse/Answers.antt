@@ -1,6 +1,5 @@
 use Rattle.std.proofs.Common.{◌≡◌, true, false, ℕ, List, Some, sym, refl, ◌∙◌, ap, subst, length, replicate}
-use Rattle.io_manager.proofs.Common.{length-replicate, ClientRequest, refusal, DeviceBusy, Refused, ManagerView, are_used_up, partition_of, call_on, without_bytes, status_of_refusal, IsRight, CallReplies, Refuses, AnswersAtOnce, reply_at_once, status_at_once, view_of, ManagerKept}
-use Rattle.io_manager.specs.declared.admission.AtOnce.TheVariants.{Refused as RefusedFor}
+use Rattle.io_manager.proofs.Common.{length-replicate, ClientRequest, refusal, DeviceBusy, Refused, ManagerView, are_used_up, partition_of, call_on, without_bytes, IsRight, CallReplies, AnswersAtOnce, reply_at_once, status_at_once, view_of, ManagerKept}
 use Rattle.io_manager.proofs.AnsweredAtOnce.{used_up_shown, at_once_kept}
 use Rattle.io_manager.proofs.WouldOpen.{asked_is}
 use Rattle.io_manager.proofs.manager.IoManager.refuse.Goals as goal

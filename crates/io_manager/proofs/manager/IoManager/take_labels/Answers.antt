@@ -1,4 +1,4 @@
-use Rattle.io_manager.proofs.Common.{map, sym, ap, ◌∙◌, in_memory, ManagerView}
+use Rattle.io_manager.proofs.Common.{ap, ◌∙◌, ManagerView}
 use Rattle.io_manager.proofs.InMemory.{whole_labels}
 use Rattle.io_manager.proofs.manager.IoManager.take_labels.Goals as goal
 
