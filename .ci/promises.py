@@ -15,7 +15,7 @@ HEAD = """# Promises
 
 What each crate promises by contract; names in backticks are the functions, clauses and definitions that carry it. \
 `.ci/promises.py` writes this page from the crates' heads. None promises that anything happens: that a \
-piece acts, a request completes, a thread gets on, a writer takes all or memory suffices.
+piece acts, a request completes, a thread gets on, a judge decides, a writer takes all or memory suffices.
 """
 # An item of the code, or a clause with a name.
 ITEM = re.compile(r"\b(?:fn|mod|const|static|ensures|requires|ghost)\s+(\w+)")
