@@ -66,7 +66,7 @@ HasSynced sizes x = (command : Command) → command_of sizes x ≡ Ok command �
 abbrev pub HasNoSync : Sizes → Exchange → Type 0
 HasNoSync sizes x = (command : Command) → command_of sizes x ≡ Ok command → syncs command ≡ false
 
--- a write of these bytes that was told as done, of which sector k of the partition is sector `place`
+-- a write (NBD_CMD_WRITE) that was told as done, of which sector k of the partition is sector `place`
 pub record IsWrite (sizes : Sizes) (w : Exchange) (place k : ℕ) : Type 0 where
   pub offset : ℕ
   pub count : ℕ
@@ -92,8 +92,8 @@ served_in c p opened old input out fault new after calls h = exchanges_of old.si
 
 -- THE LAWS
 
--- a write that was told as done, then a flush that was; no other write of the sector behind the first, and no failed sync between the two:
--- the file has the write's bytes there, whatever a loss of power left behind the session
+-- a write that was told as done, then a flush that was; no other write of the sector after the first, and no failed sync
+-- between the two: the file has the write's bytes there, whatever a loss of power left after the session
 abbrev pub FlushedIsKept : Type 0
 FlushedIsKept = (c : Config) (p : ℕ) (opened : List Call) (old : FiledView) (input out : Option (List ℕ)) (fault : Option Error) (new : FiledView) (after : Option (List ℕ)) (calls : List Call) (before left : Content)
     (first : List Exchange) (w : Exchange) (between : List Exchange) (f : Exchange) (later : List Exchange) (place k : ℕ)

@@ -208,8 +208,8 @@ fn are_same(one: Extent, other: Extent) -> bool
 ///
 /// # Errors
 ///
-/// The first of these that fits. [`DiskFault::HasFaults`] where the settings have bad sectors, or rules by which commands
-/// fail, since a storage has its own faults; [`Error::NoPartition`] where they have no such partition. Both come before any call.
+/// The first of these that fits. [`DiskFault::HasFaults`] where the settings have bad sectors or rules of `fault`, since
+/// a storage has its own faults; [`Error::NoPartition`] where they have no such partition. Both come before any call.
 /// [`DiskFault::Unreadable`] where a call failed as sector 0 was read; [`DiskFault::OtherTable`] where it gives other
 /// partitions than the settings, or none; [`Error::Startup`] where no stack could be started.
 /// [`Error::NoMemory`] may stand in place of any but the first two.
@@ -393,8 +393,8 @@ pub fn served_are_sessions()
 /// Says what a client keeps, by what it was told: a write that was told as done is in the file behind a loss of power
 /// once a flush that came behind it was told as done, and at once where it went past volatile caches; until its sector is
 /// written again. A sector that no request writes is as it was. The end of the process alone loses nothing that was told
-/// as done, where no sync failed since or was under way. So it is behind a session, and at any moment of it. It does
-/// nothing; its contract is for callers.
+/// as done, where no sync failed since or was under way. So it is after a session, and at any moment of it. Of zeros that
+/// a client had written (NBD_CMD_WRITE_ZEROES) it says nothing. It does nothing; its contract is for callers.
 pub fn done_is_kept()
     ensures flushed { FlushedIsKept }
     ensures secured { SecuredIsKept }
