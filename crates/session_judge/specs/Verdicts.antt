@@ -25,7 +25,7 @@ pub record StopsAt (rules : Rules) (lines : List Line) (at : ℕ) (Stops : List 
   pub is_line : slice_get lines at ≡ Some line
   pub stops : Stops (take at lines) line
 
--- these lines, the first so many, can't have said this of the sector, whatever numbers its bytes have
+-- the first so many lines can't have said this of the sector, with the same number for the same bytes
 pub record IsRefused (rules : Rules) (lines : List Line) (sector : ℕ) : Type 0 where
   pub count : ℕ
   pub within : count ≤ length lines

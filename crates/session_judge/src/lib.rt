@@ -6,9 +6,10 @@
 //!
 //! # Promises
 //!
-//! `judge` passes only lines of which each session is a run, and whose deeds can have happened to each sector (`Passes`). It
-//! refuses only a line that no run of its session has (`IsBroken`), or deeds that can't have happened to the sector that it
-//! names (`IsRefused`). Deeds are what the labels say of the disk (`AreDeedsOf`), in the words of `loss`.
+//! `judge` passes only lines of which each session is a run, and whose deeds can have happened to each sector
+//! (`Passes`). It refuses only a line that no run of its session has (`IsBroken`), or deeds that can't have happened to
+//! the sector that it names (`IsRefused`). Deeds are what the labels say of the disk (`AreDeedsOf`), in the words of
+//! `loss`. Of a start that names no request (`Unnamed`) nothing is promised.
 //!
 //! It doesn't promise that the line of a refused deed is the first such line. What `reason_of` tells is only tested.
 #![tactic(auto)]
