@@ -6,11 +6,12 @@
 //! # Promises
 //!
 //! `contents`: all that an input has. `read_settings`: its settings (`read`, `in_range`), or why not (`fault`, `told`).
-//! `settings_of`: those of a text, or its fault (`settings`, `fault`). `start`: the opening stack (`view`, `first`), but
-//! none where a rule slows commands (`refused`); `start_apart`: the disk, and the opening stack beside it (`stack`,
-//! `disk`, `count`); `open`: a volume of zeros (`volume`, `zeros`); each or `fault`. `Error` and `say`: the line of a fault (`output`). `ended`: the exit status,
-//! and no line where no fault was (`status`, `silent`). `fault_of`: want of memory, or another fault (`memory`,
-//! `otherwise`). `Input::of`: the file, or why not.
+//! `settings_of`: those of a text, or its fault (`settings`, `fault`). `start`: the opening stack (`view`, `first`),
+//! but none where a rule slows commands (`refused`); `start_apart`: the disk, and the opening stack beside it (`stack`,
+//! `disk`, `count`); `open`: a volume of zeros (`volume`, `zeros`); each or `fault`. By which rules their commands
+//! fail, come back busy or take longer is only tested. `Error` and `say`: the line of a fault (`output`). `ended`: the
+//! exit status, and no line where no fault was (`status`, `silent`). `fault_of`: want of memory, or another fault
+//! (`memory`, `otherwise`). `Input::of`: the file, or why not.
 #![tactic(auto)]
 
 mod apart;

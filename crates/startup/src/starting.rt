@@ -17,9 +17,8 @@ use settings::{Config, has_slowing, new_adapter, slowing};
 use std::alloc::Global;
 use volume::{OpenFault, Volume};
 
-/// Starts a stack over a disk that is zeros but for its partition table, whose commands fail by the rules of the settings,
-/// those of the start among them. With `keeps_bytes` its labels keep their bytes in
-/// memory; without, contracts alone read these.
+/// Starts a stack over a disk that is zeros but for its partition table. Commands fail by the rules of the settings, those
+/// of the start too. With `keeps_bytes` its labels keep their bytes in memory; without, contracts alone read these.
 ///
 /// # Errors
 ///
@@ -48,8 +47,8 @@ pub fn start(
     Ok(stack)
 }
 
-/// Opens a volume of a partition, counted from 0, over a stack as that of [`start`], whose labels keep no bytes. From then
-/// on commands come back busy or later by the rules of the settings that say so.
+/// Opens a volume of a partition, counted from 0, over a stack as that of [`start`], whose labels keep no bytes. After the
+/// start commands also come back busy, or take longer, by the rules of the settings that say so.
 ///
 /// # Errors
 ///
