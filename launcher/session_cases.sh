@@ -1,5 +1,10 @@
 # The cases of `nbd_disk`: sessions of examples/sessions/, each of what a client sends and what it gets, in hexadecimal digits.
 
+be_server() {
+    be_program nbd_disk
+    first_words=(settings)
+}
+
 # Makes a session of a second or two: the client asks for many flushes.
 make_lasting_session() {
     lasting_input=$scratch/lasting
@@ -98,9 +103,11 @@ run_server_cases() {
     make_case_folders
     while IFS= read -r folder; do run_session "$folder"; done < <(session_folders)
     run_refused_words
+    run_answered_at_once "$top/launcher/served_at_once"
     run_losing_sessions
     count_cases "nbd_disk, sessions" examples.
     count_cases "nbd_disk, words refused" refused.
+    count_cases "nbd_disk, words answered at once" words.
     count_cases "nbd_disk, loss of power" losing.
     cp "$scratch"/*.counts "${scratch%/*}"
 }
