@@ -97,6 +97,16 @@ run_losing_sessions() {
     losing_words=()
 }
 
+# Runs the launcher with its errors going into the disk: it says nothing, and the disk stays.
+run_errors_into_disk() {
+    local it=words.errors_into_disk
+    want "$it" 1 < /dev/null
+    cp "$scratch/files/trace" "$scratch/wanted/$it.disk"
+    cp "$scratch/files/trace" "$scratch/found/$it.disk"
+    note_run "$scratch/found/$it" /dev/null bash -c 'exec "${@:2}" 2>> "$1"' bash "$scratch/found/$it.disk" \
+        "$scratch/fresh/$name" "$scratch/files/settings" --disk "$scratch/found/$it.disk"
+}
+
 # Runs all cases of the server, and compares them.
 run_server_cases() {
     local folder
@@ -104,6 +114,7 @@ run_server_cases() {
     while IFS= read -r folder; do run_session "$folder"; done < <(session_folders)
     run_refused_words
     run_answered_at_once "$top/launcher/served_at_once"
+    run_errors_into_disk
     run_losing_sessions
     count_cases "nbd_disk, sessions" examples.
     count_cases "nbd_disk, words refused" refused.
