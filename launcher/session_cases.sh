@@ -103,7 +103,7 @@ run_errors_into_disk() {
     want "$it" 1 < /dev/null
     cp "$scratch/files/trace" "$scratch/wanted/$it.disk"
     cp "$scratch/files/trace" "$scratch/found/$it.disk"
-    note_run "$scratch/found/$it" /dev/null bash -c 'exec "${@:2}" 2>> "$1"' bash "$scratch/found/$it.disk" \
+    PATH=$scratch/bin:$PATH note_run "$scratch/found/$it" /dev/null bash -c 'exec "${@:2}" 2>> "$1"' bash "$scratch/found/$it.disk" \
         "$scratch/fresh/$name" "$scratch/files/settings" --disk "$scratch/found/$it.disk"
 }
 
