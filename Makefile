@@ -6,7 +6,7 @@ DESTDIR =
 BINDIR = $(PREFIX)/bin
 PARTDIR = $(PREFIX)/libexec/saddlemug
 MANDIR = $(PREFIX)/share/man/man1
-VERSION = $(shell sed -n '/^\#\# /{s///;s/ .*//;p;q}' CHANGELOG.md)
+VERSION = $(shell sed -n '/^\#\# \([0-9][0-9.]*\).*/{s//\1/p;q}' CHANGELOG.md)
 INSTALL = install
 
 stackrun = launcher/help.txt

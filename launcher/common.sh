@@ -5,9 +5,10 @@ say() { echo "$name: $1" >&2 || true; }
 
 need_rt() { command -v rt > /dev/null || { say "$1, and there is no 'rt' on PATH" && exit 1; }; }
 
-# Tells the versions of the repository and of the toolchain.
+# Tells the version of the repository, by its last release, and that of the toolchain.
 version() {
-    sed -n '/^## /{s/^## /saddlemug /p;q}' "$top/CHANGELOG.md" || exit 1
+    awk '/^## / && $2 ~ /^[0-9]/ { sub(/^##/, "saddlemug"); print $0 later; exit } /^## / { later = ", and later changes" }' \
+        "$top/CHANGELOG.md" || exit 1
     rt version 2> /dev/null || echo "there is no 'rt' on PATH"
 }
 

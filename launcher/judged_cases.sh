@@ -299,6 +299,15 @@ END
     sed -n 's/.*\("broken": .*\), "trace".*/\1/; s/, "\(states\|sector_size\|zeros\)/\n"\1/g; s/}, {"open/}\n{"open/gp' \
         "$scratch/found/$it.stdout" > "$scratch/page"
     mv "$scratch/page" "$scratch/found/$it.stdout"
+    want page.rules 0 <<< '"firsts": [2048]'
+    printf 'fault = [{ kind = "not_ready", first = 7, count = 1 }]\n' | cat - "$folder/config.toml" > "$scratch/files/with_rules"
+    STACKJUDGE=$program note_run "$scratch/found/page.rules" /dev/null \
+        "$top/clients/run_page/run_page" "$scratch/files/with_rules" "$folder/legal.trace"
+    grep -o '"firsts": [^]]*.' "$scratch/found/page.rules.stdout" > "$scratch/page" || true
+    mv "$scratch/page" "$scratch/found/page.rules.stdout"
+    want page.closed 1 $'stackjudge: output failed\n' < /dev/null
+    STACKJUDGE=$program note_run "$scratch/found/page.closed" /dev/null \
+        bash -c 'exec "$@" >&-' bash "$top/clients/run_page/run_page" "$folder/config.toml" "$folder/legal.trace"
     each_row page /dev/stdin refuse_page << END
 2 | $usage | --html
 2 | $usage | settings

@@ -34,10 +34,11 @@ need_file() {
     { [ -r "$2" ] && [ ! -d "$2" ]; } || [ "$2/${3-}" = -/- ] || { say "cannot read $1" && exit 1; }
 }
 
-# Whether a program refuses the settings at a path, whatever else it is asked.
-refuses_settings() {
-    [ -f "$2" ] && [[ $("$1" "${first_words[0]}" "$2" '' 2>&1 < /dev/null) = *': config: '* ]]
-}
+# The settings of a call, the words by which a program looks at them and does no more, and its number of clients on threads.
+settings='' look=() clients=''
+
+# What a program says by those words.
+said_of_settings() { "$1" "${look[@]}" 2>&1 > /dev/null < /dev/null | tail -n 1; }
 
 # A program's launcher may do more before it starts.
 start() { exec "$@"; }
@@ -45,10 +46,11 @@ start() { exec "$@"; }
 # Runs a program in the launcher's place. Where it refuses the settings it ends at once, and the line behind its own says
 # which setting it is.
 run() {
-    local status=0
-    if [ -n "$settings" ] && refuses_settings "$1" "$settings"; then
+    local status=0 said=''
+    [ ! -f "$settings" ] || said=$(said_of_settings "$1")
+    if [[ $said = "$name: "@(config|mbr|start)": "* ]]; then
         "$@" || status=$?
-        ! command -v python3 > /dev/null || python3 "$top/launcher/which_setting.py" "$name" "$settings" || true
+        ! command -v python3 > /dev/null || python3 "$top/launcher/which_setting.py" "$said" "$settings" "$clients" || true
         exit "$status"
     fi
     start "$@"

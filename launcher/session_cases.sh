@@ -1,5 +1,10 @@
 # The cases of `nbd_disk`: sessions of examples/sessions/, each of what a client sends and what it gets, in hexadecimal digits.
 
+be_server() {
+    be_program nbd_disk
+    first_words=(settings)
+}
+
 # Makes a session of a second or two: the client asks for many flushes.
 make_lasting_session() {
     lasting_input=$scratch/lasting
@@ -92,15 +97,28 @@ run_losing_sessions() {
     losing_words=()
 }
 
+# Runs the launcher with its errors going into the disk: it says nothing, and the disk stays.
+run_errors_into_disk() {
+    local it=words.errors_into_disk
+    want "$it" 1 < /dev/null
+    cp "$scratch/files/trace" "$scratch/wanted/$it.disk"
+    cp "$scratch/files/trace" "$scratch/found/$it.disk"
+    PATH=$scratch/bin:$PATH note_run "$scratch/found/$it" /dev/null bash -c 'exec "${@:2}" 2>> "$1"' bash "$scratch/found/$it.disk" \
+        "$scratch/fresh/$name" "$scratch/files/settings" --disk "$scratch/found/$it.disk"
+}
+
 # Runs all cases of the server, and compares them.
 run_server_cases() {
     local folder
     make_case_folders
     while IFS= read -r folder; do run_session "$folder"; done < <(session_folders)
     run_refused_words
+    run_answered_at_once "$top/launcher/served_at_once"
+    run_errors_into_disk
     run_losing_sessions
     count_cases "nbd_disk, sessions" examples.
     count_cases "nbd_disk, words refused" refused.
+    count_cases "nbd_disk, words answered at once" words.
     count_cases "nbd_disk, loss of power" losing.
     cp "$scratch"/*.counts "${scratch%/*}"
 }

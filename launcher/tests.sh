@@ -66,7 +66,7 @@ test_crate() {
             try_cases run_judge_cases make_lasting_check
         ) ;;
         nbd_disk) (
-            be_program nbd_disk
+            be_server
             try_cases run_server_cases make_lasting_session
         ) ;;
         saddlemug) try_calls "$1" ;;
@@ -90,7 +90,7 @@ test_built() {
     make_scratch
     run_stackrun_cases
     (be_judge && run_judge_cases)
-    (be_program nbd_disk && run_server_cases)
+    (be_server && run_server_cases)
     tally
 }
 

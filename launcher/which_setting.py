@@ -1,6 +1,7 @@
 #!/usr/bin/env python3
-"""which_setting.py NAME CONFIG: says on standard error which setting of CONFIG is at fault, for the program NAME, which
-has said what kind of fault it is. It says nothing where it finds none, and where this Python reads no TOML."""
+"""which_setting.py LINE CONFIG [CLIENTS]: says on standard error which setting of CONFIG is at fault, where a program, asked
+for so many clients on threads, has said in this line what kind of fault it is. It says nothing where it finds none, and where
+this Python reads no TOML."""
 import sys
 
 try:
@@ -22,6 +23,7 @@ OF_PARTITION = {"first": range(2**32), "count": range(2**32), "type": range(1, 2
 OF_RULE = {"every": range(1, 2**63), "times": range(1, 2**63), "first": range(2**63), "count": range(2**63)}
 KINDS = ("medium_error", "hardware_error", "not_ready", "aborted_command", "busy", "delay")
 OF_DELAY = {"ms": range(1, 60_000 + 1)}
+NOT_OF_SCRIPTS = ("busy", "delay")
 RULE_KEYS = ("kind", *OF_RULE, *OF_DELAY)
 KEYS = (*WHOLE, "write_protected", "bad_sectors", "fault", "partition")
 
@@ -137,10 +139,69 @@ def fault_of(settings):
     return numbers(settings, WHOLE, "") or in_lists(settings, partitions)
 
 
+def for_script(settings):
+    """The first rule that no script has: it says itself when a piece comes back."""
+    for at, rule in enumerate(listed(settings, "fault")):
+        if rule["kind"] in NOT_OF_SCRIPTS:
+            return f"fault {at}: kind = {shown(rule['kind'])}, and it is for nbd_disk, not for scripts"
+    return None
+
+
+def for_clients(settings, clients):
+    """What has no room for so many clients."""
+    partitions = listed(settings, "partition")
+    if not partitions:
+        return "there is no partition 0, which clients use"
+    for key, room in (("open_requests", settings.get("open_requests", 64)), ("partition 0: count", partitions[0]["count"])):
+        if clients > room:
+            return f"{key} = {room}, and there are {clients} clients"
+    return None
+
+
+def in_table(settings):
+    """The first fault of the partition table."""
+    extents = [(it["first"], it["first"] + it["count"]) for it in listed(settings, "partition")]
+    for at, (first, end) in enumerate(extents):
+        if first == end:
+            return f"partition {at}: count = 0, and it has a sector at least"
+        if first == 0:
+            return f"partition {at}: first = 0, and the partition table stands there"
+        if end > settings["sectors"]:
+            return f"partition {at}: it ends before sector {end}, and sectors = {settings['sectors']}"
+    for at, (first, end) in enumerate(extents):
+        for other, (other_first, other_end) in enumerate(extents[:at]):
+            if first < other_end and other_first < end:
+                return f"partition {at}: it has sector {max(first, other_first)}, and so has partition {other}"
+    return None
+
+
+def at_start(settings):
+    """What fails a start."""
+    if 0 in listed(settings, "bad_sectors"):
+        return "bad_sectors has 0, where the partition table stands"
+    return "a rule of fault fails a command of the start" if listed(settings, "fault") else None
+
+
+def found_in(line, path, clients):
+    """What is at fault by this line, or None."""
+    with open(path, "rb") as it:
+        text = it.read()
+    try:
+        settings = tomllib.loads(text.decode())
+    except UnicodeDecodeError as error:
+        return f"line {text[:error.start].count(10) + 1} is not UTF-8"
+    except ValueError as error:
+        return str(error)
+    if ": mbr: " in line:
+        return in_table(settings)
+    if ": start: " in line:
+        return at_start(settings)
+    return fault_of(settings) or (for_clients(settings, int(clients)) if clients else for_script(settings))
+
+
 try:
-    with open(sys.argv[2], "rb") as it:
-        found = fault_of(tomllib.load(it))
+    found = found_in(sys.argv[1], sys.argv[2], "".join(sys.argv[3:]))
 except (OSError, ValueError, RecursionError):
     found = None
 if found:
-    print(f"{sys.argv[1]}: CONFIG: {found}", file=sys.stderr)
+    print(f"{sys.argv[1].split(':')[0]}: CONFIG: {found}", file=sys.stderr)

@@ -59,6 +59,24 @@ is_given(const char *key, uint64_t number)
 }
 
 static int
+is_sector(uint32_t bytes)
+{
+	if (bytes == 512 || bytes == 4096)
+		return 0;
+	nbdkit_error("sector=%" PRIu32 ", and it is 512 or 4096", bytes);
+	return -1;
+}
+
+static int
+is_transfer(uint32_t sectors)
+{
+	if (sectors >= 1 && sectors <= 65536)
+		return 0;
+	nbdkit_error("transfer=%" PRIu32 ", and it is 1 to 65536", sectors);
+	return -1;
+}
+
+static int
 config(const char *key, const char *value)
 {
 	if (strcmp(key, "size") == 0) {
@@ -66,9 +84,9 @@ config(const char *key, const char *value)
 		return size < 0 ? -1 : is_given(key, size);
 	}
 	if (strcmp(key, "sector") == 0)
-		return nbdkit_parse_uint32_t(key, value, &sector) != 0 ? -1 : is_given(key, sector);
+		return nbdkit_parse_uint32_t(key, value, &sector) != 0 ? -1 : is_sector(sector);
 	if (strcmp(key, "transfer") == 0)
-		return nbdkit_parse_uint32_t(key, value, &transfer) != 0 ? -1 : is_given(key, transfer);
+		return nbdkit_parse_uint32_t(key, value, &transfer) != 0 ? -1 : is_transfer(transfer);
 	if (strcmp(key, "settings") == 0) {
 		free(settings_file);
 		settings_file = nbdkit_realpath(value);

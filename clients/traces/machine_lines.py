@@ -1,5 +1,7 @@
 """Lines of a trace (docs/TRACES.md), from what a log tells of requests that begin and end."""
 
+import os
+import sys
 import tomllib
 
 
@@ -9,6 +11,26 @@ class Piece:
     def __init__(self, request, first, count):
         self.request, self.first, self.count = request, first, count
         self.number = self.tag = None
+
+
+def settings_of(path):
+    """What a file of settings has."""
+    with open(path, "rb") as file:
+        try:
+            return tomllib.load(file)
+        except ValueError as error:
+            sys.exit(f"{path}: {error}")
+
+
+def run(convert):
+    """Converts what the command line names, and says what can't be read or written."""
+    try:
+        convert(*sys.argv[1:])
+        sys.stdout.flush()
+    except OSError as error:
+        if error.filename is None:
+            os.dup2(os.open(os.devnull, os.O_WRONLY), 1)
+        sys.exit(f"{os.path.basename(sys.argv[0])}: {error.filename or 'standard output'}: {error.strerror}")
 
 
 class Request:
@@ -23,8 +45,7 @@ class Lines:
     """Prints the lines of one run, with `?` for bytes that the log doesn't have."""
 
     def __init__(self, config, out):
-        with open(config, "rb") as file:
-            settings = tomllib.load(file)
+        settings = settings_of(config)
         self.size, self.longest, self.depth = settings["sector_size"], settings["max_transfer"], settings["depth"]
         self.base = settings["partition"][0]["first"]
         self.out = out

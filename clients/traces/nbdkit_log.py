@@ -13,7 +13,7 @@ bytes, so sizes, bounds, tags, order and statuses are judged, and that each requ
 import re
 import sys
 
-from machine_lines import Lines
+from machine_lines import Lines, run
 
 KINDS = "Read|Write|Zero|Flush|Trim|Cache"
 CALL = re.compile(rf"connection=(\d+) ({KINDS}) id=(\d+)(?: offset=0x(\w+) count=0x(\w+))?(.*)\.\.\.$")
@@ -42,8 +42,13 @@ def convert(lines, log):
                 lines.end(request, *(() if result == "0" else FAILURES.get(error, OTHER)))
 
 
+def main(config, log):
+    """Writes the trace of a log."""
+    with open(log, encoding="utf-8") as it:
+        convert(Lines(config, sys.stdout), it)
+
+
 if __name__ == "__main__":
     if len(sys.argv) != 3:
         sys.exit("usage: nbdkit_log.py CONFIG LOG > TRACE")
-    with open(sys.argv[2], encoding="utf-8") as it:
-        convert(Lines(sys.argv[1], sys.stdout), it)
+    run(main)

@@ -14,7 +14,7 @@ qemu's tags are addresses: in their place stand the lowest that are free. The lo
 import re
 import sys
 
-from machine_lines import Lines
+from machine_lines import Lines, run
 
 NEW = re.compile(r"scsi_disk_new_request Command: lun=0 tag=(0x\w+) data=((?: 0x\w\w)+)")
 SENSE = re.compile(r"scsi_disk_check_condition Command complete tag=(0x\w+) sense=(\d+)/(\d+)/(\d+)")
@@ -61,8 +61,13 @@ def convert(lines, log):
                 lines.end(request, "{:02x} {:02x} {:02x}".format(*failed), STATUSES.get(failed[0], "IO_DEVICE_ERROR"))
 
 
+def main(config, log):
+    """Writes the trace of a log."""
+    with open(log, encoding="utf-8") as it:
+        convert(Lines(config, sys.stdout), it)
+
+
 if __name__ == "__main__":
     if len(sys.argv) != 3:
         sys.exit("usage: qemu_scsi.py CONFIG LOG > TRACE")
-    with open(sys.argv[2], encoding="utf-8") as it:
-        convert(Lines(sys.argv[1], sys.stdout), it)
+    run(main)

@@ -8,7 +8,8 @@ Whether a call is refused is the machine's rule, in its order: no open handle, a
 no byte, as many open requests as CONFIG says. An answer that comes never is left out: the judge tells of it."""
 
 import sys
-import tomllib
+
+from machine_lines import run, settings_of
 
 LONGEST = 268_435_456
 
@@ -50,8 +51,7 @@ def reordered(lines, settings):
 
 
 def main(config, trace):
-    with open(config, "rb") as file:
-        settings = tomllib.load(file)
+    settings = settings_of(config)
     with open(trace) if trace != "-" else sys.stdin as file:
         lines = file.read().splitlines()
     for line in reordered(lines, settings):
@@ -61,4 +61,4 @@ def main(config, trace):
 if __name__ == "__main__":
     if len(sys.argv) != 3:
         sys.exit(__doc__)
-    main(*sys.argv[1:])
+    run(main)
